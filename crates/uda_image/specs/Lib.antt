@@ -1,0 +1,4 @@
+pub mod Blocks
+pub mod Chunks
+pub mod Images
+pub mod ImageLaws

@@ -1,0 +1,133 @@
+ghost use Rattle.std.specs.Prelude.{◌≡◌, ◌-◌, ◌<◌, ◌↔◌, true, is_ok, IsErr, IfErr, if◌then◌else◌};
+ghost use Rattle.uda_image.specs.Blocks.{Reads, Writes};
+ghost use Rattle.uda_image.specs.Images.{block_count_of, blocks_of, block_of, with_block, half_written, failures_by};
+ghost use Rattle.uda_image.specs.ImageLaws.{block_count-le, IsImage-blocks_of};
+
+use crate::memory::MemImage;
+use crate::store::{BlockStore, StoreError};
+use std::marker::Model;
+
+/// An image in memory of which one call fails, as a drive's medium may (MSCP Basic Disk Functions
+/// Manual: status codes, drive error). It is faithful, and takes no memory.
+///
+/// A `read` that fails leaves `to` as it was. A `write` that fails changes the first 256 bytes of
+/// its block and leaves the last 256. Contracts see the bytes of the image, and how many calls are
+/// left up to the one that fails, that one counted: 0 after it, and where none does.
+#[derive(Debug, Drop)]
+pub struct FailingImage {
+    inner: MemImage,
+    left: u32,
+}
+
+impl Model for FailingImage {
+    ghost use Rattle.uda_image.specs.Images.{Failing};
+
+    ghost Value = { Failing };
+
+    ghost view = { λ image. record { bytes = image.inner; left = image.left } };
+}
+
+impl FailingImage {
+    /// Makes a store of the blocks of `inner`, whose call number `at` fails and no other. The calls
+    /// of `read` and `write` are counted together, from 1; where `at` is 0 none fails.
+    pub fn new(inner: MemImage, at: u32) -> FailingImage
+        ensures bytes { result.bytes ≡ inner }
+        ensures left { result.left ≡ at }
+    {
+        FailingImage { inner, left: at }
+    }
+
+    /// Gives back the image, with its blocks as they are now.
+    pub fn into_inner(self) -> MemImage
+        ensures { result ≡ self.bytes }
+    {
+        let FailingImage { inner, .. } = self;
+        inner
+    }
+
+    // Counts one call, and says whether it is the one that fails.
+    fn fails_now(&mut self) -> bool
+        ensures value { (result ≡ true) ↔ (self.old.left ≡ 1) }
+        ensures left { self.new.left ≡ self.old.left - 1 }
+        ensures bytes { self.new.bytes ≡ self.old.bytes }
+    {
+        let fails = self.left == 1;
+        self.left = self.left.saturating_sub(1);
+        fails
+    }
+
+    // Writes the first half of block `n` alone.
+    #[tactic(auto, using(crate::specs::ImageLaws::image_laws))]
+    fn write_half(&mut self, n: u32, from: &[u8; 512])
+        requires { n < block_count_of self.old.bytes }
+        ensures bytes { self.new.bytes
+            ≡ with_block self.old.bytes n (half_written (block_of self.old.bytes n) from.now) }
+        ensures left { self.new.left ≡ self.old.left }
+    {
+        let mut block = [0; 512];
+        let _ = self.inner.read(n, &mut block);
+        write_first_half(&mut block, from);
+        let _ = self.inner.write(n, &block);
+    }
+}
+
+#[tactic(auto, unfolding(crate::specs::Images::half_written))]
+fn write_first_half(block: &mut [u8; 512], from: &[u8; 512])
+    ensures { block.new ≡ half_written block.old from.now }
+{
+    block[..256].copy_from_slice(&from[..256]);
+}
+
+impl BlockStore for FailingImage {
+    ghost blocks = { λ image. blocks_of image.bytes };
+
+    ghost block_count = { λ image. block_count_of image.bytes };
+
+    ghost faithful = { λ _. true };
+
+    ghost failures = { λ image. failures_by image.left };
+
+    ghost within_limit = { λ image. block_count-le image.bytes };
+
+    ghost is_image = { λ image _. IsImage-blocks_of image.bytes };
+
+    fn size(&self) -> u32 {
+        self.inner.size()
+    }
+
+    fn read(&mut self, n: u32, to: &mut [u8; 512]) -> Result<(), StoreError>
+        requires { n < block_count_of self.old.bytes }
+        ensures fails { IsErr result ↔ (self.old.left ≡ 1) }
+        ensures left { self.new.left ≡ self.old.left - 1 }
+        ensures bytes { self.new.bytes ≡ self.old.bytes }
+        ensures to { to.new ≡ (if is_ok result then block_of self.old.bytes n else to.old) }
+        ensures error { IfErr result (λ e. e ≡ StoreError.Read) }
+        ensures reads { Reads (blocks_of self.old.bytes) (failures_by self.old.left) n
+            (blocks_of self.new.bytes) (failures_by self.new.left) to.new result }
+    {
+        if self.fails_now() {
+            return Err(StoreError::Read);
+        }
+        self.inner.read(n, to)
+    }
+
+    #[tactic(auto, using(crate::specs::ImageLaws::image_laws))]
+    fn write(&mut self, n: u32, from: &[u8; 512]) -> Result<(), StoreError>
+        requires { n < block_count_of self.old.bytes }
+        ensures fails { IsErr result ↔ (self.old.left ≡ 1) }
+        ensures left { self.new.left ≡ self.old.left - 1 }
+        ensures bytes { self.new.bytes
+            ≡ with_block self.old.bytes n
+            (if is_ok result then from.now else half_written (block_of self.old.bytes n) from.now) }
+        ensures size_stays { block_count_of self.new.bytes ≡ block_count_of self.old.bytes }
+        ensures error { IfErr result (λ e. e ≡ StoreError.Write) }
+        ensures writes { Writes (blocks_of self.old.bytes) (failures_by self.old.left) n from.now
+            (blocks_of self.new.bytes) (failures_by self.new.left) result }
+    {
+        if self.fails_now() {
+            self.write_half(n, from);
+            return Err(StoreError::Write);
+        }
+        self.inner.write(n, from)
+    }
+}

@@ -1,0 +1,119 @@
+ghost use Rattle.std.specs.Prelude.{◌≡◌, ◌≢◌, ◌≤◌, false, [], min, IfOk, IfErr};
+ghost use Rattle.uda_image.specs.declared.store.TheConstants.{BLOCK_LIMIT};
+ghost use Rattle.uda_image.specs.ImageLaws.{min-le, no_image};
+
+use crate::errors::ImageError;
+use crate::lengths::count_blocks;
+use crate::store::{BLOCK_LIMIT, BlockStore, StoreError};
+use std::fs;
+use std::fs::{File, OpenFile, OpenOptions};
+use std::marker::Model;
+use std::os::unix::fs::FileExt;
+
+/// An image in a file: the logical blocks of a unit (MSCP Basic Disk Functions Manual: logical
+/// blocks), block after block, read and written at their places.
+///
+/// Its size is that of the file when it is opened. It isn't faithful, since other programs may
+/// change the file. A read or write that fails or ends early, as behind the end of a file that was
+/// shortened, is an error, and so is a write to an image that wasn't opened to be written.
+/// Contracts see its size in blocks, and whether it was opened to be written.
+#[derive(Debug, Drop)]
+pub struct FileImage {
+    file: File,
+    size: u32,
+    writable: bool,
+}
+
+impl Model for FileImage {
+    ghost use Rattle.std.specs.Prelude.{◌≤◌};
+    ghost use Rattle.uda_image.specs.declared.store.TheConstants.{BLOCK_LIMIT};
+    ghost use Rattle.uda_image.specs.Images.{OpenImage};
+
+    ghost Value = { OpenImage };
+
+    ghost view = { λ image. record { size = image.size; writable = image.writable } };
+
+    ghost invariant = { λ image. image.size ≤ BLOCK_LIMIT };
+}
+
+// Whether a plain file stands at `path`. To open a pipe could wait for its other end, and to open
+// a device could do something to it, so this is asked first.
+fn is_plain_file(rt: &HostRuntime, path: &str) -> bool {
+    match fs::metadata(rt, path) {
+        Ok(metadata) => metadata.is_file(),
+        Err(_) => false,
+    }
+}
+
+impl FileImage {
+    /// Opens the plain file at `path` as an image, to be read and, where `writable`, written. Errs
+    /// with Open where it can't be opened so, is no plain file, or its length can't be learnt; with
+    /// Length where its bytes are no whole number of blocks of 512; and with TooLarge where those
+    /// are more than [`BLOCK_LIMIT`]. Takes no memory and changes no file.
+    pub fn open(rt: &HostRuntime, path: &str, writable: bool) -> Result<FileImage, ImageError>
+        ensures writable { IfOk result (λ image. image.writable ≡ writable) }
+        ensures within_limit { IfOk result (λ image. image.size ≤ BLOCK_LIMIT) }
+        ensures errors { result ≢ Err ImageError.NoMemory }
+    {
+        if !is_plain_file(rt, path) {
+            return Err(ImageError::Open);
+        }
+        let Ok(file) = OpenOptions::new().read(true).write(writable).open(rt, path) else {
+            return Err(ImageError::Open);
+        };
+        let Ok(metadata) = file.metadata() else {
+            return Err(ImageError::Open);
+        };
+        if !metadata.is_file() {
+            return Err(ImageError::Open);
+        }
+        let size = count_blocks(metadata.len())?;
+        Ok(FileImage {
+            file,
+            size,
+            writable,
+        })
+    }
+}
+
+impl BlockStore for FileImage {
+    ghost blocks = { λ _. [] };
+
+    ghost block_count = { λ image. min image.size BLOCK_LIMIT };
+
+    ghost faithful = { λ _. false };
+
+    ghost failures = { λ _. 0 };
+
+    ghost within_limit = { λ image. min-le image.size };
+
+    ghost is_image = { λ _. no_image };
+
+    fn size(&self) -> u32 {
+        self.size
+    }
+
+    fn read(&mut self, n: u32, to: &mut [u8; 512]) -> Result<(), StoreError>
+        ensures unchanged { self.new ≡ self.old }
+        ensures error { IfErr result (λ e. e ≡ StoreError.Read) }
+    {
+        match self.file.read_exact_at(to, 512 * u64::from(n)) {
+            Ok(()) => Ok(()),
+            Err(_) => Err(StoreError::Read),
+        }
+    }
+
+    fn write(&mut self, n: u32, from: &[u8; 512]) -> Result<(), StoreError>
+        ensures unchanged { self.new ≡ self.old }
+        ensures read_only { self.old.writable ≡ false → result ≡ Err StoreError.Write }
+        ensures error { IfErr result (λ e. e ≡ StoreError.Write) }
+    {
+        if !self.writable {
+            return Err(StoreError::Write);
+        }
+        match self.file.write_all_at(from, 512 * u64::from(n)) {
+            Ok(()) => Ok(()),
+            Err(_) => Err(StoreError::Write),
+        }
+    }
+}

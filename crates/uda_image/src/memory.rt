@@ -1,0 +1,134 @@
+ghost use Rattle.std.specs.Prelude.{◌≡◌, ◌≢◌, ◌*◌, ◌/◌, ◌%◌, ◌<◌, ◌≤◌, ◌⊎◌, ◌↔◌, true, length, replicate, IfOk, IfErr};
+ghost use Rattle.uda_image.specs.Blocks.{Reads, Writes};
+ghost use Rattle.uda_image.specs.Images.{block_count_of, blocks_of, block_of, with_block};
+ghost use Rattle.uda_image.specs.ImageLaws.{block_count-le, IsImage-blocks_of};
+
+use crate::errors::ImageError;
+use crate::lengths::count_blocks;
+use crate::store::{BLOCK_LIMIT, BlockStore, StoreError};
+use std::alloc::Global;
+use std::marker::Model;
+
+/// An image in memory: the logical blocks of a unit (MSCP Basic Disk Functions Manual: logical
+/// blocks), block after block. It is faithful, none of its calls fails, and it takes memory only
+/// when it is made. Contracts see it as the list of its bytes.
+#[derive(Debug, Drop)]
+pub struct MemImage {
+    bytes: Vec<u8>,
+}
+
+impl Model for MemImage {
+    ghost use Rattle.std.specs.Prelude.{List, ℕ, ◌≡◌, ◌≤◌, ◌%◌, ◌/◌, vec_len};
+    ghost use Rattle.uda_image.specs.declared.store.TheConstants.{BLOCK_LIMIT};
+
+    ghost Value = { List ℕ };
+
+    ghost view = { λ image. image.bytes.items };
+
+    ghost invariant = { λ image. (vec_len image.bytes % 512 ≡ 0) × (vec_len image.bytes / 512 ≤ BLOCK_LIMIT) };
+}
+
+impl MemImage {
+    /// Makes an image of `blocks` blocks of 512 bytes, all zero. Errs with TooLarge where those are
+    /// more than [`BLOCK_LIMIT`], before memory is asked for, and with NoMemory where the allocator
+    /// has none.
+    #[tactic(auto, using(crate::specs::ImageLaws::image_laws))]
+    pub fn new(alloc: Global, blocks: u32) -> Result<MemImage, ImageError>
+        ensures zeros { IfOk result (λ image. image ≡ replicate (512 * blocks) 0) }
+        ensures size { IfOk result (λ image. block_count_of image ≡ blocks) }
+        ensures blocks { IfOk result (λ image. blocks_of image ≡ replicate blocks (replicate 512 0)) }
+        ensures too_large { (result ≡ Err ImageError.TooLarge) ↔ (BLOCK_LIMIT < blocks) }
+        ensures errors { IfErr result (λ e. (e ≡ ImageError.NoMemory) ⊎ (e ≡ ImageError.TooLarge)) }
+    {
+        if blocks > BLOCK_LIMIT {
+            return Err(ImageError::TooLarge);
+        }
+        Ok(MemImage {
+            bytes: Vec::from_elem(alloc, 0, 512 * blocks as usize)?,
+        })
+    }
+
+    /// Makes an image of a copy of `bytes`, block after block. Errs with Length where they are no
+    /// whole number of blocks of 512 bytes, then with TooLarge where those are more than
+    /// [`BLOCK_LIMIT`], both before memory is asked for, and with NoMemory where the allocator has
+    /// none.
+    #[tactic(auto, unfolding(crate::specs::Images::block_count_of))]
+    pub fn from_bytes(alloc: Global, bytes: &[u8]) -> Result<MemImage, ImageError>
+        ensures value { IfOk result (λ image. image ≡ bytes.now) }
+        ensures size { IfOk result (λ image. 512 * block_count_of image ≡ length bytes.now) }
+        ensures length { (result ≡ Err ImageError.Length) ↔ (length bytes.now % 512 ≢ 0) }
+        ensures too_large { (result ≡ Err ImageError.TooLarge)
+            ↔ ((length bytes.now % 512 ≡ 0) × (BLOCK_LIMIT < length bytes.now / 512)) }
+        ensures errors { result ≢ Err ImageError.Open }
+    {
+        count_blocks(bytes.len() as u64)?;
+        Ok(MemImage {
+            bytes: Vec::from_slice(alloc, bytes)?,
+        })
+    }
+
+    /// The bytes of all blocks, block after block.
+    pub fn bytes(&self) -> &[u8]
+        ensures value { result.now ≡ self.now }
+        ensures whole { length result.now % 512 ≡ 0 }
+        ensures within_limit { length result.now / 512 ≤ BLOCK_LIMIT }
+    {
+        self.bytes.as_slice()
+    }
+
+    // Writes the bytes of block `n`.
+    #[tactic(auto, unfolding(crate::specs::Images::block_count_of, crate::specs::Images::with_block))]
+    fn put_block(&mut self, n: u32, block: &[u8; 512])
+        requires { n < block_count_of self.old }
+        ensures { self.new ≡ with_block self.old n block.now }
+    {
+        let start = 512 * n as usize;
+        self.bytes
+            .slice_mut(start..start + 512)
+            .copy_from_slice(block);
+    }
+}
+
+impl BlockStore for MemImage {
+    ghost blocks = { blocks_of };
+
+    ghost block_count = { block_count_of };
+
+    ghost faithful = { λ _. true };
+
+    ghost failures = { λ _. 0 };
+
+    ghost within_limit = { block_count-le };
+
+    ghost is_image = { λ image _. IsImage-blocks_of image };
+
+    #[tactic(auto, unfolding(crate::specs::Images::block_count_of))]
+    fn size(&self) -> u32 {
+        (self.bytes.len() / 512) as u32
+    }
+
+    #[tactic(auto, using(crate::specs::ImageLaws::image_laws), unfolding(crate::specs::Images::block_count_of, crate::specs::Images::block_of))]
+    fn read(&mut self, n: u32, to: &mut [u8; 512]) -> Result<(), StoreError>
+        requires { n < block_count_of self.old }
+        ensures succeeds { result ≡ Ok tt }
+        ensures unchanged { self.new ≡ self.old }
+        ensures value { to.new ≡ block_of self.old n }
+        ensures reads { Reads (blocks_of self.old) 0 n (blocks_of self.new) 0 to.new result }
+    {
+        let start = 512 * n as usize;
+        to.copy_from_slice(&self.bytes[start..start + 512]);
+        Ok(())
+    }
+
+    #[tactic(auto, using(crate::specs::ImageLaws::image_laws))]
+    fn write(&mut self, n: u32, from: &[u8; 512]) -> Result<(), StoreError>
+        requires { n < block_count_of self.old }
+        ensures succeeds { result ≡ Ok tt }
+        ensures value { self.new ≡ with_block self.old n from.now }
+        ensures size_stays { block_count_of self.new ≡ block_count_of self.old }
+        ensures writes { Writes (blocks_of self.old) 0 n from.now (blocks_of self.new) 0 result }
+    {
+        self.put_block(n, from);
+        Ok(())
+    }
+}

@@ -1,0 +1,3 @@
+pub mod Put
+pub mod Words
+pub mod Windows

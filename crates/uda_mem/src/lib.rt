@@ -1,0 +1,7 @@
+//! Host memory as a UDA50 sees it over the UNIBUS: an even number of bytes, read and written in
+//! words of 16 bits and in windows of bytes.
+#![tactic(auto)]
+
+mod memory;
+
+pub use memory::{HostMemory, MEMORY_LIMIT, NoMemory};

@@ -1,0 +1,9 @@
+pub mod Fields
+pub mod Codes
+pub mod Texts
+pub mod Written
+pub mod Reading
+pub mod EnvelopeWords
+pub mod Opcodes
+pub mod BadEnds
+pub mod Ranges

@@ -1,0 +1,76 @@
+-- The texts as they are written. MSCP Basic Disk Functions Manual: command and end messages.
+use Rattle.std.specs.Prelude.{ℕ, ◌==◌, ◌||◌, Bool, true, false, Some, None, List, [], ◌∷◌, ◌++◌}
+use Rattle.uda_packet.specs.declared.commands.Command.{Command}
+use Rattle.uda_packet.specs.declared.commands.Op.{Op}
+use Rattle.uda_packet.specs.declared.commands.Op.TheVariants as op
+use Rattle.uda_packet.specs.declared.status.TheConstants.{SUCCESS, AVAILABLE, ALREADY_ONLINE}
+use Rattle.uda_packet.specs.declared.ends.End.{End}
+use Rattle.uda_packet.specs.declared.ends.EndBody.{EndBody}
+use Rattle.uda_packet.specs.declared.ends.EndBody.TheVariants as body
+use Rattle.uda_packet.specs.Fields.{Entry, ◌holds◌, text_of, reference_field, unit_field, code_field, modifiers_field, status_field, count_field, unit_flags_field, address_field, identifier_field, block_field, media_type_field, unit_size_field}
+use Rattle.uda_packet.specs.Codes.{opcode_of, end_code, set_write_protect, software_protection, unit_identifier, controller_identifier, media_type}
+
+-- ---- commands
+
+abbrev pub protection_flags : Bool → ℕ
+protection_flags true = software_protection
+protection_flags false = 0
+
+-- what a command's text holds behind the opcode
+abbrev pub parameters : Op → List Entry
+parameters op.Status = []
+parameters op.Controller = []
+parameters op.Available = []
+parameters (op.Online None) = []
+parameters (op.Online (Some soft)) =
+    modifiers_field holds set_write_protect ∷ unit_flags_field holds (protection_flags soft) ∷ []
+parameters (op.Access count block) = count_field holds count ∷ block_field holds block ∷ []
+parameters (op.Erase count block) = count_field holds count ∷ block_field holds block ∷ []
+parameters (op.Read count address block) =
+    count_field holds count ∷ address_field holds address ∷ block_field holds block ∷ []
+parameters (op.Write count address block) =
+    count_field holds count ∷ address_field holds address ∷ block_field holds block ∷ []
+
+-- the text that a command is written as
+unfoldable pub written_command : Command → List ℕ
+written_command c =
+    text_of (
+    reference_field holds c.reference ∷ unit_field holds c.unit ∷ code_field holds (opcode_of c.op)
+    ∷ parameters c.op)
+
+-- ---- end messages
+
+-- an end message of Get Unit Status tells identifier and media type where the unit is online or available
+abbrev pub tells_status : ℕ → Bool
+tells_status status = (status == SUCCESS) || (status == AVAILABLE)
+
+-- one of Online where the unit is online now, or was
+abbrev pub tells_online : ℕ → Bool
+tells_online status = (status == SUCCESS) || (status == ALREADY_ONLINE)
+
+abbrev pub unit_entries : Bool → ℕ → List Entry
+unit_entries true unit = identifier_field holds (unit_identifier unit) ∷ media_type_field holds media_type ∷ []
+unit_entries false unit = []
+
+-- the controller's identifier, after success alone
+abbrev pub controller_entries : Bool → List Entry
+controller_entries true = identifier_field holds controller_identifier ∷ []
+controller_entries false = []
+
+-- what an end message of this unit and status holds behind the status
+abbrev pub answer_entries : ℕ → ℕ → EndBody → List Entry
+answer_entries unit status body.Invalid = []
+answer_entries unit status (body.Status flags) =
+    unit_flags_field holds flags ∷ unit_entries (tells_status status) unit
+answer_entries unit status body.Controller = controller_entries (status == SUCCESS)
+answer_entries unit status body.Available = []
+answer_entries unit status (body.Online flags size) =
+    unit_flags_field holds flags ∷ (unit_entries (tells_online status) unit ++ unit_size_field holds size ∷ [])
+answer_entries unit status (body.Moved which moved) = count_field holds moved ∷ []
+
+-- the text that an end message is written as
+unfoldable pub written_end : End → List ℕ
+written_end e =
+    text_of (
+    reference_field holds e.reference ∷ unit_field holds e.unit ∷ code_field holds (end_code e.body)
+    ∷ status_field holds e.status ∷ answer_entries e.unit e.status e.body)

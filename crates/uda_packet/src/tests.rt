@@ -1,0 +1,241 @@
+ghost use Rattle.std.specs.Prelude.{◌≡◌};
+
+use super::*;
+use std::test::Fail;
+
+/// A command that is written and read again. The clause is the round trip, whatever the command.
+fn command_again(command: &Command) -> Result<Command, Bad>
+    ensures { result ≡ Ok command.now }
+{
+    decode_command(&encode_command(command))
+}
+
+/// An end message that is written and read again.
+fn end_again(end: &End) -> Option<End>
+    ensures { result ≡ Some end.now }
+{
+    decode_end(&encode_end(end))
+}
+
+/// A text of which these bytes are the beginning, 0 from there on.
+fn text_of(front: &[u8]) -> [u8; 48] {
+    let mut text = [0; 48];
+    for (to, from) in text.iter_mut().zip(front) {
+        *to = *from;
+    }
+    text
+}
+
+/// The text with 0xFF in every byte but the named ones.
+fn with_noise(text: &[u8; 48], named: &[usize]) -> [u8; 48] {
+    let mut noisy = *text;
+    for (i, byte) in noisy.iter_mut().enumerate() {
+        if !named.contains(&i) {
+            *byte = 0xff;
+        }
+    }
+    noisy
+}
+
+/// Read of one block: reference 1, unit 0, 512 bytes, address 0x1000, block 5.
+const READ: [u8; 32] = [
+    0x01, 0x00, 0x00, 0x00, 0x00, 0x00, 0x00, 0x00, 0x21, 0x00, 0x00, 0x00, 0x00, 0x02, 0x00, 0x00,
+    0x00, 0x10, 0x00, 0x00, 0x00, 0x00, 0x00, 0x00, 0x00, 0x00, 0x00, 0x00, 0x05, 0x00, 0x00, 0x00,
+];
+
+/// Its end message.
+const READ_END: [u8; 14] = [
+    0x01, 0x00, 0x00, 0x00, 0x00, 0x00, 0x00, 0x00, 0xa1, 0x00, 0x00, 0x00, 0x00, 0x02,
+];
+
+/// The end message of a Get Unit Status of an available unit 0.
+const STATUS_END: [u8; 32] = [
+    0x01, 0x00, 0x00, 0x00, 0x00, 0x00, 0x00, 0x00, 0x83, 0x00, 0x04, 0x00, 0x00, 0x00, 0x00, 0x00,
+    0x00, 0x00, 0x00, 0x00, 0x00, 0x00, 0x00, 0x00, 0x00, 0x00, 0x00, 0x02, 0x51, 0x10, 0x64, 0x25,
+];
+
+/// The end message of a Set Controller Characteristics.
+const CONTROLLER_END: [u8; 28] = [
+    0x01, 0x00, 0x00, 0x00, 0x00, 0x00, 0x00, 0x00, 0x84, 0x00, 0x00, 0x00, 0x00, 0x00, 0x00, 0x00,
+    0x00, 0x00, 0x00, 0x00, 0x01, 0x00, 0x00, 0x00, 0x00, 0x00, 0x06, 0x01,
+];
+
+/// The end message of an unknown opcode, reference 7, unit 2.
+const UNKNOWN_END: [u8; 12] = [
+    0x07, 0x00, 0x00, 0x00, 0x02, 0x00, 0x00, 0x00, 0x80, 0x00, 0x01, 0x08,
+];
+
+/// Online of unit 3, reference 2, with software protection.
+const ONLINE: [u8; 16] = [
+    0x02, 0x00, 0x00, 0x00, 0x03, 0x00, 0x00, 0x00, 0x09, 0x00, 0x04, 0x00, 0x00, 0x00, 0x00, 0x10,
+];
+
+/// Its end message, on 891,072 blocks.
+const ONLINE_END: [u8; 48] = [
+    0x02, 0x00, 0x00, 0x00, 0x03, 0x00, 0x00, 0x00, 0x89, 0x00, 0x00, 0x00, 0x00, 0x00, 0x00, 0x10,
+    0x00, 0x00, 0x00, 0x00, 0x03, 0x00, 0x00, 0x00, 0x00, 0x00, 0x00, 0x02, 0x51, 0x10, 0x64, 0x25,
+    0x00, 0x00, 0x00, 0x00, 0xc0, 0x98, 0x0d, 0x00, 0x00, 0x00, 0x00, 0x00, 0x00, 0x00, 0x00, 0x00,
+];
+
+#[test]
+fn commands_are_written_and_read(rt: HostRuntime) {
+    let read = Command {
+        reference: 1,
+        unit: 0,
+        op: Op::Read {
+            count: 512,
+            address: 0x1000,
+            block: 5,
+        },
+    };
+    assert_eq!(rt; encode_command(&read), text_of(&READ));
+    assert_eq!(rt; decode_command(&text_of(&READ)), Ok(read));
+    let online = Command {
+        reference: 2,
+        unit: 3,
+        op: Op::Online { soft: Some(true) },
+    };
+    assert_eq!(rt; encode_command(&online), text_of(&ONLINE));
+    assert_eq!(rt; decode_command(&text_of(&ONLINE)), Ok(online));
+    assert_eq!(rt; command_again(&online), Ok(online));
+}
+
+#[test]
+fn ends_are_written_and_read(rt: HostRuntime) {
+    let read = End {
+        reference: 1,
+        unit: 0,
+        status: 0,
+        body: EndBody::Moved {
+            kind: Kind::Read,
+            bytes: 512,
+        },
+    };
+    let status = End {
+        reference: 1,
+        unit: 0,
+        status: 0x0004,
+        body: EndBody::Status { flags: 0 },
+    };
+    let online = End {
+        reference: 2,
+        unit: 3,
+        status: 0,
+        body: EndBody::Online {
+            flags: 0x1000,
+            size: 891_072,
+        },
+    };
+    let too_long = End {
+        reference: 7,
+        unit: 2,
+        status: 0x0001,
+        body: EndBody::Invalid,
+    };
+    let mut too_long_text = text_of(&UNKNOWN_END);
+    too_long_text[11] = 0;
+    let controller = End {
+        reference: 1,
+        unit: 0,
+        status: 0,
+        body: EndBody::Controller,
+    };
+    for (end, text) in [
+        (read, text_of(&READ_END)),
+        (status, text_of(&STATUS_END)),
+        (online, ONLINE_END),
+        (too_long, too_long_text),
+        (controller, text_of(&CONTROLLER_END)),
+    ] {
+        assert_eq!(rt; encode_end(&end), text);
+        assert_eq!(rt; decode_end(&text), Some(end));
+        assert_eq!(rt; end_again(&end), Some(end));
+    }
+}
+
+#[test]
+fn faults(rt: HostRuntime) -> Result<(), Fail> {
+    // An unknown opcode goes before a stray modifier.
+    let unknown = [7, 0, 0, 0, 2, 0, 0, 0, 0x0b, 0, 1, 0];
+    let bad = decode_command(&text_of(&unknown))
+        .err()
+        .ok_or("0x0B is no opcode")?;
+    assert_eq!(rt; bad.kind, BadKind::Opcode);
+    assert_eq!(rt; bad.body, EndBody::Invalid);
+    assert_eq!(rt; encode_end(&bad.end()), text_of(&UNKNOWN_END));
+
+    // A stray modifier of a Set Controller Characteristics goes before its version.
+    let stray = [9, 0, 0, 0, 0, 0, 0, 0, 4, 0, 1, 0, 1, 0];
+    let bad = decode_command(&text_of(&stray))
+        .err()
+        .ok_or("0x0001 is no modifier")?;
+    assert_eq!(rt; bad.kind, BadKind::Modifiers);
+    assert_eq!(rt; bad.body, EndBody::Controller);
+    assert_eq!(rt; bad.end().status, 0x0a01);
+    let version = [9, 0, 0, 0, 0, 0, 0, 0, 4, 0, 0, 0, 1, 0];
+    let bad = decode_command(&text_of(&version))
+        .err()
+        .ok_or("version 1 is unknown")?;
+    assert_eq!(rt; bad.kind, BadKind::Version);
+    assert_eq!(rt; bad.body, EndBody::Controller);
+    assert_eq!(rt; bad.end().status, 0x0c01);
+    Ok(())
+}
+
+#[test]
+fn online_flags(rt: HostRuntime) {
+    for (modifiers, flags, soft) in [
+        (0x04, 0x30, Some(true)),
+        (0x04, 0x20, Some(false)),
+        (0x00, 0x10, None),
+    ] {
+        let text = text_of(&[2, 0, 0, 0, 3, 0, 0, 0, 9, 0, modifiers, 0, 0, 0, 0, flags]);
+        let online = Command {
+            reference: 2,
+            unit: 3,
+            op: Op::Online { soft },
+        };
+        assert_eq!(rt; decode_command(&text), Ok(online));
+    }
+}
+
+#[test]
+fn other_bytes_are_ignored(rt: HostRuntime) {
+    // A Read names its reference, unit, opcode, modifiers, count, address and block.
+    let read = text_of(&READ);
+    let noisy = with_noise(
+        &read,
+        &[
+            0, 1, 2, 3, 4, 5, 8, 10, 11, 12, 13, 14, 15, 16, 17, 18, 19, 28, 29, 30, 31,
+        ],
+    );
+    assert_eq!(rt; decode_command(&noisy), decode_command(&read));
+
+    // An end message of Online tells nothing more by its flags, identifier and media type.
+    let noisy = with_noise(
+        &ONLINE_END,
+        &[0, 1, 2, 3, 4, 5, 8, 10, 11, 14, 15, 36, 37, 38, 39],
+    );
+    assert_eq!(rt; decode_end(&noisy), decode_end(&ONLINE_END));
+
+    // Opcodes and end codes are apart.
+    assert_eq!(rt; decode_end(&read), None);
+    assert!(rt; decode_command(&text_of(&READ_END)).is_err());
+}
+
+#[test]
+fn envelopes(rt: HostRuntime) {
+    let first = Envelope {
+        length: 48,
+        credits: 8,
+        kind: 0,
+        connection: 0,
+    };
+    assert_eq!(rt; first.words(), (48, 0x0008));
+    assert_eq!(rt; Envelope::of_words(48, 0x0008), first);
+    let other = Envelope::of_words(60, 0x0251);
+    assert_eq!(rt; other.credits, 1);
+    assert_eq!(rt; other.kind, 5);
+    assert_eq!(rt; other.connection, 2);
+    assert_eq!(rt; other.words(), (60, 0x0251));
+}

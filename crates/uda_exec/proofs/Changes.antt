@@ -1,0 +1,46 @@
+-- Memory that changed at most in one range.
+use Rattle.std.proofs.Common.{◌≡◌, ℕ, ◌+◌, ◌-◌, ◌<◌, ◌≤◌, ◌⊎◌, inl, inr, List, length, get_or, refl, sym, ap, ◌∙◌, arith}
+use Rattle.std.proofs.lemmas.List.{same_lists}
+use Rattle.std.proofs.lemmas.Bool.{cases_lt}
+use Rattle.uda_mem.specs.Put.{put, part}
+use Rattle.uda_mem.proofs.PutLaws.{length-put, length-part, get_or-part, get_or-put_before, get_or-put_at, get_or-put_behind, put-nil, put-put_same}
+use Rattle.uda_exec.specs.Transfers.{ChangesAt}
+
+module _ (old new : List ℕ) (at n : ℕ) where
+  -- by places: the lengths agree, and so does every byte outside
+  pub changes_by_places : length new ≡ length old → ((k d : ℕ) → k < length old → (k < at) ⊎ (at + n ≤ k) → get_or new k d ≡ get_or old k d) → ChangesAt old at n new
+  changes_by_places same outside =
+      same_lists _ _ (same ∙ sym (length-put old at (part new at n))) (λ k d below.
+      let within : k < length old = omega (arith, same) in
+      let size = length-part new at n in
+      elim (cases_lt k at) [
+        | inl low ↦ outside k d within (inl low) ∙ sym (get_or-put_before old at _ k d within low)
+        | inr from ↦ elim (cases_lt k (at + n)) [
+          | inl to ↦ sym (get_or-put_at old at (part new at n) k d within from (omega arith) ∙ get_or-part new at n (k - at) d (omega arith) ∙ ap (λ i. get_or new i d) (omega arith))
+          | inr high ↦ outside k d within (inr high) ∙ sym (get_or-put_behind old at _ k d within (omega arith))
+        ]
+      ])
+
+-- a write inside the range
+pub changes_by_put : (old : List ℕ) (at n place : ℕ) (bytes : List ℕ) → at ≤ place → place + length bytes ≤ at + n → ChangesAt old at n (put old place bytes)
+changes_by_put old at n place bytes from to =
+    changes_by_places old _ at n (length-put old place bytes) (λ k d within outside. elim outside [
+      | inl low ↦ get_or-put_before old place bytes k d within (omega arith)
+      | inr high ↦ get_or-put_behind old place bytes k d within (omega arith)
+    ])
+
+pub changes_none : (old : List ℕ) (at : ℕ) → ChangesAt old at 0 old
+unfolding part
+changes_none old at = sym (put-nil old at)
+
+pub changes_nothing : (old : List ℕ) (at n : ℕ) → ChangesAt old at n old
+changes_nothing old at n = changes_by_places old old at n refl (λ k d within outside. refl)
+
+pub length-changes : (old new : List ℕ) (at n : ℕ) → ChangesAt old at n new → length new ≡ length old
+length-changes old new at n h = ap length h ∙ length-put old at (part new at n)
+
+pub changes_again : (a b c : List ℕ) (at n : ℕ) → ChangesAt a at n b → ChangesAt b at n c → ChangesAt a at n c
+changes_again a b c at n h g =
+    let size_b = length-part b at n in let size_c = length-part c at n in let same = length-changes b c at n g in
+    let over : put (put a at (part b at n)) at (part c at n) ≡ put a at (part c at n) = put-put_same a at (part b at n) (part c at n) (omega arith) in
+    g ∙ ap (λ (m : List ℕ). put m at (part c at n)) h ∙ over

@@ -1,0 +1,140 @@
+-- The order law on small units: that each of its premises is needed, and what three commands do in any order.
+use Rattle.std.proofs.lemmas.Bool.{eq-eqb, both_ways}
+use Rattle.std.specs.Prelude.{nat_eq}
+use Rattle.std.proofs.Common.{◌≡◌, ℕ, Bool, true, false, List, [], ◌∷◌, ◌++◌, get_or, replicate, Some, None, refl, sym, ap, ◌∙◌}
+use Rattle.uda_mem.specs.Put.{put, part}
+use Rattle.uda_packet.specs.declared.commands.Command.{Command}
+use Rattle.uda_packet.specs.declared.commands.Op.{Op}
+use Rattle.uda_packet.specs.declared.commands.Op.TheVariants.{Online, Access, Read, Write}
+use Rattle.uda_packet.specs.declared.ends.End.{End}
+use Rattle.uda_packet.specs.declared.ends.EndBody.TheVariants.{Invalid, Moved}
+use Rattle.uda_packet.specs.declared.ends.Kind.TheVariants.{Read as ReadKind}
+use Rattle.uda_exec.specs.Disks.{Disks}
+use Rattle.uda_exec.specs.Effect.{World, Outcome, Done, Lost, effect}
+use Rattle.uda_exec.specs.Order.{Act, run, run_first}
+
+-- numbers that a computation tells apart
+differ : (m n : ℕ) → nat_eq m n ≡ false → m ≡ n → ⊥
+differ m n apart same = both_ways (nat_eq m n) apart (eq-eqb m n same)
+
+-- unit 0 has three blocks of bytes 1, 2 and 3, and the other units have no drive
+abbrev unit_in : Bool → Disks
+unit_in online = Some (record { blocks = replicate 512 1 ∷ replicate 512 2 ∷ replicate 512 3 ∷ []; size = 3; mode = record { online = online; hard = false; soft = false } }) ∷ None ∷ None ∷ None ∷ []
+
+-- and memory is bytes 9
+abbrev world : Bool → World
+world online = record { memory = replicate 1536 9; disks = unit_in online }
+
+abbrev act : ℕ → Op → Outcome → Act
+act reference op outcome = record { command = record { reference = reference; unit = 0; op = op }; outcome = outcome }
+
+abbrev byte_at : ℕ → List End × World → ℕ
+byte_at at r = get_or r.1.memory at 0
+
+abbrev none : End
+none = record { reference = 0; unit = 0; status = 0; body = Invalid }
+
+abbrev status_at : ℕ → List End × World → ℕ
+status_at k r = (get_or r.0 k none).status
+
+-- a Read of blocks 0 and 1, and a Write of block 1 from bytes 9: their ranges share the Read's last block
+abbrev clashing : List Act
+clashing = act 1 (Read 1024 0 0) Done ∷ act 2 (Write 512 1024 1) Done ∷ []
+
+clash_in_order : byte_at 512 (run clashing (world true)) ≡ 2
+unfolding put part
+clash_in_order = refl
+
+clash_turned : byte_at 512 (run_first 1 (act 2 (Write 512 1024 1) Done) clashing (world true)) ≡ 9
+unfolding put part
+clash_turned = refl
+
+-- so the Write done first is not the list done in order
+pub clash_matters : run_first 1 (act 2 (Write 512 1024 1) Done) clashing (world true) ≡ run clashing (world true) → ⊥
+clash_matters same = differ 9 2 refl (sym clash_turned ∙ ap (byte_at 512) same ∙ clash_in_order)
+
+-- two Reads whose buffers share two bytes: the later one's stand there
+abbrev meeting : List Act
+meeting = act 1 (Read 512 0 0) Done ∷ act 2 (Read 512 510 1) Done ∷ []
+
+meeting_in_order : byte_at 510 (run meeting (world true)) ≡ 2
+unfolding put part
+meeting_in_order = refl
+
+meeting_turned : byte_at 510 (run_first 1 (act 2 (Read 512 510 1) Done) meeting (world true)) ≡ 1
+unfolding put part
+meeting_turned = refl
+
+pub meeting_buffers_matter : run_first 1 (act 2 (Read 512 510 1) Done) meeting (world true) ≡ run meeting (world true) → ⊥
+meeting_buffers_matter same = differ 1 2 refl (sym meeting_turned ∙ ap (byte_at 510) same ∙ meeting_in_order)
+
+-- a Read behind an Online of its unit, which is available: the Read may not go, for done first it is refused
+abbrev behind_online : List Act
+behind_online = act 1 (Online None) Done ∷ act 2 (Read 512 0 0) Done ∷ []
+
+behind_in_order : status_at 1 (run behind_online (world false)) ≡ 0
+unfolding put part
+behind_in_order = refl
+
+behind_turned : status_at 1 (run_first 1 (act 2 (Read 512 0 0) Done) behind_online (world false)) ≡ 4
+unfolding put part
+behind_turned = refl
+
+pub older_online_matters : run_first 1 (act 2 (Read 512 0 0) Done) behind_online (world false) ≡ run behind_online (world false) → ⊥
+older_online_matters same = differ 4 0 refl (sym behind_turned ∙ ap (status_at 1) same ∙ behind_in_order)
+
+-- a Read of block 0, a Write of block 1 that is lost there with bytes 7 left, and an Access of block 2: each of them first gives the same
+abbrev three : List Act
+three = act 1 (Read 512 0 0) Done ∷ act 2 (Write 512 1024 1) (Lost 0 (replicate 512 7)) ∷ act 3 (Access 512 2) Done ∷ []
+
+pub first_of_three : run_first 0 (act 1 (Read 512 0 0) Done) three (world true) ≡ run three (world true)
+unfolding put part
+first_of_three = refl
+
+pub second_of_three : run_first 1 (act 2 (Write 512 1024 1) (Lost 0 (replicate 512 7))) three (world true) ≡ run three (world true)
+unfolding put part
+second_of_three = refl
+
+pub third_of_three : run_first 2 (act 3 (Access 512 2) Done) three (world true) ≡ run three (world true)
+unfolding put part
+third_of_three = refl
+
+-- the Write's end tells the drive error and no whole block, and block 1 holds what was left
+pub second_is_lost : status_at 1 (run three (world true)) ≡ 0x000B
+unfolding put part
+second_is_lost = refl
+
+-- memory of 135,168 bytes, and a unit of eight blocks of which block 5 is bytes 55
+abbrev large : World
+large = record {
+  memory = replicate 135168 0;
+  disks = Some (record { blocks = replicate 5 (replicate 512 0) ++ replicate 512 55 ∷ replicate 2 (replicate 512 0); size = 8; mode = record { online = true; hard = false; soft = false } }) ∷ None ∷ None ∷ None ∷ [];
+}
+
+abbrev reads : ℕ → ℕ → Command
+reads count address = record { reference = 1; unit = 0; op = Read count address 5 }
+
+abbrev moved : ℕ → ℕ → End
+moved status bytes = record { reference = 1; unit = 0; status = status; body = Moved ReadKind bytes }
+
+-- a Read of block 5 to address 0x1000 succeeds, and the block stands there
+pub read_one_block : (effect Done (reads 512 0x1000) large).0 ≡ moved 0 512
+unfolding put part
+read_one_block = refl
+
+pub read_one_block-bytes : part (effect Done (reads 512 0x1000) large).1.memory 0x1000 512 ≡ replicate 512 55
+unfolding put part
+read_one_block-bytes = refl
+
+-- an odd address, an odd count, a count of no whole blocks, a buffer past the end of memory: refused, and nothing changes
+pub refused_address : effect Done (reads 512 0x1001) large ≡ (moved 0x0029 0, large)
+refused_address = refl
+
+pub refused_odd_count : effect Done (reads 513 0x1000) large ≡ (moved 0x0049 0, large)
+refused_odd_count = refl
+
+pub refused_count : effect Done (reads 514 0x1000) large ≡ (moved 0x0C01 0, large)
+refused_count = refl
+
+pub refused_memory : effect Done (reads 512 0x21000) large ≡ (moved 0x0069 0, large)
+refused_memory = refl

@@ -1,0 +1,9 @@
+pub mod Status
+pub mod Disks
+pub mod Commands
+pub mod Effect
+pub mod Drives
+pub mod Faults
+pub mod Transfers
+pub mod Execution
+pub mod Order

@@ -1,0 +1,99 @@
+-- Which pending command may go, and what a list of commands does in order and out of it.
+-- MSCP Basic Disk Functions Manual: command ordering.
+use Rattle.std.specs.Prelude.{◌≡◌, ℕ, ◌<◌, Bool, true, ◌&&◌, ◌||◌, not, nat_eq, List, [], ◌∷◌, ◌++◌, length, map, Some, slice_get, insert, remove, All, AllPairs, if◌then◌else◌}
+use Rattle.uda_mem.specs.Put.{put, part, Meet}
+use Rattle.uda_packet.specs.declared.commands.Command.{Command}
+use Rattle.uda_packet.specs.declared.commands.Op.{Op}
+use Rattle.uda_packet.specs.declared.commands.Op.TheVariants.{Write}
+use Rattle.uda_packet.specs.declared.ends.End.{End}
+use Rattle.uda_exec.specs.Disks.{Disks}
+use Rattle.uda_exec.specs.Commands.{is_controller, is_transfer, changes_blocks, block_of, blocks_of, address_of, room_of}
+use Rattle.uda_exec.specs.Effect.{World, Outcome, effect}
+
+-- two commands speak of one unit; Set Controller Characteristics is of a unit of its own
+abbrev pub same_unit : Command → Command → Bool
+same_unit c d = if is_controller c.op then is_controller d.op else not (is_controller d.op) && nat_eq c.unit d.unit
+
+-- a command may pass an older one of another unit, and a transfer may pass a transfer
+abbrev pub may_pass : Command → Command → Bool
+may_pass older c = not (same_unit older c) || (is_transfer older.op && is_transfer c.op)
+
+-- the command at place j may be done next: it may pass every older one
+pub record MayGo (pending : List Command) (j : ℕ) : Type 0 where
+  pub stands : j < length pending
+  pub passes : (i : ℕ) (older c : Command) → i < j → slice_get pending i ≡ Some older → slice_get pending j ≡ Some c → may_pass older c ≡ true
+
+-- two transfers of one unit clash where some block lies in both ranges and one of them changes blocks
+pub record Clash (c d : Command) : Type 0 where
+  pub transfers : is_transfer c.op && is_transfer d.op ≡ true
+  pub one_unit : c.unit ≡ d.unit
+  pub changes : changes_blocks c.op || changes_blocks d.op ≡ true
+  pub meet : Meet (block_of c.op) (blocks_of c.op) (block_of d.op) (blocks_of d.op)
+
+-- two commands are apart: they don't clash, and their buffers have no byte in common
+pub record Apart (c d : Command) : Type 0 where
+  pub no_clash : Clash c d → ⊥
+  pub no_overlap : Meet (address_of c.op) (room_of c.op) (address_of d.op) (room_of d.op) → ⊥
+
+-- a command, and how it ends
+pub record Act : Type 0 where
+  pub command : Command
+  pub outcome : Outcome
+
+abbrev pub commands_of : List Act → List Command
+commands_of acts = map (λ act. act.command) acts
+
+abbrev pub done : Act → World → End × World
+done act w = effect act.outcome act.command w
+
+-- a list of commands done in order: each end at its command's place, and the world afterwards
+abbrev pub run : List Act → World → List End × World
+run [] w = ([], w)
+run (act ∷ rest) w = let now = done act w in let later = run rest now.1 in (now.0 ∷ later.0, later.1)
+
+-- the same with this act, which stands at place j, done first
+abbrev pub run_first : ℕ → Act → List Act → World → List End × World
+run_first j act acts w = let now = done act w in let later = run (remove acts j) now.1 in (insert later.0 j now.0, later.1)
+
+-- whichever command that may go is done first, the ends are the same, each its own, and so are the units and memory
+abbrev pub OrderIsFree : Type 0
+OrderIsFree =
+    (acts : List Act) (j : ℕ) (act : Act) (w : World)
+    → AllPairs Apart (commands_of acts) → MayGo (commands_of acts) j → slice_get acts j ≡ Some act
+    → run_first j act acts w ≡ run acts w
+
+-- doing a list and then one more command is doing the longer list
+abbrev pub OneMore : Type 0
+OneMore =
+    (acts : List Act) (act : Act) (w : World)
+    → run (acts ++ act ∷ []) w ≡ ((run acts w).0 ++ (done act (run acts w).1).0 ∷ [], (done act (run acts w).1).1)
+
+-- bytes at a place meet no buffer of the commands
+abbrev pub IsBeside : ℕ → ℕ → List Act → Type 0
+IsBeside at n acts = All (λ act. Meet at n (address_of act.command.op) (room_of act.command.op) → ⊥) acts
+
+abbrev pub with_bytes : World → ℕ → List ℕ → World
+with_bytes w at bytes = record w { memory = put w.memory at bytes }
+
+-- bytes put into memory beside all buffers of a list pass through doing it
+abbrev pub PassesThrough : Type 0
+PassesThrough =
+    (acts : List Act) (at : ℕ) (bytes : List ℕ) (w : World) → IsBeside at (length bytes) acts
+    → run acts (with_bytes w at bytes) ≡ ((run acts w).0, with_bytes (run acts w).1 at bytes)
+
+-- the bytes that a command reads from memory: a Write's buffer, and nothing for the others
+abbrev pub data_of : Op → List ℕ → List ℕ
+data_of (Write count address block) memory = part memory address count
+data_of _ memory = []
+
+-- two memories of one length hold the same bytes in the buffers of a list's Writes
+pub record SameData (acts : List Act) (memory other : List ℕ) : Type 0 where
+  pub same_length : length memory ≡ length other
+  pub same_bytes : All (λ act. data_of act.command.op memory ≡ data_of act.command.op other) acts
+
+-- the ends and the units of a list depend on no byte of memory outside its Writes' buffers
+abbrev pub DependsOnDataAlone : Type 0
+DependsOnDataAlone =
+    (acts : List Act) (memory other : List ℕ) (disks : Disks) → SameData acts memory other
+    → (((run acts (record { memory = memory; disks = disks })).0 ≡ (run acts (record { memory = other; disks = disks })).0)
+    × ((run acts (record { memory = memory; disks = disks })).1.disks ≡ (run acts (record { memory = other; disks = disks })).1.disks))

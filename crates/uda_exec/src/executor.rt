@@ -1,0 +1,174 @@
+//! The executor: four units, and the commands that it has accepted.
+ghost use Rattle.std.specs.Prelude.{◌≡◌, ℕ, ◌+◌, ◌<◌, ◌≤◌, ◌↔◌, [], ◌∷◌, ◌++◌, length, map, option_map, IsNone, IfNone, IfSome};
+ghost use Rattle.uda_exec.specs.Disks.{HoldsImage, AreImages};
+ghost use Rattle.uda_exec.specs.Drives.{seen_of, seen_in, fresh, fresh_units, drives_in, reset_unit};
+ghost use Rattle.uda_exec.specs.Execution.{Executes, ExecutesAt};
+
+use crate::checks::is_controller;
+use crate::places::Place;
+use crate::replies::{plain_body, refuse, reply};
+use arrayvec::ArrayVec;
+use std::marker::Model;
+use uda_image::{BlockStore, Drive};
+use uda_mem::HostMemory;
+use uda_packet::{Command, End, status};
+
+/// How many commands may be pending.
+pub const PENDING: usize = 8;
+
+/// Four units, numbered from 0, and the commands that were accepted and are not yet done.
+#[derive(Drop)]
+pub struct Exec<S: BlockStore> {
+    places: [Option<Place<S>>; 4],
+    pending: ArrayVec<Command, PENDING>,
+}
+
+// Clauses see the units as volumes, and the pending commands in order.
+impl<S: BlockStore> Model for Exec<S> {
+    ghost use Rattle.uda_exec.specs.Disks.{State};
+    ghost use Rattle.arrayvec.specs.ArrayVec.{array_vec_len};
+    ghost use Rattle.std.specs.Prelude.{◌≡◌, length};
+
+    ghost Value = { State };
+
+    ghost view = { λ e. record { units = e.places; pending = e.pending.items } };
+
+    ghost invariant = { λ e. length e.places ≡ 4 };
+}
+
+fn place_of<S: BlockStore>(drive: Option<Drive<S>>) -> Option<Place<S>>
+    ensures place { result ≡ option_map fresh (option_map (seen_of S.blocks S.block_count S.faithful S.failures) drive) }
+    ensures image { HoldsImage result }
+{
+    match drive {
+        None => None,
+        Some(drive) => Some(Place::new(drive)),
+    }
+}
+
+fn places_of<S: BlockStore>(drives: [Option<Drive<S>>; 4]) -> [Option<Place<S>>; 4]
+    ensures places { result ≡ fresh_units (map (option_map (seen_of S.blocks S.block_count S.faithful S.failures)) drives) }
+    ensures four { length result ≡ 4 }
+    ensures images { AreImages result }
+{
+    let [a, b, c, d] = drives;
+    [place_of(a), place_of(b), place_of(c), place_of(d)]
+}
+
+impl<S: BlockStore> Exec<S> {
+    pub fn new(drives: [Option<Drive<S>>; 4]) -> Exec<S>
+        ensures units { result.units ≡ fresh_units (map (option_map (seen_of S.blocks S.block_count S.faithful S.failures)) drives) }
+        ensures pending { result.pending ≡ [] }
+        ensures four { length result.units ≡ 4 }
+        ensures images { AreImages result.units }
+    {
+        Exec {
+            places: places_of(drives),
+            pending: ArrayVec::new(),
+        }
+    }
+
+    /// Takes in a command, behind those that are pending.
+    pub fn accept(&mut self, command: Command)
+        requires { length self.old.pending < PENDING }
+        ensures { self.new ≡ record self.old { pending = self.old.pending ++ command ∷ [] } }
+    {
+        self.pending.push(command);
+    }
+
+    /// How many commands are pending, at most `PENDING`.
+    pub fn pending(&self) -> usize
+        ensures count { result ≡ length self.now.pending }
+        ensures within { result ≤ PENDING }
+    {
+        self.pending.len()
+    }
+
+    /// Executes the oldest pending command and answers its end message, or None where nothing is pending.
+    pub fn execute_one(&mut self, memory: &mut HostMemory) -> Option<End>
+        ensures idle { IsNone result ↔ (self.old.pending ≡ []) }
+        ensures unchanged { IfNone result ((self.new ≡ self.old) × (memory.new ≡ memory.old)) }
+        ensures images { AreImages self.old.units → AreImages self.new.units }
+        ensures executes { IfSome result (λ end. (j : ℕ) × ExecutesAt j self.old memory.old end self.new memory.new) }
+
+        // Until commands may be chosen, the oldest goes.
+        ensures oldest { IfSome result (λ end. ExecutesAt 0 self.old memory.old end self.new memory.new) }
+    {
+        if self.pending.is_empty() {
+            return None;
+        }
+        let command = self.pending.remove(0);
+        Some(execute(&mut self.places, command, memory))
+    }
+
+    /// Forgets the pending commands, and makes every unit with a drive available, without software
+    /// protection. Blocks stay.
+    pub fn reset(&mut self)
+        ensures units { self.new.units ≡ map reset_unit self.old.units }
+        ensures pending { self.new.pending ≡ [] }
+    {
+        self.pending.clear();
+        reset(&mut self.places);
+    }
+
+    /// The drives, taken out.
+    pub fn into_stores(self) -> [Option<Drive<S>>; 4]
+        ensures { map (option_map (seen_of S.blocks S.block_count S.faithful S.failures)) result ≡ drives_in self.units }
+    {
+        drives_of(self.places)
+    }
+}
+
+fn drive_of<S: BlockStore>(place: Option<Place<S>>) -> Option<Drive<S>>
+    ensures { option_map (seen_of S.blocks S.block_count S.faithful S.failures) result ≡ option_map seen_in place }
+{
+    match place {
+        None => None,
+        Some(place) => Some(place.into_drive()),
+    }
+}
+
+fn drives_of<S: BlockStore>(places: [Option<Place<S>>; 4]) -> [Option<Drive<S>>; 4]
+    ensures { map (option_map (seen_of S.blocks S.block_count S.faithful S.failures)) result ≡ drives_in places }
+{
+    let [a, b, c, d] = places;
+    [drive_of(a), drive_of(b), drive_of(c), drive_of(d)]
+}
+
+fn reset_place<S: BlockStore>(place: &mut Option<Place<S>>)
+    ensures { place.new ≡ reset_unit place.old }
+{
+    if let Some(place) = place {
+        place.reset();
+    }
+}
+
+fn reset<S: BlockStore>(places: &mut [Option<Place<S>>])
+    ensures { places.new ≡ map reset_unit places.old }
+{
+    for place in places.iter_mut() {
+        reset_place(place);
+    }
+}
+
+// Does one command on the units.
+fn execute<S: BlockStore>(
+    places: &mut [Option<Place<S>>],
+    command: Command,
+    memory: &mut HostMemory,
+) -> End
+    ensures executes { Executes command places.old memory.old result places.new memory.new }
+    ensures images { AreImages places.old → AreImages places.new }
+{
+    if is_controller(command.op) {
+        return reply(command, status::SUCCESS, plain_body(command.op, 0));
+    }
+    let unit = usize::from(command.unit);
+    if unit >= places.len() {
+        return refuse(command, status::UNIT_UNKNOWN);
+    }
+    match &mut places[unit] {
+        None => refuse(command, status::NO_VOLUME),
+        Some(place) => place.execute(command, memory),
+    }
+}

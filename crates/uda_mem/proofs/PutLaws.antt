@@ -62,10 +62,19 @@ module _ {A : Type 0} where
       same_lists _ _ (whole ∙ e) (λ k d below.
       get_or-part (put xs at ys) at n k d (omega arith) ∙ get_or-put_at xs at ys (at + k) d (omega arith) (omega arith) (omega arith) ∙ ap (λ i. get_or ys i d) (omega arith))
 
+  -- a range within the written one reads as that range of what was written
+  pub part-put_inside : (xs : List A) (at : ℕ) (ys : List A) (a n : ℕ) → at + length ys ≤ length xs → at ≤ a → a + n ≤ at + length ys → part (put xs at ys) a n ≡ part ys (a - at) n
+  part-put_inside xs at ys a n room from to =
+      let left : length (part (put xs at ys) a n) ≡ n = length-part-le (put xs at ys) a n (rw length-put (omega arith)) in
+      let right : length (part ys (a - at) n) ≡ n = length-part-le ys (a - at) n (omega arith) in
+      same_lists _ _ (left ∙ sym right) (λ k d below.
+      get_or-part (put xs at ys) a n k d (omega arith) ∙ get_or-put_at xs at ys (a + k) d (omega arith) (omega arith) (omega arith)
+      ∙ ap (λ i. get_or ys i d) (omega arith) ∙ sym (get_or-part ys (a - at) n k d (omega arith)))
+
   -- a range that doesn't meet the written one reads as before
   pub part-put_apart : (xs : List A) (at : ℕ) (ys : List A) (a n : ℕ) → (Meet at (length ys) a n → ⊥) → part (put xs at ys) a n ≡ part xs a n
   part-put_apart xs at ys a n apart =
-      let same : length (part (put xs at ys) a n) ≡ length (part xs a n) = rw (length-part, length-put, length-part) refl in
+      let same : length (part (put xs at ys) a n) ≡ length (part xs a n) = length-part (put xs at ys) a n ∙ ap (λ m. min n (m - a)) (length-put xs at ys) ∙ sym (length-part xs a n) in
       same_lists _ _ same (λ k d below.
       let inside : k < n = omega (arith, length-part (put xs at ys) a n) in
       let within : a + k < length xs = omega (arith, length-part (put xs at ys) a n, length-put xs at ys) in

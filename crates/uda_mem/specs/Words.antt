@@ -11,6 +11,6 @@ HasWord memory at = (at % 2 ≡ 0) × (at + 2 ≤ length memory)
 unfoldable pub word_at : List ℕ → ℕ → ℕ
 word_at memory at = little_number 2 (part memory at 2)
 
--- the two bytes of a word
+-- the two bytes of a word, the low one first
 unfoldable pub word_bytes : ℕ → List ℕ
 word_bytes word = little_bytes 2 word

@@ -1,7 +1,9 @@
 //! Host memory as a UDA50 sees it over the UNIBUS: an even number of bytes, read and written in
-//! words of 16 bits and in windows of bytes.
+//! words of 16 bits, low byte first, and in windows of bytes.
 #![tactic(auto)]
 
 mod memory;
+#[cfg(test)]
+mod tests;
 
 pub use memory::{HostMemory, MEMORY_LIMIT, NoMemory};

@@ -8,8 +8,8 @@ use std::error::Error;
 use std::fmt;
 use std::marker::Model;
 
-/// The most bytes that host memory has: the 18-bit addresses of the UNIBUS less the 8,192 bytes
-/// of its I/O page.
+/// The most bytes that host memory has: the 262,144 addresses of the UNIBUS, which are of 18 bits,
+/// less the 8,192 of its I/O page.
 pub const MEMORY_LIMIT: u32 = 253_952;
 
 /// A growth was refused: the allocator had no memory for the call that answers this.
@@ -17,6 +17,10 @@ pub const MEMORY_LIMIT: u32 = 253_952;
 pub struct NoMemory;
 
 impl fmt::Display for NoMemory {
+    ghost use Rattle.std.specs.Prelude.{Some, codes};
+
+    ghost output = { λ _. Some (codes "out of memory") };
+
     fn fmt<W: fmt::Write>(&self, f: &mut fmt::Formatter<W>) -> fmt::Result {
         f.write_str("out of memory")
     }
@@ -31,6 +35,9 @@ impl From<AllocError> for NoMemory {
 }
 
 /// The memory of a host, which contracts see as the list of its bytes.
+///
+/// An address is the place of a byte in that list. A word is two bytes at an even address, the low
+/// byte first (UDA50 Programmer's Documentation Kit: UNIBUS addresses and words).
 #[derive(Debug, Drop)]
 pub struct HostMemory {
     bytes: Vec<u8>,
@@ -48,7 +55,10 @@ impl Model for HostMemory {
 }
 
 impl HostMemory {
-    /// Makes a memory of `len` bytes, all zero.
+    /// Makes a memory of `len` bytes, all zero. No other call takes memory.
+    ///
+    /// `len` is even and at most [`MEMORY_LIMIT`]. Where `alloc` has no room for the bytes the answer
+    /// is [`NoMemory`].
     pub fn new(alloc: Global, len: u32) -> Result<HostMemory, NoMemory>
         requires even { len % 2 ≡ 0 }
         requires within { len ≤ MEMORY_LIMIT }
@@ -59,7 +69,7 @@ impl HostMemory {
         })
     }
 
-    /// How many bytes the memory has.
+    /// How many bytes the memory has: an even number, at most [`MEMORY_LIMIT`].
     pub fn len(&self) -> u32
         ensures len { result ≡ length self.now }
         ensures even { result % 2 ≡ 0 }
@@ -68,16 +78,17 @@ impl HostMemory {
         self.bytes.len() as u32
     }
 
-    /// Whether the `len` bytes from `addr` on all lie in the memory.
+    /// Whether the `len` bytes from address `addr` on all lie in the memory. `addr + len` is taken as
+    /// a whole number, so no sum wraps, and an odd address is allowed.
     pub fn has(&self, addr: u32, len: u32) -> bool
         ensures { IsTrue result ↔ (addr + len ≤ length self.now) }
     {
         addr as usize + len as usize <= self.bytes.len()
     }
 
+    /// The word at the even address `addr`, low byte first; None where `addr` is odd or the two
+    /// bytes don't both lie in the memory.
     #[tactic(auto, unfolding(crate::specs::Put::part, crate::specs::Words::word_at))]
-    /// The word at an even address, low byte first; None where the address is odd or the word
-    /// isn't wholly in memory.
     pub fn read_word(&self, addr: u32) -> Option<u16>
         ensures present { IsSome result ↔ HasWord self.now addr }
         ensures value { IfSome result (λ word. word ≡ word_at self.now addr) }
@@ -89,9 +100,9 @@ impl HostMemory {
         Some(LittleEndian::read_u16(bytes))
     }
 
+    /// Writes `word` at the even address `addr`, low byte first, and no other byte; false, with
+    /// nothing changed, where `addr` is odd or the two bytes don't both lie in the memory.
     #[tactic(auto, unfolding(crate::specs::Put::part, crate::specs::Put::put, crate::specs::Words::word_bytes))]
-    /// Writes a word at an even address, low byte first; false, with nothing changed, where the
-    /// address is odd or the word isn't wholly in memory.
     pub fn write_word(&mut self, addr: u32, word: u16) -> bool
         ensures written { IsTrue result ↔ HasWord self.old addr }
         ensures memory { self.new ≡ (if result then put self.old addr (word_bytes word) else self.old) }
@@ -103,8 +114,9 @@ impl HostMemory {
         true
     }
 
+    /// The `len` bytes from address `addr` on, to be read; None where they don't all lie in the
+    /// memory. An odd address is allowed.
     #[tactic(auto, unfolding(crate::specs::Put::part))]
-    /// The `len` bytes from `addr` on, which may be odd; None where they don't all lie in memory.
     pub fn window(&self, addr: u32, len: u32) -> Option<&[u8]>
         ensures present { IsSome result ↔ (addr + len ≤ length self.now) }
         ensures value { IfSome result (λ bytes. bytes.now ≡ part self.now addr len) }
@@ -116,13 +128,14 @@ impl HostMemory {
 }
 
 impl HostMemory {
-    ghost use Rattle.std.specs.Prelude.{◌≡◌, ℕ, ◌+◌, ◌≤◌, ◌↔◌, length, IsTrue};
+    ghost use Rattle.std.specs.Prelude.{◌≡◌, ℕ, ◌+◌, ◌≤◌, ◌↔◌, length, IsTrue, IsSome, IfSome};
     ghost use Rattle.uda_mem.specs.Put.{part};
     ghost use Rattle.std.specs.Borrow.{sem};
-    ghost use Rattle.uda_mem.specs.Windows.{LendsWindow};
+    ghost use Rattle.uda_mem.specs.Windows.{LendsWindow, LendsWindowIf};
 
+    /// The `len` bytes from address `addr` on, to be written, where they are known to lie in the
+    /// memory ([`has`](HostMemory::has)). What is written lands there and nowhere else.
     #[tactic(auto, unfolding(crate::specs::Put::part, crate::specs::Put::put))]
-    /// The `len` bytes from `addr` on, to be written. What is written lands there and nowhere else.
     pub fn within(&mut self, addr: u32, len: u32) -> &mut [u8]
         requires { addr + len ≤ length self.old }
         ensures* writes_back { sem 𝓛 (LendsWindow self.entry addr result) }
@@ -131,5 +144,29 @@ impl HostMemory {
     {
         let start = addr as usize;
         self.bytes.slice_mut(start..start + len as usize)
+    }
+
+    /// The `len` bytes from address `addr` on, to be written; None, with nothing changed, where they
+    /// don't all lie in the memory. An odd address is allowed. What is written lands there and
+    /// nowhere else.
+    pub fn window_mut(&mut self, addr: u32, len: u32) -> Option<&mut [u8]>
+        ensures* writes_back { sem 𝓛 (LendsWindowIf self.entry addr result) }
+        ensures present { IsSome result ↔ (addr + len ≤ length self.old) }
+        ensures value { IfSome result (λ bytes. bytes.now ≡ part self.old addr len) }
+        ensures len { IfSome result (λ bytes. length bytes.now ≡ len) }
+    {
+        if self.has_mut(addr, len) {
+            Some(self.within(addr, len))
+        } else {
+            None
+        }
+    }
+
+    // What `has` answers, asked of a memory that is then lent on to be written.
+    fn has_mut(&mut self, addr: u32, len: u32) -> bool
+        ensures answer { IsTrue result ↔ (addr + len ≤ length self.old) }
+        ensures unchanged { self.new ≡ self.old }
+    {
+        self.has(addr, len)
     }
 }

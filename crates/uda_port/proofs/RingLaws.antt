@@ -1,0 +1,143 @@
+-- What is posted in a ring, by the descriptor at its place; and that a fetch keeps ring order.
+use Rattle.std.proofs.Common.{◌≡◌, ℕ, ◌^◌, mod-eq_of_lt, ◌+◌, ◌*◌, ◌%◌, ◌<◌, ◌≤◌, ◌⊎◌, inl, inr, Bool, true, false, List, [], ◌∷◌, ◌++◌, length, get_or, set, take, drop, Option, Some, None, refl, sym, ap, ap₂, ◌∙◌, arith, length-set}
+use Rattle.std.specs.Prelude.{nat_le, if◌then◌else◌}
+use Rattle.std.proofs.lemmas.List.{drop_more, append_assoc, append-nil, same_lists, get_or-set_same, get_or-set_other, drop-set-lt, take_more_set, drop_all, take_all}
+use Rattle.std.proofs.lemmas.List.FromFn.{length-map-range_with_len, get_or-map-range_with_len}
+use Rattle.std.proofs.Math.Nat.{mod_self}
+use Rattle.std.proofs.lemmas.Bool.{cases_eq, cases_lt, leb-true, lt-leb, le-leb}
+use Rattle.uda_mem.specs.Put.{put}
+use Rattle.uda_mem.specs.Words.{word_at, word_bytes}
+use Rattle.uda_mem.proofs.PutLaws.{length-put}
+use Rattle.uda_mem.proofs.WordLaws.{length-word_bytes, word_at-put_apart, word_at-put_at}
+use Rattle.uda_port.specs.declared.descriptor.Descriptor.{Descriptor}
+use Rattle.uda_port.specs.declared.command_ring.Fetched.{Fetched}
+use Rattle.uda_port.specs.Ring.{is_owned, given_back, descriptor_at, ring, owned_front, posted, RingState, here, posted_in}
+use Rattle.uda_port.specs.Fetch.{Takes, TakesFirst}
+
+length-ring : (memory : List ℕ) (base n : ℕ) → length (ring memory base n) ≡ n
+length-ring memory base n = length-map-range_with_len _ 0 n
+
+get_or-ring : (memory : List ℕ) (base n k : ℕ) (d : Option Descriptor) → k < n → get_or (ring memory base n) k d ≡ descriptor_at memory (base + 4 * k)
+get_or-ring memory base n k d h = get_or-map-range_with_len (λ k. descriptor_at memory (base + 4 * k)) 0 n k k d h (omega arith)
+
+-- the descriptor at the place comes first
+rotated : (memory : List ℕ) (r : RingState) → r.place < r.count
+    → drop r.place (ring memory r.base r.count) ++ take r.place (ring memory r.base r.count)
+    ≡ descriptor_at memory (here r) ∷ (drop (r.place + 1) (ring memory r.base r.count) ++ take r.place (ring memory r.base r.count))
+rotated memory r within =
+    let all = ring memory r.base r.count in
+    let next : drop r.place all ≡ get_or all r.place None ∷ drop (r.place + 1) all = drop_more all r.place None (omega (arith, length-ring memory r.base r.count)) in
+    let is : get_or all r.place None ≡ descriptor_at memory (here r) = get_or-ring memory r.base r.count r.place None within in
+    ap (λ (ds : List (Option Descriptor)). ds ++ take r.place all) (next ∙ ap (λ (d : Option Descriptor). d ∷ drop (r.place + 1) all) is)
+
+-- the rest of the ring behind its place
+abbrev pub behind : List ℕ → RingState → List (Option Descriptor)
+behind memory r = drop (r.place + 1) (ring memory r.base r.count) ++ take r.place (ring memory r.base r.count)
+
+pub none_posted : (memory : List ℕ) (r : RingState) → r.place < r.count → descriptor_at memory (here r) ≡ None → posted_in memory r ≡ []
+none_posted memory r within h = ap owned_front (rotated memory r within ∙ ap (λ (d : Option Descriptor). d ∷ behind memory r) h)
+
+posted_next : (memory : List ℕ) (r : RingState) (d : Descriptor) (own : Bool) → r.place < r.count → descriptor_at memory (here r) ≡ Some d → is_owned d ≡ own
+    → posted_in memory r ≡ (if own then d ∷ owned_front (behind memory r) else [])
+posted_next memory r d own within h owned =
+    ap owned_front (rotated memory r within ∙ ap (λ (d : Option Descriptor). d ∷ behind memory r) h) ∙ ap (λ (b : Bool). if b then d ∷ owned_front (behind memory r) else []) owned
+
+pub not_owned_posted : (memory : List ℕ) (r : RingState) (d : Descriptor) → r.place < r.count → descriptor_at memory (here r) ≡ Some d → is_owned d ≡ false → posted_in memory r ≡ []
+not_owned_posted memory r d within h owned = posted_next memory r d false within h owned
+
+pub owned_posted : (memory : List ℕ) (r : RingState) (d : Descriptor) → r.place < r.count → descriptor_at memory (here r) ≡ Some d → is_owned d ≡ true
+    → posted_in memory r ≡ d ∷ owned_front (behind memory r)
+owned_posted memory r d within h owned = posted_next memory r d true within h owned
+
+-- a descriptor that the port doesn't own ends a run wherever it stands
+owned_front-append : (ds : List (Option Descriptor)) (d : Descriptor) → is_owned d ≡ false → owned_front (ds ++ Some d ∷ []) ≡ owned_front ds
+owned_front-append [] d h = rw h refl
+owned_front-append (None ∷ rest) d h = refl
+owned_front-append (Some x ∷ rest) d h = ap (λ (xs : List Descriptor). if is_owned x then x ∷ xs else []) (owned_front-append rest d h)
+
+-- a write of one descriptor's second word leaves the other descriptors
+descriptor_at-put_other : (memory : List ℕ) (at other word : ℕ) → (at + 4 ≤ other) ⊎ (other + 4 ≤ at) → descriptor_at (put memory (at + 2) (word_bytes word)) other ≡ descriptor_at memory other
+descriptor_at-put_other memory at other word apart =
+    let two = length-word_bytes word in
+    let low = word_at-put_apart memory (at + 2) (word_bytes word) other (λ meet. elim apart [ inl h ↦ omega arith | inr h ↦ omega arith ]) in
+    let high = word_at-put_apart memory (at + 2) (word_bytes word) (other + 2) (λ meet. elim apart [ inl h ↦ omega arith | inr h ↦ omega arith ]) in
+    let make : ℕ → ℕ → ℕ → Option Descriptor = λ size l h. if nat_le (other + 4) size then Some (record { low = l; high = h }) else None in
+    ap (λ (n : ℕ). make n (word_at (put memory (at + 2) (word_bytes word)) other) (word_at (put memory (at + 2) (word_bytes word)) (other + 2))) (length-put memory (at + 2) (word_bytes word))
+    ∙ ap₂ (make (length memory)) low high
+
+pub descriptor_at-within : (memory : List ℕ) (at : ℕ) (d : Descriptor) → descriptor_at memory at ≡ Some d → at + 4 ≤ length memory
+descriptor_at-within memory at d h = go (nat_le (at + 4) (length memory)) refl h
+  where
+    go : (fits : Bool) → nat_le (at + 4) (length memory) ≡ fits → (if fits then Some (record { low = word_at memory at; high = word_at memory (at + 2) }) else None) ≡ Some d → at + 4 ≤ length memory
+    go true is h = leb-true (at + 4) (length memory) is
+    go false is h = absurd (cc)
+
+-- and makes that one the port's no more
+descriptor_at-put_here : (memory : List ℕ) (at word : ℕ) → at + 4 ≤ length memory → word < 2 ^ 16
+    → descriptor_at (put memory (at + 2) (word_bytes word)) at ≡ Some (record { low = word_at memory at; high = word })
+descriptor_at-put_here memory at word room fits =
+    let two = length-word_bytes word in
+    let low = word_at-put_apart memory (at + 2) (word_bytes word) at (λ meet. omega arith) in
+    let high = word_at-put_at memory (at + 2) word (omega arith) fits in
+    let make : ℕ → ℕ → Option Descriptor = λ l h. Some (record { low = l; high = h }) in
+    rw (length-put, le-leb (at + 4) (length memory) room) (ap₂ make low high)
+
+given_back-fits : (high : ℕ) → given_back high < 2 ^ 16
+given_back-fits high = omega arith
+
+given_back-free : (low high : ℕ) → is_owned (record { low = low; high = given_back high }) ≡ false
+given_back-free low high = lt-leb 32768 (given_back high) (omega arith)
+
+-- the ring after the give back: the descriptor at the place is another, and the others are as they were
+ring_after : (memory : List ℕ) (r : RingState) (word : ℕ) → r.place < r.count → here r + 4 ≤ length memory → word < 2 ^ 16
+    → ring (put memory (here r + 2) (word_bytes word)) r.base r.count ≡ set (ring memory r.base r.count) r.place (Some (record { low = word_at memory (here r); high = word }))
+ring_after memory r word within room fits =
+    let memory' = put memory (here r + 2) (word_bytes word) in
+    let given : Option Descriptor = Some (record { low = word_at memory (here r); high = word }) in
+    let long : r.place < length (ring memory r.base r.count) = omega (arith, length-ring memory r.base r.count) in
+    same_lists _ _ (length-ring memory' r.base r.count ∙ sym (length-set (ring memory r.base r.count) r.place given ∙ length-ring memory r.base r.count)) (λ k d below.
+    let inside : k < r.count = omega (arith, length-ring memory' r.base r.count) in
+    get_or-ring memory' r.base r.count k d inside ∙ elim (cases_eq k r.place) [
+      | inl is ↦
+          let there : r.base + 4 * k ≡ here r = ap (λ i. r.base + 4 * i) is in
+          ap (descriptor_at memory') there ∙ descriptor_at-put_here memory (here r) word room fits
+          ∙ sym (ap (λ i. get_or (set (ring memory r.base r.count) r.place given) i d) is ∙ get_or-set_same (ring memory r.base r.count) r.place given d long)
+      | inr apart ↦
+          let other : (here r + 4 ≤ r.base + 4 * k) ⊎ (r.base + 4 * k + 4 ≤ here r) = elim (cases_lt k r.place) [ inl low ↦ inr (omega arith) | inr high ↦ inl (omega (arith, apart)) ] in
+          descriptor_at-put_other memory (here r) (r.base + 4 * k) word other
+          ∙ sym (get_or-set_other (ring memory r.base r.count) r.place k given d apart ∙ get_or-ring memory r.base r.count k d inside)
+    ])
+
+-- the ring seen from the next place, going round
+advanced : (ds : List (Option Descriptor)) (place count : ℕ) (given : Option Descriptor) → place < count → length ds ≡ count
+    → drop ((place + 1) % count) (set ds place given) ++ take ((place + 1) % count) (set ds place given) ≡ (drop (place + 1) ds ++ take place ds) ++ given ∷ []
+advanced ds place count given within long = elim (cases_lt (place + 1) count) [
+  | inl inside ↦
+      let stays : (place + 1) % count ≡ place + 1 = mod-eq_of_lt inside in
+      rw (stays, drop-set-lt (place + 1) ds place given (omega arith), take_more_set ds place given (omega arith)) (sym (append_assoc (drop (place + 1) ds) (take place ds) (given ∷ [])))
+  | inr past ↦
+      let last : place + 1 ≡ count = omega arith in
+      let round : (place + 1) % count ≡ 0 = ap (λ i. i % count) last ∙ mod_self count in
+      let none : drop (place + 1) ds ≡ [] = drop_all (place + 1) ds (omega arith) in
+      let whole : set ds place given ≡ take place ds ++ given ∷ [] = sym (take_all (place + 1) (set ds place given) (omega (arith, length-set ds place given))) ∙ take_more_set ds place given (omega arith) in
+      rw (round, none) (append-nil (set ds place given) ∙ whole)
+]
+
+-- a fetch takes the first that is posted, and leaves the rest posted
+pub takes_first : (old : RingState) (memory : List ℕ) (p : Fetched) (new : RingState) (memory_after : List ℕ) → old.place < old.count → Takes old memory p new memory_after → TakesFirst old memory p new memory_after
+takes_first old memory p new memory_after within t =
+    let room = descriptor_at-within memory (here old) t.first t.is_next in
+    let word = given_back t.first.high in
+    let given : Descriptor = record { low = word_at memory (here old); high = word } in
+    let after = ring_after memory old word within room (given_back-fits t.first.high) in
+    let next : RingState = record old { place = (old.place + 1) % old.count } in
+    let rest : posted_in (put memory (here old + 2) (word_bytes word)) next ≡ owned_front (behind memory old) =
+    ap (λ (ds : List (Option Descriptor)). posted ds ((old.place + 1) % old.count)) after
+    ∙ ap owned_front (advanced (ring memory old.base old.count) old.place old.count (Some given) within (length-ring memory old.base old.count))
+    ∙ owned_front-append (behind memory old) given (given_back-free (word_at memory (here old)) t.first.high) in
+    record {
+      first = t.first;
+      in_order = owned_posted memory old t.first within t.is_next t.owned ∙ ap (λ (ds : List Descriptor). t.first ∷ ds) (sym (ap₂ posted_in t.written t.advanced ∙ rest));
+      readable = t.readable;
+      is_packet = t.is_packet;
+    }

@@ -1,0 +1,54 @@
+-- Rings of descriptors in host memory.
+-- UDA50 Programmer's Documentation Kit: communication area, ring descriptors.
+use Rattle.std.specs.Prelude.{◌≡◌, ℕ, ◌+◌, ◌*◌, ◌^◌, ◌%◌, ◌≤◌, Bool, nat_le, List, [], ◌∷◌, ◌++◌, length, take, drop, map, Option, Some, None, if◌then◌else◌}
+use Rattle.std.specs.List.{range_with_len}
+use Rattle.uda_mem.specs.Words.{word_at}
+use Rattle.uda_port.specs.declared.descriptor.Descriptor.{Descriptor}
+
+-- the owner bit is bit 15 of the second word: where it is set, the port owns the descriptor
+abbrev pub is_owned : Descriptor → Bool
+is_owned d = nat_le 32768 d.high
+
+-- the address of the message text: the first word, and bits 13-0 of the second above it
+abbrev pub address_of : Descriptor → ℕ
+address_of d = d.low + 65536 * (d.high % 16384)
+
+-- a second word as the port gives it back: the owner bit clear, the flag bit set, the rest as it was
+abbrev pub given_back : ℕ → ℕ
+given_back high = high % 16384 + 16384
+
+-- the descriptor at an address, if it lies wholly in memory
+abbrev pub descriptor_at : List ℕ → ℕ → Option Descriptor
+descriptor_at memory at = if nat_le (at + 4) (length memory) then Some (record { low = word_at memory at; high = word_at memory (at + 2) }) else None
+
+-- the n descriptors of a ring
+abbrev pub ring : List ℕ → ℕ → ℕ → List (Option Descriptor)
+ring memory base n = map (λ k. descriptor_at memory (base + 4 * k)) (range_with_len 0 n)
+
+-- the owned descriptors at the front of a list, up to the first that the port doesn't own or that isn't in memory
+abbrev pub owned_front : List (Option Descriptor) → List Descriptor
+owned_front [] = []
+owned_front (None ∷ rest) = []
+owned_front (Some d ∷ rest) = if is_owned d then d ∷ owned_front rest else []
+
+-- the longest run of owned descriptors from a place on, going round
+abbrev pub posted : List (Option Descriptor) → ℕ → List Descriptor
+posted descriptors place = owned_front (drop place descriptors ++ take place descriptors)
+
+-- a ring has 1, 2, 4, .. 128 descriptors
+abbrev pub IsRingLength : ℕ → Type 0
+IsRingLength n = (exponent : ℕ) × (exponent ≤ 7) × (n ≡ 2 ^ exponent)
+
+-- a ring as its user sees it: where it starts, how many descriptors it has, and the place of the next
+pub record RingState : Type 0 where
+  pub base : ℕ
+  pub count : ℕ
+  pub place : ℕ
+
+-- the address of the descriptor at the place
+abbrev pub here : RingState → ℕ
+here r = r.base + 4 * r.place
+
+-- what is posted in a ring, from its place on
+abbrev pub posted_in : List ℕ → RingState → List Descriptor
+posted_in memory r = posted (ring memory r.base r.count) r.place

@@ -1,0 +1,61 @@
+//! Ring descriptors. UDA50 Programmer's Documentation Kit: ring descriptors.
+ghost use Rattle.std.specs.Prelude.{◌≡◌};
+
+use uda_mem::HostMemory;
+
+/// The two words of a ring descriptor: bits 15-0 of the text's address; then the owner bit, the
+/// flag bit and the address's high part.
+#[derive(Clone, Copy, Debug, PartialEq, Eq)]
+pub struct Descriptor {
+    pub low: u16,
+    pub high: u16,
+}
+
+/// Bit 15 of the second word: the port owns the descriptor.
+const OWN: u16 = 0x8000;
+
+/// Bit 14 of the second word, which the port sets as it gives the descriptor back.
+const FLAG: u16 = 0x4000;
+
+/// Bits 13-0 of the second word: the high part of the address.
+const ADDRESS_HIGH: u16 = 0x3fff;
+
+impl Descriptor {
+    ghost use Rattle.std.specs.Prelude.{◌≡◌, ◌+◌, ◌%◌, ◌^◌, ◌<◌, OnSome};
+    ghost use Rattle.uda_port.specs.Ring.{descriptor_at, is_owned, address_of, given_back};
+
+    /// The descriptor at an even address, or None where it isn't wholly in memory.
+    pub fn read(memory: &HostMemory, at: u32) -> Option<Descriptor>
+        requires { at % 2 ≡ 0 }
+        ensures descriptor { result ≡ descriptor_at memory.now at }
+        ensures addressable { OnSome result (at + 4 < 2 ^ 32) }
+    {
+        if u64::from(at) + 4 > u64::from(memory.len()) {
+            return None;
+        }
+        let low = memory.read_word(at)?;
+        let high = memory.read_word(at + 2)?;
+        Some(Descriptor { low, high })
+    }
+
+    /// Whether the port owns the descriptor.
+    pub fn is_owned(self) -> bool
+        ensures { result ≡ is_owned self }
+    {
+        self.high >= OWN
+    }
+
+    /// The address of the message text.
+    pub fn address(self) -> u32
+        ensures { result ≡ address_of self }
+    {
+        u32::from(self.low) + 65_536 * u32::from(self.high & ADDRESS_HIGH)
+    }
+
+    /// The second word, given back.
+    pub fn given_back(self) -> u16
+        ensures { result ≡ given_back self.high }
+    {
+        (self.high & ADDRESS_HIGH) + FLAG
+    }
+}

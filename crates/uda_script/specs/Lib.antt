@@ -1,0 +1,2 @@
+pub mod StatusService
+pub mod Statuses

@@ -1,0 +1,63 @@
+//! The program's entry.
+
+ghost use Rattle.std.specs.Prelude.{◌≡◌, ◌≤◌};
+ghost use Rattle.uda_script.specs.Statuses.{status_of};
+
+use crate::fault::Fault;
+use crate::probe::{hexadecimal, probe};
+use crate::words::{Request, read_words};
+use std::alloc::Global;
+use std::io;
+use std::io::{Read, Write};
+
+/// Does what the words ask for, those that follow the program's name, with these three for the
+/// standard streams, and answers the exit status: 0, 1 after a fault, or 2 where the words are none
+/// of the program's. A fault's line goes to `report`.
+///
+/// `probe` writes the end message of one Get Unit Status to `out`, 16 bytes a line.
+pub fn program<R: Read + Drop, W: Write + Drop, V: Write + Drop>(
+    rt: &HostRuntime,
+    words: &[&str],
+    _input: R,
+    mut out: W,
+    mut report: V,
+) -> u8
+    ensures { result ≤ 2 }
+{
+    let done = match read_words(rt.alloc(), words) {
+        Ok(Request::Probe) => print_probe(rt.alloc(), &mut out),
+        Err(fault) => Err(fault),
+    };
+    match done {
+        Ok(()) => 0,
+        Err(fault) => tell(&fault, &mut report),
+    }
+}
+
+/// Ends a program whose words could not be read: out of memory where a growth was refused, and else
+/// the usage case, as for words that are none of the program's. Answers the exit status.
+pub fn unreadable_words<V: Write + Drop>(error: &io::Error, mut report: V) -> u8
+    ensures { result ≤ 2 }
+{
+    let fault = match error.kind() {
+        io::ErrorKind::OutOfMemory => Fault::NoMemory,
+        _ => Fault::Usage,
+    };
+    tell(&fault, &mut report)
+}
+
+// Prints a fault's line, once, and answers its exit status, which stands also where the line can't
+// be written.
+fn tell<V: Write>(fault: &Fault, report: &mut V) -> u8
+    ensures { result ≡ status_of fault.now }
+{
+    let _ = writeln!(report, "{fault}");
+    fault.status()
+}
+
+fn print_probe<W: Write>(alloc: Global, out: &mut W) -> Result<(), Fault> {
+    let text = probe(alloc)?;
+    let lines = hexadecimal(alloc, &text)?;
+    out.write_all(lines.as_bytes()).map_err(|_| Fault::Write)?;
+    out.flush().map_err(|_| Fault::Write)
+}

@@ -56,7 +56,7 @@ owned_front-append (None ∷ rest) d h = refl
 owned_front-append (Some x ∷ rest) d h = ap (λ (xs : List Descriptor). if is_owned x then x ∷ xs else []) (owned_front-append rest d h)
 
 -- a write of one descriptor's second word leaves the other descriptors
-descriptor_at-put_other : (memory : List ℕ) (at other word : ℕ) → (at + 4 ≤ other) ⊎ (other + 4 ≤ at) → descriptor_at (put memory (at + 2) (word_bytes word)) other ≡ descriptor_at memory other
+pub descriptor_at-put_other : (memory : List ℕ) (at other word : ℕ) → (at + 4 ≤ other) ⊎ (other + 4 ≤ at) → descriptor_at (put memory (at + 2) (word_bytes word)) other ≡ descriptor_at memory other
 descriptor_at-put_other memory at other word apart =
     let two = length-word_bytes word in
     let low = word_at-put_apart memory (at + 2) (word_bytes word) other (λ meet. elim apart [ inl h ↦ omega arith | inr h ↦ omega arith ]) in

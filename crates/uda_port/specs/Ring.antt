@@ -1,6 +1,6 @@
 -- Rings of descriptors in host memory.
 -- UDA50 Programmer's Documentation Kit: communication area, ring descriptors.
-use Rattle.std.specs.Prelude.{◌≡◌, ℕ, ◌+◌, ◌*◌, ◌^◌, ◌%◌, ◌≤◌, Bool, nat_le, List, [], ◌∷◌, ◌++◌, length, take, drop, map, Option, Some, None, if◌then◌else◌}
+use Rattle.std.specs.Prelude.{ℕ, ◌+◌, ◌*◌, ◌%◌, Bool, ◌||◌, nat_eq, nat_le, List, [], ◌∷◌, ◌++◌, length, take, drop, map, Option, Some, None, if◌then◌else◌}
 use Rattle.std.specs.List.{range_with_len}
 use Rattle.uda_mem.specs.Words.{word_at}
 use Rattle.uda_port.specs.declared.descriptor.Descriptor.{Descriptor}
@@ -36,8 +36,8 @@ abbrev pub posted : List (Option Descriptor) → ℕ → List Descriptor
 posted descriptors place = owned_front (drop place descriptors ++ take place descriptors)
 
 -- a ring has 1, 2, 4, .. 128 descriptors
-abbrev pub IsRingLength : ℕ → Type 0
-IsRingLength n = (exponent : ℕ) × (exponent ≤ 7) × (n ≡ 2 ^ exponent)
+abbrev pub is_ring_length : ℕ → Bool
+is_ring_length n = nat_eq n 1 || nat_eq n 2 || nat_eq n 4 || nat_eq n 8 || nat_eq n 16 || nat_eq n 32 || nat_eq n 64 || nat_eq n 128
 
 -- a ring as its user sees it: where it starts, how many descriptors it has, and the place of the next
 pub record RingState : Type 0 where

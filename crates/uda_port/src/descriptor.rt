@@ -3,11 +3,16 @@ ghost use Rattle.std.specs.Prelude.{◌≡◌};
 
 use uda_mem::HostMemory;
 
-/// The two words of a ring descriptor: bits 15-0 of the text's address; then the owner bit, the
-/// flag bit and the address's high part.
+/// The two words of a ring descriptor, which a command ring and a response ring have alike. Every
+/// pair of words is a descriptor.
+///
+/// UDA50 Programmer's Documentation Kit: ring descriptors.
 #[derive(Clone, Copy, Debug, PartialEq, Eq)]
 pub struct Descriptor {
+    /// The first word: bits 15-0 of the address of the message text.
     pub low: u16,
+    /// The second word: the owner bit in bit 15, the flag bit in bit 14, and the high part of the
+    /// address in bits 13-0.
     pub high: u16,
 }
 
@@ -24,7 +29,10 @@ impl Descriptor {
     ghost use Rattle.std.specs.Prelude.{◌≡◌, ◌+◌, ◌%◌, ◌^◌, ◌<◌, OnSome};
     ghost use Rattle.uda_port.specs.Ring.{descriptor_at, is_owned, address_of, given_back};
 
-    /// The descriptor at an even address, or None where it isn't wholly in memory.
+    /// The descriptor at the address `at`, or None where its four bytes aren't all in memory.
+    ///
+    /// `at` is even; `at + 4` is taken as a whole number and never wraps, so any such address may be
+    /// asked for.
     pub fn read(memory: &HostMemory, at: u32) -> Option<Descriptor>
         requires { at % 2 ≡ 0 }
         ensures descriptor { result ≡ descriptor_at memory.now at }
@@ -38,21 +46,23 @@ impl Descriptor {
         Some(Descriptor { low, high })
     }
 
-    /// Whether the port owns the descriptor.
+    /// Whether the port owns the descriptor: bit 15 of the second word is set. The flag bit has no
+    /// say in it.
     pub fn is_owned(self) -> bool
         ensures { result ≡ is_owned self }
     {
         self.high >= OWN
     }
 
-    /// The address of the message text.
+    /// The address of the message text, below 2^30. One past 18 bits is in no host memory.
     pub fn address(self) -> u32
         ensures { result ≡ address_of self }
     {
         u32::from(self.low) + 65_536 * u32::from(self.high & ADDRESS_HIGH)
     }
 
-    /// The second word, given back.
+    /// The second word as the port writes it to give the descriptor back to the host: the owner bit
+    /// clear, the flag bit set, and the address bits as they were.
     pub fn given_back(self) -> u16
         ensures { result ≡ given_back self.high }
     {

@@ -1,1 +1,3 @@
 pub mod Writes
+pub mod Probing
+pub mod Bytes

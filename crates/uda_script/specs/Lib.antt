@@ -1,2 +1,4 @@
 pub mod StatusService
+pub mod Probe
+pub mod Hexadecimal
 pub mod Statuses

@@ -1,14 +1,19 @@
 //! The program's entry.
 
-ghost use Rattle.std.specs.Prelude.{◌≡◌, ◌≤◌};
+ghost use Rattle.std.specs.Prelude.{◌≡◌, ◌≢◌, ◌≤◌, OnOk};
+ghost use Rattle.std.specs.Io.KnownBytes.{Appends};
+ghost use Rattle.uda_script.specs.Hexadecimal.{bytes_from};
+ghost use Rattle.uda_script.specs.StatusService.{status_end};
+ghost use Rattle.std.specs.IoError.{error_kind};
 ghost use Rattle.uda_script.specs.Statuses.{status_of};
 
 use crate::fault::Fault;
-use crate::probe::{hexadecimal, probe};
+use crate::hexadecimal::hexadecimal;
+use crate::probe::probe;
 use crate::words::{Request, read_words};
 use std::alloc::Global;
 use std::io;
-use std::io::{Read, Write};
+use std::io::{ErrorKind, Read, Write};
 
 /// Does what the words ask for, those that follow the program's name, with these three for the
 /// standard streams, and answers the exit status: 0, 1 after a fault, or 2 where the words are none
@@ -18,12 +23,13 @@ use std::io::{Read, Write};
 pub fn program<R: Read + Drop, W: Write + Drop, V: Write + Drop>(
     rt: &HostRuntime,
     words: &[&str],
-    _input: R,
+    input: R,
     mut out: W,
     mut report: V,
 ) -> u8
     ensures { result ≤ 2 }
 {
+    drop(input);
     let done = match read_words(rt.alloc(), words) {
         Ok(Request::Probe) => print_probe(rt.alloc(), &mut out),
         Err(fault) => Err(fault),
@@ -37,10 +43,11 @@ pub fn program<R: Read + Drop, W: Write + Drop, V: Write + Drop>(
 /// Ends a program whose words could not be read: out of memory where a growth was refused, and else
 /// the usage case, as for words that are none of the program's. Answers the exit status.
 pub fn unreadable_words<V: Write + Drop>(error: &io::Error, mut report: V) -> u8
-    ensures { result ≤ 2 }
+    ensures memory { error_kind error.now ≡ ErrorKind.OutOfMemory → result ≡ status_of Fault.NoMemory }
+    ensures usage { error_kind error.now ≢ ErrorKind.OutOfMemory → result ≡ status_of Fault.Usage }
 {
     let fault = match error.kind() {
-        io::ErrorKind::OutOfMemory => Fault::NoMemory,
+        ErrorKind::OutOfMemory => Fault::NoMemory,
         _ => Fault::Usage,
     };
     tell(&fault, &mut report)
@@ -55,7 +62,10 @@ fn tell<V: Write>(fault: &Fault, report: &mut V) -> u8
     fault.status()
 }
 
-fn print_probe<W: Write>(alloc: Global, out: &mut W) -> Result<(), Fault> {
+// Prints the end message of one Get Unit Status.
+fn print_probe<W: Write>(alloc: Global, out: &mut W) -> Result<(), Fault>
+    ensures { OnOk result (Appends (W.contents out.old) (W.contents out.new) (bytes_from 0 (status_end 1))) }
+{
     let text = probe(alloc)?;
     let lines = hexadecimal(alloc, &text)?;
     out.write_all(lines.as_bytes()).map_err(|_| Fault::Write)?;

@@ -3,6 +3,7 @@
 
 mod entry;
 mod fault;
+mod hexadecimal;
 mod probe;
 mod status_service;
 mod words;

@@ -119,8 +119,8 @@ fn respond(memory: &mut HostMemory, response: u32, descriptor: Descriptor, refer
     write_word(memory, response + 2, descriptor.given_back());
 }
 
-// Writes a word where there is one.
-fn write_word(memory: &mut HostMemory, at: u32, word: u16)
+/// Writes a word where there is one.
+pub fn write_word(memory: &mut HostMemory, at: u32, word: u16)
     requires { HasWord memory.old at }
     ensures { memory.new ≡ put memory.old at (word_bytes word) }
 {

@@ -1,6 +1,24 @@
-use Rattle.std.proofs.Common.{lit≤, refl}
+use Rattle.std.proofs.Common.{◌≡◌, ◌+◌, ◌≤◌, length, ap, ◌∙◌, arith}
+use Rattle.std.proofs.lemmas.Bool.{false≢true}
+use Rattle.uda_mem.specs.Put.{part}
+use Rattle.uda_mem.proofs.PutLaws.{length-part}
+use Rattle.uda_packet.proofs.WrittenLaws.{length-written_end}
+use Rattle.uda_script.specs.StatusService.{status_end}
+use Rattle.uda_script.proofs.Probing.{probed}
 use Rattle.uda_script.proofs.probe.probe.Goals as goal
+use Rattle.uda_script.proofs.probe.probe.Goals.{in-Some, in_default}
 
--- a ring has 2 ^ 3 descriptors
-pub new-ring-requires-clause-count : goal.new-ring-requires-clause-count
-new-ring-requires-clause-count c = (3, lit≤ tt, refl)
+-- what is printed is what the look delivered
+pub returns : goal.returns
+returns c =
+    let after = c.serve_status.new.memory in
+    let looks = rw (c.set_up.ensures, c.new-ring.ensures) at c.serve_status.ensures in
+    let there : part after 0x0104 48 ≡ status_end 1 = probed c.serve_status.result c.serve_status.new.ring after looks in
+    let size : length (part after 0x0104 48) ≡ 48 = ap length there ∙ length-written_end _ in
+    elim c.match-window.branch [
+      | in-Some w ↦ w.text-is ∙ w.copy_from_slice.ensures.after ∙ w.in-Some.ensures.value ∙ ap (λ at. part after at 48) c.from.ensures ∙ there
+      | in_default w ↦
+          let inside : 0x0104 + 48 ≤ length after = omega (arith, length-part after 0x0104 48, size) in
+          let fits : c.from.result + 48 ≤ length after = rw c.from.ensures inside in
+          let some = rw w.in_default.is at (c.window.ensures.present.1 fits) in absurd (false≢true some)
+    ]

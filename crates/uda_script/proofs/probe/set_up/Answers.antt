@@ -1,0 +1,18 @@
+use Rattle.std.proofs.Common.{◌≡◌, ℕ, List, replicate, ap, ◌∙◌}
+use Rattle.uda_mem.specs.Put.{put}
+use Rattle.uda_packet.specs.Written.{written_command}
+use Rattle.uda_script.specs.declared.probe.TheConstants.{MEMORY, COMMAND_RING, COMMAND_TEXT, RESPONSE_RING, RESPONSE_TEXT}
+use Rattle.uda_script.specs.Probe.{probing, posted_at, probe_memory}
+use Rattle.uda_script.proofs.probe.set_up.Goals as goal
+
+-- two descriptors are posted in a memory of zeros, and then the text is written
+pub returns : goal.returns
+unfolding probe_memory
+returns c =
+    let posted = posted_at (posted_at (replicate MEMORY 0) COMMAND_RING COMMAND_TEXT) RESPONSE_RING RESPONSE_TEXT in
+    let memory : c.post-2.new.memory ≡ posted =
+    c.post-2.ensures.posted ∙ ap (λ (m : List ℕ). posted_at m RESPONSE_RING RESPONSE_TEXT) (c.post.ensures.posted ∙ ap (λ (m : List ℕ). posted_at m COMMAND_RING COMMAND_TEXT) c.requires) in
+    let text : c.copy_from_slice.new.self ≡ written_command probing = c.copy_from_slice.ensures.after ∙ c.encode_command.ensures.written in
+    ap (λ (m : List ℕ). put m c.from.result c.copy_from_slice.new.self) memory
+    ∙ ap (λ at. put posted at c.copy_from_slice.new.self) c.from.ensures
+    ∙ ap (λ (t : List ℕ). put posted COMMAND_TEXT t) text

@@ -1,0 +1,37 @@
+//! Bytes as text.
+
+ghost use Rattle.std.specs.Prelude.{◌≡◌, ◌++◌, ◌<◌, ◌≤◌, OnOk, IfOk};
+ghost use Rattle.std.specs.String.{string_bytes};
+ghost use Rattle.uda_script.specs.Hexadecimal.{digit, byte_at, bytes_from};
+
+use std::alloc::{AllocError, Global};
+
+/// Bytes as lines of 16, each byte two lower-case hexadecimal digits, parted by
+/// single spaces.
+pub fn hexadecimal(alloc: Global, bytes: &[u8]) -> Result<String, AllocError>
+    ensures { IfOk result (λ lines. string_bytes lines ≡ bytes_from 0 bytes.now) }
+{
+    let mut lines = String::with_capacity(alloc, 144)?;
+    for (place, byte) in bytes.iter().enumerate() {
+        push_byte(&mut lines, place, *byte)?;
+    }
+    Ok(lines)
+}
+
+// The byte at a place, and what parts it from the next.
+fn push_byte(lines: &mut String, place: usize, byte: u8) -> Result<(), AllocError>
+    ensures { OnOk result (string_bytes lines.new ≡ string_bytes lines.old ++ byte_at place byte) }
+{
+    lines.push(digit(byte / 16))?;
+    lines.push(digit(byte % 16))?;
+    lines.push(if place % 16 == 15 { '\n' } else { ' ' })?;
+    Ok(())
+}
+
+fn digit(n: u8) -> char
+    requires { n < 16 }
+    ensures value { result ≡ digit n }
+    ensures ascii { result < 128 }
+{
+    char::from(if n < 10 { b'0' + n } else { b'a' - 10 + n })
+}

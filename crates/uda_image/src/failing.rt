@@ -39,7 +39,7 @@ impl FailingImage {
 
     /// Gives back the image, with its blocks as they are now.
     pub fn into_inner(self) -> MemImage
-        ensures { result ≡ self.bytes }
+        ensures bytes { result ≡ self.bytes }
     {
         let FailingImage { inner, .. } = self;
         inner

@@ -62,7 +62,7 @@ impl HostMemory {
     pub fn new(alloc: Global, len: u32) -> Result<HostMemory, NoMemory>
         requires even { len % 2 ≡ 0 }
         requires within { len ≤ MEMORY_LIMIT }
-        ensures { IfOk result (λ m. m ≡ replicate len 0) }
+        ensures zeros { IfOk result (λ m. m ≡ replicate len 0) }
     {
         Ok(HostMemory {
             bytes: Vec::from_elem(alloc, 0, len as usize)?,
@@ -81,7 +81,7 @@ impl HostMemory {
     /// Whether the `len` bytes from address `addr` on all lie in the memory. `addr + len` is taken as
     /// a whole number, so no sum wraps, and an odd address is allowed.
     pub fn has(&self, addr: u32, len: u32) -> bool
-        ensures { IsTrue result ↔ (addr + len ≤ length self.now) }
+        ensures inside { IsTrue result ↔ (addr + len ≤ length self.now) }
     {
         addr as usize + len as usize <= self.bytes.len()
     }
@@ -137,7 +137,7 @@ impl HostMemory {
     /// memory ([`has`](HostMemory::has)). What is written lands there and nowhere else.
     #[tactic(auto, unfolding(crate::specs::Put::part, crate::specs::Put::put))]
     pub fn within(&mut self, addr: u32, len: u32) -> &mut [u8]
-        requires { addr + len ≤ length self.old }
+        requires inside { addr + len ≤ length self.old }
         ensures* writes_back { sem 𝓛 (LendsWindow self.entry addr result) }
         ensures value { result.now ≡ part self.old addr len }
         ensures len { length result.now ≡ len }

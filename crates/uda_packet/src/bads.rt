@@ -40,7 +40,7 @@ impl Bad {
     ///
     /// MSCP Basic Disk Functions Manual: invalid command end message.
     pub fn end(&self) -> End
-        ensures { result ≡ bad_end self.now }
+        ensures end { result ≡ bad_end self.now }
     {
         End {
             reference: self.reference,

@@ -90,7 +90,7 @@ impl CommandRing {
         requires even { base % 2 ≡ 0 }
         requires within { base ≤ RING_BASE_LIMIT }
         requires count { IsTrue (is_ring_length n) }
-        ensures { result ≡ record { base = base; count = n; place = 0 } }
+        ensures ring { result ≡ record { base = base; count = n; place = 0 } }
     {
         CommandRing {
             base,

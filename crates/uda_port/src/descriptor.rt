@@ -34,7 +34,7 @@ impl Descriptor {
     /// `at` is even; `at + 4` is taken as a whole number and never wraps, so any such address may be
     /// asked for.
     pub fn read(memory: &HostMemory, at: u32) -> Option<Descriptor>
-        requires { at % 2 ≡ 0 }
+        requires even { at % 2 ≡ 0 }
         ensures descriptor { result ≡ descriptor_at memory.now at }
         ensures addressable { OnSome result (at + 4 < 2 ^ 32) }
     {
@@ -49,14 +49,14 @@ impl Descriptor {
     /// Whether the port owns the descriptor: bit 15 of the second word is set. The flag bit has no
     /// say in it.
     pub fn is_owned(self) -> bool
-        ensures { result ≡ is_owned self }
+        ensures owned { result ≡ is_owned self }
     {
         self.high >= OWN
     }
 
     /// The address of the message text, below 2^30. One past 18 bits is in no host memory.
     pub fn address(self) -> u32
-        ensures { result ≡ address_of self }
+        ensures address { result ≡ address_of self }
     {
         u32::from(self.low) + 65_536 * u32::from(self.high & ADDRESS_HIGH)
     }
@@ -64,7 +64,7 @@ impl Descriptor {
     /// The second word as the port writes it to give the descriptor back to the host: the owner bit
     /// clear, the flag bit set, and the address bits as they were.
     pub fn given_back(self) -> u16
-        ensures { result ≡ given_back self.high }
+        ensures second_word { result ≡ given_back self.high }
     {
         (self.high & ADDRESS_HIGH) + FLAG
     }

@@ -27,7 +27,7 @@ pub fn program<R: Read + Drop, W: Write + Drop, V: Write + Drop>(
     mut out: W,
     mut report: V,
 ) -> u8
-    ensures { result ≤ 2 }
+    ensures status { result ≤ 2 }
 {
     drop(input);
     let done = match read_words(rt.alloc(), words) {

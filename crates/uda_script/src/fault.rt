@@ -24,7 +24,7 @@ impl Fault {
 
     /// The program's exit status.
     pub fn status(&self) -> u8
-        ensures { result ≡ status_of self.now }
+        ensures status { result ≡ status_of self.now }
     {
         match self {
             Fault::Usage => 2,

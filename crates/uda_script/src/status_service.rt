@@ -36,8 +36,8 @@ pub fn serve_status(
     response: u32,
     memory: &mut HostMemory,
 ) -> Result<bool, RingFault>
-    requires { response % 2 ≡ 0 }
-    ensures { ServesStatus ring.old memory.old response result ring.new memory.new }
+    requires even { response % 2 ≡ 0 }
+    ensures looks { ServesStatus ring.old memory.old response result ring.new memory.new }
 {
     let Some(fetched) = ring.fetch(memory)? else {
         return Ok(false);

@@ -12,7 +12,7 @@ use Rattle.uda_script.proofs.probe.probe.Goals.{in-Some, in_default}
 pub returns : goal.returns
 returns c =
     let after = c.serve_status.new.memory in
-    let looks = rw (c.set_up.ensures, c.new-ring.ensures) at c.serve_status.ensures in
+    let looks = rw (c.set_up.ensures, c.new-ring.ensures.ring) at c.serve_status.ensures.looks in
     let there : part after 0x0104 48 ≡ status_end 1 = probed c.serve_status.result c.serve_status.new.ring after looks in
     let size : length (part after 0x0104 48) ≡ 48 = ap length there ∙ length-written_end _ in
     elim c.match-window.branch [

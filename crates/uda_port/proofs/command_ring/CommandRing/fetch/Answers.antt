@@ -13,7 +13,7 @@ pub returns-then-not-is_owned-clause-order : goal.returns-then-not-is_owned-clau
 returns-then-not-is_owned-clause-order c =
     let ring : RingState = record { base = c.self.inside.base; count = c.self.inside.count; place = c.self.inside.place } in
     let read : descriptor_at c.args.memory.now (here ring) ≡ Some c.in-Some.descriptor = search rules in
-    rw (← c.self.view_is) (not_owned_posted _ ring c.in-Some.descriptor c.self.invariant.3 read (sym c.is_owned.ensures ∙ c.if-not-is_owned.true))
+    rw (← c.self.view_is) (not_owned_posted _ ring c.in-Some.descriptor c.self.invariant.3 read (sym c.is_owned.ensures.owned ∙ c.if-not-is_owned.true))
 
 pub returns-in_default-packet_at-clause-order : goal.returns-in_default-packet_at-clause-order
 returns-in_default-packet_at-clause-order c =
@@ -22,7 +22,7 @@ returns-in_default-packet_at-clause-order c =
     rw (← c.self.view_is) (record {
       first = c.in-Some.descriptor;
       rest = owned_front (behind c.args.memory.now ring);
-      is_first = owned_posted c.args.memory.now ring c.in-Some.descriptor c.self.invariant.3 read (sym c.is_owned.ensures ∙ c.if-not-is_owned.false);
+      is_first = owned_posted c.args.memory.now ring c.in-Some.descriptor c.self.invariant.3 read (sym c.is_owned.ensures.owned ∙ c.if-not-is_owned.false);
       unreadable = search rules;
     })
 

@@ -1,4 +1,6 @@
 //! What a command names, and the checks that a transfer has to pass.
+//!
+//! MSCP Basic Disk Functions Manual: transfer commands, status and event codes.
 ghost use Rattle.std.specs.Prelude.{◌≡◌, ◌<◌, ◌≤◌, ◌↔◌, IsTrue, length, true};
 ghost use Rattle.uda_exec.specs.Commands.{is_controller, is_transfer, changes_blocks, count_of, block_of, address_of, room_of};
 ghost use Rattle.uda_exec.specs.Effect.{transfer_fault};
@@ -31,7 +33,7 @@ pub fn changes_blocks(op: Op) -> bool
     matches!(op, Op::Erase { .. } | Op::Write { .. })
 }
 
-/// The bytes that a transfer is to move; 0 for the other commands.
+/// How many bytes a transfer is to move; 0 for the other commands.
 pub fn count_of(op: Op) -> u32
     ensures { result ≡ count_of op }
 {
@@ -44,7 +46,7 @@ pub fn count_of(op: Op) -> u32
     }
 }
 
-/// The first block of a transfer's range; 0 for the other commands.
+/// The logical block with which a transfer's range begins; 0 for the other commands.
 pub fn block_of(op: Op) -> u32
     ensures { result ≡ block_of op }
 {
@@ -57,7 +59,8 @@ pub fn block_of(op: Op) -> u32
     }
 }
 
-/// The address of a host buffer and how many bytes it has; nothing at 0 where there is none.
+/// The address of a Read's or a Write's host buffer and how many bytes it has; nothing at 0 for the
+/// other commands.
 pub fn buffer_of(op: Op) -> (u32, u32)
     ensures address { result.0 ≡ address_of op }
     ensures room { result.1 ≡ room_of op }
@@ -68,10 +71,14 @@ pub fn buffer_of(op: Op) -> (u32, u32)
     }
 }
 
-/// The checks of a transfer on a unit with a drive, in their order: the status of the first that
-/// fails. `memory` is the length of host memory in bytes, `size` the unit's in blocks.
+/// The checks of a transfer on a unit with a drive, in their order. `memory` is the length of host memory
+/// in bytes, `size` the unit's in blocks.
 ///
-/// MSCP Basic Disk Functions Manual: transfer commands, status codes.
+/// # Errors
+///
+/// The status of the first check that fails, which is never 0.
+///
+/// MSCP Basic Disk Functions Manual: transfer commands, status and event codes.
 pub fn check(op: Op, memory: u32, size: u32, mode: Mode) -> Result<(), u16>
     ensures { IsFault (transfer_fault op memory size mode) result }
 {

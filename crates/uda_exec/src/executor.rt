@@ -1,4 +1,6 @@
 //! The executor: four units, and the commands that it has accepted.
+//!
+//! MSCP Basic Disk Functions Manual: unit states, command ordering.
 ghost use Rattle.std.specs.Prelude.{◌≡◌, ℕ, ◌+◌, ◌<◌, ◌≤◌, ◌↔◌, [], ◌∷◌, ◌++◌, length, map, option_map, IsNone, IfNone, IfSome};
 ghost use Rattle.uda_exec.specs.Disks.{HoldsImage, AreImages};
 ghost use Rattle.uda_exec.specs.Drives.{seen_of, seen_in, fresh, fresh_units, drives_in, reset_unit};
@@ -13,10 +15,17 @@ use uda_image::{BlockStore, Drive};
 use uda_mem::HostMemory;
 use uda_packet::{Command, End, status};
 
-/// How many commands may be pending.
+/// The most commands that may be pending at a time: as many as a host may have out.
 pub const PENDING: usize = 8;
 
 /// Four units, numbered from 0, and the commands that were accepted and are not yet done.
+///
+/// A unit has a drive or none. One with a drive is available or online, and has hardware protection,
+/// software protection, both or neither. Contracts see of each drive its blocks, how many there are, its
+/// mode, whether its store is faithful and how often that has failed, and the pending commands with the
+/// oldest first. Only the stores may take memory or touch a file: the executor itself does neither.
+///
+/// MSCP Basic Disk Functions Manual: unit states, write protection, command ordering.
 #[derive(Drop)]
 pub struct Exec<S: BlockStore> {
     places: [Option<Place<S>>; 4],
@@ -56,6 +65,12 @@ fn places_of<S: BlockStore>(drives: [Option<Drive<S>>; 4]) -> [Option<Place<S>>;
 }
 
 impl<S: BlockStore> Exec<S> {
+    /// An executor with drive `drives[u]` as unit `u`; None is a unit without a drive.
+    ///
+    /// Nothing is pending, and every unit with a drive is available, with its hardware protection as it
+    /// is given and no software protection. No store is called.
+    ///
+    /// MSCP Basic Disk Functions Manual: unit states.
     pub fn new(drives: [Option<Drive<S>>; 4]) -> Exec<S>
         ensures units { result.units ≡ fresh_units (map (option_map (seen_of S.blocks S.block_count S.faithful S.failures)) drives) }
         ensures pending { result.pending ≡ [] }
@@ -68,7 +83,11 @@ impl<S: BlockStore> Exec<S> {
         }
     }
 
-    /// Takes in a command, behind those that are pending.
+    /// Takes in `command`, behind those that are pending. Nothing is done to units or memory yet, and no
+    /// field of the command is judged: whatever its unit number and parameters, it gets an end message
+    /// from [`execute_one`](Exec::execute_one).
+    ///
+    /// There must be room: fewer than [`PENDING`] commands are pending ([`pending`](Exec::pending)).
     pub fn accept(&mut self, command: Command)
         requires { length self.old.pending < PENDING }
         ensures { self.new ≡ record self.old { pending = self.old.pending ++ command ∷ [] } }
@@ -76,7 +95,8 @@ impl<S: BlockStore> Exec<S> {
         self.pending.push(command);
     }
 
-    /// How many commands are pending, at most `PENDING`.
+    /// How many commands are pending: those that were accepted and have no end message yet. At most
+    /// [`PENDING`].
     pub fn pending(&self) -> usize
         ensures count { result ≡ length self.now.pending }
         ensures within { result ≤ PENDING }
@@ -84,7 +104,27 @@ impl<S: BlockStore> Exec<S> {
         self.pending.len()
     }
 
-    /// Executes the oldest pending command and answers its end message, or None where nothing is pending.
+    /// Executes the oldest pending command, takes it out and answers its end message. None where nothing
+    /// is pending, and then nothing changes.
+    ///
+    /// Of `memory` only the buffer of a Read changes, and of the units only the command's own. A command
+    /// that is refused changes nothing. Its status is
+    /// - 0x0003 for a unit of 4 or more and 0x0023 for one without a drive (but Set Controller
+    ///   Characteristics speaks of no unit and succeeds);
+    /// - for a transfer that of the first check that fails: 0x0004 unit not online, 0x0029 odd address,
+    ///   0x0049 odd byte count, 0x0C01 byte count no multiple of 512, 0x1C01 first block not below the
+    ///   unit's size, 0x0C01 range past its end, 0x2006 hardware and 0x1006 software protection of what a
+    ///   Write or an Erase would change, 0x0069 buffer not wholly in memory. Addresses, counts and blocks
+    ///   are judged as whole numbers, so no sum wraps.
+    ///
+    /// A transfer that passes calls the store once a block, in rising order: `read` for Access and Read,
+    /// `write` for Erase and Write. The first call that errs ends it with status 0x000B and the byte count
+    /// of the whole blocks before. That block of a Write's or an Erase's range, or those 512 bytes of a
+    /// Read's buffer, may then hold anything, and what lies behind them is as it was. No other command
+    /// calls a store, but for its size.
+    ///
+    /// MSCP Basic Disk Functions Manual: commands and end messages, status and event codes, command
+    /// ordering.
     pub fn execute_one(&mut self, memory: &mut HostMemory) -> Option<End>
         ensures idle { IsNone result ↔ (self.old.pending ≡ []) }
         ensures unchanged { IfNone result ((self.new ≡ self.old) × (memory.new ≡ memory.old)) }
@@ -101,8 +141,10 @@ impl<S: BlockStore> Exec<S> {
         Some(execute(&mut self.places, command, memory))
     }
 
-    /// Forgets the pending commands, and makes every unit with a drive available, without software
-    /// protection. Blocks stay.
+    /// Forgets the pending commands, which get no end message, and makes every unit with a drive
+    /// available, without software protection. Hardware protection and all blocks stay.
+    ///
+    /// UDA50 Programmer's Documentation Kit: initialisation.
     pub fn reset(&mut self)
         ensures units { self.new.units ≡ map reset_unit self.old.units }
         ensures pending { self.new.pending ≡ [] }
@@ -111,7 +153,8 @@ impl<S: BlockStore> Exec<S> {
         reset(&mut self.places);
     }
 
-    /// The drives, taken out.
+    /// The drives, taken out: drive `u` is that of unit `u`, None where that has none. Each has its blocks
+    /// as the commands left them and its hardware protection. Pending commands are forgotten.
     pub fn into_stores(self) -> [Option<Drive<S>>; 4]
         ensures { map (option_map (seen_of S.blocks S.block_count S.faithful S.failures)) result ≡ drives_in self.units }
     {
@@ -151,7 +194,7 @@ fn reset<S: BlockStore>(places: &mut [Option<Place<S>>])
     }
 }
 
-// Does one command on the units.
+// Does one command on the units: on its own, or on none where there is no such unit.
 fn execute<S: BlockStore>(
     places: &mut [Option<Place<S>>],
     command: Command,

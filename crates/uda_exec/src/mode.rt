@@ -1,15 +1,19 @@
+//! The mode of a unit, which its commands read and set.
+//!
+//! MSCP Basic Disk Functions Manual: unit states, write protection.
 use bitflags::Flags;
 use uda_packet::UnitFlags;
 
-/// Whether a unit is online, and which of its write protections are on. MSCP Basic Disk Functions
-/// Manual: unit states, write protection.
+/// Whether a unit with a drive is online, and which of its write protections are on.
+///
+/// MSCP Basic Disk Functions Manual: unit states, write protection.
 #[derive(Clone, Copy, Debug, PartialEq, Eq)]
 pub struct Mode {
-    /// Online, and not only available.
+    /// Whether the unit is online; otherwise it is available.
     pub online: bool,
-    /// The drive's own write protection.
+    /// The drive's own write protection, which no command changes.
     pub hard: bool,
-    /// The write protection that an Online asked for.
+    /// The write protection that the unit's last Online asked for, which an Available drops.
     pub soft: bool,
 }
 
@@ -19,7 +23,10 @@ impl Mode {
     ghost use Rattle.uda_exec.specs.Effect.{mode_after};
     ghost use Rattle.uda_packet.specs.declared.commands.Op.TheVariants.{Available as AvailableOp, Online as OnlineOp};
 
-    /// The unit flags of an end message.
+    /// The unit flags of an end message: 0x1000 where software protection is on, and 0x2000 where
+    /// hardware protection is.
+    ///
+    /// MSCP Basic Disk Functions Manual: unit flags.
     pub fn flags(self) -> u16
         ensures { result ≡ flags_of self }
     {
@@ -33,7 +40,9 @@ impl Mode {
         flags.bits()
     }
 
-    /// The mode that an Available leaves: available, without software protection.
+    /// The mode that an Available leaves: available, without software protection. So does a start-up.
+    ///
+    /// MSCP Basic Disk Functions Manual: Available command.
     pub fn available(self) -> Mode
         ensures { result ≡ mode_after AvailableOp self }
     {
@@ -44,8 +53,10 @@ impl Mode {
         }
     }
 
-    /// The mode that an Online leaves: a unit that is online stays as it is, and any other is
-    /// online, with software protection where the Online asks for it.
+    /// The mode that an Online leaves: a unit that is online stays as it is, and any other is online,
+    /// with software protection where `soft` asks for it and none where it says no or doesn't say.
+    ///
+    /// MSCP Basic Disk Functions Manual: Online command.
     pub fn online(self, soft: Option<bool>) -> Mode
         ensures { result ≡ mode_after (OnlineOp soft) self }
     {

@@ -1,4 +1,7 @@
-//! The place of one drive, and what its commands do there.
+//! The place of one drive, and what the commands of its unit do there.
+//!
+//! MSCP Basic Disk Functions Manual: Access, Available, Erase, Get Unit Status, Online, Read and Write
+//! commands.
 ghost use Rattle.std.specs.Prelude.{◌≡◌, true, false, length};
 ghost use Rattle.uda_exec.specs.Disks.{HoldsImage};
 ghost use Rattle.uda_exec.specs.Commands.{is_controller, is_transfer, address_of, landing_of};
@@ -51,7 +54,7 @@ impl<S: BlockStore> Place<S> {
         Place { store, mode }
     }
 
-    /// The drive, taken out.
+    /// The drive, taken out, with its hardware protection.
     pub fn into_drive(self) -> Drive<S>
         ensures { seen_of S.blocks S.block_count S.faithful S.failures result ≡ seen_in self }
     {
@@ -69,7 +72,7 @@ impl<S: BlockStore> Place<S> {
         self.mode = self.mode.available();
     }
 
-    // A transfer: the checks, and then the blocks.
+    // Access, Erase, Read or Write: all checks, and then the blocks.
     fn transfer(&mut self, command: Command, memory: &mut HostMemory) -> End
         requires { is_transfer command.op ≡ true }
         ensures answers { Answers command result }
@@ -93,7 +96,7 @@ impl<S: BlockStore> Place<S> {
         }
     }
 
-    // Get Unit Status.
+    // Get Unit Status, which tells an available unit from an online one by its status.
     fn status(&self, command: Command) -> End
         requires { command.op ≡ Op.Status }
         ensures end { result ≡ end_of Done command (Acts self.now.disk) }
@@ -108,7 +111,7 @@ impl<S: BlockStore> Place<S> {
         reply(command, online, EndBody::Status { flags })
     }
 
-    // Available.
+    // Available, which succeeds on an available unit too.
     fn available(&mut self, command: Command) -> End
         requires { command.op ≡ Op.Available }
         ensures end { result ≡ end_of Done command (Acts self.old.disk) }
@@ -119,7 +122,7 @@ impl<S: BlockStore> Place<S> {
         reply(command, status::SUCCESS, plain_body(command.op, 0))
     }
 
-    // Online.
+    // Online, which changes nothing of a unit that is online already.
     fn online(&mut self, command: Command, soft: Option<bool>) -> End
         requires { command.op ≡ Op.Online soft }
         ensures end { result ≡ end_of Done command (Acts self.old.disk) }
@@ -137,7 +140,8 @@ impl<S: BlockStore> Place<S> {
         reply(command, online, EndBody::Online { flags, size })
     }
 
-    /// Does one command of this unit.
+    /// Does one command of this unit, any but Set Controller Characteristics, and answers its end
+    /// message.
     pub fn execute(&mut self, command: Command, memory: &mut HostMemory) -> End
         requires { is_controller command.op ≡ false }
         ensures answers { Answers command result }

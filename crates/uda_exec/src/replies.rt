@@ -1,4 +1,6 @@
 //! The end messages of commands.
+//!
+//! MSCP Basic Disk Functions Manual: end messages.
 ghost use Rattle.std.specs.Prelude.{◌≡◌};
 ghost use Rattle.uda_exec.specs.Effect.{plain_body};
 

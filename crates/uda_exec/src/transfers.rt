@@ -1,4 +1,6 @@
-//! Blocks moved between host memory and a store.
+//! Blocks moved between host memory and a store, each through one block of the executor's own.
+//!
+//! MSCP Basic Disk Functions Manual: transfer commands, logical blocks.
 ghost use Rattle.std.specs.Prelude.{◌≡◌, ◌+◌, ◌<◌, ◌≤◌, ◌*◌, ◌^◌, true, length, MatchResult, IfErr};
 ghost use Rattle.uda_image.specs.Blocks.{IsImage};
 ghost use Rattle.uda_exec.specs.Commands.{block_of, blocks_of, address_of, room_of, landing_of};
@@ -12,9 +14,10 @@ use uda_packet::Op;
 /// The bytes of a block.
 pub const BLOCK: u32 = 512;
 
-/// The block of a transfer's range, counted from 0, at which the store failed.
+/// A transfer stopped where its store failed.
 #[derive(Clone, Copy, Debug, PartialEq, Eq)]
 pub struct Lost {
+    /// At which block of the transfer's range, counted from 0: so many were moved before it.
     pub block: u32,
 }
 
@@ -57,7 +60,14 @@ fn move_block<S: BlockStore>(
     }
 }
 
-// Moves the blocks of a transfer's range in rising order, up to the first at which the store fails.
+/// Moves the blocks of a transfer's range in rising order, up to the first at which the store fails.
+///
+/// The range lies on the unit and the buffer in memory, which the caller checks. A transfer without
+/// blocks, and a command that is no transfer, calls the store not at all.
+///
+/// # Errors
+///
+/// The block at which the store failed. It, or its 512 bytes of a Read's buffer, may then hold anything.
 pub fn move_blocks<S: BlockStore>(
     op: Op,
     store: &mut S,

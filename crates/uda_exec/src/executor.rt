@@ -89,8 +89,8 @@ impl<S: BlockStore> Exec<S> {
     ///
     /// There must be room: fewer than [`PENDING`] commands are pending ([`pending`](Exec::pending)).
     pub fn accept(&mut self, command: Command)
-        requires { length self.old.pending < PENDING }
-        ensures { self.new ≡ record self.old { pending = self.old.pending ++ command ∷ [] } }
+        requires room { length self.old.pending < PENDING }
+        ensures last { self.new ≡ record self.old { pending = self.old.pending ++ command ∷ [] } }
     {
         self.pending.push(command);
     }
@@ -156,7 +156,7 @@ impl<S: BlockStore> Exec<S> {
     /// The drives, taken out: drive `u` is that of unit `u`, None where that has none. Each has its blocks
     /// as the commands left them and its hardware protection. Pending commands are forgotten.
     pub fn into_stores(self) -> [Option<Drive<S>>; 4]
-        ensures { map (option_map (seen_of S.blocks S.block_count S.faithful S.failures)) result ≡ drives_in self.units }
+        ensures drives { map (option_map (seen_of S.blocks S.block_count S.faithful S.failures)) result ≡ drives_in self.units }
     {
         drives_of(self.places)
     }

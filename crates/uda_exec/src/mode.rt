@@ -28,7 +28,7 @@ impl Mode {
     ///
     /// MSCP Basic Disk Functions Manual: unit flags.
     pub fn flags(self) -> u16
-        ensures { result ≡ flags_of self }
+        ensures flags { result ≡ flags_of self }
     {
         let mut flags = UnitFlags::empty();
         if self.soft {
@@ -44,7 +44,7 @@ impl Mode {
     ///
     /// MSCP Basic Disk Functions Manual: Available command.
     pub fn available(self) -> Mode
-        ensures { result ≡ mode_after AvailableOp self }
+        ensures mode { result ≡ mode_after AvailableOp self }
     {
         Mode {
             online: false,
@@ -58,7 +58,7 @@ impl Mode {
     ///
     /// MSCP Basic Disk Functions Manual: Online command.
     pub fn online(self, soft: Option<bool>) -> Mode
-        ensures { result ≡ mode_after (OnlineOp soft) self }
+        ensures mode { result ≡ mode_after (OnlineOp soft) self }
     {
         if self.online {
             return self;

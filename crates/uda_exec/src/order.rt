@@ -17,23 +17,23 @@ ghost use Rattle.uda_exec.specs.Order.{OrderIsFree, OneMore, PassesThrough, Depe
 ///
 /// MSCP Basic Disk Functions Manual: command ordering.
 pub fn order_is_free()
-    ensures { OrderIsFree }
+    ensures law { OrderIsFree }
 {}
 
 /// Doing a list of commands in order and then one more is doing the longer list: its ends are those
 /// of the list and then that of the last, and the last finds the units and memory as the list left them.
 pub fn one_more()
-    ensures { OneMore }
+    ensures law { OneMore }
 {}
 
 /// Bytes put into memory beside all buffers of a list of commands pass through doing it: put before
 /// or after, the ends, the units and memory are the same.
 pub fn passes_through()
-    ensures { PassesThrough }
+    ensures law { PassesThrough }
 {}
 
 /// The ends and the units of a list of commands depend on no byte of memory outside the buffers of
 /// its Writes: two memories of one length that agree there give the same.
 pub fn depends_on_data_alone()
-    ensures { DependsOnDataAlone }
+    ensures law { DependsOnDataAlone }
 {}

@@ -2,6 +2,7 @@
 //! store.
 use crate::{Exec, PENDING};
 use arrayvec::ArrayVec;
+use std::alloc::Global;
 use std::fs::{File, OpenFile};
 use std::path::PathBuf;
 use std::test::Fail;
@@ -199,55 +200,66 @@ fn unit_states(rt: HostRuntime) -> Result<(), Fail> {
     Ok(())
 }
 
-#[test]
-fn units_apart(rt: HostRuntime) -> Result<(), Fail> {
-    let mut memory = HostMemory::new(rt.alloc(), 512)?;
-    let mut exec = Exec::new([
+// Unit 0 with a block, unit 1 with none, unit 2 with three and hardware protection, and no unit 3.
+fn three_units(alloc: Global) -> Result<Exec<MemImage>, Fail> {
+    Ok(Exec::new([
         Some(Drive {
-            store: MemImage::new(rt.alloc(), 1)?,
+            store: MemImage::new(alloc, 1)?,
             hard: false,
         }),
         Some(Drive {
-            store: MemImage::new(rt.alloc(), 0)?,
+            store: MemImage::new(alloc, 0)?,
             hard: false,
         }),
         Some(Drive {
-            store: MemImage::new(rt.alloc(), 3)?,
+            store: MemImage::new(alloc, 3)?,
             hard: true,
         }),
         None,
-    ]);
-    let refused = |kind| EndBody::Moved { kind, bytes: 0 };
+    ]))
+}
+
+#[test]
+fn units_apart(rt: HostRuntime) -> Result<(), Fail> {
+    let mut memory = HostMemory::new(rt.alloc(), 512)?;
+    let mut exec = three_units(rt.alloc())?;
+    let brought = EndBody::Online {
+        flags: 0x3000,
+        size: 3,
+    };
     for (unit, op, status, body) in [
         // an Online is for its unit alone
-        (
-            2,
-            online(Some(true)),
-            0,
-            EndBody::Online {
-                flags: 0x3000,
-                size: 3,
-            },
-        ),
+        (2, online(Some(true)), 0, brought),
         (0, Op::Status, 0x0004, EndBody::Status { flags: 0 }),
         (1, Op::Status, 0x0004, EndBody::Status { flags: 0 }),
         (2, Op::Status, 0, EndBody::Status { flags: 0x3000 }),
         // a Set Controller Characteristics speaks of no unit
         (3, Op::Controller, 0, EndBody::Controller),
         (0xffff, Op::Controller, 0, EndBody::Controller),
+    ] {
+        assert_eq!(rt;
+            execute(&mut exec, &mut memory, unit, op),
+            end(unit, status, body)
+        );
+    }
+    Ok(())
+}
+
+#[test]
+fn units_that_cannot(rt: HostRuntime) -> Result<(), Fail> {
+    let mut memory = HostMemory::new(rt.alloc(), 512)?;
+    let mut exec = three_units(rt.alloc())?;
+    let refused = |kind| EndBody::Moved { kind, bytes: 0 };
+    let empty = EndBody::Online { flags: 0, size: 0 };
+    for (unit, op, status, body) in [
         // no unit, no drive, not online
         (4, read(0, 512, 0), 0x0003, refused(Kind::Read)),
         (0xffff, Op::Available, 0x0003, EndBody::Available),
         (3, write(0, 512, 0), 0x0023, refused(Kind::Write)),
-        (
-            3,
-            online(None),
-            0x0023,
-            EndBody::Online { flags: 0, size: 0 },
-        ),
+        (3, online(None), 0x0023, empty),
         (0, erase(512, 0), 0x0004, refused(Kind::Erase)),
         // a unit without blocks has no first block
-        (1, online(None), 0, EndBody::Online { flags: 0, size: 0 }),
+        (1, online(None), 0, empty),
         (1, read(0, 0, 0), 0x1c01, refused(Kind::Read)),
     ] {
         assert_eq!(rt;

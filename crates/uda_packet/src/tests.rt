@@ -100,52 +100,36 @@ fn commands_are_written_and_read(rt: HostRuntime) {
     assert_eq!(rt; command_again(&online), Ok(online));
 }
 
+fn end(reference: u32, unit: u16, status: u16, body: EndBody) -> End {
+    End {
+        reference,
+        unit,
+        status,
+        body,
+    }
+}
+
 #[test]
 fn ends_are_written_and_read(rt: HostRuntime) {
-    let read = End {
-        reference: 1,
-        unit: 0,
-        status: 0,
-        body: EndBody::Moved {
-            kind: Kind::Read,
-            bytes: 512,
-        },
+    let mut too_long = text_of(&UNKNOWN_END);
+    too_long[11] = 0;
+    let moved = EndBody::Moved {
+        kind: Kind::Read,
+        bytes: 512,
     };
-    let status = End {
-        reference: 1,
-        unit: 0,
-        status: 0x0004,
-        body: EndBody::Status { flags: 0 },
-    };
-    let online = End {
-        reference: 2,
-        unit: 3,
-        status: 0,
-        body: EndBody::Online {
-            flags: 0x1000,
-            size: 891_072,
-        },
-    };
-    let too_long = End {
-        reference: 7,
-        unit: 2,
-        status: 0x0001,
-        body: EndBody::Invalid,
-    };
-    let mut too_long_text = text_of(&UNKNOWN_END);
-    too_long_text[11] = 0;
-    let controller = End {
-        reference: 1,
-        unit: 0,
-        status: 0,
-        body: EndBody::Controller,
+    let online = EndBody::Online {
+        flags: 0x1000,
+        size: 891_072,
     };
     for (end, text) in [
-        (read, text_of(&READ_END)),
-        (status, text_of(&STATUS_END)),
-        (online, ONLINE_END),
-        (too_long, too_long_text),
-        (controller, text_of(&CONTROLLER_END)),
+        (end(1, 0, 0, moved), text_of(&READ_END)),
+        (
+            end(1, 0, 0x0004, EndBody::Status { flags: 0 }),
+            text_of(&STATUS_END),
+        ),
+        (end(2, 3, 0, online), ONLINE_END),
+        (end(7, 2, 0x0001, EndBody::Invalid), too_long),
+        (end(1, 0, 0, EndBody::Controller), text_of(&CONTROLLER_END)),
     ] {
         assert_eq!(rt; encode_end(&end), text);
         assert_eq!(rt; decode_end(&text), Some(end));

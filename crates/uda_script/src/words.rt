@@ -12,7 +12,12 @@ pub enum Request {
     Probe,
 }
 
-/// Reads the words that follow the program's name. A word that begins with `-` and is more than that is none of its own, before any grammar of options is asked.
+/// Reads the words that follow the program's name.
+///
+/// # Errors
+///
+/// `Usage` for all but the one word `probe`, a word with more than one letter that begins with `-` before
+/// any grammar of options is asked; `NoMemory` where the grammar finds no memory.
 pub fn read_words<'w>(alloc: Global, words: &'w [&'w str]) -> Result<Request, Fault> {
     if words
         .iter()

@@ -32,6 +32,20 @@ impl io::Write for Full {
     }
 }
 
+/// A writer that takes all that it is given, and can hand none of it on.
+#[derive(Drop)]
+struct Stuck;
+
+impl io::Write for Stuck {
+    fn write(&mut self, buf: &[u8]) -> io::Result<usize> {
+        Ok(buf.len())
+    }
+
+    fn flush(&mut self) -> io::Result<()> {
+        Err(io::Error::from(io::ErrorKind::StorageFull))
+    }
+}
+
 #[test]
 fn probe_prints_the_end_message(rt: HostRuntime) -> Result<(), Fail> {
     let mut out = Vec::new(rt.alloc());
@@ -103,6 +117,15 @@ fn a_full_device_is_told_once(rt: HostRuntime) -> Result<(), Fail> {
         program(&rt, &["probe"], input, enough, Vec::new(rt.alloc())),
         0
     );
+    Ok(())
+}
+
+#[test]
+fn what_is_not_flushed_is_not_written(rt: HostRuntime) -> Result<(), Fail> {
+    let mut report = Vec::new(rt.alloc());
+    let input: &[u8] = b"";
+    assert_eq!(rt; program(&rt, &["probe"], input, Stuck, &mut report), 1);
+    assert_eq!(rt; report.as_slice(), b"uda: write failed\n".as_slice());
     Ok(())
 }
 

@@ -11,3 +11,7 @@ LendsWindow memory at window = Lends the_row (Array u8 0) memory window (put mem
 -- the same where there is a window; where there is none the memory ends as it was
 abbrev pub LendsWindowIf : MutBor (List ℕ) → ℕ → Option (MutBor (List ℕ)) → Fml
 LendsWindowIf memory at window = LendsIf the_row (Array u8 0) memory window (put memory.now at) memory.now
+
+-- a slice ends with what is last written through it as an array
+abbrev pub LendsWhole : MutBor (List ℕ) → MutBor (List ℕ) → Fml
+LendsWhole bytes block = Lends (Array u8 0) (Array u8 0) bytes block (λ written. written)

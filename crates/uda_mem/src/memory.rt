@@ -1,7 +1,9 @@
+//! The bytes of host memory, read and written in words, windows and blocks.
 ghost use Rattle.std.specs.Prelude.{◌≡◌, ℕ, ◌+◌, ◌%◌, ◌≤◌, ◌↔◌, List, length, IsTrue, IsSome, IfOk, IfSome, replicate, if◌then◌else◌};
 ghost use Rattle.uda_mem.specs.Put.{put, part};
 ghost use Rattle.uda_mem.specs.Words.{HasWord, word_at, word_bytes};
 
+use crate::block::as_block;
 use byteorder::{ByteOrder, LittleEndian};
 use std::alloc::{AllocError, Global};
 use std::error::Error;
@@ -114,6 +116,15 @@ impl HostMemory {
         true
     }
 
+    /// Writes `word` at the even address `addr`, low byte first, and no other byte, where the two
+    /// bytes are known to lie in the memory.
+    pub fn put_word(&mut self, addr: u32, word: u16)
+        requires word { HasWord self.old addr }
+        ensures memory { self.new ≡ put self.old addr (word_bytes word) }
+    {
+        self.write_word(addr, word);
+    }
+
     /// The `len` bytes from address `addr` on, to be read; None where they don't all lie in the
     /// memory. An odd address is allowed.
     #[tactic(auto, unfolding(crate::specs::Put::part))]
@@ -124,6 +135,27 @@ impl HostMemory {
     {
         let start = addr as usize;
         self.bytes.get(start..start + len as usize)
+    }
+
+    /// The 512 bytes of a block from address `addr` on, to be read; None where they don't all lie in
+    /// the memory. An odd address is allowed.
+    pub fn block(&self, addr: u32) -> Option<&[u8; 512]>
+        ensures present { IsSome result ↔ (addr + 512 ≤ length self.now) }
+        ensures value { IfSome result (λ block. block.now ≡ part self.now addr 512) }
+    {
+        self.window(addr, 512)?.as_array()
+    }
+
+    /// The 512 bytes of a block from address `addr` on, to be read, where they are known to lie in
+    /// the memory ([`has`](HostMemory::has)).
+    pub fn block_at(&self, addr: u32) -> &[u8; 512]
+        requires inside { addr + 512 ≤ length self.now }
+        ensures value { result.now ≡ part self.now addr 512 }
+    {
+        let Some(block) = self.block(addr) else {
+            unreachable!()
+        };
+        block
     }
 }
 
@@ -157,6 +189,31 @@ impl HostMemory {
     {
         if self.has_mut(addr, len) {
             Some(self.within(addr, len))
+        } else {
+            None
+        }
+    }
+
+    /// The 512 bytes of a block from address `addr` on, to be written, where they are known to lie
+    /// in the memory ([`has`](HostMemory::has)). What is written lands there and nowhere else.
+    pub fn block_within(&mut self, addr: u32) -> &mut [u8; 512]
+        requires inside { addr + 512 ≤ length self.old }
+        ensures* writes_back { sem 𝓛 (LendsWindow self.entry addr result) }
+        ensures value { result.now ≡ part self.old addr 512 }
+    {
+        as_block(self.within(addr, 512))
+    }
+
+    /// The 512 bytes of a block from address `addr` on, to be written; None, with nothing changed,
+    /// where they don't all lie in the memory. An odd address is allowed. What is written lands
+    /// there and nowhere else.
+    pub fn block_mut(&mut self, addr: u32) -> Option<&mut [u8; 512]>
+        ensures* writes_back { sem 𝓛 (LendsWindowIf self.entry addr result) }
+        ensures present { IsSome result ↔ (addr + 512 ≤ length self.old) }
+        ensures value { IfSome result (λ block. block.now ≡ part self.old addr 512) }
+    {
+        if self.has_mut(addr, 512) {
+            Some(self.block_within(addr))
         } else {
             None
         }

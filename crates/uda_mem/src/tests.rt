@@ -1,4 +1,5 @@
-ghost use Rattle.std.specs.Prelude.{◌≡◌, ℕ, [], ◌∷◌, length, if◌then◌else◌};
+//! Tests of host memory.
+ghost use Rattle.std.specs.Prelude.{◌≡◌, if◌then◌else◌};
 ghost use Rattle.uda_mem.specs.Put.{put};
 
 use crate::{HostMemory, MEMORY_LIMIT, NoMemory};
@@ -86,31 +87,45 @@ fn what_is_written_through_a_window_lands_in_it(rt: HostRuntime) -> Result<(), F
     Ok(())
 }
 
-// What `window_mut` says of its loan is enough for a caller to say what it wrote.
-fn write_byte(memory: &mut HostMemory, addr: u32, byte: u8) -> bool
-    ensures { memory.new ≡ (if result then put memory.old addr (byte ∷ []) else memory.old) }
+// What `block_mut` says of its loan is enough for a caller to say what it wrote.
+fn fill_block(memory: &mut HostMemory, addr: u32, block: &[u8; 512]) -> bool
+    ensures { memory.new ≡ (if result then put memory.old addr block.now else memory.old) }
 {
-    match memory.window_mut(addr, 1) {
-        Some(window) => {
-            set_only(window, byte);
+    match memory.block_mut(addr) {
+        Some(to) => {
+            *to = *block;
             true
         }
         None => false,
     }
 }
 
-fn set_only(window: &mut [u8], byte: u8)
-    requires { length window.old ≡ 1 }
-    ensures { window.new ≡ byte ∷ [] }
-{
-    window[0] = byte;
+#[test]
+fn a_block_is_512_bytes_from_any_address(rt: HostRuntime) -> Result<(), Fail> {
+    let mut memory = HostMemory::new(rt.alloc(), 1026)?;
+    assert!(rt; fill_block(&mut memory, 513, &[7; 512]));
+    assert_eq!(rt; memory.read_word(512), Some(0x0700));
+    assert_eq!(rt; memory.read_word(1022), Some(0x0707));
+    assert_eq!(rt; memory.read_word(1024), Some(0x0007));
+    assert_eq!(rt; memory.block(513), Some(&[7; 512]));
+    assert_eq!(rt; memory.block_at(513), &[7; 512]);
+    assert!(rt; memory.block(514).is_some() && memory.block_mut(514).is_some());
+    for addr in [515, 1026, u32::MAX - 511, u32::MAX] {
+        assert_eq!(rt; memory.block(addr), None);
+        assert!(rt; !fill_block(&mut memory, addr, &[9; 512]));
+    }
+    Ok(())
 }
 
 #[test]
-fn a_caller_knows_what_it_wrote(rt: HostRuntime) -> Result<(), Fail> {
-    let mut memory = HostMemory::new(rt.alloc(), 4)?;
-    assert!(rt; write_byte(&mut memory, 1, 7) && !write_byte(&mut memory, 4, 7));
-    assert_eq!(rt; memory.window(0, 4).unwrap_or(&[]), [0, 7, 0, 0].as_slice());
+fn what_is_known_to_be_there_is_written(rt: HostRuntime) -> Result<(), Fail> {
+    let mut memory = HostMemory::new(rt.alloc(), 514)?;
+    memory.put_word(512, 0x1234);
+    assert_eq!(rt; memory.read_word(512), Some(0x1234));
+    assert!(rt; memory.has(1, 512));
+    memory.block_within(1).fill(5);
+    assert_eq!(rt; memory.read_word(0), Some(0x0500));
+    assert_eq!(rt; memory.read_word(512), Some(0x1205));
     Ok(())
 }
 

@@ -1,3 +1,4 @@
+//! Why an image could not be made or opened.
 use std::alloc::AllocError;
 use std::error::Error;
 use std::fmt;

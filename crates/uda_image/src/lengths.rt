@@ -1,3 +1,4 @@
+//! Lengths in bytes as counts of blocks.
 ghost use Rattle.std.specs.Prelude.{◌≡◌, ◌≢◌, ◌*◌, ◌/◌, ◌%◌, ◌<◌, ◌≤◌, ◌⊎◌, ◌↔◌, IfOk, IfErr};
 
 use crate::errors::ImageError;
@@ -9,7 +10,8 @@ pub(crate) fn count_blocks(bytes: u64) -> Result<u32, ImageError>
     ensures whole { IfOk result (λ count. 512 * count ≡ bytes) }
     ensures within_limit { IfOk result (λ count. count ≤ BLOCK_LIMIT) }
     ensures length { (result ≡ Err ImageError.Length) ↔ (bytes % 512 ≢ 0) }
-    ensures too_large { (result ≡ Err ImageError.TooLarge) ↔ ((bytes % 512 ≡ 0) × (BLOCK_LIMIT < bytes / 512)) }
+    ensures too_large { (result ≡ Err ImageError.TooLarge)
+        ↔ ((bytes % 512 ≡ 0) × (BLOCK_LIMIT < bytes / 512)) }
     ensures errors { IfErr result (λ e. (e ≡ ImageError.Length) ⊎ (e ≡ ImageError.TooLarge)) }
 {
     if bytes % 512 != 0 {

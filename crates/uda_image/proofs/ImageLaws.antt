@@ -5,8 +5,8 @@ use Rattle.std.proofs.lemmas.List.{length-replicate}
 use Rattle.std.specs.List.{concat}
 use Rattle.std.specs.Simd.{first_chunks}
 use Rattle.uda_image.specs.declared.store.TheConstants.{BLOCK_LIMIT}
-use Rattle.uda_image.specs.Images.{block_count_of, blocks_of, block_of, with_block, half_written}
-use Rattle.uda_image.proofs.Chunks.{slice_get-first_chunks, first_chunks-splice, first_chunks-replicate, concat-first_chunks}
+use Rattle.uda_image.specs.Image.{block_count_of, blocks_of, block_of, with_block, half_written}
+use Rattle.uda_image.proofs.Chunk.{slice_get-first_chunks, first_chunks-splice, first_chunks-replicate, concat-first_chunks}
 
 -- the bytes of an image that was made fill its blocks
 block_count-whole : (bytes : List ℕ) → length bytes % 512 ≡ 0 → length bytes / 512 ≤ BLOCK_LIMIT

@@ -1,2 +1,2 @@
-pub mod Chunks
+pub mod Chunk
 pub mod ImageLaws

@@ -1,3 +1,3 @@
 pub mod Store
-pub mod Images
+pub mod Image
 pub mod StoreLaws

@@ -6,7 +6,7 @@ use Rattle.std.proofs.lemmas.List.{length-take-le}
 use Rattle.std.proofs.lemmas.List.Elements.{All-nil, All-cons}
 use Rattle.uda_image.specs.declared.store.TheConstants.{BLOCK_LIMIT}
 use Rattle.uda_image.specs.Store.{IsImage}
-use Rattle.uda_image.specs.Images.{block_count_of, blocks_of}
+use Rattle.uda_image.specs.Image.{block_count_of, blocks_of}
 
 -- a size that is cut off at the limit is within it
 pub min-le : (size : ℕ) → min size BLOCK_LIMIT ≤ BLOCK_LIMIT

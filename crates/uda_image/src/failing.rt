@@ -1,7 +1,7 @@
 //! Images in memory that fail at one call.
 ghost use Rattle.std.specs.Prelude.{length, ◌≡◌, ◌-◌, ◌<◌, ◌↔◌, true, is_ok, IsErr, IfErr, if◌then◌else◌};
 ghost use Rattle.uda_image.specs.Store.{Reads, Writes, KeepsNature};
-ghost use Rattle.uda_image.specs.Images.{block_count_of, block_of, with_block, half_written, failing_state};
+ghost use Rattle.uda_image.specs.Image.{block_count_of, block_of, with_block, half_written, failing_state};
 ghost use Rattle.uda_image.specs.StoreLaws.{block_count-le, IsImage-blocks_of};
 
 use crate::memory::MemImage;
@@ -21,7 +21,7 @@ pub struct FailingImage {
 }
 
 impl Model for FailingImage {
-    ghost use Rattle.uda_image.specs.Images.{Failing};
+    ghost use Rattle.uda_image.specs.Image.{Failing};
 
     ghost Value = { Failing };
 
@@ -73,7 +73,7 @@ impl FailingImage {
 }
 
 // Writes the first half of `from` over that of a block.
-#[tactic(auto, unfolding(crate::specs::Images::half_written))]
+#[tactic(auto, unfolding(crate::specs::Image::half_written))]
 fn write_first_half(block: &mut [u8; 512], from: &[u8; 512])
     ensures { block.new ≡ half_written block.old from.now }
 {

@@ -1,11 +1,11 @@
 //! Images in files.
 ghost use Rattle.std.specs.Prelude.{length, ◌≡◌, ◌≢◌, ◌≤◌, false, IfOk, IfErr};
 ghost use Rattle.uda_image.specs.declared.store.TheConstants.{BLOCK_LIMIT};
-ghost use Rattle.uda_image.specs.Images.{file_state};
+ghost use Rattle.uda_image.specs.Image.{file_state};
 ghost use Rattle.uda_image.specs.StoreLaws.{min-le, no_image};
 
-use crate::errors::ImageError;
-use crate::lengths::count_blocks;
+use crate::error::ImageError;
+use crate::length::count_blocks;
 use crate::store::{BLOCK_LIMIT, BlockStore, StoreError};
 use std::fs;
 use std::fs::{File, OpenFile, OpenOptions};
@@ -30,7 +30,7 @@ pub struct FileImage {
 impl Model for FileImage {
     ghost use Rattle.std.specs.Prelude.{◌≤◌};
     ghost use Rattle.uda_image.specs.declared.store.TheConstants.{BLOCK_LIMIT};
-    ghost use Rattle.uda_image.specs.Images.{OpenImage};
+    ghost use Rattle.uda_image.specs.Image.{OpenImage};
 
     ghost Value = { OpenImage };
 

@@ -3,11 +3,11 @@ ghost use Rattle.std.specs.Prelude.{◌≡◌, ◌≢◌, ◌*◌, ◌/◌, ◌%
 ghost use Rattle.std.specs.List.{concat};
 ghost use Rattle.std.specs.Simd.{first_chunks};
 ghost use Rattle.uda_image.specs.Store.{Reads, Writes, KeepsNature};
-ghost use Rattle.uda_image.specs.Images.{block_count_of, blocks_of, block_of, with_block, image_state};
+ghost use Rattle.uda_image.specs.Image.{block_count_of, blocks_of, block_of, with_block, image_state};
 ghost use Rattle.uda_image.specs.StoreLaws.{block_count-le, IsImage-blocks_of};
 
-use crate::errors::ImageError;
-use crate::lengths::count_blocks;
+use crate::error::ImageError;
+use crate::length::count_blocks;
 use crate::store::{BLOCK_LIMIT, BlockStore, StoreError};
 use std::alloc::Global;
 use std::marker::Model;
@@ -57,7 +57,7 @@ impl MemImage {
     /// whole number of blocks of 512 bytes, then with TooLarge where those are more than
     /// [`BLOCK_LIMIT`], both before memory is asked for, and with NoMemory where the allocator has
     /// none.
-    #[tactic(auto, using(crate::proofs::ImageLaws::image_laws), unfolding(crate::specs::Images::block_count_of))]
+    #[tactic(auto, using(crate::proofs::ImageLaws::image_laws), unfolding(crate::specs::Image::block_count_of))]
     pub fn from_bytes(alloc: Global, bytes: &[u8]) -> Result<MemImage, ImageError>
         ensures value { IfOk result (λ image. image ≡ bytes.now) }
         ensures size { IfOk result (λ image. 512 * block_count_of image ≡ length bytes.now) }
@@ -86,7 +86,7 @@ impl MemImage {
     }
 
     // Writes the bytes of block `n`.
-    #[tactic(auto, unfolding(crate::specs::Images::block_count_of, crate::specs::Images::with_block))]
+    #[tactic(auto, unfolding(crate::specs::Image::block_count_of, crate::specs::Image::with_block))]
     fn put_block(&mut self, n: u32, block: &[u8; 512])
         requires { n < block_count_of self.old }
         ensures { self.new ≡ with_block self.old n block.now }
@@ -105,12 +105,12 @@ impl BlockStore for MemImage {
 
     ghost is_image = { λ image _. IsImage-blocks_of image };
 
-    #[tactic(auto, unfolding(crate::specs::Images::block_count_of))]
+    #[tactic(auto, unfolding(crate::specs::Image::block_count_of))]
     fn size(&self) -> u32 {
         (self.bytes.len() / 512) as u32
     }
 
-    #[tactic(auto, using(crate::proofs::ImageLaws::image_laws), unfolding(crate::specs::Images::block_count_of, crate::specs::Images::block_of))]
+    #[tactic(auto, using(crate::proofs::ImageLaws::image_laws), unfolding(crate::specs::Image::block_count_of, crate::specs::Image::block_of))]
     fn read(&mut self, n: u32, to: &mut [u8; 512]) -> Result<(), StoreError>
         requires { n < block_count_of self.old }
         ensures succeeds { result ≡ Ok tt }

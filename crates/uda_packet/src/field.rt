@@ -3,11 +3,11 @@
 //! MSCP Basic Disk Functions Manual: command and end message formats.
 
 ghost use Rattle.std.specs.Prelude.{◌≡◌, ◌+◌, ◌≤◌};
-ghost use Rattle.uda_packet.specs.Fields.{field, number_in, with_number};
+ghost use Rattle.uda_packet.specs.Field.{field, number_in, with_number};
 
 use byteorder::{ByteOrder, LittleEndian};
 
-/// A message's text.
+// A message's text.
 pub(crate) type Text = [u8; 48];
 
 pub(crate) const REFERENCE: Long = Long(0);
@@ -36,15 +36,15 @@ pub(crate) const MEDIA_TYPE: Long = Long(28);
 
 pub(crate) const UNIT_SIZE: Long = Long(36);
 
-/// A field of two bytes, by its first.
+// A field of two bytes, by its first.
 #[derive(Clone, Copy)]
 pub(crate) struct Word(usize);
 
-/// A field of four bytes, by its first.
+// A field of four bytes, by its first.
 #[derive(Clone, Copy)]
 pub(crate) struct Long(usize);
 
-/// A field of eight bytes, by its first.
+// A field of eight bytes, by its first.
 #[derive(Clone, Copy)]
 pub(crate) struct Quad(usize);
 

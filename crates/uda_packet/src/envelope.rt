@@ -1,7 +1,7 @@
 //! Envelopes.
 
 ghost use Rattle.std.specs.Prelude.{◌≡◌, ◌≤◌};
-ghost use Rattle.uda_packet.specs.EnvelopeWords.{envelope_of, envelope_words};
+ghost use Rattle.uda_packet.specs.Envelope.{envelope_of, envelope_words};
 
 /// The envelope below a message text: its two words, taken apart.
 ///
@@ -19,8 +19,8 @@ pub struct Envelope {
 }
 
 impl Envelope {
-    /// The envelope that two words are: the length; then credits in bits 3-0, message type in bits 7-4
-    /// and connection in bits 15-8.
+    /// The envelope that two words are: the length; then credits in bits 3-0, message type in bits
+    /// 7-4 and connection in bits 15-8.
     pub fn of_words(length: u16, grant: u16) -> Envelope
         ensures envelope { result ≡ envelope_of length grant }
         ensures few_credits { result.credits ≤ 15 }

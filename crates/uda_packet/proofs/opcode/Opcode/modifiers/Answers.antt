@@ -1,6 +1,6 @@
 use Rattle.std.proofs.Common.{Option, Some, None, IsSome, ◌↔◌, IfSome, IfNone, refl}
 use Rattle.bitflags.specs.Sets.{known_from}
-use Rattle.uda_packet.proofs.opcodes.Opcode.modifiers.Goals as goal
+use Rattle.uda_packet.proofs.opcode.Opcode.modifiers.Goals as goal
 
 if_some : {A : Type 0} (r : Option A) (P : Type 0) → (IsSome r ↔ P) → IfSome r (λ v. P)
 if_some (Some v) P e = e.0 refl

@@ -1,11 +1,9 @@
 -- The ranges of the numbers in a command and in an end message, which their types keep.
 use Rattle.std.specs.Prelude.{◌<◌, ◌^◌}
-use Rattle.uda_packet.specs.declared.commands.Op.{Op}
-use Rattle.uda_packet.specs.declared.commands.Op.TheVariants as op
-use Rattle.uda_packet.specs.declared.commands.Command.{Command}
-use Rattle.uda_packet.specs.declared.ends.End.{End}
-use Rattle.uda_packet.specs.declared.ends.EndBody.{EndBody}
-use Rattle.uda_packet.specs.declared.ends.EndBody.TheVariants as body
+use Rattle.uda_packet.specs.declared.command.Op.{Op}
+use Rattle.uda_packet.specs.declared.command.Op.TheVariants as op
+use Rattle.uda_packet.specs.declared.end.EndBody.{EndBody}
+use Rattle.uda_packet.specs.declared.end.EndBody.TheVariants as body
 
 abbrev pub OpFits : Op → Type 0
 OpFits op.Status = Unit {0}
@@ -17,11 +15,6 @@ OpFits (op.Erase count block) = (count < 2 ^ 32) × (block < 2 ^ 32)
 OpFits (op.Read count address block) = (count < 2 ^ 32) × (address < 2 ^ 32) × (block < 2 ^ 32)
 OpFits (op.Write count address block) = (count < 2 ^ 32) × (address < 2 ^ 32) × (block < 2 ^ 32)
 
-pub record CommandFits (c : Command) : Type 0 where
-  pub reference_fits : c.reference < 2 ^ 32
-  pub unit_fits : c.unit < 2 ^ 16
-  pub op_fits : OpFits c.op
-
 abbrev pub BodyFits : EndBody → Type 0
 BodyFits body.Invalid = Unit {0}
 BodyFits (body.Status flags) = flags < 2 ^ 16
@@ -29,9 +22,3 @@ BodyFits body.Controller = Unit {0}
 BodyFits body.Available = Unit {0}
 BodyFits (body.Online flags size) = (flags < 2 ^ 16) × (size < 2 ^ 32)
 BodyFits (body.Moved which moved) = moved < 2 ^ 32
-
-pub record EndFits (e : End) : Type 0 where
-  pub reference_fits : e.reference < 2 ^ 32
-  pub unit_fits : e.unit < 2 ^ 16
-  pub status_fits : e.status < 2 ^ 16
-  pub body_fits : BodyFits e.body

@@ -2,6 +2,9 @@
 
 /// A command message: what the host asks of one unit.
 ///
+/// Its default stands for nothing that a host asks: it is what the free places of an array or a
+/// queue of commands hold.
+///
 /// MSCP Basic Disk Functions Manual: command messages.
 #[derive(Clone, Copy, PartialEq, Eq, Debug, Default)]
 pub struct Command {

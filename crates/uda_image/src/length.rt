@@ -1,7 +1,7 @@
 //! Lengths in bytes as counts of blocks.
 ghost use Rattle.std.specs.Prelude.{◌≡◌, ◌≢◌, ◌*◌, ◌/◌, ◌%◌, ◌<◌, ◌≤◌, ◌⊎◌, ◌↔◌, IfOk, IfErr};
 
-use crate::errors::ImageError;
+use crate::error::ImageError;
 use crate::store::BLOCK_LIMIT;
 
 // How many blocks so many bytes make. A length that is no whole number of blocks is refused

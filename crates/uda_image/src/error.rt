@@ -30,7 +30,7 @@ impl fmt::Display for ImageError {
 impl Error for ImageError {}
 
 impl From<AllocError> for ImageError {
-    ghost use Rattle.uda_image.specs.declared.errors.ImageError.TheVariants.{NoMemory};
+    ghost use Rattle.uda_image.specs.declared.error.ImageError.TheVariants.{NoMemory};
     ghost use Rattle.std.specs.Prelude.{◌≡◌};
 
     ghost from_gives = { λ _ e. e ≡ NoMemory };

@@ -4,19 +4,19 @@
 
 ghost use Rattle.std.specs.Prelude.{◌≡◌, ◌≢◌, IfSome, IfNone};
 ghost use Rattle.std.specs.Int.RustNames.{bit_and};
-ghost use Rattle.uda_packet.specs.declared.commands.Op.{Op};
-ghost use Rattle.uda_packet.specs.Codes.{opcode_of, blank_body, allowed_modifiers, answered_opcode};
-ghost use Rattle.uda_packet.specs.Opcodes.{plain_op};
+ghost use Rattle.uda_packet.specs.declared.command.Op.{Op};
+ghost use Rattle.uda_packet.specs.Opcode.{opcode_of, blank_body, answered_opcode, plain_op};
+ghost use Rattle.uda_packet.specs.Flags.{allowed_modifiers};
 
-use crate::commands::Op;
-use crate::ends::{EndBody, Kind};
+use crate::command::Op;
+use crate::end::{EndBody, Kind};
 use crate::flags::Modifiers;
 use bitflags::Flags;
 
-/// An end code is the opcode that it answers with this bit set.
+// An end code is the opcode that it answers with this bit set.
 pub(crate) const END_CODE: u8 = 0x80;
 
-/// The opcode of a command, with its number.
+// The opcode of a command, with its number.
 #[derive(Clone, Copy, PartialEq, Eq)]
 pub(crate) enum Opcode {
     GetUnitStatus = 3,
@@ -30,7 +30,7 @@ pub(crate) enum Opcode {
 }
 
 impl Opcode {
-    /// The opcode of this number, where it is a command's.
+    // The opcode of this number, where it is a command's.
     pub(crate) fn of_number(number: u8) -> Option<Opcode>
         ensures known { IfSome result (λ k. number ≡ opcode_of (plain_op k)) }
         ensures unknown { IfNone result ((o : Op) → number ≢ opcode_of o) }
@@ -54,7 +54,7 @@ impl Opcode {
         self as u8
     }
 
-    /// The opcode of an operation.
+    // The opcode of an operation.
     pub(crate) fn of_op(op: &Op) -> Opcode
         ensures { opcode_of (plain_op result) ≡ opcode_of op.now }
     {
@@ -70,7 +70,7 @@ impl Opcode {
         }
     }
 
-    /// The opcode that an end message answers, where it answers one.
+    // The opcode that an end message answers, where it answers one.
     pub(crate) fn of_body(body: &EndBody) -> Option<Opcode>
         ensures some { IfSome result (λ k. opcode_of (plain_op k) ≡ answered_opcode body.now) }
         ensures none { IfNone result (answered_opcode body.now ≡ 0) }
@@ -90,7 +90,7 @@ impl Opcode {
         }
     }
 
-    /// The body of the end message that answers the opcode, with all numbers 0.
+    // The body of the end message that answers the opcode, with all numbers 0.
     pub(crate) fn blank_body(self) -> EndBody
         ensures { result ≡ blank_body (plain_op self) }
     {
@@ -106,10 +106,11 @@ impl Opcode {
         }
     }
 
-    /// The modifiers that the bits are, where each of them is one that the command may have.
+    // The modifiers that the bits are, where each of them is one that the command may have.
     pub(crate) fn modifiers(self, bits: u16) -> Option<Modifiers>
         ensures value { IfSome result (λ m. m.0 ≡ bits) }
-        ensures allowed { IfSome result (λ m. bit_and bits (allowed_modifiers (plain_op self)) ≡ bits) }
+        ensures allowed { IfSome result (λ m.
+            bit_and bits (allowed_modifiers (plain_op self)) ≡ bits) }
         ensures stray { IfNone result (bit_and bits (allowed_modifiers (plain_op self)) ≢ bits) }
     {
         match self {
@@ -120,7 +121,7 @@ impl Opcode {
     }
 }
 
-/// The body of a transfer that moved nothing.
+// The body of a transfer that moved nothing.
 fn moved(kind: Kind) -> EndBody
     ensures { result ≡ EndBody.Moved kind 0 }
 {

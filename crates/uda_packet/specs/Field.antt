@@ -1,6 +1,7 @@
--- Where the fields of a message stand, and the two ways to look at them: the number that a field holds,
--- and the bytes of a text that holds given numbers.
-use Rattle.std.specs.Prelude.{ℕ, ◌+◌, ◌-◌, List, [], ◌∷◌, ◌++◌, replicate, take, drop}
+-- Where the fields of a message stand, and the two ways to look at them: the number that a field
+-- holds, and the bytes of a text that holds given numbers.
+use Rattle.std.specs.Prelude.{ℕ, ◌+◌, ◌-◌, List, [], ◌∷◌, ◌++◌, replicate}
+use Rattle.std.specs.List.{splice}
 use Rattle.byteorder.specs.Endian.{little_from, little_bytes}
 
 -- a field of a message: its first byte and how many bytes it has
@@ -67,21 +68,21 @@ infix 90 ◌holds◌
 abbrev pub ◌holds◌ : Field → ℕ → Entry
 f holds n = record { place = f; number = n }
 
--- the bytes of a text from byte `start` to its end: the entries stand at their places, in rising order,
--- and every byte between them is 0
-abbrev pub laid : ℕ → List Entry → List ℕ
-laid start [] = replicate (48 - start) 0
-laid start (e ∷ rest) =
+-- the bytes of a text from byte `start` to its end: the entries stand at their places, in rising
+-- order, and every byte between them is 0
+abbrev pub text_from : ℕ → List Entry → List ℕ
+text_from start [] = replicate (48 - start) 0
+text_from start (e ∷ rest) =
     replicate (e.place.offset - start) 0
-    ++ (little_bytes e.place.width e.number ++ laid (e.place.offset + e.place.width) rest)
+    ++ (little_bytes e.place.width e.number ++ text_from (e.place.offset + e.place.width) rest)
 
 -- the text of 48 bytes that has these entries and is 0 elsewhere
 abbrev pub text_of : List Entry → List ℕ
-text_of entries = laid 0 entries
+text_of entries = text_from 0 entries
 
 -- a text after a number is written into a field
 abbrev pub with_number : Field → ℕ → List ℕ → List ℕ
-with_number f n bytes = take f.offset bytes ++ (little_bytes f.width n ++ drop (f.offset + f.width) bytes)
+with_number f n bytes = splice bytes f.offset (f.offset + f.width) (little_bytes f.width n)
 
 -- a text after the entries are written into it, one after the other
 abbrev pub with_entries : List Entry → List ℕ → List ℕ

@@ -8,7 +8,7 @@ use Rattle.std.proofs.lemmas.List.{same_lists}
 use Rattle.std.proofs.lemmas.Option.{get_or_from_slice_get}
 use Rattle.uda_mem.specs.Put.{part}
 use Rattle.uda_mem.proofs.PutLaws.{length-part, get_or-part}
-use Rattle.uda_image.proofs.Chunks.{slice_get-first_chunks}
+use Rattle.uda_image.proofs.Chunk.{slice_get-first_chunks}
 
 pub get_or-first_chunks : (n : ℕ) (bytes : List ℕ) (k : ℕ) → k < n → get_or (first_chunks 512 n bytes) k [] ≡ part bytes (512 * k) 512
 unfolding part

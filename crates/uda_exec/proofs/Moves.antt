@@ -6,7 +6,7 @@ use Rattle.std.proofs.lemmas.Bool.{cases_lt}
 use Rattle.std.proofs.lemmas.Option.{get_or_from_slice_get}
 use Rattle.uda_mem.specs.Put.{put, part}
 use Rattle.uda_mem.proofs.PutLaws.{put-nil, get_or-part, length-put, get_or-put_before, get_or-put_at, get_or-put_behind}
-use Rattle.uda_packet.specs.declared.ends.Kind.TheVariants.{Access, Erase, Read, Write}
+use Rattle.uda_packet.specs.declared.end.Kind.TheVariants.{Access, Erase, Read, Write}
 use Rattle.uda_packet.specs.declared.transfer.Transfer.{Transfer}
 use Rattle.uda_image.specs.declared.store.StoreError.{StoreError}
 use Rattle.uda_image.specs.Store.{StoreState, Reads, Writes}

@@ -7,8 +7,8 @@ use Rattle.std.proofs.lemmas.List.Folds.{concat-append}
 use Rattle.std.proofs.lemmas.List.Elements.{All-replicate}
 use Rattle.uda_mem.specs.Put.{put, part}
 use Rattle.uda_mem.proofs.PutLaws.{put-nil, put-put_next, length-part, length-part-le}
-use Rattle.uda_packet.specs.declared.ends.Kind.{Kind}
-use Rattle.uda_packet.specs.declared.ends.Kind.TheVariants.{Access, Erase, Read, Write}
+use Rattle.uda_packet.specs.declared.end.Kind.{Kind}
+use Rattle.uda_packet.specs.declared.end.Kind.TheVariants.{Access, Erase, Read, Write}
 use Rattle.uda_packet.specs.declared.transfer.Transfer.{Transfer}
 use Rattle.uda_packet.specs.Transfer.{changes_blocks}
 use Rattle.uda_image.specs.Store.{StoreState, KeepsNature}

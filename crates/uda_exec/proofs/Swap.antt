@@ -8,11 +8,11 @@ use Rattle.std.proofs.lemmas.Bool.{eq-eqb, eqb-true, both_ways, false≢true}
 use Rattle.std.proofs.lemmas.Option.{slice_get_within}
 use Rattle.uda_mem.specs.Put.{put, part, Meet}
 use Rattle.uda_mem.proofs.PutLaws.{length-put, part-put_apart, put-put_comm}
-use Rattle.uda_packet.specs.declared.commands.Command.{Command}
-use Rattle.uda_packet.specs.declared.commands.Op.{Op}
-use Rattle.uda_packet.specs.declared.ends.End.{End}
-use Rattle.uda_packet.specs.declared.ends.Kind.{Kind}
-use Rattle.uda_packet.specs.declared.ends.Kind.TheVariants.{Access, Erase, Read, Write}
+use Rattle.uda_packet.specs.declared.command.Command.{Command}
+use Rattle.uda_packet.specs.declared.command.Op.{Op}
+use Rattle.uda_packet.specs.declared.end.End.{End}
+use Rattle.uda_packet.specs.declared.end.Kind.{Kind}
+use Rattle.uda_packet.specs.declared.end.Kind.TheVariants.{Access, Erase, Read, Write}
 use Rattle.uda_packet.specs.declared.transfer.Transfer.{Transfer}
 use Rattle.uda_packet.specs.Transfer.{transfer_of, changes_blocks, has_buffer}
 use Rattle.uda_exec.specs.declared.mode.Mode.{Mode}

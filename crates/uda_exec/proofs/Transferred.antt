@@ -7,14 +7,14 @@ use Rattle.std.proofs.lemmas.List.Elements.{All-push}
 use Rattle.std.proofs.lemmas.Bool.Decides.{nat_tests}
 use Rattle.uda_mem.specs.Put.{put}
 use Rattle.uda_mem.proofs.PutLaws.{put-nil}
-use Rattle.uda_packet.specs.declared.commands.Command.{Command}
-use Rattle.uda_packet.specs.declared.commands.Op.{Op}
-use Rattle.uda_packet.specs.declared.commands.Op.TheVariants.{Status, Controller, Available, Online, Access, Erase, Read, Write}
-use Rattle.uda_packet.specs.declared.ends.End.{End}
-use Rattle.uda_packet.specs.declared.ends.EndBody.{EndBody}
-use Rattle.uda_packet.specs.declared.ends.EndBody.TheVariants as body
+use Rattle.uda_packet.specs.declared.command.Command.{Command}
+use Rattle.uda_packet.specs.declared.command.Op.{Op}
+use Rattle.uda_packet.specs.declared.command.Op.TheVariants.{Status, Controller, Available, Online, Access, Erase, Read, Write}
+use Rattle.uda_packet.specs.declared.end.End.{End}
+use Rattle.uda_packet.specs.declared.end.EndBody.{EndBody}
+use Rattle.uda_packet.specs.declared.end.EndBody.TheVariants as body
 use Rattle.uda_packet.specs.declared.transfer.Transfer.{Transfer}
-use Rattle.uda_packet.specs.Codes.{answered_opcode, blank_body}
+use Rattle.uda_packet.specs.Opcode.{answered_opcode, blank_body}
 use Rattle.uda_packet.specs.Transfer.{transfer_of}
 use Rattle.uda_image.specs.Store.{StoreState, KeepsNature, IsImage}
 use Rattle.uda_exec.specs.declared.mode.Mode.{Mode}

@@ -2,10 +2,10 @@
 -- MSCP Basic Disk Functions Manual: transfer commands.
 use Rattle.std.specs.Prelude.{ℕ, ◌/◌, Bool, true, false, is_some, if◌then◌else◌}
 use Rattle.std.specs.Option.{option_map_or}
-use Rattle.uda_packet.specs.declared.commands.Op.{Op}
-use Rattle.uda_packet.specs.declared.commands.Op.TheVariants.{Controller}
-use Rattle.uda_packet.specs.declared.ends.Kind.{Kind}
-use Rattle.uda_packet.specs.declared.ends.Kind.TheVariants.{Read}
+use Rattle.uda_packet.specs.declared.command.Op.{Op}
+use Rattle.uda_packet.specs.declared.command.Op.TheVariants.{Controller}
+use Rattle.uda_packet.specs.declared.end.Kind.{Kind}
+use Rattle.uda_packet.specs.declared.end.Kind.TheVariants.{Read}
 use Rattle.uda_packet.specs.declared.transfer.Transfer.{Transfer}
 use Rattle.uda_packet.specs.Transfer.{transfer_of, changes_blocks, has_buffer}
 

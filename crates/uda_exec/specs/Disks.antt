@@ -1,7 +1,7 @@
 -- The units of a controller as its commands see them.
 -- MSCP Basic Disk Functions Manual: unit states, write protection.
 use Rattle.std.specs.Prelude.{◌≡◌, ℕ, ◌+◌, true, List, Option, Some, None, map, option_map, All, if◌then◌else◌}
-use Rattle.uda_packet.specs.declared.commands.Command.{Command}
+use Rattle.uda_packet.specs.declared.command.Command.{Command}
 use Rattle.uda_image.specs.Store.{StoreState, IsImage}
 use Rattle.uda_exec.specs.declared.mode.Mode.{Mode}
 

@@ -2,14 +2,14 @@
 -- MSCP Basic Disk Functions Manual: the commands, status and event codes.
 use Rattle.std.specs.Prelude.{◌≡◌, ℕ, suc, ◌*◌, ◌<◌, Bool, true, false, List, [], length, take, Option, Some, None, unwrap_or, slice_get, slice_set, if◌then◌else◌}
 use Rattle.uda_mem.specs.Put.{put}
-use Rattle.uda_packet.specs.declared.commands.Command.{Command}
-use Rattle.uda_packet.specs.declared.commands.Op.{Op}
-use Rattle.uda_packet.specs.declared.commands.Op.TheVariants.{Status, Available, Online}
-use Rattle.uda_packet.specs.declared.ends.End.{End}
-use Rattle.uda_packet.specs.declared.ends.EndBody.{EndBody}
-use Rattle.uda_packet.specs.declared.ends.EndBody.TheVariants.{Status as StatusEnd, Online as OnlineEnd, Moved}
+use Rattle.uda_packet.specs.declared.command.Command.{Command}
+use Rattle.uda_packet.specs.declared.command.Op.{Op}
+use Rattle.uda_packet.specs.declared.command.Op.TheVariants.{Status, Available, Online}
+use Rattle.uda_packet.specs.declared.end.End.{End}
+use Rattle.uda_packet.specs.declared.end.EndBody.{EndBody}
+use Rattle.uda_packet.specs.declared.end.EndBody.TheVariants.{Status as StatusEnd, Online as OnlineEnd, Moved}
 use Rattle.uda_packet.specs.declared.transfer.Transfer.{Transfer}
-use Rattle.uda_packet.specs.Codes.{blank_body}
+use Rattle.uda_packet.specs.Opcode.{blank_body}
 use Rattle.uda_packet.specs.Transfer.{transfer_of}
 use Rattle.uda_exec.specs.declared.mode.Mode.{Mode}
 use Rattle.uda_exec.specs.declared.refusal.Refusal.{Refusal}

@@ -1,12 +1,12 @@
 -- What one execution does: a pending command that may go is taken out and done.
 -- MSCP Basic Disk Functions Manual: command ordering, end messages.
 use Rattle.std.specs.Prelude.{◌≡◌, ◌≢◌, ℕ, ◌+◌, ◌≤◌, Bool, true, false, ◌&&◌, List, length, map, Option, Some, option_map, slice_get, nat_lt, remove, if◌then◌else◌}
-use Rattle.uda_packet.specs.declared.commands.Command.{Command}
-use Rattle.uda_packet.specs.declared.commands.Op.{Op}
-use Rattle.uda_packet.specs.declared.ends.End.{End}
-use Rattle.uda_packet.specs.declared.ends.EndBody.{EndBody}
-use Rattle.uda_packet.specs.declared.ends.EndBody.TheVariants.{Moved}
-use Rattle.uda_packet.specs.Codes.{opcode_of, answered_opcode}
+use Rattle.uda_packet.specs.declared.command.Command.{Command}
+use Rattle.uda_packet.specs.declared.command.Op.{Op}
+use Rattle.uda_packet.specs.declared.end.End.{End}
+use Rattle.uda_packet.specs.declared.end.EndBody.{EndBody}
+use Rattle.uda_packet.specs.declared.end.EndBody.TheVariants.{Moved}
+use Rattle.uda_packet.specs.Opcode.{opcode_of, answered_opcode}
 use Rattle.uda_packet.specs.Transfer.{transfer_of}
 use Rattle.uda_exec.specs.declared.mode.Mode.{Mode}
 use Rattle.uda_exec.specs.Disks.{Disk, UnitState, ExecState, disk_of, disks_of}

@@ -3,13 +3,13 @@
 use Rattle.std.specs.Prelude.{◌≡◌, ℕ, ◌<◌, Bool, true, ◌&&◌, ◌||◌, not, nat_eq, List, [], ◌∷◌, ◌++◌, length, map, Some, slice_get, insert, remove, All, AllPairs, if◌then◌else◌}
 use Rattle.std.specs.Option.{option_map_or}
 use Rattle.uda_mem.specs.Put.{put, part, Meet}
-use Rattle.uda_packet.specs.declared.commands.Command.{Command}
-use Rattle.uda_packet.specs.declared.commands.Op.{Op}
-use Rattle.uda_packet.specs.declared.ends.Kind.{Kind}
-use Rattle.uda_packet.specs.declared.ends.Kind.TheVariants.{Write}
+use Rattle.uda_packet.specs.declared.command.Command.{Command}
+use Rattle.uda_packet.specs.declared.command.Op.{Op}
+use Rattle.uda_packet.specs.declared.end.Kind.{Kind}
+use Rattle.uda_packet.specs.declared.end.Kind.TheVariants.{Write}
 use Rattle.uda_packet.specs.declared.transfer.Transfer.{Transfer}
 use Rattle.uda_packet.specs.Transfer.{transfer_of}
-use Rattle.uda_packet.specs.declared.ends.End.{End}
+use Rattle.uda_packet.specs.declared.end.End.{End}
 use Rattle.uda_exec.specs.Disks.{Disks}
 use Rattle.uda_exec.specs.Commands.{is_controller, is_transfer, is_changing, first_block_of, blocks_of, address_of, room_of}
 use Rattle.uda_exec.specs.Effect.{World, Outcome, effect}

@@ -1,6 +1,6 @@
 use Rattle.std.proofs.Common.{◌∙◌, sym, refl, get_or}
-use Rattle.uda_packet.specs.declared.commands.Command.{Command}
-use Rattle.uda_packet.specs.declared.commands.Op.TheVariants.{Status}
+use Rattle.uda_packet.specs.declared.command.Command.{Command}
+use Rattle.uda_packet.specs.declared.command.Op.TheVariants.{Status}
 use Rattle.uda_exec.proofs.Choices.{passes_next, goes_if}
 use Rattle.uda_exec.proofs.choice.may_go.Goals as goal
 

@@ -1,0 +1,4 @@
+pub mod Request
+pub mod Answer
+pub mod Plain
+pub mod Clash

@@ -6,3 +6,8 @@ pub mod Errors
 pub mod Running
 pub mod Ordering
 pub mod LedgerSteps
+pub mod Outcomes
+pub mod Owing
+pub mod Ending
+pub mod Outs
+pub mod Apartness

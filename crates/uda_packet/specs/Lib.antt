@@ -7,3 +7,4 @@ pub mod EnvelopeWords
 pub mod Opcodes
 pub mod BadEnds
 pub mod Ranges
+pub mod Transfer

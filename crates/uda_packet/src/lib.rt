@@ -20,6 +20,7 @@ mod fields;
 mod flags;
 mod opcodes;
 pub mod status;
+mod transfer;
 
 pub use bads::{Bad, BadKind};
 pub use commands::{Command, Op};
@@ -28,6 +29,7 @@ pub use encoding::{encode_command, encode_end};
 pub use ends::{End, EndBody, Kind};
 pub use envelopes::Envelope;
 pub use flags::{Modifiers, UnitFlags};
+pub use transfer::Transfer;
 
 #[cfg(test)]
 mod tests;

@@ -1,1 +1,2 @@
 pub mod RingLaws
+pub mod Length

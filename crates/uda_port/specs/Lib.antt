@@ -1,2 +1,4 @@
 pub mod Ring
+pub mod Packet
 pub mod Fetch
+pub mod Delivery

@@ -1,6 +1,6 @@
 -- Rings of descriptors in host memory.
 -- UDA50 Programmer's Documentation Kit: communication area, ring descriptors.
-use Rattle.std.specs.Prelude.{ℕ, ◌+◌, ◌*◌, ◌%◌, Bool, ◌&&◌, ◌||◌, nat_eq, nat_le, List, [], ◌∷◌, ◌++◌, length, take, drop, map, Option, Some, None, if◌then◌else◌}
+use Rattle.std.specs.Prelude.{◌≡◌, ◌≤◌, ℕ, ◌+◌, ◌*◌, ◌%◌, Bool, ◌||◌, nat_eq, nat_le, List, [], ◌∷◌, ◌++◌, length, take, drop, map, Option, Some, None, if◌then◌else◌}
 use Rattle.std.specs.List.{range_with_len}
 use Rattle.uda_mem.specs.Put.{put}
 use Rattle.uda_mem.specs.Words.{word_at, word_bytes}
@@ -41,8 +41,9 @@ abbrev pub is_ring_length : ℕ → Bool
 is_ring_length n = nat_eq n 1 || nat_eq n 2 || nat_eq n 4 || nat_eq n 8 || nat_eq n 16 || nat_eq n 32 || nat_eq n 64 || nat_eq n 128
 
 -- a ring begins at an even address of 18 bits
-abbrev pub is_ring_base : ℕ → Bool
-is_ring_base base = nat_eq (base % 2) 0 && nat_le base 262142
+pub record IsRingBase (base : ℕ) : Type 0 where
+  pub even : base % 2 ≡ 0
+  pub within : base ≤ 262142
 
 -- a ring as its user sees it: where it starts, how many descriptors it has, and the place of the next
 pub record RingState : Type 0 where

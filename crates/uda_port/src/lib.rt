@@ -1,12 +1,18 @@
-//! The port of a UDA50.
+//! The port of a UDA50 disk controller.
 #![tactic(auto)]
 
 mod descriptor;
 mod packet;
+mod phase;
+mod port;
 mod ring;
+mod startup;
+mod tally;
 #[cfg(test)]
 mod tests;
 
 pub use descriptor::Descriptor;
 pub use packet::Fetched;
+pub use phase::{Fatal, Phase};
+pub use port::Port;
 pub use ring::{RING_BASE_LIMIT, Ring, Ring as CommandRing, RingFault};

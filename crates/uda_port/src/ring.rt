@@ -68,9 +68,9 @@ impl Model for Ring {
 }
 
 impl Ring {
-    ghost use Rattle.std.specs.Prelude.{◌≡◌, ◌+◌, ◌%◌, ◌^◌, ◌<◌, ◌≤◌, IsTrue, length};
+    ghost use Rattle.std.specs.Prelude.{◌≡◌, ◌+◌, ◌%◌, ◌^◌, ◌<◌, ◌≤◌, ◌↔◌, IsTrue, length};
     ghost use Rattle.std.specs.Prelude.{OnOk};
-    ghost use Rattle.uda_port.specs.Ring.{is_ring_base, is_ring_length, descriptor_address};
+    ghost use Rattle.uda_port.specs.Ring.{IsRingBase, is_ring_length, descriptor_address};
     ghost use Rattle.uda_port.specs.Ring.{ring_advanced, memory_given_back};
     ghost use Rattle.uda_port.specs.Fetch.{FetchGoes, Looks, OrderKept};
     ghost use Rattle.uda_port.specs.Delivery.{PutGoes};
@@ -82,7 +82,7 @@ impl Ring {
     ///
     /// UDA50 Programmer's Documentation Kit: communication area.
     pub fn new(base: u32, n: u16) -> Ring
-        requires base { IsTrue (is_ring_base base) }
+        requires base { IsRingBase base }
         requires count { IsTrue (is_ring_length n) }
         ensures ring { result ≡ record { base = base; count = n; place = 0 } }
     {
@@ -95,7 +95,7 @@ impl Ring {
 
     /// Whether a ring may begin at the address `base`: it is even and at most [`RING_BASE_LIMIT`].
     pub fn is_base(base: u32) -> bool
-        ensures base { result ≡ is_ring_base base }
+        ensures base { IsTrue result ↔ IsRingBase base }
     {
         base % 2 == 0 && base <= RING_BASE_LIMIT
     }

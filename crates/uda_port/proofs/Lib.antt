@@ -1,2 +1,3 @@
 pub mod RingLaws
 pub mod Length
+pub mod TurnLaws

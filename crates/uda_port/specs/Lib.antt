@@ -7,3 +7,4 @@ pub mod Port
 pub mod IsPort
 pub mod Count
 pub mod Startup
+pub mod Turn

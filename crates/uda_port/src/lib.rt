@@ -2,6 +2,7 @@
 #![tactic(auto)]
 
 mod descriptor;
+mod message;
 mod packet;
 mod phase;
 mod port;
@@ -10,9 +11,11 @@ mod startup;
 mod tally;
 #[cfg(test)]
 mod tests;
+mod turn;
 
 pub use descriptor::Descriptor;
 pub use packet::Fetched;
 pub use phase::{Fatal, Phase};
 pub use port::Port;
 pub use ring::{RING_BASE_LIMIT, Ring, Ring as CommandRing, RingFault};
+pub use turn::Turn;

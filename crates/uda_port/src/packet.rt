@@ -8,7 +8,7 @@ use uda_mem::HostMemory;
 use uda_packet::Envelope;
 
 /// The bytes of a text.
-const TEXT: u16 = 48;
+pub(crate) const TEXT: u16 = 48;
 
 /// A command packet as it stood in host memory: the two words of its envelope, and its text.
 ///

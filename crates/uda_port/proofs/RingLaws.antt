@@ -11,7 +11,7 @@ use Rattle.uda_mem.proofs.PutLaws.{length-put}
 use Rattle.uda_mem.proofs.WordLaws.{length-word_bytes, word_at-put_apart, word_at-put_at}
 use Rattle.uda_port.specs.declared.descriptor.Descriptor.{Descriptor}
 use Rattle.uda_port.specs.declared.packet.Fetched.{Fetched}
-use Rattle.uda_port.specs.Ring.{is_owned, word_given_back, descriptor_at, ring, owned_front, posted, RingState, descriptor_address, next_descriptor, ring_advanced, memory_given_back, posted_in}
+use Rattle.uda_port.specs.Ring.{is_owned, word_given_back, descriptor_at, ring, owned_front, posted, RingState, descriptor_address, posted_in}
 use Rattle.uda_port.specs.declared.ring.RingFault.{RingFault}
 use Rattle.uda_port.specs.declared.ring.RingFault.TheVariants.{Ring as RingLost, Packet as PacketLost}
 use Rattle.uda_port.specs.Fetch.{Takes, TakesFirst, FetchGoes, OrderKept}

@@ -8,3 +8,4 @@ pub mod IsPort
 pub mod Count
 pub mod Startup
 pub mod Turn
+pub mod Play

@@ -1,6 +1,6 @@
 -- What a command packet says.
 -- UDA50 Programmer's Documentation Kit: message envelopes; MSCP Basic Disk Functions Manual: invalid commands.
-use Rattle.std.specs.Prelude.{◌≡◌, ℕ, ◌==◌, Result, Ok, Err, if◌then◌else◌}
+use Rattle.std.specs.Prelude.{◌≡◌, ◌==◌, Result, Ok, Err, if◌then◌else◌}
 use Rattle.uda_packet.specs.declared.bads.Bad.{Bad}
 use Rattle.uda_packet.specs.declared.commands.Command.{Command}
 use Rattle.uda_packet.specs.declared.ends.End.{End}

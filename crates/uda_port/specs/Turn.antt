@@ -8,7 +8,7 @@ use Rattle.uda_packet.specs.Written.{written_end}
 use Rattle.uda_exec.specs.Execution.{ExecutesAt}
 use Rattle.uda_port.specs.declared.packet.Fetched.{Fetched}
 use Rattle.uda_port.specs.declared.phase.Phase.{Phase}
-use Rattle.uda_port.specs.declared.phase.Phase.TheVariants.{Step1, Step2, Step3, Step4, Running, Dead as DeadPhase}
+use Rattle.uda_port.specs.declared.phase.Phase.TheVariants.{Running, Dead as DeadPhase}
 use Rattle.uda_port.specs.declared.turn.Turn.{Turn}
 use Rattle.uda_port.specs.declared.turn.Turn.TheVariants.{Fetched as TurnFetched, Executed, Delivered, Idle, Dead}
 use Rattle.uda_port.specs.declared.phase.Fatal.{Fatal}

@@ -62,7 +62,7 @@ impl<S: BlockStore> Port<S> {
     }
 
     // What the fields keep.
-    fn credits_agree(&self)
+    pub(crate) fn credits_agree(&self)
         ensures { CreditsAgree self.now }
     {
         let _ = &self.credits;

@@ -1,4 +1,4 @@
-use Rattle.std.proofs.Common.{◌≡◌, ap, ◌∙◌}
+use Rattle.std.proofs.Common.{ap, ◌∙◌}
 use Rattle.uda_port.specs.Turn.{port_not_looking}
 use Rattle.uda_port.proofs.TurnLaws.{goes_on}
 use Rattle.uda_port.proofs.port.Port.lines.Goals as goal

@@ -9,6 +9,7 @@ use crate::ring::Ring;
 use crate::tally::Tally;
 use circular_buffer::HeapCircularBuffer;
 use std::alloc::Global;
+use std::fmt;
 use std::marker::Model;
 use uda_exec::{Exec, PENDING};
 use uda_image::BlockStore;
@@ -181,5 +182,17 @@ impl<S: BlockStore> Port<S> {
     {
         let Port { exec, .. } = self;
         exec
+    }
+}
+
+impl<S: BlockStore> fmt::Debug for Port<S> {
+    fn fmt<W: fmt::Write>(&self, f: &mut fmt::Formatter<W>) -> fmt::Result {
+        f.debug_struct("Port")
+            .field("phase", &self.phase)
+            .field("pending", &self.exec.pending())
+            .field("waiting", &self.waiting.len())
+            .field("looking", &self.looking)
+            .field("credits", &self.credits)
+            .finish_non_exhaustive()
     }
 }

@@ -1,4 +1,3 @@
-pub mod Blocks
-pub mod Chunks
-pub mod Images
-pub mod ImageLaws
+pub mod Store
+pub mod Image
+pub mod StoreLaws

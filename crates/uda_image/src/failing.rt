@@ -1,7 +1,8 @@
-ghost use Rattle.std.specs.Prelude.{◌≡◌, ◌-◌, ◌<◌, ◌↔◌, true, is_ok, IsErr, IfErr, if◌then◌else◌};
-ghost use Rattle.uda_image.specs.Blocks.{Reads, Writes};
-ghost use Rattle.uda_image.specs.Images.{block_count_of, blocks_of, block_of, with_block, half_written, failures_by};
-ghost use Rattle.uda_image.specs.ImageLaws.{block_count-le, IsImage-blocks_of};
+//! Images in memory that fail at one call.
+ghost use Rattle.std.specs.Prelude.{length, ◌≡◌, ◌-◌, ◌<◌, ◌↔◌, true, is_ok, IsErr, IfErr, if◌then◌else◌};
+ghost use Rattle.uda_image.specs.Store.{Reads, Writes, KeepsNature};
+ghost use Rattle.uda_image.specs.Image.{block_count_of, block_of, with_block, half_written, failing_state};
+ghost use Rattle.uda_image.specs.StoreLaws.{block_count-le, IsImage-blocks_of};
 
 use crate::memory::MemImage;
 use crate::store::{BlockStore, StoreError};
@@ -20,7 +21,7 @@ pub struct FailingImage {
 }
 
 impl Model for FailingImage {
-    ghost use Rattle.uda_image.specs.Images.{Failing};
+    ghost use Rattle.uda_image.specs.Image.{Failing};
 
     ghost Value = { Failing };
 
@@ -57,7 +58,7 @@ impl FailingImage {
     }
 
     // Writes the first half of block `n` alone.
-    #[tactic(auto, using(crate::specs::ImageLaws::image_laws))]
+    #[tactic(auto, using(crate::proofs::ImageLaws::image_laws))]
     fn write_half(&mut self, n: u32, from: &[u8; 512])
         requires { n < block_count_of self.old.bytes }
         ensures bytes { self.new.bytes
@@ -71,7 +72,8 @@ impl FailingImage {
     }
 }
 
-#[tactic(auto, unfolding(crate::specs::Images::half_written))]
+// Writes the first half of `from` over that of a block.
+#[tactic(auto, unfolding(crate::specs::Image::half_written))]
 fn write_first_half(block: &mut [u8; 512], from: &[u8; 512])
     ensures { block.new ≡ half_written block.old from.now }
 {
@@ -79,13 +81,7 @@ fn write_first_half(block: &mut [u8; 512], from: &[u8; 512])
 }
 
 impl BlockStore for FailingImage {
-    ghost blocks = { λ image. blocks_of image.bytes };
-
-    ghost block_count = { λ image. block_count_of image.bytes };
-
-    ghost faithful = { λ _. true };
-
-    ghost failures = { λ image. failures_by image.left };
+    ghost state = { failing_state };
 
     ghost within_limit = { λ image. block_count-le image.bytes };
 
@@ -102,8 +98,8 @@ impl BlockStore for FailingImage {
         ensures bytes { self.new.bytes ≡ self.old.bytes }
         ensures to { to.new ≡ (if is_ok result then block_of self.old.bytes n else to.old) }
         ensures error { IfErr result (λ e. e ≡ StoreError.Read) }
-        ensures reads { Reads (blocks_of self.old.bytes) (failures_by self.old.left) n
-            (blocks_of self.new.bytes) (failures_by self.new.left) to.new result }
+        ensures reads { Reads (failing_state self.old) n (failing_state self.new) to.new result }
+        ensures long { length to.new ≡ 512 }
     {
         if self.fails_now() {
             return Err(StoreError::Read);
@@ -111,7 +107,7 @@ impl BlockStore for FailingImage {
         self.inner.read(n, to)
     }
 
-    #[tactic(auto, using(crate::specs::ImageLaws::image_laws))]
+    #[tactic(auto, using(crate::proofs::ImageLaws::image_laws))]
     fn write(&mut self, n: u32, from: &[u8; 512]) -> Result<(), StoreError>
         requires { n < block_count_of self.old.bytes }
         ensures fails { IsErr result ↔ (self.old.left ≡ 1) }
@@ -119,10 +115,10 @@ impl BlockStore for FailingImage {
         ensures bytes { self.new.bytes
             ≡ with_block self.old.bytes n
             (if is_ok result then from.now else half_written (block_of self.old.bytes n) from.now) }
-        ensures size_stays { block_count_of self.new.bytes ≡ block_count_of self.old.bytes }
+        ensures nature { KeepsNature (failing_state self.old) (failing_state self.new) }
         ensures error { IfErr result (λ e. e ≡ StoreError.Write) }
-        ensures writes { Writes (blocks_of self.old.bytes) (failures_by self.old.left) n from.now
-            (blocks_of self.new.bytes) (failures_by self.new.left) result }
+        ensures writes { Writes (failing_state self.old) n (failing_state self.new) from.now
+            result }
     {
         if self.fails_now() {
             self.write_half(n, from);

@@ -1,9 +1,11 @@
-ghost use Rattle.std.specs.Prelude.{◌≡◌, ◌≢◌, ◌≤◌, false, [], min, IfOk, IfErr};
+//! Images in files.
+ghost use Rattle.std.specs.Prelude.{length, ◌≡◌, ◌≢◌, ◌≤◌, false, IfOk, IfErr};
 ghost use Rattle.uda_image.specs.declared.store.TheConstants.{BLOCK_LIMIT};
-ghost use Rattle.uda_image.specs.ImageLaws.{min-le, no_image};
+ghost use Rattle.uda_image.specs.Image.{file_state};
+ghost use Rattle.uda_image.specs.StoreLaws.{min-le, no_image};
 
-use crate::errors::ImageError;
-use crate::lengths::count_blocks;
+use crate::error::ImageError;
+use crate::length::count_blocks;
 use crate::store::{BLOCK_LIMIT, BlockStore, StoreError};
 use std::fs;
 use std::fs::{File, OpenFile, OpenOptions};
@@ -15,8 +17,9 @@ use std::os::unix::fs::FileExt;
 ///
 /// Its size is that of the file when it is opened. It isn't faithful, since other programs may
 /// change the file. A read or write that fails or ends early, as behind the end of a file that was
-/// shortened, is an error, and so is a write to an image that wasn't opened to be written.
-/// Contracts see its size in blocks, and whether it was opened to be written.
+/// shortened, is an error. An image that isn't to be written is opened for reading alone, so that no
+/// write could reach its file, and a write to it is an error. Contracts see its size in blocks, and
+/// whether it was opened to be written.
 #[derive(Debug, Drop)]
 pub struct FileImage {
     file: File,
@@ -27,7 +30,7 @@ pub struct FileImage {
 impl Model for FileImage {
     ghost use Rattle.std.specs.Prelude.{◌≤◌};
     ghost use Rattle.uda_image.specs.declared.store.TheConstants.{BLOCK_LIMIT};
-    ghost use Rattle.uda_image.specs.Images.{OpenImage};
+    ghost use Rattle.uda_image.specs.Image.{OpenImage};
 
     ghost Value = { OpenImage };
 
@@ -77,13 +80,7 @@ impl FileImage {
 }
 
 impl BlockStore for FileImage {
-    ghost blocks = { λ _. [] };
-
-    ghost block_count = { λ image. min image.size BLOCK_LIMIT };
-
-    ghost faithful = { λ _. false };
-
-    ghost failures = { λ _. 0 };
+    ghost state = { file_state };
 
     ghost within_limit = { λ image. min-le image.size };
 
@@ -96,6 +93,7 @@ impl BlockStore for FileImage {
     fn read(&mut self, n: u32, to: &mut [u8; 512]) -> Result<(), StoreError>
         ensures unchanged { self.new ≡ self.old }
         ensures error { IfErr result (λ e. e ≡ StoreError.Read) }
+        ensures long { length to.new ≡ 512 }
     {
         match self.file.read_exact_at(to, 512 * u64::from(n)) {
             Ok(()) => Ok(()),

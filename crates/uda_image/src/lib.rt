@@ -1,16 +1,16 @@
 //! Stores of the blocks of a disk unit: images in memory, images that fail once, and files.
 #![tactic(auto)]
 
-mod errors;
+mod error;
 mod failing;
 mod file;
-mod lengths;
+mod length;
 mod memory;
 mod store;
 #[cfg(test)]
 mod tests;
 
-pub use errors::ImageError;
+pub use error::ImageError;
 pub use failing::FailingImage;
 pub use file::FileImage;
 pub use memory::MemImage;

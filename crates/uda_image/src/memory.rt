@@ -1,10 +1,13 @@
-ghost use Rattle.std.specs.Prelude.{◌≡◌, ◌≢◌, ◌*◌, ◌/◌, ◌%◌, ◌<◌, ◌≤◌, ◌⊎◌, ◌↔◌, true, length, replicate, IfOk, IfErr};
-ghost use Rattle.uda_image.specs.Blocks.{Reads, Writes};
-ghost use Rattle.uda_image.specs.Images.{block_count_of, blocks_of, block_of, with_block};
-ghost use Rattle.uda_image.specs.ImageLaws.{block_count-le, IsImage-blocks_of};
+//! Images in memory.
+ghost use Rattle.std.specs.Prelude.{◌≡◌, ◌≢◌, ◌*◌, ◌/◌, ◌%◌, ◌<◌, ◌≤◌, ◌⊎◌, ◌↔◌, length, replicate, IfOk, IfErr};
+ghost use Rattle.std.specs.List.{concat};
+ghost use Rattle.std.specs.Simd.{first_chunks};
+ghost use Rattle.uda_image.specs.Store.{Reads, Writes, KeepsNature};
+ghost use Rattle.uda_image.specs.Image.{block_count_of, blocks_of, block_of, with_block, image_state};
+ghost use Rattle.uda_image.specs.StoreLaws.{block_count-le, IsImage-blocks_of};
 
-use crate::errors::ImageError;
-use crate::lengths::count_blocks;
+use crate::error::ImageError;
+use crate::length::count_blocks;
 use crate::store::{BLOCK_LIMIT, BlockStore, StoreError};
 use std::alloc::Global;
 use std::marker::Model;
@@ -25,18 +28,20 @@ impl Model for MemImage {
 
     ghost view = { λ image. image.bytes.items };
 
-    ghost invariant = { λ image. (vec_len image.bytes % 512 ≡ 0) × (vec_len image.bytes / 512 ≤ BLOCK_LIMIT) };
+    ghost invariant = { λ image. (vec_len image.bytes % 512 ≡ 0)
+        × (vec_len image.bytes / 512 ≤ BLOCK_LIMIT) };
 }
 
 impl MemImage {
     /// Makes an image of `blocks` blocks of 512 bytes, all zero. Errs with TooLarge where those are
     /// more than [`BLOCK_LIMIT`], before memory is asked for, and with NoMemory where the allocator
     /// has none.
-    #[tactic(auto, using(crate::specs::ImageLaws::image_laws))]
+    #[tactic(auto, using(crate::proofs::ImageLaws::image_laws))]
     pub fn new(alloc: Global, blocks: u32) -> Result<MemImage, ImageError>
         ensures zeros { IfOk result (λ image. image ≡ replicate (512 * blocks) 0) }
         ensures size { IfOk result (λ image. block_count_of image ≡ blocks) }
-        ensures blocks { IfOk result (λ image. blocks_of image ≡ replicate blocks (replicate 512 0)) }
+        ensures blocks { IfOk result (λ image.
+            blocks_of image ≡ replicate blocks (replicate 512 0)) }
         ensures too_large { (result ≡ Err ImageError.TooLarge) ↔ (BLOCK_LIMIT < blocks) }
         ensures errors { IfErr result (λ e. (e ≡ ImageError.NoMemory) ⊎ (e ≡ ImageError.TooLarge)) }
     {
@@ -52,10 +57,12 @@ impl MemImage {
     /// whole number of blocks of 512 bytes, then with TooLarge where those are more than
     /// [`BLOCK_LIMIT`], both before memory is asked for, and with NoMemory where the allocator has
     /// none.
-    #[tactic(auto, unfolding(crate::specs::Images::block_count_of))]
+    #[tactic(auto, using(crate::proofs::ImageLaws::image_laws), unfolding(crate::specs::Image::block_count_of))]
     pub fn from_bytes(alloc: Global, bytes: &[u8]) -> Result<MemImage, ImageError>
         ensures value { IfOk result (λ image. image ≡ bytes.now) }
         ensures size { IfOk result (λ image. 512 * block_count_of image ≡ length bytes.now) }
+        ensures blocks { IfOk result (λ image.
+            blocks_of image ≡ first_chunks 512 (length bytes.now / 512) bytes.now) }
         ensures length { (result ≡ Err ImageError.Length) ↔ (length bytes.now % 512 ≢ 0) }
         ensures too_large { (result ≡ Err ImageError.TooLarge)
             ↔ ((length bytes.now % 512 ≡ 0) × (BLOCK_LIMIT < length bytes.now / 512)) }
@@ -68,8 +75,10 @@ impl MemImage {
     }
 
     /// The bytes of all blocks, block after block.
+    #[tactic(auto, using(crate::proofs::ImageLaws::image_laws))]
     pub fn bytes(&self) -> &[u8]
         ensures value { result.now ≡ self.now }
+        ensures blocks { concat (blocks_of self.now) ≡ result.now }
         ensures whole { length result.now % 512 ≡ 0 }
         ensures within_limit { length result.now / 512 ≤ BLOCK_LIMIT }
     {
@@ -77,7 +86,7 @@ impl MemImage {
     }
 
     // Writes the bytes of block `n`.
-    #[tactic(auto, unfolding(crate::specs::Images::block_count_of, crate::specs::Images::with_block))]
+    #[tactic(auto, unfolding(crate::specs::Image::block_count_of, crate::specs::Image::with_block))]
     fn put_block(&mut self, n: u32, block: &[u8; 512])
         requires { n < block_count_of self.old }
         ensures { self.new ≡ with_block self.old n block.now }
@@ -90,43 +99,38 @@ impl MemImage {
 }
 
 impl BlockStore for MemImage {
-    ghost blocks = { blocks_of };
-
-    ghost block_count = { block_count_of };
-
-    ghost faithful = { λ _. true };
-
-    ghost failures = { λ _. 0 };
+    ghost state = { image_state };
 
     ghost within_limit = { block_count-le };
 
     ghost is_image = { λ image _. IsImage-blocks_of image };
 
-    #[tactic(auto, unfolding(crate::specs::Images::block_count_of))]
+    #[tactic(auto, unfolding(crate::specs::Image::block_count_of))]
     fn size(&self) -> u32 {
         (self.bytes.len() / 512) as u32
     }
 
-    #[tactic(auto, using(crate::specs::ImageLaws::image_laws), unfolding(crate::specs::Images::block_count_of, crate::specs::Images::block_of))]
+    #[tactic(auto, using(crate::proofs::ImageLaws::image_laws), unfolding(crate::specs::Image::block_count_of, crate::specs::Image::block_of))]
     fn read(&mut self, n: u32, to: &mut [u8; 512]) -> Result<(), StoreError>
         requires { n < block_count_of self.old }
         ensures succeeds { result ≡ Ok tt }
         ensures unchanged { self.new ≡ self.old }
         ensures value { to.new ≡ block_of self.old n }
-        ensures reads { Reads (blocks_of self.old) 0 n (blocks_of self.new) 0 to.new result }
+        ensures reads { Reads (image_state self.old) n (image_state self.new) to.new result }
+        ensures long { length to.new ≡ 512 }
     {
         let start = 512 * n as usize;
         to.copy_from_slice(&self.bytes[start..start + 512]);
         Ok(())
     }
 
-    #[tactic(auto, using(crate::specs::ImageLaws::image_laws))]
+    #[tactic(auto, using(crate::proofs::ImageLaws::image_laws))]
     fn write(&mut self, n: u32, from: &[u8; 512]) -> Result<(), StoreError>
         requires { n < block_count_of self.old }
         ensures succeeds { result ≡ Ok tt }
         ensures value { self.new ≡ with_block self.old n from.now }
-        ensures size_stays { block_count_of self.new ≡ block_count_of self.old }
-        ensures writes { Writes (blocks_of self.old) 0 n from.now (blocks_of self.new) 0 result }
+        ensures nature { KeepsNature (image_state self.old) (image_state self.new) }
+        ensures writes { Writes (image_state self.old) n (image_state self.new) from.now result }
     {
         self.put_block(n, from);
         Ok(())

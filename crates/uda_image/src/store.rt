@@ -1,11 +1,13 @@
-ghost use Rattle.std.specs.Prelude.{◌≡◌, ℕ, ◌<◌, ◌≤◌, Bool, true, List, IfErr};
-ghost use Rattle.uda_image.specs.Blocks.{IsImage, Reads, Writes};
+//! What a store of a unit's blocks is: the trait `BlockStore`, and a drive that holds one.
+ghost use Rattle.std.specs.Prelude.{length, ◌≡◌, ◌<◌, ◌≤◌, true, IfErr, IsOk};
+ghost use Rattle.uda_image.specs.Store.{StoreState, IsImage, KeepsNature, Reads, Writes};
 ghost use Rattle.uda_image.specs.declared.store.TheConstants.{BLOCK_LIMIT};
 
 use std::error::Error;
 use std::fmt;
 
-/// The most blocks that an image has, which the manuals leave open.
+/// The most blocks that an image has, which the manuals leave open. It is the number of blocks that
+/// an RA81 shows its host.
 pub const BLOCK_LIMIT: u32 = 891_072;
 
 /// A store could not read or write a block (MSCP Basic Disk Functions Manual: status codes, drive
@@ -32,47 +34,44 @@ impl Error for StoreError {}
 /// The logical blocks of a unit (MSCP Basic Disk Functions Manual: logical blocks): blocks of 512
 /// bytes, numbered from 0, that are read and written one at a time.
 ///
-/// Contracts see of a store its blocks, how many there are, whether it is faithful, and how many
-/// of its calls have failed. A faithful store gives back what was written, and an error of it
-/// changes no block but the one that was being written. Of a store that isn't faithful, as a file
-/// that other programs may change, only the number of blocks is known.
+/// Contracts see a store as one value, its `state`: its blocks, how many there are, whether it is
+/// faithful, whether it never fails, and how many of its calls have failed. A faithful store gives
+/// back what was written, and an error of it changes no block but the one that was being written.
+/// Of a store that isn't faithful, as a file that other programs may change, only the number of
+/// blocks is known. A store that never fails answers every call with `Ok`.
 pub trait BlockStore {
-    ghost blocks: { Self → List (List ℕ) };
-
-    ghost block_count: { Self → ℕ };
-
-    ghost faithful: { Self → Bool };
-
-    ghost failures: { Self → ℕ };
+    ghost state: { Self → StoreState };
 
     /// The number of blocks, at most [`BLOCK_LIMIT`], which no call changes.
     fn size(&self) -> u32
-        ensures value { result ≡ block_count self.now }
+        ensures value { result ≡ (state self.now).size }
         ensures within_limit { result ≤ BLOCK_LIMIT };
 
     /// Reads block `n`, which is below the size, into `to`. Errs with Read, and `to` may then hold
     /// any bytes.
     fn read(&mut self, n: u32, to: &mut [u8; 512]) -> Result<(), StoreError>
-        requires { n < block_count self.old }
-        ensures size_stays { block_count self.new ≡ block_count self.old }
-        ensures faithful_stays { faithful self.new ≡ faithful self.old }
+        requires { n < (state self.old).size }
+        ensures nature { KeepsNature (state self.old) (state self.new) }
         ensures error { IfErr result (λ e. e ≡ StoreError.Read) }
-        ensures reads { faithful self.old ≡ true
-            → Reads (blocks self.old) (failures self.old) n (blocks self.new) (failures self.new) to.new result };
+        ensures sure { (state self.old).never_fails ≡ true → IsOk result }
+        ensures long { length to.new ≡ 512 }
+        ensures reads { (state self.old).faithful ≡ true
+            → Reads (state self.old) n (state self.new) to.new result };
 
     /// Writes `from` to block `n`, which is below the size. Errs with Write, and the block may then
     /// hold any bytes.
     fn write(&mut self, n: u32, from: &[u8; 512]) -> Result<(), StoreError>
-        requires { n < block_count self.old }
-        ensures size_stays { block_count self.new ≡ block_count self.old }
-        ensures faithful_stays { faithful self.new ≡ faithful self.old }
+        requires { n < (state self.old).size }
+        ensures nature { KeepsNature (state self.old) (state self.new) }
         ensures error { IfErr result (λ e. e ≡ StoreError.Write) }
-        ensures writes { faithful self.old ≡ true
-            → Writes (blocks self.old) (failures self.old) n from.now (blocks self.new) (failures self.new) result };
+        ensures sure { (state self.old).never_fails ≡ true → IsOk result }
+        ensures writes { (state self.old).faithful ≡ true
+            → Writes (state self.old) n (state self.new) from.now result };
 
-    ghost within_limit: { (store : Self) → block_count store ≤ BLOCK_LIMIT };
+    ghost within_limit: { (store : Self) → (state store).size ≤ BLOCK_LIMIT };
 
-    ghost is_image: { (store : Self) → faithful store ≡ true → IsImage (block_count store) (blocks store) };
+    ghost is_image: { (store : Self) → (state store).faithful ≡ true
+        → IsImage (state store).size (state store).blocks };
 }
 
 /// A drive of a controller (MSCP Basic Disk Functions Manual: unit flags, hardware write protect).

@@ -1,5 +1,6 @@
-ghost use Rattle.std.specs.Prelude.{◌≡◌, ◌+◌, ◌<◌, true, IfOk, slice_set, is_ok, if◌then◌else◌};
-ghost use Rattle.uda_image.specs.Blocks.{IsImage};
+//! What no clause says: errors' texts, files, and the images' calls at concrete values.
+ghost use Rattle.std.specs.Prelude.{◌≡◌, ◌+◌, ◌<◌, true, IfOk, IsOk, slice_set, is_ok, if◌then◌else◌};
+ghost use Rattle.uda_image.specs.Store.{IsImage, KeepsNature};
 
 use crate::*;
 use std::alloc::Global;
@@ -15,14 +16,18 @@ fn write_then_read<S: BlockStore>(
     from: &[u8; 512],
     to: &mut [u8; 512],
 ) -> Result<(), StoreError>
-    requires { n < S.block_count store.old }
-    ensures size_stays { S.block_count store.new ≡ S.block_count store.old }
-    ensures same { S.faithful store.old ≡ true → IfOk result (λ _. to.new ≡ from.now) }
-    ensures written { S.faithful store.old ≡ true
-        → IfOk result (λ _. S.blocks store.new ≡ slice_set (S.blocks store.old) n from.now) }
-    ensures failures { S.faithful store.old ≡ true
-        → S.failures store.new ≡ (if is_ok result then S.failures store.old else S.failures store.old + 1) }
-    ensures image { S.faithful store.old ≡ true → IsImage (S.block_count store.old) (S.blocks store.new) }
+    requires { n < (S.state store.old).size }
+    ensures nature { KeepsNature (S.state store.old) (S.state store.new) }
+    ensures sure { (S.state store.old).never_fails ≡ true → IsOk result }
+    ensures same { (S.state store.old).faithful ≡ true → IfOk result (λ _. to.new ≡ from.now) }
+    ensures written { (S.state store.old).faithful ≡ true
+        → IfOk result (λ _.
+        (S.state store.new).blocks ≡ slice_set (S.state store.old).blocks n from.now) }
+    ensures failures { (S.state store.old).faithful ≡ true
+        → (S.state store.new).failures
+        ≡ (S.state store.old).failures + (if is_ok result then 0 else 1) }
+    ensures image { (S.state store.old).faithful ≡ true
+        → IsImage (S.state store.old).size (S.state store.new).blocks }
 {
     store.write(n, from)?;
     store.read(n, to)
@@ -186,18 +191,26 @@ fn a_file_is_written_and_read(rt: HostRuntime) -> Result<(), Fail> {
     assert_eq!(rt; block, [0x44; 512]);
     image.read(0, &mut block)?;
     assert_eq!(rt; block, [0x11; 512]);
+    let bytes = fs::read(&rt, path.as_path())?;
+    fs::remove_file(&rt, path.as_path())?;
+    assert_eq!(rt; bytes.len(), 1024);
+    Ok(())
+}
 
+// The file's own bytes are looked at, since no clause says what a file holds.
+#[test]
+fn a_file_opened_for_reading_stays(rt: HostRuntime) -> Result<(), Fail> {
+    let path = path_of(&rt, "locked")?;
+    fs::write(&rt, path.as_path(), [0x11u8; 1024].as_slice())?;
     let mut locked = FileImage::open(&rt, path.as_str(), false)?;
     assert_eq!(rt; locked.size(), 2);
     assert_eq!(rt; locked.write(0, &[0x55; 512]), Err(StoreError::Write));
-    locked.read(1, &mut block)?;
-    assert_eq!(rt; block, [0x44; 512]);
-
+    let mut block = [0; 512];
     locked.read(0, &mut block)?;
     assert_eq!(rt; block, [0x11; 512]);
     let bytes = fs::read(&rt, path.as_path())?;
     fs::remove_file(&rt, path.as_path())?;
-    assert_eq!(rt; bytes.len(), 1024);
+    assert_eq!(rt; bytes.as_slice(), [0x11u8; 1024].as_slice());
     Ok(())
 }
 

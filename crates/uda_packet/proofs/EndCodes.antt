@@ -1,12 +1,12 @@
 -- The end codes are the opcodes with bit 7 set, and that bit alone.
 use Rattle.std.proofs.Common.{◌≡◌, ◌≢◌, ℕ, ◌+◌, arith}
-use Rattle.uda_packet.specs.declared.commands.Op.{Op}
-use Rattle.uda_packet.specs.declared.commands.Op.TheVariants as op
-use Rattle.uda_packet.specs.declared.ends.EndBody.{EndBody}
-use Rattle.uda_packet.specs.declared.ends.EndBody.TheVariants as body
-use Rattle.uda_packet.specs.declared.ends.Kind.TheVariants as kind
+use Rattle.uda_packet.specs.declared.command.Op.{Op}
+use Rattle.uda_packet.specs.declared.command.Op.TheVariants as op
+use Rattle.uda_packet.specs.declared.end.EndBody.{EndBody}
+use Rattle.uda_packet.specs.declared.end.EndBody.TheVariants as body
+use Rattle.uda_packet.specs.declared.end.Kind.TheVariants as kind
 use Rattle.std.specs.Prelude.{None}
-use Rattle.uda_packet.specs.Codes.{opcode_of, end_code}
+use Rattle.uda_packet.specs.Opcode.{opcode_of, end_code}
 
 -- a code above that bit is no end code where no command has its opcode
 pub no_end_code : (code number : ℕ) → code ≡ number + 128 → number ≢ 0 → ((o : Op) → number ≢ opcode_of o)

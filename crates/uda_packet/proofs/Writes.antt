@@ -3,7 +3,7 @@ use Rattle.std.proofs.Common.{◌≡◌, ℕ, ◌+◌, ◌-◌, ◌≤◌, List,
 use Rattle.std.proofs.lemmas.List.{take_all, drop_all, drop-drop, append-nil, length-drop}
 use Rattle.byteorder.specs.Endian.{little_bytes}
 use borrow.Rule.Slice.PartMut.{put_mid, mid_of}
-use Rattle.uda_packet.specs.Fields.{field, with_number}
+use Rattle.uda_packet.specs.Field.{field, with_number}
 
 -- the number written at the front of the rest of a text, put back into the whole
 pub put_number : (place width n : ℕ) (text new : List ℕ) → place + width ≤ 48 → length text ≡ 48

@@ -2,18 +2,30 @@
 use Rattle.std.proofs.Common.{◌≡◌, ℕ, ◌<◌, ◌^◌, Bool, true, false, Some, None, List, [], ◌∷◌, ◌++◌, length, refl, ap, ◌∙◌, ◌==◌}
 use Rattle.byteorder.specs.Endian.{little_from, little_bytes}
 use Rattle.byteorder.specs.Numbers.{little_number-reads_back}
-use Rattle.uda_packet.specs.declared.commands.Command.{Command}
-use Rattle.uda_packet.specs.declared.commands.Op.{Op}
-use Rattle.uda_packet.specs.declared.commands.Op.TheVariants as op
-use Rattle.uda_packet.specs.declared.ends.End.{End}
-use Rattle.uda_packet.specs.declared.ends.EndBody.{EndBody}
-use Rattle.uda_packet.specs.declared.ends.EndBody.TheVariants as body
-use Rattle.uda_packet.specs.declared.ends.Kind.TheVariants as kind
-use Rattle.uda_packet.specs.Fields.{Entry, ◌holds◌, text_of, with_entries, with_number, number_in, reference_field, unit_field, code_field, status_field, unit_flags_field, unit_size_field}
-use Rattle.uda_packet.specs.Codes.{opcode_of, end_code}
-use Rattle.uda_packet.specs.Texts.{command_text, op_text, end_text, body_text, online_end_text}
+use Rattle.uda_packet.specs.declared.command.Command.{Command}
+use Rattle.uda_packet.specs.declared.command.Op.{Op}
+use Rattle.uda_packet.specs.declared.command.Op.TheVariants as op
+use Rattle.uda_packet.specs.declared.end.End.{End}
+use Rattle.uda_packet.specs.declared.end.EndBody.{EndBody}
+use Rattle.uda_packet.specs.declared.end.EndBody.TheVariants as body
+use Rattle.uda_packet.specs.declared.end.Kind.TheVariants as kind
+use Rattle.uda_packet.specs.Field.{Entry, ◌holds◌, text_of, with_entries, with_number, number_in, reference_field, unit_field, code_field, status_field, unit_flags_field, unit_size_field}
+use Rattle.uda_packet.specs.Opcode.{opcode_of, end_code}
+use Rattle.uda_packet.specs.Text.{CommandText, OpText, EndText, BodyText, OnlineEndText}
 use Rattle.uda_packet.specs.Written.{parameters, answer_entries, unit_entries, controller_entries, tells_status, tells_online, written_command, written_end}
-use Rattle.uda_packet.specs.Ranges.{OpFits, CommandFits, BodyFits, EndFits}
+use Rattle.uda_packet.specs.Range.{OpFits, BodyFits}
+
+-- a command and an end message whose numbers are in the ranges of their types
+pub record CommandFits (c : Command) : Type 0 where
+  pub reference_fits : c.reference < 2 ^ 32
+  pub unit_fits : c.unit < 2 ^ 16
+  pub op_fits : OpFits c.op
+
+pub record EndFits (e : End) : Type 0 where
+  pub reference_fits : e.reference < 2 ^ 32
+  pub unit_fits : e.unit < 2 ^ 16
+  pub status_fits : e.status < 2 ^ 16
+  pub body_fits : BodyFits e.body
 
 -- a number of two or four bytes is read back
 word_back : (n : ℕ) → n < 2 ^ 16 → little_from 0 2 (little_bytes 2 n) ≡ n
@@ -22,22 +34,22 @@ word_back n h = little_number-reads_back 2 n [] h
 long_back : (n : ℕ) → n < 2 ^ 32 → little_from 0 4 (little_bytes 4 n) ≡ n
 long_back n h = little_number-reads_back 4 n [] h
 
--- written entry by entry behind the head, a command's text is the one that is laid out at once
-pub laid_command : (reference unit : ℕ) (o : Op)
+-- written entry by entry behind the head, a command's text is the one that is text_from out at once
+pub entries_command : (reference unit : ℕ) (o : Op)
     → with_entries (parameters o) (text_of (reference_field holds reference ∷ unit_field holds unit ∷ code_field holds (opcode_of o) ∷ []))
     ≡ written_command (record { reference = reference; unit = unit; op = o })
 unfolding written_command
-laid_command reference unit op.Status = refl
-laid_command reference unit op.Controller = refl
-laid_command reference unit op.Available = refl
-laid_command reference unit (op.Online None) = refl
-laid_command reference unit (op.Online (Some soft)) = refl
-laid_command reference unit (op.Access count block) = refl
-laid_command reference unit (op.Erase count block) = refl
-laid_command reference unit (op.Read count address block) = refl
-laid_command reference unit (op.Write count address block) = refl
+entries_command reference unit op.Status = refl
+entries_command reference unit op.Controller = refl
+entries_command reference unit op.Available = refl
+entries_command reference unit (op.Online None) = refl
+entries_command reference unit (op.Online (Some soft)) = refl
+entries_command reference unit (op.Access count block) = refl
+entries_command reference unit (op.Erase count block) = refl
+entries_command reference unit (op.Read count address block) = refl
+entries_command reference unit (op.Write count address block) = refl
 
-op_back : (reference unit : ℕ) (o : Op) → OpFits o → op_text (written_command (record { reference = reference; unit = unit; op = o })) o
+op_back : (reference unit : ℕ) (o : Op) → OpFits o → OpText (written_command (record { reference = reference; unit = unit; op = o })) o
 unfolding written_command
 op_back reference unit op.Status h = record { opcode_is = refl; modifiers_are = refl; parameters_are = tt }
 op_back reference unit op.Controller h = record { opcode_is = refl; modifiers_are = refl; parameters_are = refl }
@@ -58,7 +70,7 @@ unfolding written_command
 head_back reference unit o h k = (long_back reference h, word_back unit k)
 
 -- the text that a command is written as is a text of it
-pub written_command_text : (c : Command) → CommandFits c → command_text (written_command c) c
+pub written_command_text : (c : Command) → CommandFits c → CommandText (written_command c) c
 written_command_text c h = record {
   reference_is = (head_back c.reference c.unit c.op h.reference_fits h.unit_fits).0;
   unit_is = (head_back c.reference c.unit c.op h.reference_fits h.unit_fits).1;
@@ -87,7 +99,7 @@ pub writes_command : (c : Command) (code : ℕ) (before after : List ℕ) → co
     → after ≡ with_entries (parameters c.op) before → after ≡ written_command c
 writes_command c code before after named headed written =
     written ∙ ap (λ (b : List ℕ). with_entries (parameters c.op) b) (headed ∙ ap (λ (k : ℕ). text_of (reference_field holds c.reference ∷ unit_field holds c.unit ∷ code_field holds k ∷ [])) named)
-    ∙ laid_command c.reference c.unit c.op
+    ∙ entries_command c.reference c.unit c.op
 
 -- ---- end messages
 
@@ -96,41 +108,41 @@ first_entries reference unit code status rest =
     reference_field holds reference ∷ unit_field holds unit ∷ code_field holds code ∷ status_field holds status ∷ rest
 
 -- a text with these first entries, before the answer is written
-abbrev begun : ℕ → ℕ → ℕ → ℕ → List ℕ
-begun reference unit code status = with_number status_field status (text_of (reference_field holds reference ∷ unit_field holds unit ∷ code_field holds code ∷ []))
+abbrev text_begin : ℕ → ℕ → ℕ → ℕ → List ℕ
+text_begin reference unit code status = with_number status_field status (text_of (reference_field holds reference ∷ unit_field holds unit ∷ code_field holds code ∷ []))
 
-laid_status : (reference unit code status flags : ℕ) (told : Bool)
-    → with_entries (unit_flags_field holds flags ∷ unit_entries told unit) (begun reference unit code status)
+entries_status : (reference unit code status flags : ℕ) (told : Bool)
+    → with_entries (unit_flags_field holds flags ∷ unit_entries told unit) (text_begin reference unit code status)
     ≡ text_of (first_entries reference unit code status (unit_flags_field holds flags ∷ unit_entries told unit))
-laid_status reference unit code status flags true = refl
-laid_status reference unit code status flags false = refl
+entries_status reference unit code status flags true = refl
+entries_status reference unit code status flags false = refl
 
-laid_controller : (reference unit code status : ℕ) (told : Bool)
-    → with_entries (controller_entries told) (begun reference unit code status)
+entries_controller : (reference unit code status : ℕ) (told : Bool)
+    → with_entries (controller_entries told) (text_begin reference unit code status)
     ≡ text_of (first_entries reference unit code status (controller_entries told))
-laid_controller reference unit code status true = refl
-laid_controller reference unit code status false = refl
+entries_controller reference unit code status true = refl
+entries_controller reference unit code status false = refl
 
-laid_online : (reference unit code status flags size : ℕ) (told : Bool)
-    → with_entries (unit_flags_field holds flags ∷ (unit_entries told unit ++ unit_size_field holds size ∷ [])) (begun reference unit code status)
+entries_online : (reference unit code status flags size : ℕ) (told : Bool)
+    → with_entries (unit_flags_field holds flags ∷ (unit_entries told unit ++ unit_size_field holds size ∷ [])) (text_begin reference unit code status)
     ≡ text_of (first_entries reference unit code status (unit_flags_field holds flags ∷ (unit_entries told unit ++ unit_size_field holds size ∷ [])))
-laid_online reference unit code status flags size true = refl
-laid_online reference unit code status flags size false = refl
+entries_online reference unit code status flags size true = refl
+entries_online reference unit code status flags size false = refl
 
--- written entry by entry behind the status, an end message's text is the one that is laid out at once
-laid_end : (reference unit status : ℕ) (b : EndBody)
-    → with_entries (answer_entries unit status b) (begun reference unit (end_code b) status)
+-- written entry by entry behind the status, an end message's text is the one that is text_from out at once
+entries_end : (reference unit status : ℕ) (b : EndBody)
+    → with_entries (answer_entries unit status b) (text_begin reference unit (end_code b) status)
     ≡ written_end (record { reference = reference; unit = unit; status = status; body = b })
 unfolding written_end
-laid_end reference unit status body.Invalid = refl
-laid_end reference unit status (body.Status flags) = laid_status reference unit 131 status flags (tells_status status)
-laid_end reference unit status body.Controller = laid_controller reference unit 132 status (status == 0)
-laid_end reference unit status body.Available = refl
-laid_end reference unit status (body.Online flags size) = laid_online reference unit 137 status flags size (tells_online status)
-laid_end reference unit status (body.Moved kind.Access moved) = refl
-laid_end reference unit status (body.Moved kind.Erase moved) = refl
-laid_end reference unit status (body.Moved kind.Read moved) = refl
-laid_end reference unit status (body.Moved kind.Write moved) = refl
+entries_end reference unit status body.Invalid = refl
+entries_end reference unit status (body.Status flags) = entries_status reference unit 131 status flags (tells_status status)
+entries_end reference unit status body.Controller = entries_controller reference unit 132 status (status == 0)
+entries_end reference unit status body.Available = refl
+entries_end reference unit status (body.Online flags size) = entries_online reference unit 137 status flags size (tells_online status)
+entries_end reference unit status (body.Moved kind.Access moved) = refl
+entries_end reference unit status (body.Moved kind.Erase moved) = refl
+entries_end reference unit status (body.Moved kind.Read moved) = refl
+entries_end reference unit status (body.Moved kind.Write moved) = refl
 
 -- the answer written behind a head and a status makes the text
 pub writes_end : (e : End) (code : ℕ) (head before after : List ℕ) → code ≡ end_code e.body
@@ -141,7 +153,7 @@ writes_end e code head before after named headed begins written =
     written
     ∙ ap (λ (b : List ℕ). with_entries (answer_entries e.unit e.status e.body) b)
     (begins ∙ ap (λ (t : List ℕ). with_number status_field e.status t) (headed ∙ ap (λ (k : ℕ). text_of (reference_field holds e.reference ∷ unit_field holds e.unit ∷ code_field holds k ∷ [])) named))
-    ∙ laid_end e.reference e.unit e.status e.body
+    ∙ entries_end e.reference e.unit e.status e.body
 
 -- what an end message's text tells behind the status
 flags_back : (reference unit code status flags : ℕ) (told : Bool) → flags < 2 ^ 16
@@ -149,12 +161,12 @@ flags_back : (reference unit code status flags : ℕ) (told : Bool) → flags < 
 flags_back reference unit code status flags told h = word_back flags h
 
 online_back : (reference unit code status flags size : ℕ) (told : Bool) → flags < 2 ^ 16 → size < 2 ^ 32
-    → online_end_text (text_of (first_entries reference unit code status (unit_flags_field holds flags ∷ (unit_entries told unit ++ unit_size_field holds size ∷ [])))) flags size
+    → OnlineEndText (text_of (first_entries reference unit code status (unit_flags_field holds flags ∷ (unit_entries told unit ++ unit_size_field holds size ∷ [])))) flags size
 online_back reference unit code status flags size true h k = record { flags_are = word_back flags h; size_is = long_back size k }
 online_back reference unit code status flags size false h k = record { flags_are = word_back flags h; size_is = long_back size k }
 
 body_back : (reference unit status : ℕ) (b : EndBody) → BodyFits b
-    → body_text (written_end (record { reference = reference; unit = unit; status = status; body = b })) b
+    → BodyText (written_end (record { reference = reference; unit = unit; status = status; body = b })) b
 unfolding written_end
 body_back reference unit status body.Invalid h = record { code_is = refl; answer_is = tt }
 body_back reference unit status (body.Status flags) h = record { code_is = refl; answer_is = flags_back reference unit 131 status flags (tells_status status) h }
@@ -180,7 +192,7 @@ end_head_back e h = record {
 }
 
 -- the text that an end message is written as is a text of it
-pub written_end_text : (e : End) → EndFits e → end_text (written_end e) e
+pub written_end_text : (e : End) → EndFits e → EndText (written_end e) e
 written_end_text e h =
     let head = end_head_back e h in
     record {

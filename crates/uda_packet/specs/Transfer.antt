@@ -1,15 +1,18 @@
 -- What a transfer names. MSCP Basic Disk Functions Manual: transfer commands.
 use Rattle.std.specs.Prelude.{Bool, true, false, Option, Some, None}
-use Rattle.uda_packet.specs.declared.commands.Op.{Op}
-use Rattle.uda_packet.specs.declared.commands.Op.TheVariants as op
-use Rattle.uda_packet.specs.declared.ends.Kind.{Kind}
-use Rattle.uda_packet.specs.declared.ends.Kind.TheVariants as kind
+use Rattle.uda_packet.specs.declared.command.Op.{Op}
+use Rattle.uda_packet.specs.declared.command.Op.TheVariants as op
+use Rattle.uda_packet.specs.declared.end.Kind.{Kind}
+use Rattle.uda_packet.specs.declared.end.Kind.TheVariants as kind
 use Rattle.uda_packet.specs.declared.transfer.Transfer.{Transfer}
 
--- an operation as a transfer, where it is one: an Access and an Erase have no buffer, which 0 stands for
+-- an operation as a transfer, where it is one: an Access and an Erase have no buffer, which 0
+-- stands for
 abbrev pub transfer_of : Op → Option Transfer
-transfer_of (op.Access count block) = Some (record { kind = kind.Access; count = count; block = block; buffer = 0 })
-transfer_of (op.Erase count block) = Some (record { kind = kind.Erase; count = count; block = block; buffer = 0 })
+transfer_of (op.Access count block) =
+    Some (record { kind = kind.Access; count = count; block = block; buffer = 0 })
+transfer_of (op.Erase count block) =
+    Some (record { kind = kind.Erase; count = count; block = block; buffer = 0 })
 transfer_of (op.Read count address block) =
     Some (record { kind = kind.Read; count = count; block = block; buffer = address })
 transfer_of (op.Write count address block) =

@@ -1,14 +1,15 @@
 -- The texts as they are written. MSCP Basic Disk Functions Manual: command and end messages.
-use Rattle.std.specs.Prelude.{ℕ, ◌==◌, ◌||◌, Bool, true, false, Some, None, List, [], ◌∷◌, ◌++◌}
-use Rattle.uda_packet.specs.declared.commands.Command.{Command}
-use Rattle.uda_packet.specs.declared.commands.Op.{Op}
-use Rattle.uda_packet.specs.declared.commands.Op.TheVariants as op
-use Rattle.uda_packet.specs.declared.status.TheConstants.{SUCCESS, AVAILABLE, ALREADY_ONLINE}
-use Rattle.uda_packet.specs.declared.ends.End.{End}
-use Rattle.uda_packet.specs.declared.ends.EndBody.{EndBody}
-use Rattle.uda_packet.specs.declared.ends.EndBody.TheVariants as body
-use Rattle.uda_packet.specs.Fields.{Entry, ◌holds◌, text_of, reference_field, unit_field, code_field, modifiers_field, status_field, count_field, unit_flags_field, address_field, identifier_field, block_field, media_type_field, unit_size_field}
-use Rattle.uda_packet.specs.Codes.{opcode_of, end_code, set_write_protect, software_protection, unit_identifier, controller_identifier, media_type}
+use Rattle.std.specs.Prelude.{ℕ, ◌+◌, ◌*◌, ◌^◌, ◌==◌, ◌||◌, Bool, true, false, Some, None, List, [], ◌∷◌, ◌++◌}
+use Rattle.uda_packet.specs.declared.command.Command.{Command}
+use Rattle.uda_packet.specs.declared.command.Op.{Op}
+use Rattle.uda_packet.specs.declared.command.Op.TheVariants as op
+use Rattle.uda_packet.specs.declared.end.End.{End}
+use Rattle.uda_packet.specs.declared.end.EndBody.{EndBody}
+use Rattle.uda_packet.specs.declared.end.EndBody.TheVariants as body
+use Rattle.uda_packet.specs.Field.{Entry, ◌holds◌, text_of, reference_field, unit_field, code_field, modifiers_field, status_field, count_field, unit_flags_field, address_field, identifier_field, block_field, media_type_field, unit_size_field}
+use Rattle.uda_packet.specs.Opcode.{opcode_of, end_code}
+use Rattle.uda_packet.specs.Flags.{set_write_protect, software_protection}
+use Rattle.uda_packet.specs.Status.{SUCCESS, AVAILABLE, ALREADY_ONLINE}
 
 -- ---- commands
 
@@ -40,7 +41,21 @@ written_command c =
 
 -- ---- end messages
 
--- an end message of Get Unit Status tells identifier and media type where the unit is online or available
+-- the unit's number below, its class 2 (disk) in the highest byte
+abbrev pub unit_identifier : ℕ → ℕ
+unit_identifier number = number + 2 * 256 ^ 7
+
+-- the controller's number 1 below, its model 6 and its class 1 (mass storage controller) in the
+-- highest bytes
+abbrev pub controller_identifier : ℕ
+controller_identifier = 1 + 6 * 256 ^ 6 + 1 * 256 ^ 7
+
+-- every drive of this controller has the same media type, that of an RA81
+abbrev pub media_type : ℕ
+media_type = 0x25641051
+
+-- an end message of Get Unit Status tells identifier and media type where the unit is online or
+-- available
 abbrev pub tells_status : ℕ → Bool
 tells_status status = (status == SUCCESS) || (status == AVAILABLE)
 
@@ -49,7 +64,8 @@ abbrev pub tells_online : ℕ → Bool
 tells_online status = (status == SUCCESS) || (status == ALREADY_ONLINE)
 
 abbrev pub unit_entries : Bool → ℕ → List Entry
-unit_entries true unit = identifier_field holds (unit_identifier unit) ∷ media_type_field holds media_type ∷ []
+unit_entries true unit =
+    identifier_field holds (unit_identifier unit) ∷ media_type_field holds media_type ∷ []
 unit_entries false unit = []
 
 -- the controller's identifier, after success alone
@@ -65,7 +81,8 @@ answer_entries unit status (body.Status flags) =
 answer_entries unit status body.Controller = controller_entries (status == SUCCESS)
 answer_entries unit status body.Available = []
 answer_entries unit status (body.Online flags size) =
-    unit_flags_field holds flags ∷ (unit_entries (tells_online status) unit ++ unit_size_field holds size ∷ [])
+    unit_flags_field holds flags
+    ∷ (unit_entries (tells_online status) unit ++ unit_size_field holds size ∷ [])
 answer_entries unit status (body.Moved which moved) = count_field holds moved ∷ []
 
 -- the text that an end message is written as

@@ -4,43 +4,43 @@
 
 ghost use Rattle.std.specs.Prelude.{◌≡◌, ◌↔◌, MatchResult, MatchOption, IsNone};
 ghost use Rattle.std.specs.Int.RustNames.{bit_and};
-ghost use Rattle.uda_packet.specs.declared.commands.Command.{Command};
-ghost use Rattle.uda_packet.specs.declared.ends.End.{End};
-ghost use Rattle.uda_packet.specs.declared.bads.Bad.{Bad};
-ghost use Rattle.uda_packet.specs.Fields.{number_in, version_field};
-ghost use Rattle.uda_packet.specs.Codes.{blank_body, allowed_modifiers, set_write_protect, answered_opcode, opcode_of};
+ghost use Rattle.uda_packet.specs.declared.command.Command.{Command};
+ghost use Rattle.uda_packet.specs.declared.end.End.{End};
+ghost use Rattle.uda_packet.specs.declared.bad.Bad.{Bad};
+ghost use Rattle.uda_packet.specs.Field.{number_in, version_field};
+ghost use Rattle.uda_packet.specs.Opcode.{blank_body, answered_opcode, opcode_of, plain_op};
+ghost use Rattle.uda_packet.specs.Flags.{allowed_modifiers, set_write_protect};
 ghost use Rattle.uda_packet.specs.Reading.{read_command, read_end};
-ghost use Rattle.uda_packet.specs.Opcodes.{plain_op};
-ghost use Rattle.uda_packet.specs.Texts.{command_text, bad_text, modifiers_of, parameters_text, asks_protection, end_text, body_text, answer_text, IsNoEnd};
+ghost use Rattle.uda_packet.specs.Text.{CommandText, BadText, modifiers_of, ParametersText, asks_protection, EndText, BodyText, AnswerText, IsNoEnd};
 
-use crate::bads::{Bad, BadKind};
-use crate::commands::{Command, Op};
-use crate::ends::{End, EndBody, Kind};
-use crate::fields::{
+use crate::bad::{Bad, BadKind};
+use crate::command::{Command, Op};
+use crate::end::{End, EndBody, Kind};
+use crate::field::{
     ADDRESS, BLOCK, CODE, COUNT, MODIFIERS, REFERENCE, STATUS, Text, UNIT, UNIT_FLAGS, UNIT_SIZE,
     VERSION,
 };
 use crate::flags::{Modifiers, UnitFlags};
-use crate::opcodes::{END_CODE, Opcode};
+use crate::opcode::{END_CODE, Opcode};
 use bitflags::Flags;
 
 /// The command that a text stands for, or what is wrong with it.
 ///
-/// Bytes that the command doesn't name may hold anything. Of a text that is no command's the opcode is
-/// judged first, then the modifiers, then the version.
+/// Bytes that the command doesn't name may hold anything. Of a text that is no command's the opcode
+/// is judged first, then the modifiers, then the version.
 ///
 /// # Errors
 ///
-/// The fault with the reference and the unit of the text: the opcode is none of a command, a modifier
-/// bit is set that the command doesn't have, or a Set Controller Characteristics asks for another
-/// version of MSCP than 0.
+/// The fault with the reference and the unit of the text: the opcode is none of a command, a
+/// modifier bit is set that the command doesn't have, or a Set Controller Characteristics asks for
+/// another version of MSCP than 0.
 ///
 /// MSCP Basic Disk Functions Manual: command messages.
 pub fn decode_command(text: &[u8; 48]) -> Result<Command, Bad>
-    ensures grammar { MatchResult result (λ c. command_text text.now c) (λ b. bad_text text.now b) }
+    ensures grammar { MatchResult result (λ c. CommandText text.now c) (λ b. BadText text.now b) }
     ensures read { read_command text.now ≡ result }
-    ensures command { (c : Command) → (result ≡ Ok c) ↔ command_text text.now c }
-    ensures fault { (b : Bad) → (result ≡ Err b) ↔ bad_text text.now b }
+    ensures command { (c : Command) → (result ≡ Ok c) ↔ CommandText text.now c }
+    ensures fault { (b : Bad) → (result ≡ Err b) ↔ BadText text.now b }
 {
     let reference = REFERENCE.get(text);
     let unit = UNIT.get(text);
@@ -66,14 +66,14 @@ pub fn decode_command(text: &[u8; 48]) -> Result<Command, Bad>
     })
 }
 
-/// The operation of an opcode and its modifiers, with the parameters that stand in the text.
+// The operation of an opcode and its modifiers, with the parameters that stand in the text.
 fn op_of(opcode: Opcode, modifiers: Modifiers, text: &Text) -> Op
     requires allowed { bit_and modifiers.0 (allowed_modifiers (plain_op opcode)) ≡ modifiers.0 }
     requires version { opcode ≡ Opcode.SetControllerCharacteristics
         → number_in version_field text.now ≡ 0 }
     ensures named { blank_body result ≡ blank_body (plain_op opcode) }
     ensures modified { modifiers_of result ≡ modifiers.0 }
-    ensures told { parameters_text text.now result }
+    ensures told { ParametersText text.now result }
 {
     match opcode {
         Opcode::GetUnitStatus => Op::Status,
@@ -103,7 +103,7 @@ fn op_of(opcode: Opcode, modifiers: Modifiers, text: &Text) -> Op
     }
 }
 
-/// Whether an Online asks for software protection, where its modifiers let it say so.
+// Whether an Online asks for software protection, where its modifiers let it say so.
 fn protection(modifiers: Modifiers, text: &Text) -> Option<bool>
     requires { bit_and modifiers.0 set_write_protect ≡ modifiers.0 }
     ensures { MatchOption result (modifiers.0 ≡ 0) (λ soft.
@@ -123,9 +123,9 @@ fn protection(modifiers: Modifiers, text: &Text) -> Option<bool>
 ///
 /// MSCP Basic Disk Functions Manual: end messages.
 pub fn decode_end(text: &[u8; 48]) -> Option<End>
-    ensures grammar { MatchOption result (IsNoEnd text.now) (λ e. end_text text.now e) }
+    ensures grammar { MatchOption result (IsNoEnd text.now) (λ e. EndText text.now e) }
     ensures read { read_end text.now ≡ result }
-    ensures message { (e : End) → (result ≡ Some e) ↔ end_text text.now e }
+    ensures message { (e : End) → (result ≡ Some e) ↔ EndText text.now e }
     ensures none { IsNone result ↔ IsNoEnd text.now }
 {
     let body = body_in(text)?;
@@ -137,9 +137,9 @@ pub fn decode_end(text: &[u8; 48]) -> Option<End>
     })
 }
 
-/// The body of an end message, by its end code.
+// The body of an end message, by its end code.
 fn body_in(text: &Text) -> Option<EndBody>
-    ensures { MatchOption result (IsNoEnd text.now) (λ b. body_text text.now b) }
+    ensures { MatchOption result (IsNoEnd text.now) (λ b. BodyText text.now b) }
 {
     match text[CODE].checked_sub(END_CODE)? {
         0 => Some(EndBody::Invalid),
@@ -150,10 +150,10 @@ fn body_in(text: &Text) -> Option<EndBody>
     }
 }
 
-/// The body that answers an opcode, with what stands in the text.
+// The body that answers an opcode, with what stands in the text.
 fn body_of(opcode: Opcode, text: &Text) -> EndBody
     ensures named { answered_opcode result ≡ opcode_of (plain_op opcode) }
-    ensures told { answer_text text.now result }
+    ensures told { AnswerText text.now result }
 {
     let moved = |kind| EndBody::Moved {
         kind,

@@ -3,43 +3,45 @@
 //! MSCP Basic Disk Functions Manual: command and end messages.
 
 ghost use Rattle.std.specs.Prelude.{◌≡◌, [], ◌∷◌, length};
-ghost use Rattle.uda_packet.specs.Fields.{◌holds◌, text_of, with_entries, reference_field, unit_field, code_field};
-ghost use Rattle.uda_packet.specs.Codes.{end_code};
-ghost use Rattle.uda_packet.specs.Texts.{command_text, end_text};
+ghost use Rattle.uda_packet.specs.Field.{◌holds◌, text_of, with_entries, reference_field, unit_field, code_field};
+ghost use Rattle.uda_packet.specs.Opcode.{end_code};
+ghost use Rattle.uda_packet.specs.Text.{CommandText, EndText};
 ghost use Rattle.uda_packet.specs.Reading.{read_command, read_end};
-ghost use Rattle.uda_packet.specs.Ranges.{OpFits, BodyFits};
+ghost use Rattle.uda_packet.specs.Range.{OpFits, BodyFits};
 ghost use Rattle.uda_packet.specs.Written.{written_command, written_end, parameters, answer_entries, unit_entries, controller_entries, protection_flags, tells_status, tells_online};
 
-use crate::commands::{Command, Op};
-use crate::ends::{End, EndBody};
-use crate::fields::{
+use crate::command::{Command, Op};
+use crate::end::{End, EndBody};
+use crate::field::{
     ADDRESS, BLOCK, CODE, COUNT, IDENTIFIER, MEDIA_TYPE, MODIFIERS, REFERENCE, STATUS, Text, UNIT,
     UNIT_FLAGS, UNIT_SIZE,
 };
 use crate::flags::{Modifiers, UnitFlags};
-use crate::opcodes::{END_CODE, Opcode};
+use crate::opcode::{END_CODE, Opcode};
 use crate::status::{ALREADY_ONLINE, AVAILABLE, SUCCESS};
 use bitflags::Flags;
 
-/// The class of a disk unit, in the highest byte of its identifier.
+// The class of a disk unit, in the highest byte of its identifier.
 const DISK: u64 = 2 << 56;
 
-/// The controller's identifier: its number 1, its model 6 and its class 1, a mass storage controller.
+// The controller's identifier: its number 1, its model 6 and its class 1, a mass storage
+// controller.
 const CONTROLLER: u64 = 0x0106_0000_0000_0001;
 
-/// The media type of every drive.
+// The media type of every drive, an RA81's: the device `DU`, the medium `RA` and its number 81, in
+// five letters of five bits and a number of seven.
 const MEDIA: u32 = 0x2564_1051;
 
 /// The text of a command, which `decode_command` reads as that command again, whatever its numbers.
 ///
-/// Every byte that the command doesn't name is 0. An Online that asks for protection, or for none, has
-/// the modifier 0x0004 and the unit flags 0x1000, or 0.
+/// Every byte that the command doesn't name is 0. An Online that asks for protection, or for none,
+/// has the modifier 0x0004 and the unit flags 0x1000, or 0.
 ///
 /// MSCP Basic Disk Functions Manual: command messages.
 pub fn encode_command(command: &Command) -> [u8; 48]
     ensures written { result ≡ written_command command.now }
     ensures long { length result ≡ 48 }
-    ensures text { command_text result command.now }
+    ensures text { CommandText result command.now }
     ensures back { read_command result ≡ Ok command.now }
 {
     let Command {
@@ -52,17 +54,18 @@ pub fn encode_command(command: &Command) -> [u8; 48]
     text
 }
 
-/// The text of an end message, which `decode_end` reads as that end message again, whatever its numbers.
+/// The text of an end message, which `decode_end` reads as that end message again, whatever its
+/// numbers.
 ///
-/// Identifier and media type of a unit are told where the status of an Online is 0x0000 or 0x0100 and
-/// where that of a Get Unit Status is 0x0000 or 0x0004, the controller's identifier where the status is
-/// 0x0000. Every byte that the end message doesn't name is 0.
+/// Identifier and media type of a unit are told where the status of an Online is 0x0000 or 0x0100
+/// and where that of a Get Unit Status is 0x0000 or 0x0004, the controller's identifier where the
+/// status is 0x0000. Every byte that the end message doesn't name is 0.
 ///
 /// MSCP Basic Disk Functions Manual: end messages.
 pub fn encode_end(end: &End) -> [u8; 48]
     ensures written { result ≡ written_end end.now }
     ensures long { length result ≡ 48 }
-    ensures text { end_text result end.now }
+    ensures text { EndText result end.now }
     ensures back { read_end result ≡ Some end.now }
 {
     let End {
@@ -77,10 +80,11 @@ pub fn encode_end(end: &End) -> [u8; 48]
     text
 }
 
-/// A text with what all messages begin with, and 0 elsewhere.
+// A text with what all messages begin with, and 0 elsewhere.
 fn head(reference: u32, unit: u16, code: u8) -> Text
     ensures { result
-        ≡ text_of (reference_field holds reference ∷ unit_field holds unit ∷ code_field holds code ∷ []) }
+        ≡ text_of (reference_field holds reference ∷ unit_field holds unit
+        ∷ code_field holds code ∷ []) }
 {
     let mut text = [0; 48];
     REFERENCE.put(&mut text, reference);
@@ -89,14 +93,14 @@ fn head(reference: u32, unit: u16, code: u8) -> Text
     text
 }
 
-/// The end code of a body.
+// The end code of a body.
 fn code_of(body: &EndBody) -> u8
     ensures { result ≡ end_code body.now }
 {
     END_CODE + Opcode::of_body(body).map_or(0, Opcode::number)
 }
 
-/// Writes what stands behind a command's opcode.
+// Writes what stands behind a command's opcode.
 fn put_parameters(text: &mut Text, op: &Op)
     ensures written { text.new ≡ with_entries (parameters op.now) text.old }
     ensures fits { OpFits op.now }
@@ -128,7 +132,7 @@ fn put_parameters(text: &mut Text, op: &Op)
     }
 }
 
-/// The unit flags that ask for software protection, or for none.
+// The unit flags that ask for software protection, or for none.
 fn protection(soft: bool) -> UnitFlags
     ensures { result.0 ≡ protection_flags soft }
 {
@@ -139,7 +143,7 @@ fn protection(soft: bool) -> UnitFlags
     }
 }
 
-/// Writes what stands behind an end message's status.
+// Writes what stands behind an end message's status.
 fn put_answer(text: &mut Text, end: &End)
     ensures written { text.new
         ≡ with_entries (answer_entries end.now.unit end.now.status end.now.body) text.old }
@@ -161,21 +165,21 @@ fn put_answer(text: &mut Text, end: &End)
     }
 }
 
-/// Whether an end message of Get Unit Status tells identifier and media type.
+// Whether an end message of Get Unit Status tells identifier and media type.
 fn tells_status(status: u16) -> bool
     ensures { result ≡ tells_status status }
 {
     status == SUCCESS || status == AVAILABLE
 }
 
-/// Whether an end message of Online tells identifier and media type.
+// Whether an end message of Online tells identifier and media type.
 fn tells_online(status: u16) -> bool
     ensures { result ≡ tells_online status }
 {
     status == SUCCESS || status == ALREADY_ONLINE
 }
 
-/// Writes identifier and media type of a unit, where they are told.
+// Writes identifier and media type of a unit, where they are told.
 fn put_unit(text: &mut Text, unit: u16, told: bool)
     ensures { text.new ≡ with_entries (unit_entries told unit) text.old }
 {
@@ -185,7 +189,7 @@ fn put_unit(text: &mut Text, unit: u16, told: bool)
     }
 }
 
-/// Writes the controller's identifier, where it is told.
+// Writes the controller's identifier, where it is told.
 fn put_controller(text: &mut Text, told: bool)
     ensures { text.new ≡ with_entries (controller_entries told) text.old }
 {

@@ -6,7 +6,8 @@ ghost use Rattle.std.specs.Prelude.{⊤, [], ◌∷◌, codes};
 
 use bitflags::{Flag, Flags, bitflag_items};
 
-/// The unit flags: how a unit is protected against writing.
+/// The unit flags: how a unit is protected against writing. Their methods are those of [`Flags`],
+/// which this crate hands on.
 #[derive(Clone, Copy, PartialEq, Eq, Debug)]
 pub struct UnitFlags(u16);
 
@@ -41,7 +42,8 @@ impl Flags for UnitFlags {
     }
 }
 
-/// The modifiers of a command. Online alone has one.
+/// The modifiers of a command. Online alone has one. Their methods are those of [`Flags`], which
+/// this crate hands on.
 #[derive(Clone, Copy, PartialEq, Eq, Debug)]
 pub struct Modifiers(u16);
 

@@ -1,33 +1,34 @@
-//! The messages between a host and a disk controller: the texts of 48 bytes of the MSCP commands and
-//! end messages, and the envelope below each, both ways.
+//! The messages between a host and a disk controller: the texts of 48 bytes of the MSCP commands
+//! and end messages, and the envelope below each, both ways.
 //!
-//! What a text stands for is a grammar over its fields (`specs/Texts.antt`), and the bytes that are
-//! written are laid out by the same table of fields (`specs/Written.antt`). Any 48 bytes are the text of
-//! exactly one command or show exactly one fault, and what is written reads as what it was written from.
+//! What a text stands for is a grammar over its fields (`specs/Text.antt`), and what is written
+//! follows the same table of fields (`specs/Written.antt`). Any 48 bytes are the text of exactly
+//! one command or show exactly one fault, and what is written reads as what it was written from.
 //!
-//! MSCP Basic Disk Functions Manual: command and end messages. UDA50 Programmer's Documentation Kit:
-//! message envelopes.
+//! MSCP Basic Disk Functions Manual: command and end messages. UDA50 Programmer's Documentation
+//! Kit: message envelopes.
 
 #![tactic(auto)]
 
-mod bads;
-mod commands;
+mod bad;
+mod command;
 mod decoding;
 mod encoding;
-mod ends;
-mod envelopes;
-mod fields;
+mod end;
+mod envelope;
+mod field;
 mod flags;
-mod opcodes;
+mod opcode;
 pub mod status;
 mod transfer;
 
-pub use bads::{Bad, BadKind};
-pub use commands::{Command, Op};
+pub use bad::{Bad, BadKind};
+pub use bitflags::Flags;
+pub use command::{Command, Op};
 pub use decoding::{decode_command, decode_end};
 pub use encoding::{encode_command, encode_end};
-pub use ends::{End, EndBody, Kind};
-pub use envelopes::Envelope;
+pub use end::{End, EndBody, Kind};
+pub use envelope::Envelope;
 pub use flags::{Modifiers, UnitFlags};
 pub use transfer::Transfer;
 

@@ -2,6 +2,9 @@
 //!
 //! MSCP Basic Disk Functions Manual: status and event codes.
 
+ghost use Rattle.std.specs.Prelude.{◌≡◌, option_map};
+ghost use Rattle.uda_packet.specs.Status.{status_name};
+
 /// The command was carried out.
 pub const SUCCESS: u16 = 0x0000;
 
@@ -52,3 +55,29 @@ pub const NO_SUCH_MEMORY: u16 = 0x0069;
 
 /// The store failed.
 pub const DRIVE_ERROR: u16 = 0x000B;
+
+/// What a status word is called; `None` where it is none of this module's. The same word stands for
+/// an invalid byte count and an invalid version, whose fields lie at one place.
+pub fn name(status: u16) -> Option<&'static str>
+    ensures name { option_map (λ text. text.now) result ≡ status_name status }
+{
+    match status {
+        SUCCESS => Some("success"),
+        ALREADY_ONLINE => Some("already online"),
+        INVALID_LENGTH => Some("invalid length"),
+        INVALID_OPCODE => Some("invalid opcode"),
+        INVALID_MODIFIERS => Some("invalid modifiers"),
+        INVALID_COUNT => Some("invalid byte count or version"),
+        INVALID_BLOCK => Some("invalid block number"),
+        UNIT_UNKNOWN => Some("unit unknown"),
+        NO_VOLUME => Some("no volume"),
+        AVAILABLE => Some("available"),
+        HARDWARE_PROTECTED => Some("hardware write protected"),
+        SOFTWARE_PROTECTED => Some("software write protected"),
+        ODD_ADDRESS => Some("odd buffer address"),
+        ODD_COUNT => Some("odd byte count"),
+        NO_SUCH_MEMORY => Some("no such memory"),
+        DRIVE_ERROR => Some("drive error"),
+        _ => None,
+    }
+}

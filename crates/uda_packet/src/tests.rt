@@ -1,23 +1,25 @@
+//! What no clause says: the worked examples' bytes, and the texts that a person reads.
+
 ghost use Rattle.std.specs.Prelude.{◌≡◌};
 
 use super::*;
 use std::test::Fail;
 
-/// A command that is written and read again. The clause is the round trip, whatever the command.
+// A command that is written and read again. The clause is the round trip, whatever the command.
 fn command_again(command: &Command) -> Result<Command, Bad>
     ensures { result ≡ Ok command.now }
 {
     decode_command(&encode_command(command))
 }
 
-/// An end message that is written and read again.
+// An end message that is written and read again.
 fn end_again(end: &End) -> Option<End>
     ensures { result ≡ Some end.now }
 {
     decode_end(&encode_end(end))
 }
 
-/// A text of which these bytes are the beginning, 0 from there on.
+// A text of which these bytes are the beginning, 0 from there on.
 fn text_of(front: &[u8]) -> [u8; 48] {
     let mut text = [0; 48];
     for (to, from) in text.iter_mut().zip(front) {
@@ -26,7 +28,7 @@ fn text_of(front: &[u8]) -> [u8; 48] {
     text
 }
 
-/// The text with 0xFF in every byte but the named ones.
+// The text with 0xFF in every byte but the named ones.
 fn with_noise(text: &[u8; 48], named: &[usize]) -> [u8; 48] {
     let mut noisy = *text;
     for (i, byte) in noisy.iter_mut().enumerate() {
@@ -37,40 +39,40 @@ fn with_noise(text: &[u8; 48], named: &[usize]) -> [u8; 48] {
     noisy
 }
 
-/// Read of one block: reference 1, unit 0, 512 bytes, address 0x1000, block 5.
+// Read of one block: reference 1, unit 0, 512 bytes, address 0x1000, block 5.
 const READ: [u8; 32] = [
     0x01, 0x00, 0x00, 0x00, 0x00, 0x00, 0x00, 0x00, 0x21, 0x00, 0x00, 0x00, 0x00, 0x02, 0x00, 0x00,
     0x00, 0x10, 0x00, 0x00, 0x00, 0x00, 0x00, 0x00, 0x00, 0x00, 0x00, 0x00, 0x05, 0x00, 0x00, 0x00,
 ];
 
-/// Its end message.
+// Its end message.
 const READ_END: [u8; 14] = [
     0x01, 0x00, 0x00, 0x00, 0x00, 0x00, 0x00, 0x00, 0xa1, 0x00, 0x00, 0x00, 0x00, 0x02,
 ];
 
-/// The end message of a Get Unit Status of an available unit 0.
+// The end message of a Get Unit Status of an available unit 0.
 const STATUS_END: [u8; 32] = [
     0x01, 0x00, 0x00, 0x00, 0x00, 0x00, 0x00, 0x00, 0x83, 0x00, 0x04, 0x00, 0x00, 0x00, 0x00, 0x00,
     0x00, 0x00, 0x00, 0x00, 0x00, 0x00, 0x00, 0x00, 0x00, 0x00, 0x00, 0x02, 0x51, 0x10, 0x64, 0x25,
 ];
 
-/// The end message of a Set Controller Characteristics.
+// The end message of a Set Controller Characteristics.
 const CONTROLLER_END: [u8; 28] = [
     0x01, 0x00, 0x00, 0x00, 0x00, 0x00, 0x00, 0x00, 0x84, 0x00, 0x00, 0x00, 0x00, 0x00, 0x00, 0x00,
     0x00, 0x00, 0x00, 0x00, 0x01, 0x00, 0x00, 0x00, 0x00, 0x00, 0x06, 0x01,
 ];
 
-/// The end message of an unknown opcode, reference 7, unit 2.
+// The end message of an unknown opcode, reference 7, unit 2.
 const UNKNOWN_END: [u8; 12] = [
     0x07, 0x00, 0x00, 0x00, 0x02, 0x00, 0x00, 0x00, 0x80, 0x00, 0x01, 0x08,
 ];
 
-/// Online of unit 3, reference 2, with software protection.
+// Online of unit 3, reference 2, with software protection.
 const ONLINE: [u8; 16] = [
     0x02, 0x00, 0x00, 0x00, 0x03, 0x00, 0x00, 0x00, 0x09, 0x00, 0x04, 0x00, 0x00, 0x00, 0x00, 0x10,
 ];
 
-/// Its end message, on 891,072 blocks.
+// Its end message, on 891,072 blocks.
 const ONLINE_END: [u8; 48] = [
     0x02, 0x00, 0x00, 0x00, 0x03, 0x00, 0x00, 0x00, 0x89, 0x00, 0x00, 0x00, 0x00, 0x00, 0x00, 0x10,
     0x00, 0x00, 0x00, 0x00, 0x03, 0x00, 0x00, 0x00, 0x00, 0x00, 0x00, 0x02, 0x51, 0x10, 0x64, 0x25,
@@ -163,6 +165,67 @@ fn faults(rt: HostRuntime) -> Result<(), Fail> {
     assert_eq!(rt; bad.kind, BadKind::Version);
     assert_eq!(rt; bad.body, EndBody::Controller);
     assert_eq!(rt; bad.end().status, 0x0c01);
+    Ok(())
+}
+
+#[test]
+fn a_packet_of_another_length(rt: HostRuntime) {
+    let end = End::of_other_length(&text_of(&UNKNOWN_END));
+    assert_eq!(rt; end.reference, 7);
+    assert_eq!(rt; end.unit, 2);
+    assert_eq!(rt; end.status, 0x0001);
+    assert_eq!(rt; end.body, EndBody::Invalid);
+}
+
+#[test]
+fn ends_and_faults_as_texts(rt: HostRuntime) -> Result<(), Fail> {
+    let read = EndBody::Moved {
+        kind: Kind::Read,
+        bytes: 512,
+    };
+    let online = EndBody::Online {
+        flags: 0x1000,
+        size: 891_072,
+    };
+    for (end, text) in [
+        (
+            end(3, 0, 0, read),
+            "reference 3, unit 0, status 0x0000 (success): Read, 512 bytes",
+        ),
+        (
+            end(2, 3, 0x0100, online),
+            "reference 2, unit 3, status 0x0100 (already online): Online, flags 0x1000, 891072 blocks",
+        ),
+        (
+            end(1, 0, 0x0004, EndBody::Status { flags: 0 }),
+            "reference 1, unit 0, status 0x0004 (available): Get Unit Status, flags 0x0000",
+        ),
+        (
+            end(7, 2, 0x1234, EndBody::Invalid),
+            "reference 7, unit 2, status 0x1234 (of no known name): invalid command",
+        ),
+        (
+            end(1, 0, 0, EndBody::Controller),
+            "reference 1, unit 0, status 0x0000 (success): Set Controller Characteristics",
+        ),
+    ] {
+        let written = format!(in rt.alloc(); "{end}")?;
+        assert_eq!(rt; written.as_str(), text);
+    }
+    let bad = decode_command(&text_of(&[7, 0, 0, 0, 2, 0, 0, 0, 0x0b]))
+        .err()
+        .ok_or("0x0B is no opcode")?;
+    let written = format!(in rt.alloc(); "{bad}")?;
+    assert_eq!(rt;
+        written.as_str(),
+        "reference 7, unit 2: no command has this opcode"
+    );
+    assert_eq!(rt; bad.kind.number(), 1);
+    let kinds = format!(in rt.alloc(); "{}; {}", BadKind::Modifiers, BadKind::Version)?;
+    assert_eq!(rt;
+        kinds.as_str(),
+        "a modifier is none of the command's; the version of MSCP is not 0"
+    );
     Ok(())
 }
 

@@ -5,8 +5,8 @@
 ghost use Rattle.std.specs.Prelude.{◌≡◌};
 ghost use Rattle.uda_packet.specs.Transfer.{transfer_of, changes_blocks, has_buffer};
 
-use crate::commands::Op;
-use crate::ends::Kind;
+use crate::command::Op;
+use crate::end::Kind;
 
 /// What a transfer names, whichever of the four it is.
 ///

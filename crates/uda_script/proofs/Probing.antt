@@ -5,9 +5,9 @@ use Rattle.std.proofs.lemmas.Bool.{false≢true}
 use Rattle.uda_mem.specs.Put.{put, part}
 use Rattle.uda_mem.specs.Words.{word_at, word_bytes}
 use Rattle.uda_mem.proofs.PutLaws.{length-put, part-put_at, part-put_apart}
-use Rattle.uda_packet.specs.declared.commands.Command.{Command}
+use Rattle.uda_packet.specs.declared.command.Command.{Command}
 use Rattle.uda_packet.specs.Written.{written_command}
-use Rattle.uda_packet.specs.Fields.{number_in, reference_field}
+use Rattle.uda_packet.specs.Field.{number_in, reference_field}
 use Rattle.uda_packet.proofs.WrittenLaws.{written_command_text, length-written_end}
 use Rattle.uda_mem.proofs.WordLaws.{length-word_bytes, word_at-put_apart}
 use Rattle.uda_port.proofs.RingLaws.{descriptor_at-put_other}

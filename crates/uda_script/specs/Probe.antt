@@ -3,8 +3,8 @@
 use Rattle.std.specs.Prelude.{ℕ, ◌+◌, ◌-◌, List, replicate}
 use Rattle.uda_mem.specs.Put.{put}
 use Rattle.uda_mem.specs.Words.{word_bytes}
-use Rattle.uda_packet.specs.declared.commands.Command.{Command}
-use Rattle.uda_packet.specs.declared.commands.Op.TheVariants.{Status as StatusOp}
+use Rattle.uda_packet.specs.declared.command.Command.{Command}
+use Rattle.uda_packet.specs.declared.command.Op.TheVariants.{Status as StatusOp}
 use Rattle.uda_packet.specs.Written.{written_command}
 use Rattle.uda_script.specs.declared.probe.TheConstants.{MEMORY, COMMAND_RING, COMMAND_TEXT, RESPONSE_RING, RESPONSE_TEXT, OWNED}
 

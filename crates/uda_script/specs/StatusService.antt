@@ -3,12 +3,12 @@
 use Rattle.std.specs.Prelude.{◌≡◌, ℕ, ◌+◌, ◌-◌, ◌≤◌, Bool, true, false, List, Option, Some, None, Result, Ok, Err}
 use Rattle.uda_mem.specs.Put.{put}
 use Rattle.uda_mem.specs.Words.{word_at, word_bytes}
-use Rattle.uda_packet.specs.declared.commands.Command.{Command}
-use Rattle.uda_packet.specs.declared.commands.Op.TheVariants.{Status as StatusOp}
-use Rattle.uda_packet.specs.declared.ends.EndBody.TheVariants.{Status as StatusEnd}
-use Rattle.uda_packet.specs.declared.status.TheConstants.{AVAILABLE}
-use Rattle.uda_packet.specs.EnvelopeWords.{envelope_of}
-use Rattle.uda_packet.specs.Texts.{command_text}
+use Rattle.uda_packet.specs.declared.command.Command.{Command}
+use Rattle.uda_packet.specs.declared.command.Op.TheVariants.{Status as StatusOp}
+use Rattle.uda_packet.specs.declared.end.EndBody.TheVariants.{Status as StatusEnd}
+use Rattle.uda_packet.specs.Status.{AVAILABLE}
+use Rattle.uda_packet.specs.Envelope.{envelope_of}
+use Rattle.uda_packet.specs.Text.{CommandText}
 use Rattle.uda_packet.specs.Written.{written_end}
 use Rattle.uda_port.specs.declared.descriptor.Descriptor.{Descriptor}
 use Rattle.uda_port.specs.declared.command_ring.Fetched.{Fetched}
@@ -22,7 +22,7 @@ pub record AsksStatus (p : Fetched) (c : Command) : Type 0 where
   pub long : (envelope_of p.words.0 p.words.1).length ≡ 48
   pub sequential : (envelope_of p.words.0 p.words.1).kind ≡ 0
   pub mscp : (envelope_of p.words.0 p.words.1).connection ≡ 0
-  pub text : command_text p.text c
+  pub text : CommandText p.text c
   pub status : c.op ≡ StatusOp
   pub unit_zero : c.unit ≡ 0
 

@@ -1,5 +1,5 @@
 ghost use Rattle.std.specs.Prelude.{◌≡◌, ℕ, ◌%◌, ◌+◌, ◌^◌, ◌<◌, ◌≤◌, length, IfSome, IfNone, OnSome};
-ghost use Rattle.uda_packet.specs.declared.commands.Command.{Command as CommandValue};
+ghost use Rattle.uda_packet.specs.declared.command.Command.{Command as CommandValue};
 ghost use Rattle.uda_port.specs.declared.descriptor.Descriptor.{Descriptor as DescriptorValue};
 ghost use Rattle.uda_mem.specs.Put.{put};
 ghost use Rattle.uda_mem.specs.Words.{HasWord, word_bytes};

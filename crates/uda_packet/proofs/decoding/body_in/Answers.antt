@@ -1,6 +1,6 @@
 use Rattle.std.proofs.Common.{◌≡◌, ◌≢◌, ◌+◌, arith}
 use Rattle.uda_packet.proofs.EndCodes.{no_end_code}
-use Rattle.uda_packet.specs.Fields.{number_in, code_field}
+use Rattle.uda_packet.specs.Field.{number_in, code_field}
 use Rattle.uda_packet.proofs.decoding.body_in.Goals as goal
 
 pub returns-in_err-opcode-in_default : goal.returns-in_err-opcode-in_default

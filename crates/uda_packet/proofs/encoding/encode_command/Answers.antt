@@ -1,7 +1,6 @@
 use Rattle.std.proofs.Common.{arith, rules}
-use Rattle.uda_packet.specs.Ranges.{CommandFits}
 use Rattle.uda_packet.proofs.TextLaws.{command_is_read}
-use Rattle.uda_packet.proofs.WrittenLaws.{writes_command, written_command_text}
+use Rattle.uda_packet.proofs.WrittenLaws.{CommandFits, writes_command, written_command_text}
 use Rattle.uda_packet.proofs.encoding.encode_command.Goals as goal
 
 pub returns-clause-written : goal.returns-clause-written

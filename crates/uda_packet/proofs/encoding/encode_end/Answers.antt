@@ -1,7 +1,6 @@
 use Rattle.std.proofs.Common.{arith, rules}
-use Rattle.uda_packet.specs.Ranges.{EndFits}
 use Rattle.uda_packet.proofs.TextLaws.{end_is_read}
-use Rattle.uda_packet.proofs.WrittenLaws.{writes_end, written_end_text}
+use Rattle.uda_packet.proofs.WrittenLaws.{EndFits, writes_end, written_end_text}
 use Rattle.uda_packet.proofs.encoding.encode_end.Goals as goal
 
 pub returns-clause-written : goal.returns-clause-written

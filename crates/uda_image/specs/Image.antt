@@ -1,0 +1,74 @@
+-- Images in memory: the bytes of all blocks, one block after another.
+use Rattle.std.specs.Prelude.{ℕ, zero, suc, ◌+◌, ◌*◌, ◌/◌, min, Bool, true, false, List, [], ◌++◌, take, drop, length}
+use Rattle.std.specs.List.{splice}
+use Rattle.std.specs.Simd.{first_chunks}
+use Rattle.uda_image.specs.declared.store.TheConstants.{BLOCK_LIMIT}
+use Rattle.uda_image.specs.Store.{StoreState}
+
+-- how many blocks the bytes of an image make: the whole ones, and no more than an image has
+unfoldable pub block_count_of : List ℕ → ℕ
+block_count_of bytes = min (length bytes / 512) BLOCK_LIMIT
+
+-- the blocks that the bytes of an image make
+unfoldable pub blocks_of : List ℕ → List (List ℕ)
+blocks_of bytes = first_chunks 512 (block_count_of bytes) bytes
+
+-- block n of an image's bytes
+unfoldable pub block_of : List ℕ → ℕ → List ℕ
+block_of bytes n = take 512 (drop (512 * n) bytes)
+
+-- an image's bytes with other bytes in the place of block n
+unfoldable pub with_block : List ℕ → ℕ → List ℕ → List ℕ
+with_block bytes n block = splice bytes (512 * n) (512 * n + 512) block
+
+-- an image in memory as a store: it is faithful and never fails
+abbrev pub image_state : List ℕ → StoreState
+image_state bytes = record {
+  blocks = blocks_of bytes;
+  size = block_count_of bytes;
+  faithful = true;
+  never_fails = true;
+  failures = 0;
+}
+
+-- a block whose writing stopped in the middle: its first 256 bytes are new, and its last 256 old
+unfoldable pub half_written : List ℕ → List ℕ → List ℕ
+half_written old new = take 256 new ++ drop 256 old
+
+-- an image in memory that fails at one call: its bytes, and how many calls are left up to the one
+-- that fails, that one counted; 0 after it, and where no call fails
+pub record Failing : Type 0 where
+  pub bytes : List ℕ
+  pub left : ℕ
+
+-- the count of failed calls while so many are left: it grows by one at the call that fails, the last
+-- of those left, and stays at every other
+abbrev pub failures_by : ℕ → ℕ
+failures_by zero = 1
+failures_by (suc left) = 0
+
+-- such an image as a store: it is faithful, and may fail
+abbrev pub failing_state : Failing → StoreState
+failing_state image = record {
+  blocks = blocks_of image.bytes;
+  size = block_count_of image.bytes;
+  faithful = true;
+  never_fails = false;
+  failures = failures_by image.left;
+}
+
+-- a file that is open as an image: how many blocks it had when it was opened, and whether it was
+-- opened to be written
+pub record OpenImage : Type 0 where
+  pub size : ℕ
+  pub writable : Bool
+
+-- a file as a store: nothing is known of it but how many blocks it had when it was opened
+abbrev pub file_state : OpenImage → StoreState
+file_state image = record {
+  blocks = [];
+  size = min image.size BLOCK_LIMIT;
+  faithful = false;
+  never_fails = false;
+  failures = 0;
+}

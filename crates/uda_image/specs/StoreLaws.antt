@@ -1,0 +1,43 @@
+-- What an `impl` of the trait names as the proofs of its two laws.
+use Rattle.std.proofs.Common.{◌≡◌, ◌*◌, ◌/◌, ◌≤◌, ℕ, zero, suc, min, List, length, drop, take, true, false, refl, ap, arith, length-drop}
+use Rattle.std.specs.List.{All}
+use Rattle.std.specs.Simd.{first_chunks}
+use Rattle.std.proofs.lemmas.List.{length-take-le}
+use Rattle.std.proofs.lemmas.List.Elements.{All-nil, All-cons}
+use Rattle.uda_image.specs.declared.store.TheConstants.{BLOCK_LIMIT}
+use Rattle.uda_image.specs.Store.{IsImage}
+use Rattle.uda_image.specs.Image.{block_count_of, blocks_of}
+
+-- a size that is cut off at the limit is within it
+pub min-le : (size : ℕ) → min size BLOCK_LIMIT ≤ BLOCK_LIMIT
+min-le size = omega arith
+
+-- nothing is said of a store that isn't faithful
+pub no_image : {size : ℕ} {blocks : List (List ℕ)} → false ≡ true → IsImage size blocks
+no_image h = absurd (cc)
+
+pub block_count-le : (bytes : List ℕ) → block_count_of bytes ≤ BLOCK_LIMIT
+unfolding block_count_of
+block_count-le bytes = min-le (length bytes / 512)
+
+pub length-first_chunks : (k : ℕ) (bytes : List ℕ) → length (first_chunks 512 k bytes) ≡ k
+length-first_chunks zero bytes = refl
+length-first_chunks (suc k) bytes = ap suc (length-first_chunks k (drop 512 bytes))
+
+-- where there are so many bytes, each block is whole
+pub All-first_chunks : (k : ℕ) (bytes : List ℕ) → k * 512 ≤ length bytes
+    → All (λ block. length block ≡ 512) (first_chunks 512 k bytes)
+All-first_chunks zero bytes h = All-nil (λ block. length block ≡ 512)
+All-first_chunks (suc k) bytes h =
+    let first : length (take 512 bytes) ≡ 512 = length-take-le 512 bytes (omega arith) in
+    let room : k * 512 ≤ length (drop 512 bytes) = simp length-drop (omega arith) in
+    All-cons (λ block. length block ≡ 512) (take 512 bytes) (first_chunks 512 k (drop 512 bytes)) first
+    (All-first_chunks k (drop 512 bytes) room)
+
+-- the blocks of an image in memory make an image
+pub IsImage-blocks_of : (bytes : List ℕ) → IsImage (block_count_of bytes) (blocks_of bytes)
+unfolding blocks_of block_count_of
+IsImage-blocks_of bytes = record {
+  counted = length-first_chunks (block_count_of bytes) bytes;
+  whole = All-first_chunks (block_count_of bytes) bytes (omega arith);
+}

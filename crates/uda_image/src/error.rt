@@ -1,0 +1,41 @@
+//! Why an image could not be made or opened.
+use std::alloc::AllocError;
+use std::error::Error;
+use std::fmt;
+
+/// An image could not be made or opened; the numbers are in the order of this list.
+#[derive(Clone, Copy, Debug, PartialEq, Eq)]
+pub enum ImageError {
+    /// The allocator had no memory for the image's bytes.
+    NoMemory = 1,
+    /// The file could not be opened, is no plain file, or its length could not be learnt.
+    Open = 2,
+    /// The length is no multiple of 512.
+    Length = 3,
+    /// There are more blocks than an image has.
+    TooLarge = 4,
+}
+
+impl fmt::Display for ImageError {
+    fn fmt<W: fmt::Write>(&self, f: &mut fmt::Formatter<W>) -> fmt::Result {
+        match self {
+            ImageError::NoMemory => f.write_str("out of memory"),
+            ImageError::Open => f.write_str("cannot open"),
+            ImageError::Length => f.write_str("length is no multiple of 512"),
+            ImageError::TooLarge => f.write_str("more than 891072 blocks"),
+        }
+    }
+}
+
+impl Error for ImageError {}
+
+impl From<AllocError> for ImageError {
+    ghost use Rattle.uda_image.specs.declared.error.ImageError.TheVariants.{NoMemory};
+    ghost use Rattle.std.specs.Prelude.{◌≡◌};
+
+    ghost from_gives = { λ _ e. e ≡ NoMemory };
+
+    fn from(_: AllocError) -> Self {
+        ImageError::NoMemory
+    }
+}

@@ -1,0 +1,24 @@
+-- The ranges of the numbers in a command and in an end message, which their types keep.
+use Rattle.std.specs.Prelude.{◌<◌, ◌^◌}
+use Rattle.uda_packet.specs.declared.command.Op.{Op}
+use Rattle.uda_packet.specs.declared.command.Op.TheVariants as op
+use Rattle.uda_packet.specs.declared.end.EndBody.{EndBody}
+use Rattle.uda_packet.specs.declared.end.EndBody.TheVariants as body
+
+abbrev pub OpFits : Op → Type 0
+OpFits op.Status = Unit {0}
+OpFits op.Controller = Unit {0}
+OpFits op.Available = Unit {0}
+OpFits (op.Online soft) = Unit {0}
+OpFits (op.Access count block) = (count < 2 ^ 32) × (block < 2 ^ 32)
+OpFits (op.Erase count block) = (count < 2 ^ 32) × (block < 2 ^ 32)
+OpFits (op.Read count address block) = (count < 2 ^ 32) × (address < 2 ^ 32) × (block < 2 ^ 32)
+OpFits (op.Write count address block) = (count < 2 ^ 32) × (address < 2 ^ 32) × (block < 2 ^ 32)
+
+abbrev pub BodyFits : EndBody → Type 0
+BodyFits body.Invalid = Unit {0}
+BodyFits (body.Status flags) = flags < 2 ^ 16
+BodyFits body.Controller = Unit {0}
+BodyFits body.Available = Unit {0}
+BodyFits (body.Online flags size) = (flags < 2 ^ 16) × (size < 2 ^ 32)
+BodyFits (body.Moved which moved) = moved < 2 ^ 32

@@ -1,0 +1,84 @@
+-- The status words of end messages: the major status in bits 4-0, the subcode above.
+-- MSCP Basic Disk Functions Manual: status and event codes.
+use Rattle.std.specs.Prelude.{ℕ, ◌==◌, Option, Some, None, List, codes, if◌then◌else◌}
+
+-- the command was carried out
+abbrev pub SUCCESS : ℕ
+SUCCESS = 0x0000
+
+-- an Online of a unit that was online
+abbrev pub ALREADY_ONLINE : ℕ
+ALREADY_ONLINE = 0x0100
+
+-- invalid command: its length, its opcode, its modifiers, its version
+abbrev pub INVALID_LENGTH : ℕ
+INVALID_LENGTH = 0x0001
+
+abbrev pub INVALID_OPCODE : ℕ
+INVALID_OPCODE = 0x0801
+
+abbrev pub INVALID_MODIFIERS : ℕ
+INVALID_MODIFIERS = 0x0A01
+
+abbrev pub INVALID_VERSION : ℕ
+INVALID_VERSION = 0x0C01
+
+-- invalid command: its byte count, its first block
+abbrev pub INVALID_COUNT : ℕ
+INVALID_COUNT = 0x0C01
+
+abbrev pub INVALID_BLOCK : ℕ
+INVALID_BLOCK = 0x1C01
+
+-- unit offline: there is none of this number, or no volume is in it
+abbrev pub UNIT_UNKNOWN : ℕ
+UNIT_UNKNOWN = 0x0003
+
+abbrev pub NO_VOLUME : ℕ
+NO_VOLUME = 0x0023
+
+-- unit available
+abbrev pub AVAILABLE : ℕ
+AVAILABLE = 0x0004
+
+-- write protected: by hardware, by software
+abbrev pub HARDWARE_PROTECTED : ℕ
+HARDWARE_PROTECTED = 0x2006
+
+abbrev pub SOFTWARE_PROTECTED : ℕ
+SOFTWARE_PROTECTED = 0x1006
+
+-- host buffer access: an odd address, an odd byte count, memory that isn't there
+abbrev pub ODD_ADDRESS : ℕ
+ODD_ADDRESS = 0x0029
+
+abbrev pub ODD_COUNT : ℕ
+ODD_COUNT = 0x0049
+
+abbrev pub NO_SUCH_MEMORY : ℕ
+NO_SUCH_MEMORY = 0x0069
+
+-- drive error
+abbrev pub DRIVE_ERROR : ℕ
+DRIVE_ERROR = 0x000B
+
+-- what a status word is called, where it is one of these
+abbrev pub status_name : ℕ → Option (List ℕ)
+status_name word =
+    if word == SUCCESS then Some (codes "success")
+    else if word == ALREADY_ONLINE then Some (codes "already online")
+    else if word == INVALID_LENGTH then Some (codes "invalid length")
+    else if word == INVALID_OPCODE then Some (codes "invalid opcode")
+    else if word == INVALID_MODIFIERS then Some (codes "invalid modifiers")
+    else if word == INVALID_COUNT then Some (codes "invalid byte count or version")
+    else if word == INVALID_BLOCK then Some (codes "invalid block number")
+    else if word == UNIT_UNKNOWN then Some (codes "unit unknown")
+    else if word == NO_VOLUME then Some (codes "no volume")
+    else if word == AVAILABLE then Some (codes "available")
+    else if word == HARDWARE_PROTECTED then Some (codes "hardware write protected")
+    else if word == SOFTWARE_PROTECTED then Some (codes "software write protected")
+    else if word == ODD_ADDRESS then Some (codes "odd buffer address")
+    else if word == ODD_COUNT then Some (codes "odd byte count")
+    else if word == NO_SUCH_MEMORY then Some (codes "no such memory")
+    else if word == DRIVE_ERROR then Some (codes "drive error")
+    else None

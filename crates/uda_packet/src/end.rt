@@ -1,0 +1,133 @@
+//! End messages.
+
+ghost use Rattle.std.specs.Prelude.{◌≡◌};
+ghost use Rattle.uda_packet.specs.Bad.{other_length_end};
+
+use crate::field::{REFERENCE, UNIT};
+use crate::status;
+use std::fmt;
+
+/// An end message: how a command went.
+///
+/// Its default stands for nothing that a controller says: it is what the free places of an array or
+/// a queue of end messages hold.
+///
+/// MSCP Basic Disk Functions Manual: end messages.
+#[derive(Clone, Copy, PartialEq, Eq, Debug, Default)]
+pub struct End {
+    /// The reference number of the command.
+    pub reference: u32,
+    /// The unit number of the command.
+    pub unit: u16,
+    /// The status word: the major status in bits 4-0, the subcode above.
+    pub status: u16,
+    /// Which command ended, with what it answers.
+    pub body: EndBody,
+}
+
+impl End {
+    /// The end message of a packet whose length is none of a command: invalid command, status
+    /// 0x0001, with the reference and the unit that stand in bytes 0 to 5 of its text.
+    ///
+    /// MSCP Basic Disk Functions Manual: invalid command end message.
+    pub fn of_other_length(text: &[u8; 48]) -> End
+        ensures end { result ≡ other_length_end text.now }
+    {
+        End {
+            reference: REFERENCE.get(text),
+            unit: UNIT.get(text),
+            status: status::INVALID_LENGTH,
+            body: EndBody::Invalid,
+        }
+    }
+}
+
+/// As `reference 3, unit 0, status 0x0000 (success): Read, 512 bytes`.
+impl fmt::Display for End {
+    fn fmt<W: fmt::Write>(&self, f: &mut fmt::Formatter<W>) -> fmt::Result {
+        let End {
+            reference,
+            unit,
+            status,
+            body,
+        } = *self;
+        let name = status::name(status).unwrap_or("of no known name");
+        write!(
+            f,
+            "reference {reference}, unit {unit}, status {status:#06x} ({name}): {body}"
+        )
+    }
+}
+
+/// Which command an end message ends, with what it answers.
+///
+/// MSCP Basic Disk Functions Manual: end messages.
+#[derive(Clone, Copy, PartialEq, Eq, Debug, Default)]
+pub enum EndBody {
+    /// The packet was no command at all.
+    #[default]
+    Invalid,
+    /// Get Unit Status.
+    Status {
+        /// The unit flags: `UnitFlags` as a word.
+        flags: u16,
+    },
+    /// Set Controller Characteristics.
+    Controller,
+    /// Available.
+    Available,
+    /// Online.
+    Online {
+        /// The unit flags: `UnitFlags` as a word.
+        flags: u16,
+        /// The unit's size in blocks.
+        size: u32,
+    },
+    /// Access, Erase, Read or Write.
+    Moved {
+        /// Which transfer.
+        kind: Kind,
+        /// Bytes of the blocks that were read, written, accessed or erased; 0 after a refusal.
+        bytes: u32,
+    },
+}
+
+/// As `Read, 512 bytes`, or `Online, flags 0x1000, 891072 blocks`.
+impl fmt::Display for EndBody {
+    fn fmt<W: fmt::Write>(&self, f: &mut fmt::Formatter<W>) -> fmt::Result {
+        match *self {
+            EndBody::Invalid => f.write_str("invalid command"),
+            EndBody::Status { flags } => write!(f, "Get Unit Status, flags {flags:#06x}"),
+            EndBody::Controller => f.write_str("Set Controller Characteristics"),
+            EndBody::Available => f.write_str("Available"),
+            EndBody::Online { flags, size } => {
+                write!(f, "Online, flags {flags:#06x}, {size} blocks")
+            }
+            EndBody::Moved { kind, bytes } => write!(f, "{kind}, {bytes} bytes"),
+        }
+    }
+}
+
+/// The kind of a transfer.
+#[derive(Clone, Copy, PartialEq, Eq, Debug)]
+pub enum Kind {
+    /// Access.
+    Access,
+    /// Erase.
+    Erase,
+    /// Read.
+    Read,
+    /// Write.
+    Write,
+}
+
+impl fmt::Display for Kind {
+    fn fmt<W: fmt::Write>(&self, f: &mut fmt::Formatter<W>) -> fmt::Result {
+        f.write_str(match self {
+            Kind::Access => "Access",
+            Kind::Erase => "Erase",
+            Kind::Read => "Read",
+            Kind::Write => "Write",
+        })
+    }
+}

@@ -154,6 +154,11 @@ module _ {A : Type 0} where
         | inr high ↦ get_or-put_behind xs at [] k d within (omega arith)
       ])
 
+  -- what changed in no place is as it was
+  pub put-part_none : (xs ys : List A) (at : ℕ) → ys ≡ put xs at (part ys at 0) → ys ≡ xs
+  unfolding part
+  put-part_none xs ys at changed = changed ∙ put-nil xs at
+
   -- a write over a range that was written before hides it
   pub put-put_same : (xs : List A) (at : ℕ) (ys zs : List A) → length ys ≤ length zs → put (put xs at ys) at zs ≡ put xs at zs
   put-put_same xs at ys zs h =

@@ -1,1 +1,5 @@
 pub mod RingLaws
+pub mod Length
+pub mod TurnLaws
+pub mod PlayLaws
+pub mod DeathLaws

@@ -1,5 +1,5 @@
 -- What is posted in a ring, by the descriptor at its place; and that a fetch keeps ring order.
-use Rattle.std.proofs.Common.{◌≡◌, ℕ, ◌^◌, mod-eq_of_lt, ◌+◌, ◌*◌, ◌%◌, ◌<◌, ◌≤◌, ◌⊎◌, inl, inr, Bool, true, false, List, [], ◌∷◌, ◌++◌, length, get_or, set, take, drop, Option, Some, None, refl, sym, ap, ap₂, ◌∙◌, arith, length-set}
+use Rattle.std.proofs.Common.{◌≡◌, ℕ, ◌^◌, mod-eq_of_lt, ◌+◌, ◌*◌, ◌%◌, ◌<◌, ◌≤◌, ◌⊎◌, inl, inr, Bool, true, false, List, [], ◌∷◌, ◌++◌, length, get_or, set, take, drop, Option, Some, None, Result, Ok, Err, refl, sym, ap, ap₂, ◌∙◌, arith, length-set}
 use Rattle.std.specs.Prelude.{nat_le, if◌then◌else◌}
 use Rattle.std.proofs.lemmas.List.{drop_more, append_assoc, append-nil, same_lists, get_or-set_same, get_or-set_other, drop-set-lt, take_more_set, drop_all, take_all}
 use Rattle.std.proofs.lemmas.List.FromFn.{length-map-range_with_len, get_or-map-range_with_len}
@@ -10,9 +10,11 @@ use Rattle.uda_mem.specs.Words.{word_at, word_bytes}
 use Rattle.uda_mem.proofs.PutLaws.{length-put}
 use Rattle.uda_mem.proofs.WordLaws.{length-word_bytes, word_at-put_apart, word_at-put_at}
 use Rattle.uda_port.specs.declared.descriptor.Descriptor.{Descriptor}
-use Rattle.uda_port.specs.declared.command_ring.Fetched.{Fetched}
-use Rattle.uda_port.specs.Ring.{is_owned, given_back, descriptor_at, ring, owned_front, posted, RingState, here, posted_in}
-use Rattle.uda_port.specs.Fetch.{Takes, TakesFirst}
+use Rattle.uda_port.specs.declared.packet.Fetched.{Fetched}
+use Rattle.uda_port.specs.Ring.{is_owned, word_given_back, descriptor_at, ring, owned_front, posted, RingState, descriptor_address, posted_in}
+use Rattle.uda_port.specs.declared.ring.RingFault.{RingFault}
+use Rattle.uda_port.specs.declared.ring.RingFault.TheVariants.{Ring as RingLost, Packet as PacketLost}
+use Rattle.uda_port.specs.Fetch.{Takes, TakesFirst, FetchGoes, OrderKept}
 
 length-ring : (memory : List ℕ) (base n : ℕ) → length (ring memory base n) ≡ n
 length-ring memory base n = length-map-range_with_len _ 0 n
@@ -23,29 +25,29 @@ get_or-ring memory base n k d h = get_or-map-range_with_len (λ k. descriptor_at
 -- the descriptor at the place comes first
 rotated : (memory : List ℕ) (r : RingState) → r.place < r.count
     → drop r.place (ring memory r.base r.count) ++ take r.place (ring memory r.base r.count)
-    ≡ descriptor_at memory (here r) ∷ (drop (r.place + 1) (ring memory r.base r.count) ++ take r.place (ring memory r.base r.count))
+    ≡ descriptor_at memory (descriptor_address r) ∷ (drop (r.place + 1) (ring memory r.base r.count) ++ take r.place (ring memory r.base r.count))
 rotated memory r within =
     let all = ring memory r.base r.count in
     let next : drop r.place all ≡ get_or all r.place None ∷ drop (r.place + 1) all = drop_more all r.place None (omega (arith, length-ring memory r.base r.count)) in
-    let is : get_or all r.place None ≡ descriptor_at memory (here r) = get_or-ring memory r.base r.count r.place None within in
+    let is : get_or all r.place None ≡ descriptor_at memory (descriptor_address r) = get_or-ring memory r.base r.count r.place None within in
     ap (λ (ds : List (Option Descriptor)). ds ++ take r.place all) (next ∙ ap (λ (d : Option Descriptor). d ∷ drop (r.place + 1) all) is)
 
 -- the rest of the ring behind its place
 abbrev pub behind : List ℕ → RingState → List (Option Descriptor)
 behind memory r = drop (r.place + 1) (ring memory r.base r.count) ++ take r.place (ring memory r.base r.count)
 
-pub none_posted : (memory : List ℕ) (r : RingState) → r.place < r.count → descriptor_at memory (here r) ≡ None → posted_in memory r ≡ []
+pub none_posted : (memory : List ℕ) (r : RingState) → r.place < r.count → descriptor_at memory (descriptor_address r) ≡ None → posted_in memory r ≡ []
 none_posted memory r within h = ap owned_front (rotated memory r within ∙ ap (λ (d : Option Descriptor). d ∷ behind memory r) h)
 
-posted_next : (memory : List ℕ) (r : RingState) (d : Descriptor) (own : Bool) → r.place < r.count → descriptor_at memory (here r) ≡ Some d → is_owned d ≡ own
+posted_next : (memory : List ℕ) (r : RingState) (d : Descriptor) (own : Bool) → r.place < r.count → descriptor_at memory (descriptor_address r) ≡ Some d → is_owned d ≡ own
     → posted_in memory r ≡ (if own then d ∷ owned_front (behind memory r) else [])
 posted_next memory r d own within h owned =
     ap owned_front (rotated memory r within ∙ ap (λ (d : Option Descriptor). d ∷ behind memory r) h) ∙ ap (λ (b : Bool). if b then d ∷ owned_front (behind memory r) else []) owned
 
-pub not_owned_posted : (memory : List ℕ) (r : RingState) (d : Descriptor) → r.place < r.count → descriptor_at memory (here r) ≡ Some d → is_owned d ≡ false → posted_in memory r ≡ []
+pub not_owned_posted : (memory : List ℕ) (r : RingState) (d : Descriptor) → r.place < r.count → descriptor_at memory (descriptor_address r) ≡ Some d → is_owned d ≡ false → posted_in memory r ≡ []
 not_owned_posted memory r d within h owned = posted_next memory r d false within h owned
 
-pub owned_posted : (memory : List ℕ) (r : RingState) (d : Descriptor) → r.place < r.count → descriptor_at memory (here r) ≡ Some d → is_owned d ≡ true
+pub owned_posted : (memory : List ℕ) (r : RingState) (d : Descriptor) → r.place < r.count → descriptor_at memory (descriptor_address r) ≡ Some d → is_owned d ≡ true
     → posted_in memory r ≡ d ∷ owned_front (behind memory r)
 owned_posted memory r d within h owned = posted_next memory r d true within h owned
 
@@ -82,29 +84,29 @@ descriptor_at-put_here memory at word room fits =
     let make : ℕ → ℕ → Option Descriptor = λ l h. Some (record { low = l; high = h }) in
     rw (length-put, le-leb (at + 4) (length memory) room) (ap₂ make low high)
 
-given_back-fits : (high : ℕ) → given_back high < 2 ^ 16
-given_back-fits high = omega arith
+word_given_back-fits : (high : ℕ) → word_given_back high < 2 ^ 16
+word_given_back-fits high = omega arith
 
-given_back-free : (low high : ℕ) → is_owned (record { low = low; high = given_back high }) ≡ false
-given_back-free low high = lt-leb 32768 (given_back high) (omega arith)
+word_given_back-free : (low high : ℕ) → is_owned (record { low = low; high = word_given_back high }) ≡ false
+word_given_back-free low high = lt-leb 32768 (word_given_back high) (omega arith)
 
 -- the ring after the give back: the descriptor at the place is another, and the others are as they were
-ring_after : (memory : List ℕ) (r : RingState) (word : ℕ) → r.place < r.count → here r + 4 ≤ length memory → word < 2 ^ 16
-    → ring (put memory (here r + 2) (word_bytes word)) r.base r.count ≡ set (ring memory r.base r.count) r.place (Some (record { low = word_at memory (here r); high = word }))
+ring_after : (memory : List ℕ) (r : RingState) (word : ℕ) → r.place < r.count → descriptor_address r + 4 ≤ length memory → word < 2 ^ 16
+    → ring (put memory (descriptor_address r + 2) (word_bytes word)) r.base r.count ≡ set (ring memory r.base r.count) r.place (Some (record { low = word_at memory (descriptor_address r); high = word }))
 ring_after memory r word within room fits =
-    let memory' = put memory (here r + 2) (word_bytes word) in
-    let given : Option Descriptor = Some (record { low = word_at memory (here r); high = word }) in
+    let memory' = put memory (descriptor_address r + 2) (word_bytes word) in
+    let given : Option Descriptor = Some (record { low = word_at memory (descriptor_address r); high = word }) in
     let long : r.place < length (ring memory r.base r.count) = omega (arith, length-ring memory r.base r.count) in
     same_lists _ _ (length-ring memory' r.base r.count ∙ sym (length-set (ring memory r.base r.count) r.place given ∙ length-ring memory r.base r.count)) (λ k d below.
     let inside : k < r.count = omega (arith, length-ring memory' r.base r.count) in
     get_or-ring memory' r.base r.count k d inside ∙ elim (cases_eq k r.place) [
       | inl is ↦
-          let there : r.base + 4 * k ≡ here r = ap (λ i. r.base + 4 * i) is in
-          ap (descriptor_at memory') there ∙ descriptor_at-put_here memory (here r) word room fits
+          let there : r.base + 4 * k ≡ descriptor_address r = ap (λ i. r.base + 4 * i) is in
+          ap (descriptor_at memory') there ∙ descriptor_at-put_here memory (descriptor_address r) word room fits
           ∙ sym (ap (λ i. get_or (set (ring memory r.base r.count) r.place given) i d) is ∙ get_or-set_same (ring memory r.base r.count) r.place given d long)
       | inr apart ↦
-          let other : (here r + 4 ≤ r.base + 4 * k) ⊎ (r.base + 4 * k + 4 ≤ here r) = elim (cases_lt k r.place) [ inl low ↦ inr (omega arith) | inr high ↦ inl (omega (arith, apart)) ] in
-          descriptor_at-put_other memory (here r) (r.base + 4 * k) word other
+          let other : (descriptor_address r + 4 ≤ r.base + 4 * k) ⊎ (r.base + 4 * k + 4 ≤ descriptor_address r) = elim (cases_lt k r.place) [ inl low ↦ inr (omega arith) | inr high ↦ inl (omega (arith, apart)) ] in
+          descriptor_at-put_other memory (descriptor_address r) (r.base + 4 * k) word other
           ∙ sym (get_or-set_other (ring memory r.base r.count) r.place k given d apart ∙ get_or-ring memory r.base r.count k d inside)
     ])
 
@@ -126,18 +128,31 @@ advanced ds place count given within long = elim (cases_lt (place + 1) count) [
 -- a fetch takes the first that is posted, and leaves the rest posted
 pub takes_first : (old : RingState) (memory : List ℕ) (p : Fetched) (new : RingState) (memory_after : List ℕ) → old.place < old.count → Takes old memory p new memory_after → TakesFirst old memory p new memory_after
 takes_first old memory p new memory_after within t =
-    let room = descriptor_at-within memory (here old) t.first t.is_next in
-    let word = given_back t.first.high in
-    let given : Descriptor = record { low = word_at memory (here old); high = word } in
-    let after = ring_after memory old word within room (given_back-fits t.first.high) in
+    let room = descriptor_at-within memory (descriptor_address old) t.first t.is_next in
+    let word = word_given_back t.first.high in
+    let given : Descriptor = record { low = word_at memory (descriptor_address old); high = word } in
+    let after = ring_after memory old word within room (word_given_back-fits t.first.high) in
     let next : RingState = record old { place = (old.place + 1) % old.count } in
-    let rest : posted_in (put memory (here old + 2) (word_bytes word)) next ≡ owned_front (behind memory old) =
+    let rest : posted_in (put memory (descriptor_address old + 2) (word_bytes word)) next ≡ owned_front (behind memory old) =
     ap (λ (ds : List (Option Descriptor)). posted ds ((old.place + 1) % old.count)) after
     ∙ ap owned_front (advanced (ring memory old.base old.count) old.place old.count (Some given) within (length-ring memory old.base old.count))
-    ∙ owned_front-append (behind memory old) given (given_back-free (word_at memory (here old)) t.first.high) in
+    ∙ owned_front-append (behind memory old) given (word_given_back-free (word_at memory (descriptor_address old)) t.first.high) in
     record {
       first = t.first;
       in_order = owned_posted memory old t.first within t.is_next t.owned ∙ ap (λ (ds : List Descriptor). t.first ∷ ds) (sym (ap₂ posted_in t.written t.advanced ∙ rest));
       readable = t.readable;
       is_packet = t.is_packet;
     }
+
+-- what a fetch does by the descriptor at the place it does by what is posted: ring order
+pub order_kept : (old : RingState) (memory : List ℕ) (result : Result (Option Fetched) RingFault) (new : RingState) (memory_after : List ℕ)
+    → old.place < old.count → FetchGoes old memory result new memory_after → OrderKept old memory result new memory_after
+order_kept old memory (Ok (Some p)) new memory_after within goes = takes_first old memory p new memory_after within goes
+order_kept old memory (Ok None) new memory_after within goes = not_owned_posted memory old goes.0.next within goes.0.is_next goes.0.not_owned
+order_kept old memory (Err PacketLost) new memory_after within goes = record {
+  first = goes.0.next;
+  rest = owned_front (behind memory old);
+  is_first = owned_posted memory old goes.0.next within goes.0.is_next goes.0.owned;
+  unreadable = goes.0.unreadable;
+}
+order_kept old memory (Err RingLost) new memory_after within goes = none_posted memory old within goes.0

@@ -1,2 +1,11 @@
 pub mod Ring
+pub mod Packet
 pub mod Fetch
+pub mod Delivery
+pub mod Message
+pub mod Port
+pub mod IsPort
+pub mod Count
+pub mod Startup
+pub mod Turn
+pub mod Play

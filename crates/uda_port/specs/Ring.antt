@@ -1,21 +1,22 @@
 -- Rings of descriptors in host memory.
 -- UDA50 Programmer's Documentation Kit: communication area, ring descriptors.
-use Rattle.std.specs.Prelude.{ℕ, ◌+◌, ◌*◌, ◌%◌, Bool, ◌||◌, nat_eq, nat_le, List, [], ◌∷◌, ◌++◌, length, take, drop, map, Option, Some, None, if◌then◌else◌}
+use Rattle.std.specs.Prelude.{◌≡◌, ◌≤◌, ℕ, ◌+◌, ◌*◌, ◌%◌, Bool, ◌||◌, nat_eq, nat_le, List, [], ◌∷◌, ◌++◌, length, take, drop, map, Option, Some, None, if◌then◌else◌}
 use Rattle.std.specs.List.{range_with_len}
-use Rattle.uda_mem.specs.Words.{word_at}
+use Rattle.uda_mem.specs.Put.{put}
+use Rattle.uda_mem.specs.Words.{word_at, word_bytes}
 use Rattle.uda_port.specs.declared.descriptor.Descriptor.{Descriptor}
 
 -- the owner bit is bit 15 of the second word: where it is set, the port owns the descriptor
 abbrev pub is_owned : Descriptor → Bool
-is_owned d = nat_le 32768 d.high
+is_owned d = nat_le 0x8000 d.high
 
 -- the address of the message text: the first word, and bits 13-0 of the second above it
 abbrev pub address_of : Descriptor → ℕ
-address_of d = d.low + 65536 * (d.high % 16384)
+address_of d = d.low + 0x10000 * (d.high % 0x4000)
 
 -- a second word as the port gives it back: the owner bit clear, the flag bit set, the rest as it was
-abbrev pub given_back : ℕ → ℕ
-given_back high = high % 16384 + 16384
+abbrev pub word_given_back : ℕ → ℕ
+word_given_back high = high % 0x4000 + 0x4000
 
 -- the descriptor at an address, if it lies wholly in memory
 abbrev pub descriptor_at : List ℕ → ℕ → Option Descriptor
@@ -39,6 +40,11 @@ posted descriptors place = owned_front (drop place descriptors ++ take place des
 abbrev pub is_ring_length : ℕ → Bool
 is_ring_length n = nat_eq n 1 || nat_eq n 2 || nat_eq n 4 || nat_eq n 8 || nat_eq n 16 || nat_eq n 32 || nat_eq n 64 || nat_eq n 128
 
+-- a ring begins at an even address of 18 bits
+pub record IsRingBase (base : ℕ) : Type 0 where
+  pub even : base % 2 ≡ 0
+  pub within : base ≤ 262142
+
 -- a ring as its user sees it: where it starts, how many descriptors it has, and the place of the next
 pub record RingState : Type 0 where
   pub base : ℕ
@@ -46,8 +52,20 @@ pub record RingState : Type 0 where
   pub place : ℕ
 
 -- the address of the descriptor at the place
-abbrev pub here : RingState → ℕ
-here r = r.base + 4 * r.place
+abbrev pub descriptor_address : RingState → ℕ
+descriptor_address r = r.base + 4 * r.place
+
+-- the descriptor at the place
+abbrev pub next_descriptor : List ℕ → RingState → Option Descriptor
+next_descriptor memory r = descriptor_at memory (descriptor_address r)
+
+-- the ring with its place on by one; after the last descriptor comes the first
+abbrev pub ring_advanced : RingState → RingState
+ring_advanced r = record r { place = (r.place + 1) % r.count }
+
+-- memory with the descriptor at the place given back: its second word alone is written
+abbrev pub memory_given_back : List ℕ → RingState → Descriptor → List ℕ
+memory_given_back memory r d = put memory (descriptor_address r + 2) (word_bytes (word_given_back d.high))
 
 -- what is posted in a ring, from its place on
 abbrev pub posted_in : List ℕ → RingState → List Descriptor

@@ -1,4 +1,6 @@
-//! Ring descriptors. UDA50 Programmer's Documentation Kit: ring descriptors.
+//! Ring descriptors.
+//!
+//! UDA50 Programmer's Documentation Kit: ring descriptors.
 ghost use Rattle.std.specs.Prelude.{◌≡◌};
 
 use uda_mem::HostMemory;
@@ -26,8 +28,8 @@ const FLAG: u16 = 0x4000;
 const ADDRESS_HIGH: u16 = 0x3fff;
 
 impl Descriptor {
-    ghost use Rattle.std.specs.Prelude.{◌≡◌, ◌+◌, ◌%◌, ◌^◌, ◌<◌, OnSome};
-    ghost use Rattle.uda_port.specs.Ring.{descriptor_at, is_owned, address_of, given_back};
+    ghost use Rattle.std.specs.Prelude.{◌≡◌, ◌+◌, ◌%◌, ◌^◌, ◌<◌, ◌≤◌, OnSome, length};
+    ghost use Rattle.uda_port.specs.Ring.{descriptor_at, is_owned, address_of, word_given_back};
 
     /// The descriptor at the address `at`, or None where its four bytes aren't all in memory.
     ///
@@ -37,6 +39,7 @@ impl Descriptor {
         requires even { at % 2 ≡ 0 }
         ensures descriptor { result ≡ descriptor_at memory.now at }
         ensures addressable { OnSome result (at + 4 < 2 ^ 32) }
+        ensures there { OnSome result (at + 4 ≤ length memory.now) }
     {
         if u64::from(at) + 4 > u64::from(memory.len()) {
             return None;
@@ -51,21 +54,21 @@ impl Descriptor {
     pub fn is_owned(self) -> bool
         ensures owned { result ≡ is_owned self }
     {
-        self.high >= OWN
+        self.high & OWN != 0
     }
 
     /// The address of the message text, below 2^30. One past 18 bits is in no host memory.
     pub fn address(self) -> u32
         ensures address { result ≡ address_of self }
     {
-        u32::from(self.low) + 65_536 * u32::from(self.high & ADDRESS_HIGH)
+        u32::from(self.high & ADDRESS_HIGH) << 16 | u32::from(self.low)
     }
 
     /// The second word as the port writes it to give the descriptor back to the host: the owner bit
     /// clear, the flag bit set, and the address bits as they were.
     pub fn given_back(self) -> u16
-        ensures second_word { result ≡ given_back self.high }
+        ensures second_word { result ≡ word_given_back self.high }
     {
-        (self.high & ADDRESS_HIGH) + FLAG
+        (self.high & ADDRESS_HIGH) | FLAG
     }
 }

@@ -1,13 +1,23 @@
-//! The command ring of a UDA50 port: the descriptors of the ring in host memory, and the packets
-//! that they point to, taken in ring order.
-//!
-//! UDA50 Programmer's Documentation Kit: ring descriptors, command ring, message envelopes.
+//! The port of a UDA50 disk controller.
 #![tactic(auto)]
 
-mod command_ring;
 mod descriptor;
+mod message;
+mod packet;
+mod phase;
+mod play;
+mod port;
+mod ring;
+mod startup;
+mod tally;
 #[cfg(test)]
 mod tests;
+mod turn;
 
-pub use command_ring::{CommandRing, Fetched, RING_BASE_LIMIT, RingFault};
 pub use descriptor::Descriptor;
+pub use packet::Fetched;
+pub use phase::{Fatal, Phase};
+pub use play::HostEvent;
+pub use port::Port;
+pub use ring::{RING_BASE_LIMIT, Ring, Ring as CommandRing, RingFault};
+pub use turn::Turn;

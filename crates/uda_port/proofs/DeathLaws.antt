@@ -1,0 +1,234 @@
+-- What a port dies of, from what each event does.
+use Rattle.std.proofs.Common.{◌≡◌, ◌≢◌, ℕ, ◌⊎◌, inl, inr, Bool, true, false, List, [], ◌∷◌, length, Result, Ok, Err, refl, sym, ap, subst, ◌∙◌}
+use Rattle.std.specs.Prelude.{nat_lt, if◌then◌else◌}
+use Rattle.std.proofs.lemmas.List.Elements.{All-nil, All-cons, All-head, All-tail}
+use borrow.Author.Tests.{ltb-true, ltb-false}
+use Rattle.uda_packet.specs.declared.commands.Command.{Command}
+use Rattle.uda_packet.specs.declared.ends.End.{End}
+use Rattle.uda_port.specs.declared.phase.Phase.{Phase}
+use Rattle.uda_port.specs.declared.phase.Phase.TheVariants.{Step1, Step2, Step3, Step4, Running, Dead}
+use Rattle.uda_port.specs.declared.phase.Fatal.{Fatal}
+use Rattle.uda_port.specs.declared.phase.Fatal.TheVariants.{PacketRead, PacketWrite, RingRead, RingWrite, CreditsExceeded, WrongEnvelope, StartUpWord}
+use Rattle.uda_port.specs.declared.turn.Turn.{Turn}
+use Rattle.uda_port.specs.declared.turn.Turn.TheVariants.{Fetched, Executed, Delivered, Idle, Dead as DeadTurn}
+use Rattle.uda_port.specs.declared.play.HostEvent.{HostEvent}
+use Rattle.uda_port.specs.declared.play.HostEvent.TheVariants.{WriteIp, ReadIp, WriteSa, Word, Turn as TurnEvent}
+use Rattle.uda_port.specs.Port.{PortState, port_asked}
+use Rattle.uda_port.specs.Startup.{has_bit, has_area, by_word, dead_port, port_with_rings, memory_with_area}
+use Rattle.uda_port.specs.Turn.{port_turn_on, port_with_message, TurnGoes, RunningTurn, GoesOn, Fails, InFetch, InRest, FetchLine}
+use Rattle.uda_port.specs.Message.{message_in}
+use Rattle.uda_port.specs.Play.{EventGoes, Played, FatalTurn, FatalWord, MeetsCause, LeavesIp, DiedOf, StaysDead, DeathHasCause}
+
+-- an event that isn't a write to IP
+abbrev IsOther : HostEvent → Type 0
+IsOther event = event ≢ WriteIp
+
+-- the phase of equal ports
+phases : (a b : PortState) → a ≡ b → a.phase ≡ b.phase
+phases a b is = ap (λ (x : PortState). x.phase) is
+
+-- a running port that is left in its phase isn't dead
+alive : (cause : Fatal) (a b : Phase) → a ≡ Running → b ≡ a → b ≡ Dead cause → ⊥
+alive cause a b runs same dead = cc
+
+same_cause : (a b : Fatal) → Dead a ≡ Dead b → a ≡ b
+same_cause a b is = cc
+
+-- ---- a word of the start-up
+
+-- a port that died of this cause died of the one that the word met
+of_word : (met cause : Fatal) (word : ℕ) (old new : PortState) (memory : List ℕ) → new ≡ dead_port old met → new.phase ≡ Dead cause → FatalWord met word old memory → FatalWord cause word old memory
+of_word met cause word old new memory is dead fatal = subst (λ (x : Fatal). FatalWord x word old memory) (same_cause met cause (sym (phases new (dead_port old met) is) ∙ dead)) fatal
+
+first_word : (cause : Fatal) (word : ℕ) (old new : PortState) (memory : List ℕ) (step wrap : Bool) → old.phase ≡ Step1 → has_bit word 15 ≡ step → has_bit word 14 ≡ wrap
+    → new ≡ (if step then (if wrap then dead_port old StartUpWord else record old { phase = Step2 word }) else old) → new.phase ≡ Dead cause → FatalWord cause word old memory
+first_word cause word old new memory true true p step wrap is dead = of_word StartUpWord cause word old new memory is dead (rw p (step, wrap))
+first_word cause word old new memory true false p step wrap is dead = let same = phases new _ is in absurd (cc)
+first_word cause word old new memory false wrap' p step wrap is dead = let same = phases new _ is in absurd (cc)
+
+second_word : (cause : Fatal) (first word : ℕ) (old new : PortState) (memory : List ℕ) (purge : Bool) → old.phase ≡ Step2 first → has_bit word 0 ≡ purge
+    → new ≡ (if purge then dead_port old StartUpWord else record old { phase = Step3 first word }) → new.phase ≡ Dead cause → FatalWord cause word old memory
+second_word cause first word old new memory true p purge is dead = of_word StartUpWord cause word old new memory is dead (rw p purge)
+second_word cause first word old new memory false p purge is dead = let same = phases new _ is in absurd (cc)
+
+third_word : (cause : Fatal) (first second word : ℕ) (old new : PortState) (memory memory_after : List ℕ) (high area : Bool) → old.phase ≡ Step3 first second
+    → nat_lt 3 word ≡ high → has_area first second word (length memory) ≡ area
+    → ◌≡◌ {A = PortState × List ℕ} (new, memory_after) (if high then (dead_port old StartUpWord, memory)
+    else if area then (port_with_rings old first second word, memory_with_area first second word memory)
+    else (dead_port old RingWrite, memory)) → new.phase ≡ Dead cause → FatalWord cause word old memory
+third_word cause first second word old new memory memory_after true area' p high area is dead =
+    of_word StartUpWord cause word old new memory (ap (λ (x : PortState × List ℕ). x.0) is) dead (rw p (ltb-true 3 word high))
+third_word cause first second word old new memory memory_after false true p high area is dead =
+    let same = phases new _ (ap (λ (x : PortState × List ℕ). x.0) is) in absurd (cc)
+third_word cause first second word old new memory memory_after false false p high area is dead =
+    of_word RingWrite cause word old new memory (ap (λ (x : PortState × List ℕ). x.0) is) dead (rw p (ltb-false 3 word high, area))
+
+fourth_word : (cause : Fatal) (word : ℕ) (old new : PortState) (go : Bool) → old.phase ≡ Step4
+    → new ≡ (if go then record old { phase = Running } else old) → new.phase ≡ Dead cause → ⊥
+fourth_word cause word old new true p is dead = let same = phases new _ is in absurd (cc)
+fourth_word cause word old new false p is dead = let same = phases new _ is in absurd (cc)
+
+-- a port that is dead after a word was dead before it, or the word was fatal
+fatal_word : (cause : Fatal) (word : ℕ) (p : Phase) (old new : PortState) (memory memory_after : List ℕ) → old.phase ≡ p → (new, memory_after) ≡ by_word p old memory word → new.phase ≡ Dead cause
+    → (old.phase ≡ Dead cause) ⊎ FatalWord cause word old memory
+fatal_word cause word Step1 old new memory memory_after p is dead = inr (first_word cause word old new memory _ _ p refl refl (ap (λ (x : PortState × List ℕ). x.0) is) dead)
+fatal_word cause word (Step2 first) old new memory memory_after p is dead = inr (second_word cause first word old new memory _ p refl (ap (λ (x : PortState × List ℕ). x.0) is) dead)
+fatal_word cause word (Step3 first second) old new memory memory_after p is dead = inr (third_word cause first second word old new memory memory_after _ _ p refl refl is dead)
+fatal_word cause word Step4 old new memory memory_after p is dead = absurd (fourth_word cause word old new _ p (ap (λ (x : PortState × List ℕ). x.0) is) dead)
+fatal_word cause word Running old new memory memory_after p is dead = inl (sym (phases new old (ap (λ (x : PortState × List ℕ). x.0) is)) ∙ dead)
+fatal_word cause word (Dead before) old new memory memory_after p is dead = inl (sym (phases new old (ap (λ (x : PortState × List ℕ). x.0) is)) ∙ dead)
+
+-- ---- a turn
+
+-- what it met in its first line
+fails_fetch : (cause : Fatal) (old : PortState) (memory : List ℕ) (before : PortState) (memory_after : List ℕ) → FetchLine old memory (Err cause) before memory_after → FatalTurn cause old memory
+fails_fetch PacketRead old memory before memory_after line = line.0
+fails_fetch RingRead old memory before memory_after line = inl line.0
+fails_fetch CreditsExceeded old memory before memory_after line = record { new = before; memory_after = memory_after; bad = line }
+fails_fetch WrongEnvelope old memory before memory_after line = record { new = before; memory_after = memory_after; bad = line }
+fails_fetch PacketWrite old memory before memory_after line = absurd line
+fails_fetch RingWrite old memory before memory_after line = absurd line
+fails_fetch StartUpWord old memory before memory_after line = absurd line
+
+-- what it met in its third
+fails_rest : (cause : Fatal) (old : PortState) (memory : List ℕ) (before : PortState) (memory_after : List ℕ) → GoesOn old memory (Err cause) before memory_after → FatalTurn cause old memory
+fails_rest PacketWrite old memory before memory_after goes = (
+  record { nothing_to_fetch = goes.nothing_to_fetch; nothing_pending = goes.rest.0 },
+  record { end = goes.rest.1.0.end; waits = goes.rest.1.0.waits; no_room = goes.rest.1.0.no_room },
+)
+fails_rest RingRead old memory before memory_after goes = inr (
+  record { nothing_to_fetch = goes.nothing_to_fetch; nothing_pending = goes.rest.0 },
+  record { end = goes.rest.1.0.end; waits = goes.rest.1.0.waits; no_descriptor = goes.rest.1.0.no_descriptor },
+)
+fails_rest PacketRead old memory before memory_after goes = absurd goes.rest.1
+fails_rest CreditsExceeded old memory before memory_after goes = absurd goes.rest.1
+fails_rest WrongEnvelope old memory before memory_after goes = absurd goes.rest.1
+fails_rest RingWrite old memory before memory_after goes = absurd goes.rest.1
+fails_rest StartUpWord old memory before memory_after goes = absurd goes.rest.1
+
+fails_of : (cause : Fatal) (old : PortState) (memory : List ℕ) (before : PortState) (memory_after : List ℕ) → Fails cause old memory before memory_after → FatalTurn cause old memory
+fails_of cause old memory before memory_after (InFetch line) = fails_fetch cause old memory before memory_after line
+fails_of cause old memory before memory_after (InRest goes) = fails_rest cause old memory before memory_after goes
+
+-- a message leaves the phase
+message_phase : (old : PortState) (message : Result Command End) → (port_with_message old message).phase ≡ old.phase
+message_phase old (Ok c) = refl
+message_phase old (Err e) = refl
+
+-- a turn of a running port leaves it running, or meets a cause
+running_turn : (cause : Fatal) (turn : Turn) (old new : PortState) (memory memory_after : List ℕ) → old.phase ≡ Running → RunningTurn old memory turn new memory_after → new.phase ≡ Dead cause
+    → FatalTurn cause (port_turn_on old) memory
+running_turn cause Fetched old new memory memory_after p goes dead =
+    absurd (alive cause old.phase new.phase p (phases new _ goes.others ∙ message_phase (port_turn_on old) (message_in goes.packet)) dead)
+running_turn cause Executed old new memory memory_after p goes dead = absurd (alive cause old.phase new.phase p (phases new _ goes.rest.1.others) dead)
+running_turn cause Delivered old new memory memory_after p goes dead = absurd (alive cause old.phase new.phase p (phases new _ goes.rest.1.others) dead)
+running_turn cause Idle old new memory memory_after p goes dead = absurd (alive cause old.phase new.phase p (phases new _ goes.rest.1.1.state) dead)
+running_turn cause DeadTurn old new memory memory_after p goes dead =
+    subst (λ (x : Fatal). FatalTurn x (port_turn_on old) memory) (same_cause goes.cause cause (sym (phases new _ goes.died) ∙ dead))
+    (fails_of goes.cause (port_turn_on old) memory goes.before memory_after goes.fails)
+
+-- a port that is dead after a turn was dead before it, or the turn met a cause
+fatal_turn : (cause : Fatal) (turn : Turn) (p : Phase) (old new : PortState) (memory memory_after : List ℕ) → old.phase ≡ p → TurnGoes p old memory turn new memory_after → new.phase ≡ Dead cause
+    → (old.phase ≡ Dead cause) ⊎ ((old.phase ≡ Running) × FatalTurn cause (port_turn_on old) memory)
+fatal_turn cause turn Running old new memory memory_after p goes dead = inr (p, running_turn cause turn old new memory memory_after p goes dead)
+fatal_turn cause turn (Dead before) old new memory memory_after p goes dead = inl (sym (phases new old goes.unchanged.state) ∙ dead)
+fatal_turn cause turn Step1 old new memory memory_after p goes dead = inl (sym (phases new old goes.unchanged.state) ∙ dead)
+fatal_turn cause turn (Step2 first) old new memory memory_after p goes dead = inl (sym (phases new old goes.unchanged.state) ∙ dead)
+fatal_turn cause turn (Step3 first second) old new memory memory_after p goes dead = inl (sym (phases new old goes.unchanged.state) ∙ dead)
+fatal_turn cause turn Step4 old new memory memory_after p goes dead = inl (sym (phases new old goes.unchanged.state) ∙ dead)
+
+-- ---- an event, and events
+
+asked_phase : (p : Phase) (old : PortState) → (port_asked p old).phase ≡ old.phase
+asked_phase Running old = refl
+asked_phase Step1 old = refl
+asked_phase (Step2 first) old = refl
+asked_phase (Step3 first second) old = refl
+asked_phase Step4 old = refl
+asked_phase (Dead cause) old = refl
+
+-- a port that is dead after an event was dead before it, and the event wasn't a write to IP; or the event met a cause
+fatal_event : (cause : Fatal) (event : HostEvent) (old new : PortState) (memory memory_after : List ℕ) → EventGoes event old memory new memory_after → new.phase ≡ Dead cause
+    → ((event ≢ WriteIp) × (old.phase ≡ Dead cause)) ⊎ MeetsCause cause event old memory
+fatal_event cause WriteIp old new memory memory_after goes dead = let same = phases new _ goes.0 in absurd (cc)
+fatal_event cause ReadIp old new memory memory_after goes dead = inl ((λ is. absurd (cc)), sym (asked_phase old.phase old) ∙ sym (phases new _ goes.0) ∙ dead)
+fatal_event cause (WriteSa word) old new memory memory_after goes dead = elim (fatal_word cause word old.phase old new memory memory_after refl goes dead) [
+  | inl was ↦ inl ((λ is. absurd (cc)), was)
+  | inr met ↦ inr met
+]
+fatal_event cause (Word address word) old new memory memory_after goes dead = inl ((λ is. absurd (cc)), sym (phases new old goes.0) ∙ dead)
+fatal_event cause TurnEvent old new memory memory_after goes dead = elim (fatal_turn cause goes.0 old.phase old new memory memory_after refl goes.1 dead) [
+  | inl was ↦ inl ((λ is. absurd (cc)), was)
+  | inr met ↦ inr met
+]
+
+dies : (cause : Fatal) (events : List HostEvent) (old : PortState) (memory : List ℕ) (new : PortState) (memory_after : List ℕ) → Played events old memory new memory_after → new.phase ≡ Dead cause
+    → StaysDead cause events old ⊎ DiedOf cause events old memory
+dies cause [] old memory new memory_after played dead = inl (record { was = sym (phases new old played.state) ∙ dead; leaves_ip = All-nil IsOther })
+dies cause (event ∷ rest) old memory new memory_after played dead = elim (dies cause rest played.0.0 played.0.1 new memory_after played.2 dead) [
+  | inl later ↦ elim (fatal_event cause event old played.0.0 memory played.0.1 played.1 later.was) [
+    | inl was ↦ inl (record { was = was.1; leaves_ip = All-cons IsOther event rest was.0 later.leaves_ip })
+    | inr met ↦ inr (record {
+      before = [];
+      fatal = event;
+      rest = rest;
+      are = refl;
+      port = old;
+      memory_then = memory;
+      led_there = record { state = refl; memory_stays = refl };
+      meets = met;
+      leaves_ip = later.leaves_ip;
+    })
+  ]
+  | inr later ↦ inr (record {
+    before = event ∷ later.before;
+    fatal = later.fatal;
+    rest = later.rest;
+    are = ap (λ (events : List HostEvent). event ∷ events) later.are;
+    port = later.port;
+    memory_then = later.memory_then;
+    led_there = (played.0, played.1, later.led_there);
+    meets = later.meets;
+    leaves_ip = later.leaves_ip;
+  })
+]
+
+-- a dead port stays so where IP isn't written
+dead_word : (cause : Fatal) (word : ℕ) (p : Phase) (old new : PortState) (memory memory_after : List ℕ) → (new, memory_after) ≡ by_word p old memory word → p ≡ Dead cause → new ≡ old
+dead_word cause word (Dead before) old new memory memory_after is dead = ap (λ (x : PortState × List ℕ). x.0) is
+dead_word cause word Step1 old new memory memory_after is dead = absurd (cc dead)
+dead_word cause word (Step2 first) old new memory memory_after is dead = absurd (cc dead)
+dead_word cause word (Step3 first second) old new memory memory_after is dead = absurd (cc dead)
+dead_word cause word Step4 old new memory memory_after is dead = absurd (cc dead)
+dead_word cause word Running old new memory memory_after is dead = absurd (cc dead)
+
+dead_turn : (cause : Fatal) (turn : Turn) (p : Phase) (old new : PortState) (memory memory_after : List ℕ) → TurnGoes p old memory turn new memory_after → p ≡ Dead cause → new ≡ old
+dead_turn cause turn (Dead before) old new memory memory_after goes dead = goes.unchanged.state
+dead_turn cause turn Step1 old new memory memory_after goes dead = goes.unchanged.state
+dead_turn cause turn (Step2 first) old new memory memory_after goes dead = goes.unchanged.state
+dead_turn cause turn (Step3 first second) old new memory memory_after goes dead = goes.unchanged.state
+dead_turn cause turn Step4 old new memory memory_after goes dead = goes.unchanged.state
+dead_turn cause turn Running old new memory memory_after goes dead = absurd (not_running cause dead)
+  where
+    not_running : (cause : Fatal) → Running ≡ Dead cause → ⊥
+    not_running cause is = cc
+
+dead_event : (cause : Fatal) (event : HostEvent) (old new : PortState) (memory memory_after : List ℕ) → EventGoes event old memory new memory_after → event ≢ WriteIp → old.phase ≡ Dead cause → new.phase ≡ Dead cause
+dead_event cause WriteIp old new memory memory_after goes other dead = absurd (other refl)
+dead_event cause ReadIp old new memory memory_after goes other dead = phases new _ goes.0 ∙ asked_phase old.phase old ∙ dead
+dead_event cause (WriteSa word) old new memory memory_after goes other dead = phases new old (dead_word cause word old.phase old new memory memory_after goes dead) ∙ dead
+dead_event cause (Word address word) old new memory memory_after goes other dead = phases new old goes.0 ∙ dead
+dead_event cause TurnEvent old new memory memory_after goes other dead = phases new old (dead_turn cause goes.0 old.phase old new memory memory_after goes.1 dead) ∙ dead
+
+stays : (cause : Fatal) (events : List HostEvent) (old : PortState) (memory : List ℕ) (new : PortState) (memory_after : List ℕ) → Played events old memory new memory_after
+    → old.phase ≡ Dead cause → LeavesIp events → new.phase ≡ Dead cause
+stays cause [] old memory new memory_after played dead leaves = phases new old played.state ∙ dead
+stays cause (event ∷ rest) old memory new memory_after played dead leaves =
+    stays cause rest played.0.0 played.0.1 new memory_after played.2
+    (dead_event cause event old played.0.0 memory played.0.1 played.1 (All-head IsOther event rest leaves) dead) (All-tail IsOther event rest leaves)
+
+pub death_has_cause : (events : List HostEvent) (old : PortState) (memory : List ℕ) (new : PortState) (memory_after : List ℕ) → Played events old memory new memory_after → DeathHasCause events old memory new
+death_has_cause events old memory new memory_after played = record {
+  dies = λ cause dead. dies cause events old memory new memory_after played dead;
+  stays = λ cause was. stays cause events old memory new memory_after played was.was was.leaves_ip;
+}

@@ -1,0 +1,27 @@
+-- Packets in host memory: a text, and its envelope in the four bytes below.
+-- UDA50 Programmer's Documentation Kit: message envelopes.
+use Rattle.std.specs.Prelude.{◌≡◌, ℕ, ◌+◌, ◌-◌, ◌%◌, ◌≤◌, List, length}
+use Rattle.uda_mem.specs.Put.{put, part}
+use Rattle.uda_mem.specs.Words.{word_at, word_bytes}
+use Rattle.uda_port.specs.declared.packet.Fetched.{Fetched}
+
+-- a packet can be read or written at an address: it is even, four envelope bytes stand below it, and 48 bytes of text lie in memory
+pub record HasPacket (memory : List ℕ) (at : ℕ) : Type 0 where
+  pub even : at % 2 ≡ 0
+  pub above : 4 ≤ at
+  pub within : at + 48 ≤ length memory
+
+-- the packet at an address: the envelope's two words, and the text
+pub record IsPacketAt (memory : List ℕ) (at : ℕ) (p : Fetched) : Type 0 where
+  pub first_word : p.words.0 ≡ word_at memory (at - 4)
+  pub second_word : p.words.1 ≡ word_at memory (at - 2)
+  pub text : p.text ≡ part memory at 48
+
+-- a text can be written at an address, and the length word below it says that its buffer holds one
+pub record HasRoom (memory : List ℕ) (at : ℕ) : Type 0 where
+  pub packet : HasPacket memory at
+  pub long : 48 ≤ word_at memory (at - 4)
+
+-- a text is written, and then the envelope below it: its length, and these credits for a sequential message of MSCP
+abbrev pub packet_put : List ℕ → ℕ → ℕ → List ℕ → List ℕ
+packet_put memory at credits text = put (put (put memory at text) (at - 4) (word_bytes 48)) (at - 2) (word_bytes credits)

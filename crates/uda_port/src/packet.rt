@@ -1,0 +1,79 @@
+//! Packets in host memory: a text of 48 bytes, and its envelope in the four bytes below.
+//!
+//! UDA50 Programmer's Documentation Kit: message envelopes.
+ghost use Rattle.std.specs.Prelude.{◌≡◌, ◌≤◌, ◌↔◌, IsTrue, IsSome, IfSome, length};
+ghost use Rattle.uda_port.specs.Packet.{HasPacket, HasRoom, IsPacketAt, packet_put};
+
+use uda_mem::HostMemory;
+use uda_packet::Envelope;
+
+/// The bytes of a text.
+pub(crate) const TEXT: u16 = 48;
+
+/// A command packet as it stood in host memory: the two words of its envelope, and its text.
+///
+/// UDA50 Programmer's Documentation Kit: message envelopes.
+#[derive(Clone, Copy, Debug, PartialEq, Eq)]
+pub struct Fetched {
+    /// The envelope, which stands in the four bytes below the text: the length in bytes; then
+    /// credits in bits 3-0, the message type in bits 7-4 and the connection in bits 15-8. Both are
+    /// as the host wrote them, and no value of them is a fault of the ring.
+    pub words: (u16, u16),
+    /// The 48 bytes of the text.
+    pub text: [u8; 48],
+}
+
+/// The packet at an address, or None where it isn't readable there.
+pub(crate) fn packet_at(memory: &HostMemory, address: u32) -> Option<Fetched>
+    ensures readable { IsSome result ↔ HasPacket memory.now address }
+    ensures packet { IfSome result (λ p. IsPacketAt memory.now address p) }
+{
+    if address % 2 != 0 || address < 4 {
+        return None;
+    }
+    let bytes = memory.window(address, 48)?;
+    let first = memory.read_word(address - 4)?;
+    let second = memory.read_word(address - 2)?;
+    let mut text = [0; 48];
+    text.copy_from_slice(bytes);
+    Some(Fetched {
+        words: (first, second),
+        text,
+    })
+}
+
+/// Whether a packet can be written at an address: it lies in memory, and the length word says that
+/// its buffer holds a text.
+pub(crate) fn has_room(memory: &HostMemory, address: u32) -> bool
+    ensures { IsTrue result ↔ HasRoom memory.now address }
+{
+    if address % 2 != 0 || address < 4 || !memory.has(address, u32::from(TEXT)) {
+        return false;
+    }
+    match memory.read_word(address - 4) {
+        Some(length) => length >= TEXT,
+        None => false,
+    }
+}
+
+/// Writes a text, and then the envelope below it, which grants so many credits.
+#[tactic(auto, using(crate::proofs::Length::lengths))]
+pub(crate) fn put_packet(memory: &mut HostMemory, address: u32, credits: u8, text: &[u8; 48])
+    requires few { credits ≤ 15 }
+    requires room { HasPacket memory.old address }
+    ensures written { memory.new ≡ packet_put memory.old address credits text.now }
+    ensures length { length memory.new ≡ length memory.old }
+{
+    let envelope = Envelope {
+        length: TEXT,
+        credits,
+        kind: 0,
+        connection: 0,
+    };
+    let (first, second) = envelope.words();
+    memory
+        .within(address, u32::from(TEXT))
+        .copy_from_slice(text);
+    memory.put_word(address - 4, first);
+    memory.put_word(address - 2, second);
+}

@@ -1,0 +1,81 @@
+//! A host that may do anything, played to a port.
+//!
+//! UDA50 Programmer's Documentation Kit: port registers, fatal errors.
+ghost use Rattle.std.specs.Prelude.{◌≡◌};
+ghost use Rattle.uda_port.specs.Port.{CreditsAgree, KeepsImages};
+ghost use Rattle.uda_port.specs.Startup.{sa_of};
+ghost use Rattle.uda_port.specs.Play.{EventGoes, Played, DeathHasCause};
+
+use crate::port::Port;
+use uda_image::BlockStore;
+use uda_mem::HostMemory;
+
+/// What happens between a host and its port.
+#[derive(Clone, Copy, Debug, PartialEq, Eq)]
+pub enum HostEvent {
+    /// The host writes IP.
+    WriteIp,
+    /// The host reads IP.
+    ReadIp,
+    /// The host writes SA.
+    WriteSa(u16),
+    /// The host writes a word of its memory, where there is one at this address.
+    Word {
+        /// The address of the word.
+        address: u32,
+        /// The word.
+        word: u16,
+    },
+    /// The port takes a turn.
+    Turn,
+}
+
+impl<S: BlockStore> Port<S> {
+    /// Plays the events in their order and answers SA after the last. A word that `memory` doesn't
+    /// have is passed over.
+    ///
+    /// Whatever the events and the memory: a port that is dead afterwards met a cause of a fatal
+    /// error, with just that code, after which IP wasn't written, or was dead of it before.
+    ///
+    /// UDA50 Programmer's Documentation Kit: port registers, fatal errors.
+    pub fn play(&mut self, events: &[HostEvent], memory: &mut HostMemory) -> u16
+        ensures played { Played events.now self.old memory.old self.new memory.new }
+        ensures sa { result ≡ sa_of self.new.phase }
+        ensures death { DeathHasCause events.now self.old memory.old self.new }
+        ensures images { KeepsImages self.old.exec.units self.new.exec.units }
+        ensures credits { CreditsAgree self.new }
+    {
+        self.play_all(events, memory);
+        self.credits_agree();
+        self.read_sa()
+    }
+
+    fn play_all(&mut self, events: &[HostEvent], memory: &mut HostMemory)
+        ensures played { Played events.now self.old memory.old self.new memory.new }
+        ensures images { KeepsImages self.old.exec.units self.new.exec.units }
+    {
+        for &event in events {
+            self.play_one(event, memory);
+        }
+    }
+
+    // One event.
+    fn play_one(&mut self, event: HostEvent, memory: &mut HostMemory)
+        ensures goes { EventGoes event self.old memory.old self.new memory.new }
+        ensures images { KeepsImages self.old.exec.units self.new.exec.units }
+    {
+        match event {
+            HostEvent::WriteIp => self.write_ip(0),
+            HostEvent::ReadIp => {
+                self.read_ip();
+            }
+            HostEvent::WriteSa(word) => self.write_sa(word, memory),
+            HostEvent::Word { address, word } => {
+                memory.write_word(address, word);
+            }
+            HostEvent::Turn => {
+                self.turn(memory);
+            }
+        }
+    }
+}

@@ -1,0 +1,198 @@
+//! The port: its state, its IP register, and what an emulator reads of it.
+//!
+//! UDA50 Programmer's Documentation Kit: port registers, initialisation.
+ghost use Rattle.std.specs.Prelude.{◌≡◌, ◌≤◌, IfOk, IfErr, length};
+ghost use Rattle.uda_port.specs.Port.{port_at_start, port_asked, KeepsImages};
+
+use crate::phase::Phase;
+use crate::ring::Ring;
+use crate::tally::Tally;
+use circular_buffer::HeapCircularBuffer;
+use std::alloc::Global;
+use std::fmt;
+use std::marker::Model;
+use uda_exec::{Exec, PENDING};
+use uda_image::BlockStore;
+use uda_mem::NoMemory;
+use uda_packet::End;
+
+/// The port of a controller: it stands between a host, which writes its registers and its rings in
+/// host memory, and an executor with its units.
+///
+/// Host memory is handed to each call that touches it, and may be another each time. Whatever stands
+/// in it, and whatever the host writes to the registers, the port does what its contracts say, and
+/// dies only of a [`Fatal`](crate::Fatal) cause, with that cause's code, until IP is written.
+///
+/// Contracts see the phase, the executor's units and pending commands, both rings' bases, lengths and
+/// places, the ends that wait, whether the port looks at its command ring, the credits that the host
+/// has, and four counts since start-up: turns, fetches, deliveries, and the load, to which each
+/// execution adds the number of commands then pending. The counts exist for contracts alone.
+///
+/// UDA50 Programmer's Documentation Kit: port registers, initialisation, credits.
+#[derive(Drop)]
+pub struct Port<S: BlockStore> {
+    pub(crate) phase: Phase,
+    // Whether an end was delivered since start-up.
+    pub(crate) begun: bool,
+    pub(crate) exec: Exec<S>,
+    pub(crate) responses: Ring,
+    pub(crate) commands: Ring,
+    // The ends that wait for delivery, the next one first.
+    pub(crate) waiting: HeapCircularBuffer<End>,
+    // Whether the port looks at its command ring.
+    pub(crate) looking: bool,
+    // The credits that the host has.
+    pub(crate) credits: u8,
+    pub(crate) turns: Tally,
+    pub(crate) fetches: Tally,
+    pub(crate) deliveries: Tally,
+    pub(crate) load: Tally,
+}
+
+impl<S: BlockStore> Model for Port<S> {
+    ghost use Rattle.uda_port.specs.Port.{PortState};
+    ghost use Rattle.uda_port.specs.IsPort.{IsPort};
+
+    ghost Value = { PortState };
+
+    ghost view = { λ p. record {
+      phase = p.phase;
+      exec = p.exec;
+      responses = p.responses;
+      commands = p.commands;
+      waiting = p.waiting.items;
+      looking = p.looking;
+      credits = p.credits;
+      turns = p.turns;
+      fetches = p.fetches;
+      deliveries = p.deliveries;
+      load = p.load;
+    } };
+
+    ghost invariant = { IsPort };
+}
+
+impl<S: BlockStore> Port<S> {
+    /// A port over `exec`, which is reset: it stands in step 1, as after [`write_ip`](Port::write_ip).
+    ///
+    /// Takes memory for the ends that wait, and no other call does. Where `alloc` has none the answer
+    /// is [`NoMemory`] with `exec` as it was.
+    ///
+    /// UDA50 Programmer's Documentation Kit: initialisation.
+    pub fn new(alloc: Global, exec: Exec<S>) -> Result<Port<S>, (NoMemory, Exec<S>)>
+        ensures ok { IfOk result (λ port. port ≡ port_at_start exec) }
+        ensures err { IfErr result (λ refusal. refusal.1 ≡ exec) }
+        ensures images { IfOk result (λ port. KeepsImages exec.units port.exec.units) }
+    {
+        match HeapCircularBuffer::with_capacity(alloc, PENDING) {
+            Err(_) => Err((NoMemory, exec)),
+            Ok(waiting) => {
+                let mut exec = exec;
+                exec.reset();
+                Ok(Port {
+                    phase: Phase::Step1,
+                    begun: false,
+                    exec,
+                    responses: Ring::new(0, 1),
+                    commands: Ring::new(0, 1),
+                    waiting,
+                    looking: false,
+                    credits: 1,
+                    turns: Tally::new(),
+                    fetches: Tally::new(),
+                    deliveries: Tally::new(),
+                    load: Tally::new(),
+                })
+            }
+        }
+    }
+
+    /// The host writes IP, with any value and in any phase: start-up begins anew.
+    ///
+    /// Commands and ends are dropped, every unit with a drive is available without software
+    /// protection, the port doesn't look, and credits, places and counts begin anew. Blocks and
+    /// hardware protection stay.
+    ///
+    /// UDA50 Programmer's Documentation Kit: initialisation.
+    pub fn write_ip(&mut self, _value: u16)
+        ensures starts { self.new ≡ port_at_start self.old.exec }
+        ensures images { KeepsImages self.old.exec.units self.new.exec.units }
+    {
+        self.phase = Phase::Step1;
+        self.begun = false;
+        self.exec.reset();
+        self.responses = Ring::new(0, 1);
+        self.commands = Ring::new(0, 1);
+        self.waiting.clear();
+        self.looking = false;
+        self.credits = 1;
+        self.turns = Tally::new();
+        self.fetches = Tally::new();
+        self.deliveries = Tally::new();
+        self.load = Tally::new();
+    }
+
+    /// The host reads IP: a port that runs begins to look at its command ring. The value is always 0.
+    ///
+    /// UDA50 Programmer's Documentation Kit: command ring polling.
+    pub fn read_ip(&mut self) -> u16
+        ensures zero { result ≡ 0 }
+        ensures looks { self.new ≡ port_asked self.old.phase self.old }
+    {
+        if self.phase == Phase::Running {
+            self.looking = true;
+        }
+        0
+    }
+
+    /// What the port is doing, with the cause where it is dead.
+    pub fn phase(&self) -> Phase
+        ensures phase { result ≡ self.now.phase }
+    {
+        self.phase
+    }
+
+    /// How many commands were fetched and not yet executed.
+    pub fn pending(&self) -> usize
+        ensures count { result ≡ length self.now.exec.pending }
+        ensures within { result ≤ PENDING }
+    {
+        self.exec.pending()
+    }
+
+    /// How many end messages wait for delivery.
+    pub fn waiting(&self) -> usize
+        ensures count { result ≡ length self.now.waiting }
+        ensures within { result ≤ PENDING }
+    {
+        self.waiting.len()
+    }
+
+    /// Whether the port looks at its command ring: it runs, IP was read, and no look has found a
+    /// descriptor that isn't its own since.
+    pub fn is_looking(&self) -> bool
+        ensures looking { result ≡ self.now.looking }
+    {
+        self.looking
+    }
+
+    /// The executor, with its units and its pending commands as they are.
+    pub fn into_exec(self) -> Exec<S>
+        ensures exec { result ≡ self.exec }
+    {
+        let Port { exec, .. } = self;
+        exec
+    }
+}
+
+impl<S: BlockStore> fmt::Debug for Port<S> {
+    fn fmt<W: fmt::Write>(&self, f: &mut fmt::Formatter<W>) -> fmt::Result {
+        f.debug_struct("Port")
+            .field("phase", &self.phase)
+            .field("pending", &self.exec.pending())
+            .field("waiting", &self.waiting.len())
+            .field("looking", &self.looking)
+            .field("credits", &self.credits)
+            .finish_non_exhaustive()
+    }
+}

@@ -1,0 +1,200 @@
+//! Rings of descriptors in host memory: packets are fetched from a command ring and put into a
+//! response ring, each at the ring's place, which then goes on by one.
+//!
+//! UDA50 Programmer's Documentation Kit: communication area, command and response rings.
+ghost use Rattle.std.specs.Prelude.{◌≡◌};
+
+use crate::descriptor::Descriptor;
+use crate::packet::{Fetched, has_room, packet_at, put_packet};
+use std::error::Error;
+use std::fmt;
+use std::marker::Model;
+use uda_mem::HostMemory;
+
+/// The highest base of a ring: the last even address of 18 bits.
+///
+/// UDA50 Programmer's Documentation Kit: communication area.
+pub const RING_BASE_LIMIT: u32 = 262_142;
+
+/// Why a look at a ring answers no packet: the port can't read the next descriptor, or can't use
+/// what it points to.
+///
+/// UDA50 Programmer's Documentation Kit: command ring, response ring.
+#[derive(Clone, Copy, Debug, PartialEq, Eq)]
+pub enum RingFault {
+    /// The next descriptor isn't wholly in memory: fewer than four bytes stand from it on.
+    Ring,
+    /// The next descriptor is the port's, and its text is at an odd address, at one below 4, which
+    /// leaves no room for the envelope, or at one from which fewer than 48 bytes stand in memory. A
+    /// response ring has it too where the buffer's length word is under 48.
+    Packet,
+}
+
+impl fmt::Display for RingFault {
+    fn fmt<W: fmt::Write>(&self, f: &mut fmt::Formatter<W>) -> fmt::Result {
+        f.write_str(match self {
+            RingFault::Ring => "the descriptor isn't in memory",
+            RingFault::Packet => "the packet isn't in memory",
+        })
+    }
+}
+
+impl Error for RingFault {}
+
+/// The port's end of a ring: where the ring stands in host memory, how many descriptors it has, and
+/// which is next, its place. After the last descriptor comes the first.
+///
+/// The ring itself is in host memory, which each call is given anew and may find changed.
+///
+/// UDA50 Programmer's Documentation Kit: communication area, command and response rings.
+#[derive(Clone, Copy, Debug, PartialEq, Eq)]
+pub struct Ring {
+    base: u32,
+    count: u16,
+    place: u16,
+}
+
+impl Model for Ring {
+    ghost use Rattle.std.specs.Prelude.{◌≡◌, ◌%◌, ◌<◌, ◌≤◌};
+    ghost use Rattle.uda_port.specs.Ring.{RingState};
+
+    ghost Value = { RingState };
+
+    ghost view = { λ r. record { base = r.base; count = r.count; place = r.place } };
+
+    ghost invariant = { λ r. (r.base % 2 ≡ 0) × (r.base ≤ 262142) × (r.count ≤ 128) × (r.place < r.count) };
+
+    ghost inverse = { λ r. record { base = r.base; count = r.count; place = r.place } };
+}
+
+impl Ring {
+    ghost use Rattle.std.specs.Prelude.{◌≡◌, ◌+◌, ◌%◌, ◌^◌, ◌<◌, ◌≤◌, ◌↔◌, IsTrue, length};
+    ghost use Rattle.std.specs.Prelude.{OnOk};
+    ghost use Rattle.uda_port.specs.Ring.{IsRingBase, is_ring_length, descriptor_address};
+    ghost use Rattle.uda_port.specs.Ring.{ring_advanced, memory_given_back};
+    ghost use Rattle.uda_port.specs.Fetch.{FetchGoes, Looks, OrderKept};
+    ghost use Rattle.uda_port.specs.Delivery.{PutGoes};
+
+    /// A ring of `n` descriptors from the address `base` on, of which the first is next.
+    ///
+    /// `base` is even and at most [`RING_BASE_LIMIT`] ([`is_base`](Ring::is_base)), and `n` is 1, 2,
+    /// 4, 8, 16, 32, 64 or 128. The ring needn't lie in any memory: each look at it finds out.
+    ///
+    /// UDA50 Programmer's Documentation Kit: communication area.
+    pub fn new(base: u32, n: u16) -> Ring
+        requires base { IsRingBase base }
+        requires count { IsTrue (is_ring_length n) }
+        ensures ring { result ≡ record { base = base; count = n; place = 0 } }
+    {
+        Ring {
+            base,
+            count: n,
+            place: 0,
+        }
+    }
+
+    /// Whether a ring may begin at the address `base`: it is even and at most [`RING_BASE_LIMIT`].
+    pub fn is_base(base: u32) -> bool
+        ensures base { IsTrue result ↔ IsRingBase base }
+    {
+        base % 2 == 0 && base <= RING_BASE_LIMIT
+    }
+
+    /// Takes the next command: reads the packet of the descriptor at the place, gives the descriptor
+    /// back and goes on by one, round the ring.
+    ///
+    /// None where the port doesn't own that descriptor, whatever stands behind it: commands are taken
+    /// in ring order, each once. [`RingFault::Ring`] where the descriptor isn't wholly in memory, and
+    /// [`RingFault::Packet`] where the port owns it and its packet isn't there to be read. After None
+    /// or a fault neither the ring nor the memory has changed; otherwise the descriptor's second word
+    /// alone has ([`Descriptor::given_back`]), and the answer is the packet as it stood before.
+    ///
+    /// UDA50 Programmer's Documentation Kit: command ring, message envelopes.
+    pub fn fetch(&mut self, memory: &mut HostMemory) -> Result<Option<Fetched>, RingFault>
+        ensures goes { FetchGoes self.old memory.old result self.new memory.new }
+        ensures order { OrderKept self.old memory.old result self.new memory.new }
+    {
+        self.take(memory)
+    }
+
+    // What a fetch does, by the descriptor at the place.
+    fn take(&mut self, memory: &mut HostMemory) -> Result<Option<Fetched>, RingFault>
+        ensures goes { FetchGoes self.old memory.old result self.new memory.new }
+        ensures place { self.old.place < self.old.count }
+    {
+        let Some(descriptor) = self.next(memory)? else {
+            return Ok(None);
+        };
+        let Some(fetched) = packet_at(memory, descriptor.address()) else {
+            return Err(RingFault::Packet);
+        };
+        self.give_back(memory, descriptor);
+        Ok(Some(fetched))
+    }
+
+    /// Delivers a text: writes it to the buffer of the descriptor at the place, with an envelope that
+    /// grants so many `credits`, gives the descriptor back and goes on by one, round the ring.
+    ///
+    /// The three writes come in this order: text, envelope, the descriptor's second word. False where
+    /// the port doesn't own that descriptor; [`RingFault::Ring`] where it isn't wholly in memory, and
+    /// [`RingFault::Packet`] where it is the port's and its buffer can't take a text. After false or a
+    /// fault nothing has changed.
+    ///
+    /// UDA50 Programmer's Documentation Kit: response ring, message envelopes.
+    pub(crate) fn put(
+        &mut self,
+        memory: &mut HostMemory,
+        credits: u8,
+        text: &[u8; 48],
+    ) -> Result<bool, RingFault>
+        requires few { credits ≤ 15 }
+        ensures goes { PutGoes self.old memory.old credits text.now result self.new memory.new }
+    {
+        let Some(descriptor) = self.next(memory)? else {
+            return Ok(false);
+        };
+        if !has_room(memory, descriptor.address()) {
+            return Err(RingFault::Packet);
+        }
+        put_packet(memory, descriptor.address(), credits, text);
+        self.give_back(memory, descriptor);
+        Ok(true)
+    }
+
+    // The descriptor at the place, or None where the port doesn't own it.
+    fn next(&self, memory: &HostMemory) -> Result<Option<Descriptor>, RingFault>
+        ensures looks { Looks self.now memory.now result }
+        ensures there { OnOk result (descriptor_address self.now + 4 ≤ length memory.now) }
+        ensures place { self.now.place < self.now.count }
+    {
+        let at = self.address();
+        let Some(descriptor) = Descriptor::read(memory, at) else {
+            return Err(RingFault::Ring);
+        };
+        if !descriptor.is_owned() {
+            return Ok(None);
+        }
+        Ok(Some(descriptor))
+    }
+
+    // Gives the descriptor at the place back, and goes on by one.
+    fn give_back(&mut self, memory: &mut HostMemory, descriptor: Descriptor)
+        requires there { descriptor_address self.old + 4 ≤ length memory.old }
+        ensures ring { self.new ≡ ring_advanced self.old }
+        ensures memory { memory.new ≡ memory_given_back memory.old self.old descriptor }
+    {
+        let at = self.address();
+        memory.put_word(at + 2, descriptor.given_back());
+        self.place = (self.place + 1) % self.count;
+    }
+
+    // Where the descriptor at the place stands.
+    fn address(&self) -> u32
+        ensures address { result ≡ descriptor_address self.now }
+        ensures even { result % 2 ≡ 0 }
+        ensures within { result < 2 ^ 20 }
+        ensures place { self.now.place < self.now.count }
+    {
+        self.base + 4 * u32::from(self.place)
+    }
+}

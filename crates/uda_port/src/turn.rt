@@ -1,0 +1,222 @@
+//! The turns of a port.
+//!
+//! UDA50 Programmer's Documentation Kit: command ring polling, message envelopes, credits.
+ghost use Rattle.std.specs.Prelude.{◌≡◌, ◌+◌, ◌<◌, ◌≤◌, slice_get, [], ◌∷◌, ◌++◌, length, Some};
+ghost use Rattle.circular_buffer.specs.Buffer.{buffer};
+ghost use Rattle.uda_port.specs.Port.{CreditsAgree, KeepsImages, next_grant};
+ghost use Rattle.uda_port.specs.Turn.{FetchLine, ExecuteLine, DeliverLine, RestGoes, LinesGo};
+ghost use Rattle.uda_port.specs.Turn.{RunningTurn, TurnGoes};
+
+use crate::message::message_in;
+use crate::phase::{Fatal, Phase};
+use crate::port::Port;
+use crate::ring::RingFault;
+use circular_buffer::HeapCircularBuffer;
+use uda_image::BlockStore;
+use uda_mem::HostMemory;
+use uda_packet::{End, encode_end};
+
+/// What a turn did.
+#[derive(Clone, Copy, Debug, PartialEq, Eq)]
+pub enum Turn {
+    /// A command packet was fetched: the command is pending, or the end of what is none waits.
+    Fetched,
+    /// A pending command was executed, and its end waits.
+    Executed,
+    /// The first end that waited was delivered to the response ring.
+    Delivered,
+    /// Nothing: the port is in start-up, has nothing to do, or has an end and no response descriptor.
+    Idle,
+    /// Nothing: the port is dead. It may have died in this turn.
+    Dead,
+}
+
+impl<S: BlockStore> Port<S> {
+    /// One turn: the first of these lines that fits.
+    ///
+    /// 1. The port looks, and the next command descriptor is its own or can't be read: fetch. The
+    ///    port dies where descriptor or packet can't be read, with memory unchanged. Else the
+    ///    descriptor was given back, and then: no credit left is [`Fatal::CreditsExceeded`]; another
+    ///    connection or message type than 0 is [`Fatal::WrongEnvelope`]; a length other than 48 makes
+    ///    an end of status 0x0001, and a text that is no command's an end that says what is wrong;
+    ///    any other text is a command, and pending.
+    /// 2. The port stops looking. A command is pending: one that may go is executed, and its end waits
+    ///    last.
+    /// 3. An end waits: where the next response descriptor is the port's, the text, then the envelope
+    ///    with its credits (8 with the first end since start-up, then 1), then the descriptor's second
+    ///    word are written. The port dies where descriptor or buffer can't be used.
+    /// 4. [`Turn::Idle`].
+    ///
+    /// A port in start-up answers [`Turn::Idle`] and a dead one [`Turn::Dead`], and neither changes
+    /// anything.
+    ///
+    /// UDA50 Programmer's Documentation Kit: command ring polling, message envelopes, credits.
+    pub fn turn(&mut self, memory: &mut HostMemory) -> Turn
+        ensures goes { TurnGoes self.old.phase self.old memory.old result self.new memory.new }
+        ensures images { KeepsImages self.old.exec.units self.new.exec.units }
+        ensures credits { CreditsAgree self.new }
+    {
+        let turn = self.take_turn(memory);
+        self.credits_agree();
+        turn
+    }
+
+    // What the fields keep.
+    pub(crate) fn credits_agree(&self)
+        ensures { CreditsAgree self.now }
+    {
+        let _ = &self.credits;
+    }
+
+    // A turn, by the phase.
+    fn take_turn(&mut self, memory: &mut HostMemory) -> Turn
+        ensures goes { TurnGoes self.old.phase self.old memory.old result self.new memory.new }
+        ensures images { KeepsImages self.old.exec.units self.new.exec.units }
+    {
+        match self.phase {
+            Phase::Running => self.run(memory),
+            Phase::Dead { .. } => Turn::Dead,
+            Phase::Step1 => Turn::Idle,
+            Phase::Step2 { .. } => Turn::Idle,
+            Phase::Step3 { .. } => Turn::Idle,
+            Phase::Step4 => Turn::Idle,
+        }
+    }
+
+    // A turn of a port that runs.
+    #[tactic(auto, using(crate::proofs::TurnLaws::running_turn))]
+    fn run(&mut self, memory: &mut HostMemory) -> Turn
+        ensures goes { RunningTurn self.old memory.old result self.new memory.new }
+        ensures images { KeepsImages self.old.exec.units self.new.exec.units }
+    {
+        self.turns.add(1);
+        match self.lines(memory) {
+            Ok(turn) => turn,
+            Err(cause) => {
+                self.die(cause);
+                Turn::Dead
+            }
+        }
+    }
+
+    // The lines of a turn, of which the first that fits is taken.
+    fn lines(&mut self, memory: &mut HostMemory) -> Result<Turn, Fatal>
+        ensures goes { LinesGo self.old memory.old result self.new memory.new }
+        ensures images { KeepsImages self.old.exec.units self.new.exec.units }
+    {
+        match self.fetch(memory) {
+            Err(cause) => Err(cause),
+            Ok(true) => Ok(Turn::Fetched),
+            Ok(false) => {
+                self.looking = false;
+                self.rest(memory)
+            }
+        }
+    }
+
+    // The lines behind the first.
+    fn rest(&mut self, memory: &mut HostMemory) -> Result<Turn, Fatal>
+        ensures goes { RestGoes self.old memory.old result self.new memory.new }
+        ensures images { KeepsImages self.old.exec.units self.new.exec.units }
+    {
+        if self.execute(memory) {
+            return Ok(Turn::Executed);
+        }
+        match self.deliver(memory) {
+            Err(cause) => Err(cause),
+            Ok(true) => Ok(Turn::Delivered),
+            Ok(false) => Ok(Turn::Idle),
+        }
+    }
+
+    // The first line: fetches a command, where the port looks and one is posted.
+    fn fetch(&mut self, memory: &mut HostMemory) -> Result<bool, Fatal>
+        ensures goes { FetchLine self.old memory.old result self.new memory.new }
+        ensures units { self.new.exec.units ≡ self.old.exec.units }
+    {
+        if !self.looking {
+            return Ok(false);
+        }
+        let fetched = match self.commands.fetch(memory) {
+            Ok(None) => return Ok(false),
+            Ok(Some(fetched)) => fetched,
+            Err(RingFault::Ring) => return Err(Fatal::RingRead),
+            Err(RingFault::Packet) => return Err(Fatal::PacketRead),
+        };
+        if self.credits == 0 {
+            return Err(Fatal::CreditsExceeded);
+        }
+        let Some(message) = message_in(&fetched) else {
+            return Err(Fatal::WrongEnvelope);
+        };
+        self.credits -= 1;
+        self.fetches.add(1);
+        match message {
+            Ok(command) => self.exec.accept(command),
+            Err(end) => hold(&mut self.waiting, end),
+        }
+        Ok(true)
+    }
+
+    // The second line: executes a pending command, where there is one.
+    fn execute(&mut self, memory: &mut HostMemory) -> bool
+        ensures goes { ExecuteLine self.old memory.old result self.new memory.new }
+        ensures images { KeepsImages self.old.exec.units self.new.exec.units }
+    {
+        let pending = self.exec.pending();
+        let Some(end) = self.exec.execute_one(memory) else {
+            return false;
+        };
+        self.load.add(pending);
+        hold(&mut self.waiting, end);
+        true
+    }
+
+    // The third line: delivers the first end that waits, where the response ring takes it.
+    fn deliver(&mut self, memory: &mut HostMemory) -> Result<bool, Fatal>
+        ensures goes { DeliverLine self.old memory.old result self.new memory.new }
+        ensures units { self.new.exec.units ≡ self.old.exec.units }
+    {
+        let Some(end) = self.waiting.front().copied() else {
+            return Ok(false);
+        };
+        let grant = self.next_grant();
+        match self.responses.put(memory, grant, &encode_end(&end)) {
+            Err(RingFault::Ring) => return Err(Fatal::RingRead),
+            Err(RingFault::Packet) => return Err(Fatal::PacketWrite),
+            Ok(false) => return Ok(false),
+            Ok(true) => {}
+        }
+        release(&mut self.waiting, end);
+        self.credits += grant;
+        self.begun = true;
+        self.deliveries.add(1);
+        Ok(true)
+    }
+
+    // The credits that the next end grants.
+    fn next_grant(&self) -> u8
+        ensures grant { result ≡ next_grant self.now.deliveries }
+        ensures few { result ≤ 8 }
+        ensures room { self.now.credits + result ≤ 9 }
+    {
+        if self.begun { 1 } else { 8 }
+    }
+}
+
+// Puts an end last.
+fn hold(waiting: &mut HeapCircularBuffer<End>, end: End)
+    requires room { length waiting.old.items < waiting.old.capacity }
+    ensures last { waiting.new ≡ buffer (waiting.old.items ++ end ∷ []) waiting.old.capacity }
+{
+    waiting.push_back(end);
+}
+
+// Takes the first end out.
+fn release(waiting: &mut HeapCircularBuffer<End>, end: End)
+    requires first { slice_get waiting.old.items 0 ≡ Some end }
+    ensures items { waiting.old.items ≡ end ∷ waiting.new.items }
+    ensures capacity { waiting.new.capacity ≡ waiting.old.capacity }
+{
+    waiting.pop_front();
+}

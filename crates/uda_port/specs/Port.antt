@@ -1,8 +1,8 @@
 -- A port as its callers see it, and its credits.
 -- UDA50 Programmer's Documentation Kit: port registers, initialisation, credits.
-use Rattle.std.specs.Prelude.{◌≡◌, ℕ, ◌+◌, ◌-◌, ◌*◌, ◌≤◌, min, Bool, true, false, List, [], length, map, Option}
-use Rattle.uda_packet.specs.declared.ends.End.{End}
-use Rattle.uda_exec.specs.Disks.{State as ExecState, Volume as UnitState, AreImages}
+use Rattle.std.specs.Prelude.{◌≡◌, ℕ, ◌+◌, ◌-◌, ◌*◌, ◌≤◌, min, Bool, true, false, List, [], length, map}
+use Rattle.uda_packet.specs.declared.end.End.{End}
+use Rattle.uda_exec.specs.Disks.{ExecState}
 use Rattle.uda_exec.specs.Drives.{reset_unit}
 use Rattle.uda_port.specs.declared.phase.Phase.{Phase}
 use Rattle.uda_port.specs.declared.phase.Phase.TheVariants.{Step1, Running}
@@ -61,10 +61,6 @@ pub record CreditsAgree (port : PortState) : Type 0 where
   pub credits : port.credits + port.fetches ≡ credits_granted port.deliveries
   pub conserved : port.fetches ≡ port.deliveries + (length port.exec.pending + length port.waiting)
   pub within : length port.exec.pending + length port.waiting ≤ 8
-
--- units of which each faithful store holds an image keep doing so
-pub record KeepsImages (units units_after : List (Option UnitState)) : Type 0 where
-  pub keeps : AreImages units → AreImages units_after
 
 -- a port whose IP register is read begins to look, if it runs
 abbrev pub port_asked : Phase → PortState → PortState

@@ -1,8 +1,8 @@
 -- What a turn of a port does: the first of its lines that fits.
 -- UDA50 Programmer's Documentation Kit: command ring polling, message envelopes, credits, fatal errors.
 use Rattle.std.specs.Prelude.{◌≡◌, ℕ, ◌+◌, ◌-◌, ◌<◌, Bool, true, false, List, [], ◌∷◌, ◌++◌, length, slice_get, Some, Result, Ok, Err}
-use Rattle.uda_packet.specs.declared.commands.Command.{Command}
-use Rattle.uda_packet.specs.declared.ends.End.{End}
+use Rattle.uda_packet.specs.declared.command.Command.{Command}
+use Rattle.uda_packet.specs.declared.end.End.{End}
 use Rattle.uda_packet.specs.Reading.{read_end}
 use Rattle.uda_packet.specs.Written.{written_end}
 use Rattle.uda_exec.specs.Execution.{ExecutesAt}

@@ -2,11 +2,10 @@
 //!
 //! UDA50 Programmer's Documentation Kit: message envelopes.
 ghost use Rattle.std.specs.Prelude.{◌≡◌, MatchOption};
-ghost use Rattle.uda_port.specs.Message.{IsSequential, message_in, end_of_other_length};
+ghost use Rattle.uda_port.specs.Message.{IsSequential, message_in};
 
 use crate::packet::{Fetched, TEXT};
-use byteorder::{ByteOrder, LittleEndian};
-use uda_packet::{Command, End, EndBody, Envelope, decode_command, status};
+use uda_packet::{Command, End, Envelope, decode_command};
 
 /// The command of a packet, or the end of what is none. None where the envelope is of another
 /// connection or message type.
@@ -18,19 +17,7 @@ pub(crate) fn message_in(packet: &Fetched) -> Option<Result<Command, End>>
         return None;
     }
     if envelope.length != TEXT {
-        return Some(Err(end_of_other_length(packet)));
+        return Some(Err(End::of_other_length(&packet.text)));
     }
     Some(decode_command(&packet.text).map_err(|bad| bad.end()))
-}
-
-// The end of a command whose length isn't that of a text.
-fn end_of_other_length(packet: &Fetched) -> End
-    ensures { result ≡ end_of_other_length packet.now }
-{
-    End {
-        reference: LittleEndian::read_u32(&packet.text[0..]),
-        unit: LittleEndian::read_u16(&packet.text[4..]),
-        status: status::INVALID_LENGTH,
-        body: EndBody::Invalid,
-    }
 }

@@ -2,7 +2,8 @@
 //!
 //! UDA50 Programmer's Documentation Kit: port registers, fatal errors.
 ghost use Rattle.std.specs.Prelude.{◌≡◌};
-ghost use Rattle.uda_port.specs.Port.{CreditsAgree, KeepsImages};
+ghost use Rattle.uda_exec.specs.Disks.{AreImages};
+ghost use Rattle.uda_port.specs.Port.{CreditsAgree};
 ghost use Rattle.uda_port.specs.Startup.{sa_of};
 ghost use Rattle.uda_port.specs.Play.{EventGoes, Played, DeathHasCause};
 
@@ -42,17 +43,16 @@ impl<S: BlockStore> Port<S> {
         ensures played { Played events.now self.old memory.old self.new memory.new }
         ensures sa { result ≡ sa_of self.new.phase }
         ensures death { DeathHasCause events.now self.old memory.old self.new }
-        ensures images { KeepsImages self.old.exec.units self.new.exec.units }
         ensures credits { CreditsAgree self.new }
+        ensures images { AreImages self.new.exec.units }
     {
         self.play_all(events, memory);
-        self.credits_agree();
+        self.keep();
         self.read_sa()
     }
 
     fn play_all(&mut self, events: &[HostEvent], memory: &mut HostMemory)
-        ensures played { Played events.now self.old memory.old self.new memory.new }
-        ensures images { KeepsImages self.old.exec.units self.new.exec.units }
+        ensures { Played events.now self.old memory.old self.new memory.new }
     {
         for &event in events {
             self.play_one(event, memory);
@@ -61,8 +61,7 @@ impl<S: BlockStore> Port<S> {
 
     // One event.
     fn play_one(&mut self, event: HostEvent, memory: &mut HostMemory)
-        ensures goes { EventGoes event self.old memory.old self.new memory.new }
-        ensures images { KeepsImages self.old.exec.units self.new.exec.units }
+        ensures { EventGoes event self.old memory.old self.new memory.new }
     {
         match event {
             HostEvent::WriteIp => self.write_ip(0),

@@ -2,7 +2,7 @@
 //!
 //! UDA50 Programmer's Documentation Kit: port registers, initialisation.
 ghost use Rattle.std.specs.Prelude.{◌≡◌, ◌≤◌, IfOk, IfErr, length};
-ghost use Rattle.uda_port.specs.Port.{port_at_start, port_asked, KeepsImages};
+ghost use Rattle.uda_port.specs.Port.{port_at_start, port_asked};
 
 use crate::phase::Phase;
 use crate::ring::Ring;
@@ -82,7 +82,6 @@ impl<S: BlockStore> Port<S> {
     pub fn new(alloc: Global, exec: Exec<S>) -> Result<Port<S>, (NoMemory, Exec<S>)>
         ensures ok { IfOk result (λ port. port ≡ port_at_start exec) }
         ensures err { IfErr result (λ refusal. refusal.1 ≡ exec) }
-        ensures images { IfOk result (λ port. KeepsImages exec.units port.exec.units) }
     {
         match HeapCircularBuffer::with_capacity(alloc, PENDING) {
             Err(_) => Err((NoMemory, exec)),
@@ -116,7 +115,6 @@ impl<S: BlockStore> Port<S> {
     /// UDA50 Programmer's Documentation Kit: initialisation.
     pub fn write_ip(&mut self, _value: u16)
         ensures starts { self.new ≡ port_at_start self.old.exec }
-        ensures images { KeepsImages self.old.exec.units self.new.exec.units }
     {
         self.phase = Phase::Step1;
         self.begun = false;

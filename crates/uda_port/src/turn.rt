@@ -2,8 +2,9 @@
 //!
 //! UDA50 Programmer's Documentation Kit: command ring polling, message envelopes, credits.
 ghost use Rattle.std.specs.Prelude.{◌≡◌, ◌+◌, ◌<◌, ◌≤◌, slice_get, [], ◌∷◌, ◌++◌, length, Some};
+ghost use Rattle.uda_exec.specs.Disks.{AreImages};
 ghost use Rattle.circular_buffer.specs.Buffer.{buffer};
-ghost use Rattle.uda_port.specs.Port.{CreditsAgree, KeepsImages, next_grant};
+ghost use Rattle.uda_port.specs.Port.{CreditsAgree, next_grant};
 ghost use Rattle.uda_port.specs.Turn.{FetchLine, ExecuteLine, DeliverLine, RestGoes, LinesGo};
 ghost use Rattle.uda_port.specs.Turn.{RunningTurn, TurnGoes};
 
@@ -53,25 +54,27 @@ impl<S: BlockStore> Port<S> {
     /// UDA50 Programmer's Documentation Kit: command ring polling, message envelopes, credits.
     pub fn turn(&mut self, memory: &mut HostMemory) -> Turn
         ensures goes { TurnGoes self.old.phase self.old memory.old result self.new memory.new }
-        ensures images { KeepsImages self.old.exec.units self.new.exec.units }
         ensures credits { CreditsAgree self.new }
+        ensures four { length self.new.exec.units ≡ 4 }
+        ensures images { AreImages self.new.exec.units }
     {
         let turn = self.take_turn(memory);
-        self.credits_agree();
+        self.keep();
         turn
     }
 
-    // What the fields keep.
-    pub(crate) fn credits_agree(&self)
-        ensures { CreditsAgree self.now }
+    // What the fields keep, told.
+    pub(crate) fn keep(&self)
+        ensures credits { CreditsAgree self.now }
+        ensures four { length self.now.exec.units ≡ 4 }
+        ensures images { AreImages self.now.exec.units }
     {
         let _ = &self.credits;
     }
 
     // A turn, by the phase.
     fn take_turn(&mut self, memory: &mut HostMemory) -> Turn
-        ensures goes { TurnGoes self.old.phase self.old memory.old result self.new memory.new }
-        ensures images { KeepsImages self.old.exec.units self.new.exec.units }
+        ensures { TurnGoes self.old.phase self.old memory.old result self.new memory.new }
     {
         match self.phase {
             Phase::Running => self.run(memory),
@@ -86,8 +89,7 @@ impl<S: BlockStore> Port<S> {
     // A turn of a port that runs.
     #[tactic(auto, using(crate::proofs::TurnLaws::running_turn))]
     fn run(&mut self, memory: &mut HostMemory) -> Turn
-        ensures goes { RunningTurn self.old memory.old result self.new memory.new }
-        ensures images { KeepsImages self.old.exec.units self.new.exec.units }
+        ensures { RunningTurn self.old memory.old result self.new memory.new }
     {
         self.turns.add(1);
         match self.lines(memory) {
@@ -101,8 +103,7 @@ impl<S: BlockStore> Port<S> {
 
     // The lines of a turn, of which the first that fits is taken.
     fn lines(&mut self, memory: &mut HostMemory) -> Result<Turn, Fatal>
-        ensures goes { LinesGo self.old memory.old result self.new memory.new }
-        ensures images { KeepsImages self.old.exec.units self.new.exec.units }
+        ensures { LinesGo self.old memory.old result self.new memory.new }
     {
         match self.fetch(memory) {
             Err(cause) => Err(cause),
@@ -116,8 +117,7 @@ impl<S: BlockStore> Port<S> {
 
     // The lines behind the first.
     fn rest(&mut self, memory: &mut HostMemory) -> Result<Turn, Fatal>
-        ensures goes { RestGoes self.old memory.old result self.new memory.new }
-        ensures images { KeepsImages self.old.exec.units self.new.exec.units }
+        ensures { RestGoes self.old memory.old result self.new memory.new }
     {
         if self.execute(memory) {
             return Ok(Turn::Executed);
@@ -131,8 +131,7 @@ impl<S: BlockStore> Port<S> {
 
     // The first line: fetches a command, where the port looks and one is posted.
     fn fetch(&mut self, memory: &mut HostMemory) -> Result<bool, Fatal>
-        ensures goes { FetchLine self.old memory.old result self.new memory.new }
-        ensures units { self.new.exec.units ≡ self.old.exec.units }
+        ensures { FetchLine self.old memory.old result self.new memory.new }
     {
         if !self.looking {
             return Ok(false);
@@ -160,8 +159,7 @@ impl<S: BlockStore> Port<S> {
 
     // The second line: executes a pending command, where there is one.
     fn execute(&mut self, memory: &mut HostMemory) -> bool
-        ensures goes { ExecuteLine self.old memory.old result self.new memory.new }
-        ensures images { KeepsImages self.old.exec.units self.new.exec.units }
+        ensures { ExecuteLine self.old memory.old result self.new memory.new }
     {
         let pending = self.exec.pending();
         let Some(end) = self.exec.execute_one(memory) else {
@@ -174,8 +172,7 @@ impl<S: BlockStore> Port<S> {
 
     // The third line: delivers the first end that waits, where the response ring takes it.
     fn deliver(&mut self, memory: &mut HostMemory) -> Result<bool, Fatal>
-        ensures goes { DeliverLine self.old memory.old result self.new memory.new }
-        ensures units { self.new.exec.units ≡ self.old.exec.units }
+        ensures { DeliverLine self.old memory.old result self.new memory.new }
     {
         let Some(end) = self.waiting.front().copied() else {
             return Ok(false);
@@ -208,6 +205,8 @@ impl<S: BlockStore> Port<S> {
 fn hold(waiting: &mut HeapCircularBuffer<End>, end: End)
     requires room { length waiting.old.items < waiting.old.capacity }
     ensures last { waiting.new ≡ buffer (waiting.old.items ++ end ∷ []) waiting.old.capacity }
+    ensures longer { length waiting.new.items ≡ length waiting.old.items + 1 }
+    ensures capacity { waiting.new.capacity ≡ waiting.old.capacity }
 {
     waiting.push_back(end);
 }

@@ -29,9 +29,10 @@ changes_by_put old at n place bytes from to =
       | inr high ↦ get_or-put_behind old place bytes k d within (omega arith)
     ])
 
-pub changes_none : (old : List ℕ) (at : ℕ) → ChangesAt old at 0 old
+-- in an empty range nothing changed
+pub ChangesAt-none : (old new : List ℕ) (at : ℕ) → ChangesAt old at 0 new → new ≡ old
 unfolding part
-changes_none old at = sym (put-nil old at)
+ChangesAt-none old new at h = h ∙ put-nil old at
 
 pub changes_nothing : (old : List ℕ) (at n : ℕ) → ChangesAt old at n old
 changes_nothing old at n = changes_by_places old old at n refl (λ k d within outside. refl)

@@ -1,10 +1,10 @@
 pub mod Changes
 pub mod Blocks
 pub mod Moves
-pub mod Progress
+pub mod Steps
 pub mod Transferred
-pub mod Settled
 pub mod Units
+pub mod Choices
 pub mod Swap
 pub mod OrderLaw
 pub mod OrderExamples

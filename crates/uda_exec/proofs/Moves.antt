@@ -1,30 +1,26 @@
 -- One block of a transfer, for each kind of transfer.
-use Rattle.std.proofs.Common.{◌≡◌, ℕ, zero, suc, ◌+◌, ◌-◌, ◌*◌, ◌/◌, inl, inr, ◌<◌, ◌≤◌, List, [], ◌∷◌, length, get_or, set, replicate, refl, sym, ap, ◌∙◌, arith, Result, Ok, Err, Some}
-use Rattle.std.specs.Prelude.{MatchResult, IsErr, is_err, true, false, slice_get, slice_set}
+use Rattle.std.proofs.Common.{◌≡◌, ℕ, suc, ◌+◌, ◌-◌, ◌*◌, inl, inr, ◌<◌, ◌≤◌, List, [], ◌∷◌, length, get_or, set, replicate, refl, sym, ap, ◌∙◌, arith, Result, Ok, Err, Some}
+use Rattle.std.specs.Prelude.{MatchResult, is_err, true, false, slice_get, slice_set}
 use Rattle.std.proofs.lemmas.List.{append-nil, get_or-replicate, same_lists, length-set, get_or-set_same, get_or-set_other}
 use Rattle.std.proofs.lemmas.Bool.{cases_lt}
+use Rattle.std.proofs.lemmas.Option.{get_or_from_slice_get}
 use Rattle.uda_mem.specs.Put.{put, part}
-use Rattle.uda_mem.proofs.PutLaws.{put-nil, put-part, get_or-part, length-put, length-part-le, get_or-put_before, get_or-put_at, get_or-put_behind}
-use Rattle.uda_packet.specs.declared.commands.Op.{Op}
-use Rattle.uda_packet.specs.declared.commands.Op.TheVariants.{Access, Erase, Read, Write}
+use Rattle.uda_mem.proofs.PutLaws.{put-nil, get_or-part, length-put, get_or-put_before, get_or-put_at, get_or-put_behind}
+use Rattle.uda_packet.specs.declared.end.Kind.TheVariants.{Access, Erase, Read, Write}
+use Rattle.uda_packet.specs.declared.transfer.Transfer.{Transfer}
 use Rattle.uda_image.specs.declared.store.StoreError.{StoreError}
-use Rattle.uda_image.specs.Blocks.{Reads, Writes, ReadsBlock, FailsToRead}
-use Rattle.uda_exec.specs.Effect.{blocks_in}
-use Rattle.uda_exec.specs.Transfers.{MovesBlock, LosesBlock}
-use Rattle.uda_exec.proofs.Blocks.{get_or-blocks_in, part-part}
+use Rattle.uda_image.specs.Store.{StoreState, Reads, Writes}
+use Rattle.uda_exec.specs.Commands.{block_count, room_in}
+use Rattle.uda_exec.specs.Transfers.{blocks_due, MovesBlock, LosesBlock}
+use Rattle.uda_exec.proofs.Blocks.{get_or-first_chunks, part-part}
 
 -- what one block's move may end in
-abbrev pub EndsBlock : Op → ℕ → List (List ℕ) → List ℕ → ℕ → List (List ℕ) → List ℕ → ℕ → Result Unit StoreError → Type 0
-EndsBlock op k blocks memory failures blocks_after memory_after failures_after result =
-    MatchResult result (λ _. MovesBlock op k blocks memory failures blocks_after memory_after failures_after) (λ _. LosesBlock op k blocks memory failures blocks_after memory_after failures_after)
+abbrev pub EndsBlock : Transfer → ℕ → StoreState → List ℕ → StoreState → List ℕ → Result Unit StoreError → Type 0
+EndsBlock t k old memory new memory_after result =
+    MatchResult result (λ _. MovesBlock t k old memory new memory_after) (λ _. LosesBlock t k old memory new memory_after)
 
-get_or-from_get : (xs : List (List ℕ)) (n : ℕ) (x : List ℕ) → slice_get xs n ≡ Some x → get_or xs n [] ≡ x
-get_or-from_get [] n x h = cc
-get_or-from_get (y ∷ ys) zero x h = cc
-get_or-from_get (y ∷ ys) (suc n) x h = get_or-from_get ys n x h
-
-put-set : (xs : List (List ℕ)) (n : ℕ) (x : List ℕ) → slice_set xs n x ≡ put xs n (x ∷ [])
-put-set xs n x = same_lists _ _ (length-set xs n x ∙ sym (length-put xs n (x ∷ []))) (λ k d below.
+set-put : (xs : List (List ℕ)) (n : ℕ) (x : List ℕ) → slice_set xs n x ≡ put xs n (x ∷ [])
+set-put xs n x = same_lists _ _ (length-set xs n x ∙ sym (length-put xs n (x ∷ []))) (λ k d below.
     let within : k < length xs = omega (arith, length-set xs n x) in
     elim (cases_lt k n) [
       | inl low ↦ get_or-set_other xs n k x d (λ e. omega arith) ∙ sym (get_or-put_before xs n (x ∷ []) k d within low)
@@ -37,87 +33,75 @@ put-set xs n x = same_lists _ _ (length-set xs n x ∙ sym (length-put xs n (x �
       ]
     ])
 
-module _ (blocks : List (List ℕ)) (memory : List ℕ) (failures : ℕ) (blocks_after : List (List ℕ)) (failures_after : ℕ) (count block k : ℕ) (inside : k < count / 512) where
-  pub access_moves : (bytes : List ℕ) (result : Result Unit StoreError) → Reads blocks failures (block + k) blocks_after failures_after bytes result
-      → EndsBlock (Access count block) k blocks memory failures blocks_after memory failures_after result
-  access_moves bytes (Ok u) h = record {
-    stands = record { in_memory = sym (put-nil memory (0 + 512 * k)); in_unit = h.blocks_stay ∙ sym (put-nil blocks (block + k)) };
-    failures_stay = h.failures_stay;
+module _ (t : Transfer) (k : ℕ) (old : StoreState) (memory : List ℕ) (new : StoreState) (inside : k < block_count t) where
+  pub access_moves : t.kind ≡ Access → (bytes : List ℕ) (result : Result Unit StoreError) → Reads old (t.block + k) new bytes result → EndsBlock t k old memory new memory result
+  access_moves is bytes (Ok u) h = record {
+    stands = record { in_memory = rw is (sym (put-nil memory (t.buffer + 512 * k))); in_store = rw is (ap (λ (s : StoreState). s.blocks) h.state_stays ∙ sym (put-nil old.blocks (t.block + k))) };
+    failures_stay = ap (λ (s : StoreState). s.failures) h.state_stays;
   }
-  access_moves bytes (Err e) h = record {
+  access_moves is bytes (Err e) h = record {
     left = replicate 512 0;
     whole = refl;
-    stands = record { in_memory = sym (put-nil memory (0 + 512 * k)); in_unit = h.blocks_stay ∙ sym (put-nil blocks (block + k)) };
-    counted = h.counted;
+    stands = record { in_memory = rw is (sym (put-nil memory (t.buffer + 512 * k))); in_store = rw is (ap (λ (s : StoreState). s.blocks) h.counted ∙ sym (put-nil old.blocks (t.block + k))) };
+    counted = ap (λ (s : StoreState). s.failures) h.counted;
   }
 
-  pub read_moves : (address : ℕ) (memory_after bytes : List ℕ) → ReadsBlock blocks failures (block + k) blocks_after failures_after bytes
-      → memory_after ≡ put memory (address + 512 * k) bytes → MovesBlock (Read count address block) k blocks memory failures blocks_after memory_after failures_after
-  read_moves address memory_after bytes h e =
-      let piece : get_or (part blocks block (count / 512)) k [] ≡ bytes = get_or-part blocks block (count / 512) k [] inside ∙ get_or-from_get blocks (block + k) bytes h.value in
+  -- the store reads into memory itself, whether it fails or not
+  pub read_moves : t.kind ≡ Read → (to memory_after : List ℕ) (result : Result Unit StoreError) → length to ≡ 512 → memory_after ≡ put memory (t.buffer + 512 * k) to
+      → Reads old (t.block + k) new to result → EndsBlock t k old memory new memory_after result
+  read_moves is to memory_after (Ok u) whole e h =
+      let due : get_or (blocks_due t old.blocks memory) k [] ≡ to = rw is (get_or-part old.blocks t.block (block_count t) k [] inside ∙ get_or_from_slice_get old.blocks (t.block + k) to [] h.value) in
       record {
         stands = record {
-          in_memory = e ∙ ap (λ (b : List ℕ). put memory (address + 512 * k) b) (sym (append-nil _ ∙ piece));
-          in_unit = h.blocks_stay ∙ sym (put-nil blocks (block + k));
+          in_memory = rw is (e ∙ ap (λ (b : List ℕ). put memory (t.buffer + 512 * k) b) (sym (append-nil _ ∙ rw is at due)));
+          in_store = rw is (ap (λ (s : StoreState). s.blocks) h.state_stays ∙ sym (put-nil old.blocks (t.block + k)));
         };
-        failures_stay = h.failures_stay;
+        failures_stay = ap (λ (s : StoreState). s.failures) h.state_stays;
       }
-
-  pub read_loses : (address : ℕ) → address + count ≤ length memory → FailsToRead blocks failures blocks_after failures_after
-      → LosesBlock (Read count address block) k blocks memory failures blocks_after memory failures_after
-  read_loses address room h = record {
-    left = part memory (address + 512 * k) 512;
-    whole = length-part-le memory (address + 512 * k) 512 (omega arith);
+  read_moves is to memory_after (Err f) whole e h = record {
+    left = to;
+    whole = whole;
     stands = record {
-      in_memory = sym (ap (λ (b : List ℕ). put memory (address + 512 * k) b) (append-nil _) ∙ put-part memory (address + 512 * k) 512);
-      in_unit = h.blocks_stay ∙ sym (put-nil blocks (block + k));
+      in_memory = rw is (e ∙ ap (λ (b : List ℕ). put memory (t.buffer + 512 * k) b) (sym (append-nil to)));
+      in_store = rw is (ap (λ (s : StoreState). s.blocks) h.counted ∙ sym (put-nil old.blocks (t.block + k)));
     };
-    counted = h.counted;
+    counted = ap (λ (s : StoreState). s.failures) h.counted;
   }
 
-  pub write_moves : (address : ℕ) (bytes : List ℕ) (result : Result Unit StoreError) → bytes ≡ part memory (address + 512 * k) 512
-      → Writes blocks failures (block + k) bytes blocks_after failures_after result
-      → EndsBlock (Write count address block) k blocks memory failures blocks_after memory failures_after result
-  write_moves address bytes (Ok u) is h =
-      let piece : get_or (blocks_in (count / 512) (part memory address count)) k [] ≡ bytes =
-      get_or-blocks_in (count / 512) (part memory address count) k [] inside ∙ part-part memory address count (512 * k) 512 (omega arith) ∙ sym is in
+  pub write_moves : t.kind ≡ Write → (from : List ℕ) (result : Result Unit StoreError) → from ≡ part memory (t.buffer + 512 * k) 512 → Writes old (t.block + k) new from result
+      → EndsBlock t k old memory new memory result
+  write_moves is from (Ok u) was h =
+      let due : get_or (blocks_due t old.blocks memory) k [] ≡ from = rw is (get_or-first_chunks (block_count t) (part memory t.buffer t.count) k inside ∙ part-part memory t.buffer t.count (512 * k) 512 (omega arith) ∙ sym was) in
       record {
         stands = record {
-          in_memory = sym (put-nil memory (address + 512 * k));
-          in_unit = h.written ∙ put-set blocks (block + k) bytes ∙ ap (λ (b : List ℕ). put blocks (block + k) (b ∷ [])) (sym piece);
+          in_memory = rw is (sym (put-nil memory (t.buffer + 512 * k)));
+          in_store = rw is (ap (λ (s : StoreState). s.blocks) h.written ∙ set-put old.blocks (t.block + k) from ∙ ap (λ (b : List ℕ). put old.blocks (t.block + k) (b ∷ [])) (sym (rw is at due)));
         };
-        failures_stay = h.failures_stay;
+        failures_stay = ap (λ (s : StoreState). s.failures) h.written;
       }
-  write_moves address bytes (Err e) is h = record {
+  write_moves is from (Err e) was h = record {
     left = h.left;
-    whole = h.is_block;
-    stands = record { in_memory = sym (put-nil memory (address + 512 * k)); in_unit = h.written ∙ put-set blocks (block + k) h.left };
-    counted = h.counted;
+    whole = h.whole;
+    stands = record { in_memory = rw is (sym (put-nil memory (t.buffer + 512 * k))); in_store = rw is (ap (λ (s : StoreState). s.blocks) h.written ∙ set-put old.blocks (t.block + k) h.left) };
+    counted = ap (λ (s : StoreState). s.failures) h.written;
   }
 
-  pub erase_moves : (result : Result Unit StoreError) → Writes blocks failures (block + k) (replicate 512 0) blocks_after failures_after result
-      → EndsBlock (Erase count block) k blocks memory failures blocks_after memory failures_after result
-  erase_moves (Ok u) h =
-      let piece : get_or (replicate (count / 512) (replicate 512 0)) k [] ≡ replicate 512 0 = get_or-replicate (count / 512) k (replicate 512 0) [] inside in
+  pub erase_moves : t.kind ≡ Erase → (result : Result Unit StoreError) → Writes old (t.block + k) new (replicate 512 0) result → EndsBlock t k old memory new memory result
+  erase_moves is (Ok u) h =
+      let due : get_or (blocks_due t old.blocks memory) k [] ≡ replicate 512 0 = rw is (get_or-replicate (block_count t) k (replicate 512 0) [] inside) in
       record {
         stands = record {
-          in_memory = sym (put-nil memory (0 + 512 * k));
-          in_unit = h.written ∙ put-set blocks (block + k) (replicate 512 0) ∙ ap (λ (b : List ℕ). put blocks (block + k) (b ∷ [])) (sym piece);
+          in_memory = rw is (sym (put-nil memory (t.buffer + 512 * k)));
+          in_store = rw is (ap (λ (s : StoreState). s.blocks) h.written ∙ set-put old.blocks (t.block + k) (replicate 512 0) ∙ ap (λ (b : List ℕ). put old.blocks (t.block + k) (b ∷ [])) (sym (rw is at due)));
         };
-        failures_stay = h.failures_stay;
+        failures_stay = ap (λ (s : StoreState). s.failures) h.written;
       }
-  erase_moves (Err e) h = record {
+  erase_moves is (Err e) h = record {
     left = h.left;
-    whole = h.is_block;
-    stands = record { in_memory = sym (put-nil memory (0 + 512 * k)); in_unit = h.written ∙ put-set blocks (block + k) h.left };
-    counted = h.counted;
+    whole = h.whole;
+    stands = record { in_memory = rw is (sym (put-nil memory (t.buffer + 512 * k))); in_store = rw is (ap (λ (s : StoreState). s.blocks) h.written ∙ set-put old.blocks (t.block + k) h.left) };
+    counted = ap (λ (s : StoreState). s.failures) h.written;
   }
-
--- a result that is an error ends the block as a loss
-pub ends_lost : (op : Op) (k : ℕ) (blocks : List (List ℕ)) (memory : List ℕ) (failures : ℕ) (blocks_after : List (List ℕ)) (memory_after : List ℕ) (failures_after : ℕ) (result : Result Unit StoreError)
-    → IsErr result → LosesBlock op k blocks memory failures blocks_after memory_after failures_after → EndsBlock op k blocks memory failures blocks_after memory_after failures_after result
-ends_lost op k blocks memory failures blocks_after memory_after failures_after (Ok u) bad h = absurd (cc)
-ends_lost op k blocks memory failures blocks_after memory_after failures_after (Err e) is h = h
 
 -- the side of a result that a test has shown
 pub lost_if : (result : Result Unit StoreError) (P Q : Type 0) → MatchResult result (λ _. P) (λ _. Q) → is_err result ≡ true → Q

@@ -3,15 +3,15 @@ use Rattle.std.proofs.lemmas.Bool.{eq-eqb, both_ways}
 use Rattle.std.specs.Prelude.{nat_eq}
 use Rattle.std.proofs.Common.{◌≡◌, ℕ, Bool, true, false, List, [], ◌∷◌, ◌++◌, get_or, replicate, Some, None, refl, sym, ap, ◌∙◌}
 use Rattle.uda_mem.specs.Put.{put, part}
-use Rattle.uda_packet.specs.declared.commands.Command.{Command}
-use Rattle.uda_packet.specs.declared.commands.Op.{Op}
-use Rattle.uda_packet.specs.declared.commands.Op.TheVariants.{Online, Access, Read, Write}
-use Rattle.uda_packet.specs.declared.ends.End.{End}
-use Rattle.uda_packet.specs.declared.ends.EndBody.TheVariants.{Invalid, Moved}
-use Rattle.uda_packet.specs.declared.ends.Kind.TheVariants.{Read as ReadKind}
+use Rattle.uda_packet.specs.declared.command.Command.{Command}
+use Rattle.uda_packet.specs.declared.command.Op.{Op}
+use Rattle.uda_packet.specs.declared.command.Op.TheVariants.{Online, Access, Read, Write}
+use Rattle.uda_packet.specs.declared.end.End.{End}
+use Rattle.uda_packet.specs.declared.end.EndBody.TheVariants.{Invalid, Moved}
+use Rattle.uda_packet.specs.declared.end.Kind.TheVariants.{Read as ReadKind}
 use Rattle.uda_exec.specs.Disks.{Disks}
 use Rattle.uda_exec.specs.Effect.{World, Outcome, Done, Lost, effect}
-use Rattle.uda_exec.specs.Order.{Act, run, run_first}
+use Rattle.uda_exec.specs.Order.{FixedCommand, effects, effects_first}
 
 -- numbers that a computation tells apart
 differ : (m n : ℕ) → nat_eq m n ≡ false → m ≡ n → ⊥
@@ -25,8 +25,8 @@ unit_in online = Some (record { blocks = replicate 512 1 ∷ replicate 512 2 ∷
 abbrev world : Bool → World
 world online = record { memory = replicate 1536 9; disks = unit_in online }
 
-abbrev act : ℕ → Op → Outcome → Act
-act reference op outcome = record { command = record { reference = reference; unit = 0; op = op }; outcome = outcome }
+abbrev fixed : ℕ → Op → Outcome → FixedCommand
+fixed reference op outcome = record { command = record { reference = reference; unit = 0; op = op }; outcome = outcome }
 
 abbrev byte_at : ℕ → List End × World → ℕ
 byte_at at r = get_or r.1.memory at 0
@@ -38,69 +38,69 @@ abbrev status_at : ℕ → List End × World → ℕ
 status_at k r = (get_or r.0 k none).status
 
 -- a Read of blocks 0 and 1, and a Write of block 1 from bytes 9: their ranges share the Read's last block
-abbrev clashing : List Act
-clashing = act 1 (Read 1024 0 0) Done ∷ act 2 (Write 512 1024 1) Done ∷ []
+abbrev clashing : List FixedCommand
+clashing = fixed 1 (Read 1024 0 0) Done ∷ fixed 2 (Write 512 1024 1) Done ∷ []
 
-clash_in_order : byte_at 512 (run clashing (world true)) ≡ 2
+clash_in_order : byte_at 512 (effects clashing (world true)) ≡ 2
 unfolding put part
 clash_in_order = refl
 
-clash_turned : byte_at 512 (run_first 1 (act 2 (Write 512 1024 1) Done) clashing (world true)) ≡ 9
+clash_turned : byte_at 512 (effects_first 1 (fixed 2 (Write 512 1024 1) Done) clashing (world true)) ≡ 9
 unfolding put part
 clash_turned = refl
 
 -- so the Write done first is not the list done in order
-pub clash_matters : run_first 1 (act 2 (Write 512 1024 1) Done) clashing (world true) ≡ run clashing (world true) → ⊥
+pub clash_matters : effects_first 1 (fixed 2 (Write 512 1024 1) Done) clashing (world true) ≡ effects clashing (world true) → ⊥
 clash_matters same = differ 9 2 refl (sym clash_turned ∙ ap (byte_at 512) same ∙ clash_in_order)
 
 -- two Reads whose buffers share two bytes: the later one's stand there
-abbrev meeting : List Act
-meeting = act 1 (Read 512 0 0) Done ∷ act 2 (Read 512 510 1) Done ∷ []
+abbrev meeting : List FixedCommand
+meeting = fixed 1 (Read 512 0 0) Done ∷ fixed 2 (Read 512 510 1) Done ∷ []
 
-meeting_in_order : byte_at 510 (run meeting (world true)) ≡ 2
+meeting_in_order : byte_at 510 (effects meeting (world true)) ≡ 2
 unfolding put part
 meeting_in_order = refl
 
-meeting_turned : byte_at 510 (run_first 1 (act 2 (Read 512 510 1) Done) meeting (world true)) ≡ 1
+meeting_turned : byte_at 510 (effects_first 1 (fixed 2 (Read 512 510 1) Done) meeting (world true)) ≡ 1
 unfolding put part
 meeting_turned = refl
 
-pub meeting_buffers_matter : run_first 1 (act 2 (Read 512 510 1) Done) meeting (world true) ≡ run meeting (world true) → ⊥
+pub meeting_buffers_matter : effects_first 1 (fixed 2 (Read 512 510 1) Done) meeting (world true) ≡ effects meeting (world true) → ⊥
 meeting_buffers_matter same = differ 1 2 refl (sym meeting_turned ∙ ap (byte_at 510) same ∙ meeting_in_order)
 
 -- a Read behind an Online of its unit, which is available: the Read may not go, for done first it is refused
-abbrev behind_online : List Act
-behind_online = act 1 (Online None) Done ∷ act 2 (Read 512 0 0) Done ∷ []
+abbrev behind_online : List FixedCommand
+behind_online = fixed 1 (Online None) Done ∷ fixed 2 (Read 512 0 0) Done ∷ []
 
-behind_in_order : status_at 1 (run behind_online (world false)) ≡ 0
+behind_in_order : status_at 1 (effects behind_online (world false)) ≡ 0
 unfolding put part
 behind_in_order = refl
 
-behind_turned : status_at 1 (run_first 1 (act 2 (Read 512 0 0) Done) behind_online (world false)) ≡ 4
+behind_turned : status_at 1 (effects_first 1 (fixed 2 (Read 512 0 0) Done) behind_online (world false)) ≡ 4
 unfolding put part
 behind_turned = refl
 
-pub older_online_matters : run_first 1 (act 2 (Read 512 0 0) Done) behind_online (world false) ≡ run behind_online (world false) → ⊥
+pub older_online_matters : effects_first 1 (fixed 2 (Read 512 0 0) Done) behind_online (world false) ≡ effects behind_online (world false) → ⊥
 older_online_matters same = differ 4 0 refl (sym behind_turned ∙ ap (status_at 1) same ∙ behind_in_order)
 
 -- a Read of block 0, a Write of block 1 that is lost there with bytes 7 left, and an Access of block 2: each of them first gives the same
-abbrev three : List Act
-three = act 1 (Read 512 0 0) Done ∷ act 2 (Write 512 1024 1) (Lost 0 (replicate 512 7)) ∷ act 3 (Access 512 2) Done ∷ []
+abbrev three : List FixedCommand
+three = fixed 1 (Read 512 0 0) Done ∷ fixed 2 (Write 512 1024 1) (Lost 0 (replicate 512 7)) ∷ fixed 3 (Access 512 2) Done ∷ []
 
-pub first_of_three : run_first 0 (act 1 (Read 512 0 0) Done) three (world true) ≡ run three (world true)
+pub first_of_three : effects_first 0 (fixed 1 (Read 512 0 0) Done) three (world true) ≡ effects three (world true)
 unfolding put part
 first_of_three = refl
 
-pub second_of_three : run_first 1 (act 2 (Write 512 1024 1) (Lost 0 (replicate 512 7))) three (world true) ≡ run three (world true)
+pub second_of_three : effects_first 1 (fixed 2 (Write 512 1024 1) (Lost 0 (replicate 512 7))) three (world true) ≡ effects three (world true)
 unfolding put part
 second_of_three = refl
 
-pub third_of_three : run_first 2 (act 3 (Access 512 2) Done) three (world true) ≡ run three (world true)
+pub third_of_three : effects_first 2 (fixed 3 (Access 512 2) Done) three (world true) ≡ effects three (world true)
 unfolding put part
 third_of_three = refl
 
 -- the Write's end tells the drive error and no whole block, and block 1 holds what was left
-pub second_is_lost : status_at 1 (run three (world true)) ≡ 0x000B
+pub second_is_lost : status_at 1 (effects three (world true)) ≡ 0x000B
 unfolding put part
 second_is_lost = refl
 

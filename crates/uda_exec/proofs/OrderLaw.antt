@@ -1,5 +1,5 @@
--- Whichever command that may go is done first, nothing is different; and what else a driver needs of a list of commands.
-use Rattle.std.proofs.Common.{◌≡◌, ℕ, zero, suc, ◌+◌, ◌-◌, inl, inr, min, subst, ◌<◌, true, List, [], ◌∷◌, length, get_or, set, Option, Some, refl, sym, ap, ap₂, ◌∙◌, arith}
+-- Whichever command that may go is effect_of first, nothing is different; and what else a driver needs of a list of commands.
+use Rattle.std.proofs.Common.{◌≡◌, ℕ, zero, suc, ◌+◌, ◌-◌, inl, inr, min, subst, ◌<◌, true, List, [], ◌∷◌, length, get_or, set, Option, Some, None, refl, sym, ap, ap₂, ◌∙◌, arith}
 use Rattle.std.specs.Prelude.{slice_get, option_map, insert, remove, AllPairs}
 use Rattle.std.proofs.lemmas.List.{same_lists}
 use Rattle.std.proofs.lemmas.Bool.{cases_lt}
@@ -7,15 +7,19 @@ use Rattle.std.proofs.lemmas.List.Elements.{All-head, All-tail}
 use Rattle.std.proofs.lemmas.Option.{slice_get-map, slice_get_within, get_or_from_slice_get}
 use Rattle.uda_mem.specs.Put.{put, part, Meet}
 use Rattle.uda_mem.proofs.PutLaws.{length-put, length-part, get_or-part, get_or-put_before, get_or-put_at, get_or-put_behind, put-put_comm}
-use Rattle.uda_packet.specs.declared.commands.Command.{Command}
-use Rattle.uda_packet.specs.declared.commands.Op.{Op}
-use Rattle.uda_packet.specs.declared.commands.Op.TheVariants.{Status, Controller, Available, Online, Access, Erase, Read, Write}
-use Rattle.uda_packet.specs.declared.ends.End.{End}
+use Rattle.std.specs.Option.{option_map_or}
+use Rattle.uda_packet.specs.declared.command.Command.{Command}
+use Rattle.uda_packet.specs.declared.command.Op.{Op}
+use Rattle.uda_packet.specs.declared.end.End.{End}
+use Rattle.uda_packet.specs.declared.end.Kind.{Kind}
+use Rattle.uda_packet.specs.declared.end.Kind.TheVariants.{Access, Erase, Read, Write}
+use Rattle.uda_packet.specs.declared.transfer.Transfer.{Transfer}
+use Rattle.uda_packet.specs.Transfer.{transfer_of}
 use Rattle.uda_exec.specs.Disks.{Disks}
-use Rattle.uda_exec.specs.Commands.{block_of, address_of, room_of}
-use Rattle.uda_exec.specs.Effect.{World, sent, stored, Verdict, Refused, Acts, verdict, mode_after, end_of, world_after}
-use Rattle.uda_exec.specs.Order.{may_pass, MayGo, Apart, Act, commands_of, done, run, OrderIsFree, OneMore, with_bytes, PassesThrough, data_of, SameData, DependsOnDataAlone}
-use Rattle.uda_exec.proofs.Swap.{swaps, done-by, length-sent, stored-data, data_of-put}
+use Rattle.uda_exec.specs.Commands.{first_block_of, address_of, room_of}
+use Rattle.uda_exec.specs.Effect.{World, Verdict, OfController, Refused, ActsOn, verdict, mode_after, end_of, world_after}
+use Rattle.uda_exec.specs.Order.{may_pass, MayGo, Apart, FixedCommand, commands_of, effect_of, effects, OrderIsFree, OneMore, with_bytes, PassesThrough, data_by, data_of, SameData, DependsOnDataAlone}
+use Rattle.uda_exec.proofs.Swap.{swaps, by, effect-by, sends, length-bytes_put, bytes_put-same, blocks_put-same, data_of-put}
 
 pairs_rest : (c : Command) (cs : List Command) → AllPairs Apart (c ∷ cs) → AllPairs Apart cs
 pairs_rest c cs h i j d below within = h (suc i) (suc j) d (omega arith) (omega arith)
@@ -34,66 +38,63 @@ goes_rest c cs j h = record {
 }
 
 pub order_is_free : OrderIsFree
-order_is_free [] j act w apart goes at = absurd (cc)
-order_is_free (first ∷ rest) zero act w apart goes at =
-    let same : first ≡ act = cc in
-    ap (λ (a : Act). let now = done a w in let later = run rest now.1 in (now.0 ∷ later.0, later.1)) (sym same)
-order_is_free (first ∷ rest) (suc j) act w apart goes at =
-    let at_command : slice_get (commands_of rest) j ≡ Some act.command = slice_get-map (λ (a : Act). a.command) rest j ∙ ap (λ (o : Option Act). option_map (λ (a : Act). a.command) o) at in
-    let may : may_pass first.command act.command ≡ true = goes.passes 0 first.command act.command (omega arith) refl at_command in
-    let beside = pairs_first first.command (commands_of rest) j act.command apart at_command in
-    let swap = swaps act first w may beside in
-    let induction = order_is_free rest j act (done first w).1 (pairs_rest first.command (commands_of rest) apart) (goes_rest first.command (commands_of rest) j goes) at in
-    -- the end of the first, the end of the one that goes, and the others done in the world that the two leave
-    let joined : End → End → World → List End × World = λ e f v. let later = run (remove rest j) v in (e ∷ insert later.0 j f, later.1) in
-    let behind : List End × World → List End × World = λ r. ((done first w).0 ∷ r.0, r.1) in
-    ap (λ (e : End). joined e (done act w).0 (done first (done act w).1).1) swap.end_second
-    ∙ ap (λ (e : End). joined (done first w).0 e (done first (done act w).1).1) swap.end_first
-    ∙ ap (λ (v : World). joined (done first w).0 (done act (done first w).1).0 v) swap.worlds
+order_is_free [] j x w apart goes at = absurd (cc)
+order_is_free (first ∷ rest) zero x w apart goes at =
+    let same : first ≡ x = cc in
+    ap (λ (a : FixedCommand). let now = effect_of a w in let later = effects rest now.1 in (now.0 ∷ later.0, later.1)) (sym same)
+order_is_free (first ∷ rest) (suc j) x w apart goes at =
+    let at_command : slice_get (commands_of rest) j ≡ Some x.command = slice_get-map (λ (a : FixedCommand). a.command) rest j ∙ ap (λ (o : Option FixedCommand). option_map (λ (a : FixedCommand). a.command) o) at in
+    let may : may_pass first.command x.command ≡ true = goes.passes 0 first.command x.command (omega arith) refl at_command in
+    let beside = pairs_first first.command (commands_of rest) j x.command apart at_command in
+    let swap = swaps x first w may beside in
+    let induction = order_is_free rest j x (effect_of first w).1 (pairs_rest first.command (commands_of rest) apart) (goes_rest first.command (commands_of rest) j goes) at in
+    -- the end of the first, the end of the one that goes, and the others effect_of in the world that the two leave
+    let joined : End → End → World → List End × World = λ e f v. let later = effects (remove rest j) v in (e ∷ insert later.0 j f, later.1) in
+    let behind : List End × World → List End × World = λ r. ((effect_of first w).0 ∷ r.0, r.1) in
+    ap (λ (e : End). joined e (effect_of x w).0 (effect_of first (effect_of x w).1).1) swap.end_second
+    ∙ ap (λ (e : End). joined (effect_of first w).0 e (effect_of first (effect_of x w).1).1) swap.end_first
+    ∙ ap (λ (v : World). joined (effect_of first w).0 (effect_of x (effect_of first w).1).0 v) swap.worlds
     ∙ ap behind induction
 
 pub one_more : OneMore
-one_more [] act w = refl
-one_more (first ∷ rest) act w =
-    let behind : List End × World → List End × World = λ r. ((done first w).0 ∷ r.0, r.1) in
-    ap behind (one_more rest act (done first w).1)
-
--- what an act does, by its verdict
-abbrev by : Act → Verdict → World → End × World
-by act v w = (end_of act.outcome act.command v, world_after act.outcome act.command v w)
+one_more [] x w = refl
+one_more (first ∷ rest) x w =
+    let behind : List End × World → List End × World = λ r. ((effect_of first w).0 ∷ r.0, r.1) in
+    ap behind (one_more rest x (effect_of first w).1)
 
 -- bytes beside a command's buffer pass through doing it
-passes_verdict : (act : Act) (w : World) (at : ℕ) (bytes : List ℕ) → (Meet at (length bytes) (address_of act.command.op) (room_of act.command.op) → ⊥)
-    → (v : Verdict) → by act v (with_bytes w at bytes) ≡ ((by act v w).0, with_bytes (by act v w).1 at bytes)
-passes_verdict act w at bytes beside (Refused fault) = refl
-passes_verdict act w at bytes beside (Acts d) =
-    let op = act.command.op in
-    let make : List ℕ → List (List ℕ) → End × World = λ m stores. (
-      end_of act.outcome act.command (Acts d),
+passes_verdict : (x : FixedCommand) (w : World) (at : ℕ) (bytes : List ℕ) → (Meet at (length bytes) (address_of x.command.op) (room_of x.command.op) → ⊥)
+    → (v : Verdict) → by x v (with_bytes w at bytes) ≡ ((by x v w).0, with_bytes (by x v w).1 at bytes)
+passes_verdict x w at bytes beside OfController = refl
+passes_verdict x w at bytes beside (Refused refusal) = refl
+passes_verdict x w at bytes beside (ActsOn d) =
+    let op = x.command.op in
+    let make : List ℕ → List (List ℕ) → End × World = λ m new. (
+      end_of x.outcome x.command (ActsOn d),
       record {
         memory = m;
-        disks = set w.disks act.command.unit (Some (record { blocks = put d.blocks (block_of op) stores; size = d.size; mode = mode_after op d.mode }));
+        disks = set w.disks x.command.unit (Some (record { blocks = put d.blocks (first_block_of op) new; size = d.size; mode = mode_after op d.mode }));
       },
     ) in
-    let memories : put (put w.memory at bytes) (address_of op) (sent act.outcome op d.blocks) ≡ put (put w.memory (address_of op) (sent act.outcome op d.blocks)) at bytes =
-    put-put_comm w.memory at bytes (address_of op) (sent act.outcome op d.blocks) (λ meet. let less = length-sent act.outcome op d.blocks in beside (omega arith)) in
-    let stores : stored act.outcome op (put w.memory at bytes) ≡ stored act.outcome op w.memory = stored-data act.outcome op _ _ (data_of-put op w.memory at bytes beside) in
-    ap₂ make memories stores
+    let memories : put (put w.memory at bytes) (address_of op) (sends x d (put w.memory at bytes)) ≡ put (put w.memory (address_of op) (sends x d w.memory)) at bytes =
+    ap (λ (b : List ℕ). put (put w.memory at bytes) (address_of op) b) (bytes_put-same x.outcome op d.blocks d.blocks _ w.memory refl)
+    ∙ put-put_comm w.memory at bytes (address_of op) (sends x d w.memory) (λ meet. let less = length-bytes_put x.outcome op d.blocks w.memory in beside (omega arith)) in
+    ap₂ make memories (blocks_put-same x.outcome op d.blocks d.blocks _ w.memory (data_of-put op w.memory at bytes beside))
 
-passes_one : (act : Act) (w : World) (at : ℕ) (bytes : List ℕ) → (Meet at (length bytes) (address_of act.command.op) (room_of act.command.op) → ⊥)
-    → done act (with_bytes w at bytes) ≡ ((done act w).0, with_bytes (done act w).1 at bytes)
-passes_one act w at bytes beside =
-    let same : verdict act.command (with_bytes w at bytes) ≡ verdict act.command w = rw (length-put w.memory at bytes) refl in
-    done-by act (with_bytes w at bytes) (verdict act.command w) same ∙ passes_verdict act w at bytes beside (verdict act.command w)
+passes_one : (x : FixedCommand) (w : World) (at : ℕ) (bytes : List ℕ) → (Meet at (length bytes) (address_of x.command.op) (room_of x.command.op) → ⊥)
+    → effect_of x (with_bytes w at bytes) ≡ ((effect_of x w).0, with_bytes (effect_of x w).1 at bytes)
+passes_one x w at bytes beside =
+    let same : verdict x.command (with_bytes w at bytes) ≡ verdict x.command w = rw (length-put w.memory at bytes) refl in
+    effect-by x (with_bytes w at bytes) (verdict x.command w) same ∙ passes_verdict x w at bytes beside (verdict x.command w)
 
 pub passes_through : PassesThrough
 passes_through [] at bytes w beside = refl
-passes_through (act ∷ rest) at bytes w beside =
-    let P : Act → Type 0 = λ a. Meet at (length bytes) (address_of a.command.op) (room_of a.command.op) → ⊥ in
-    let now = passes_one act w at bytes (All-head P act rest beside) in
-    let later = passes_through rest at bytes (done act w).1 (All-tail P act rest beside) in
-    let step : End × World → List End × World = λ r. let more = run rest r.1 in (r.0 ∷ more.0, more.1) in
-    let behind : List End × World → List End × World = λ r. ((done act w).0 ∷ r.0, r.1) in
+passes_through (x ∷ rest) at bytes w beside =
+    let P : FixedCommand → Type 0 = λ a. Meet at (length bytes) (address_of a.command.op) (room_of a.command.op) → ⊥ in
+    let now = passes_one x w at bytes (All-head P x rest beside) in
+    let later = passes_through rest at bytes (effect_of x w).1 (All-tail P x rest beside) in
+    let step : End × World → List End × World = λ r. let more = effects rest r.1 in (r.0 ∷ more.0, more.1) in
+    let behind : List End × World → List End × World = λ r. ((effect_of x w).0 ∷ r.0, r.1) in
     ap step now ∙ ap behind later
 
 -- a part that two lists share is still shared when the same is put into both
@@ -112,55 +113,61 @@ part-put_both xs ys at new a n same h =
       ]
     ] ∙ sym (get_or-part (put ys at new) a n k d inside))
 
+data_by-put_both : (t : Transfer) (kind : Kind) (memory other : List ℕ) (at : ℕ) (bytes : List ℕ) → length memory ≡ length other → data_by kind t memory ≡ data_by kind t other → data_by kind t (put memory at bytes) ≡ data_by kind t (put other at bytes)
+data_by-put_both t Access memory other at bytes same h = refl
+data_by-put_both t Erase memory other at bytes same h = refl
+data_by-put_both t Read memory other at bytes same h = refl
+data_by-put_both t Write memory other at bytes same h = part-put_both memory other at bytes t.buffer t.count same h
+
+data_for-put_both : (t : Option Transfer) (memory other : List ℕ) (at : ℕ) (bytes : List ℕ) → length memory ≡ length other → option_map_or (λ t. data_by t.kind t memory) t [] ≡ option_map_or (λ t. data_by t.kind t other) t []
+    → option_map_or (λ t. data_by t.kind t (put memory at bytes)) t [] ≡ option_map_or (λ t. data_by t.kind t (put other at bytes)) t []
+data_for-put_both None memory other at bytes same h = refl
+data_for-put_both (Some t) memory other at bytes same h = data_by-put_both t t.kind memory other at bytes same h
+
 data_of-put_both : (op : Op) (memory other : List ℕ) (at : ℕ) (bytes : List ℕ) → length memory ≡ length other → data_of op memory ≡ data_of op other → data_of op (put memory at bytes) ≡ data_of op (put other at bytes)
-data_of-put_both Status memory other at bytes same h = refl
-data_of-put_both Controller memory other at bytes same h = refl
-data_of-put_both Available memory other at bytes same h = refl
-data_of-put_both (Online soft) memory other at bytes same h = refl
-data_of-put_both (Access count block) memory other at bytes same h = refl
-data_of-put_both (Erase count block) memory other at bytes same h = refl
-data_of-put_both (Read count address block) memory other at bytes same h = refl
-data_of-put_both (Write count address block) memory other at bytes same h = part-put_both memory other at bytes address count same h
+data_of-put_both op memory other at bytes same h = data_for-put_both (transfer_of op) memory other at bytes same h
 
 -- one command in two memories that agree on its data: one end, the same units, and memories that agree as before
-record Agrees (act : Act) (memory other : List ℕ) (disks : Disks) (now then : End × World) : Type 0 where
+record Agrees (x : FixedCommand) (memory other : List ℕ) (disks : Disks) (now then : End × World) : Type 0 where
   ends : now.0 ≡ then.0
   units : now.1.disks ≡ then.1.disks
   same_length : length now.1.memory ≡ length then.1.memory
   same_data : (op : Op) → data_of op memory ≡ data_of op other → data_of op now.1.memory ≡ data_of op then.1.memory
 
-agrees_verdict : (act : Act) (memory other : List ℕ) (disks : Disks) → length memory ≡ length other → data_of act.command.op memory ≡ data_of act.command.op other
-    → (v : Verdict) → Agrees act memory other disks (by act v (record { memory = memory; disks = disks })) (by act v (record { memory = other; disks = disks }))
-agrees_verdict act memory other disks same h (Refused fault) = record { ends = refl; units = refl; same_length = same; same_data = λ op g. g }
-agrees_verdict act memory other disks same h (Acts d) =
-    let op = act.command.op in let bytes = sent act.outcome op d.blocks in
-    let make : List (List ℕ) → Disks = λ stores. set disks act.command.unit (Some (record { blocks = put d.blocks (block_of op) stores; size = d.size; mode = mode_after op d.mode })) in
+agrees_verdict : (x : FixedCommand) (memory other : List ℕ) (disks : Disks) → length memory ≡ length other → data_of x.command.op memory ≡ data_of x.command.op other
+    → (v : Verdict) → Agrees x memory other disks (by x v (record { memory = memory; disks = disks })) (by x v (record { memory = other; disks = disks }))
+agrees_verdict x memory other disks same h OfController = record { ends = refl; units = refl; same_length = same; same_data = λ op g. g }
+agrees_verdict x memory other disks same h (Refused refusal) = record { ends = refl; units = refl; same_length = same; same_data = λ op g. g }
+agrees_verdict x memory other disks same h (ActsOn d) =
+    let op = x.command.op in let bytes = sends x d memory in
+    let make : List (List ℕ) → Disks = λ new. set disks x.command.unit (Some (record { blocks = put d.blocks (first_block_of op) new; size = d.size; mode = mode_after op d.mode })) in
+    let sent : sends x d other ≡ bytes = bytes_put-same x.outcome op d.blocks d.blocks other memory refl in
     record {
       ends = refl;
-      units = ap make (stored-data act.outcome op memory other h);
-      same_length = length-put memory (address_of op) bytes ∙ same ∙ sym (length-put other (address_of op) bytes);
-      same_data = λ o g. data_of-put_both o memory other (address_of op) bytes same g;
+      units = ap make (blocks_put-same x.outcome op d.blocks d.blocks memory other h);
+      same_length = length-put memory (address_of op) bytes ∙ same ∙ sym (length-put other (address_of op) (sends x d other));
+      same_data = λ o g. data_of-put_both o memory other (address_of op) bytes same g ∙ sym (ap (λ (b : List ℕ). data_of o (put other (address_of op) b)) sent);
     }
 
-agrees_one : (act : Act) (memory other : List ℕ) (disks : Disks) → length memory ≡ length other → data_of act.command.op memory ≡ data_of act.command.op other
-    → Agrees act memory other disks (done act (record { memory = memory; disks = disks })) (done act (record { memory = other; disks = disks }))
-agrees_one act memory other disks same h =
+agrees_one : (x : FixedCommand) (memory other : List ℕ) (disks : Disks) → length memory ≡ length other → data_of x.command.op memory ≡ data_of x.command.op other
+    → Agrees x memory other disks (effect_of x (record { memory = memory; disks = disks })) (effect_of x (record { memory = other; disks = disks }))
+agrees_one x memory other disks same h =
     let w : World = record { memory = memory; disks = disks } in let v : World = record { memory = other; disks = disks } in
-    let judged_same : verdict act.command v ≡ verdict act.command w = rw (← same) refl in
-    let P : End × World → Type 0 = λ r. Agrees act memory other disks (done act w) r in
-    subst P (sym (done-by act v (verdict act.command w) judged_same)) (agrees_verdict act memory other disks same h (verdict act.command w))
+    let judged_same : verdict x.command v ≡ verdict x.command w = rw (← same) refl in
+    let P : End × World → Type 0 = λ r. Agrees x memory other disks (effect_of x w) r in
+    subst P (sym (effect-by x v (verdict x.command w) judged_same)) (agrees_verdict x memory other disks same h (verdict x.command w))
 
 pub depends_on_data_alone : DependsOnDataAlone
 depends_on_data_alone [] memory other disks same = (refl, refl)
-depends_on_data_alone (act ∷ rest) memory other disks same =
-    let P : Act → Type 0 = λ a. data_of a.command.op memory ≡ data_of a.command.op other in
+depends_on_data_alone (x ∷ rest) memory other disks same =
+    let P : FixedCommand → Type 0 = λ a. data_of a.command.op memory ≡ data_of a.command.op other in
     let w : World = record { memory = memory; disks = disks } in let v : World = record { memory = other; disks = disks } in
-    let now = agrees_one act memory other disks same.same_length (All-head P act rest same.same_bytes) in
-    let rest_same : SameData rest (done act w).1.memory (done act v).1.memory = record {
+    let now = agrees_one x memory other disks same.same_length (All-head P x rest same.same_bytes) in
+    let rest_same : SameData rest (effect_of x w).1.memory (effect_of x v).1.memory = record {
       same_length = now.same_length;
-      same_bytes = λ k d below. now.same_data (get_or rest k d).command.op (All-tail P act rest same.same_bytes k d below);
+      same_bytes = λ k d below. now.same_data (get_or rest k d).command.op (All-tail P x rest same.same_bytes k d below);
     } in
-    let later = depends_on_data_alone rest (done act w).1.memory (done act v).1.memory (done act w).1.disks rest_same in
-    let there : Disks → List End × World = λ d. run rest (record { memory = (done act v).1.memory; disks = d }) in
+    let later = depends_on_data_alone rest (effect_of x w).1.memory (effect_of x v).1.memory (effect_of x w).1.disks rest_same in
+    let there : Disks → List End × World = λ d. effects rest (record { memory = (effect_of x v).1.memory; disks = d }) in
     let cons : End → List End → List End = λ e es. e ∷ es in
     (ap₂ cons now.ends (later.0 ∙ ap (λ (d : Disks). (there d).0) now.units), later.1 ∙ ap (λ (d : Disks). (there d).1.disks) now.units)

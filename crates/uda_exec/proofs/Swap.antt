@@ -1,95 +1,119 @@
 -- Two commands that may pass and are apart: done in either order, each has the same end, and the world is the same.
-use Rattle.std.proofs.Common.{◌≡◌, ◌≢◌, ℕ, zero, suc, ◌/◌, ◌≤◌, Bool, true, false, List, [], length, set, take, replicate, Option, Some, None, refl, sym, ap, ap₂, ◌∙◌, arith, length-set, length-take}
-use Rattle.std.specs.Prelude.{slice_get, nat_eq, ◌&&◌, ◌||◌, not, if◌then◌else◌}
+use Rattle.std.proofs.Common.{◌≡◌, ◌≢◌, ℕ, suc, ◌*◌, ◌≤◌, Bool, true, false, List, [], length, set, take, replicate, Option, Some, None, refl, sym, ap, ap₂, ◌∙◌, arith, length-set, length-take}
+use Rattle.std.specs.Prelude.{slice_get, nat_eq, ◌&&◌, ◌||◌, not, if◌then◌else◌, is_some}
 use Rattle.std.specs.List.{concat}
-use Rattle.std.proofs.lemmas.List.{set_comm, set-set, length-replicate}
+use Rattle.std.specs.Option.{option_map_or}
+use Rattle.std.proofs.lemmas.List.{set_comm, set-set}
 use Rattle.std.proofs.lemmas.Bool.{eq-eqb, eqb-true, both_ways, false≢true}
 use Rattle.std.proofs.lemmas.Option.{slice_get_within}
 use Rattle.uda_mem.specs.Put.{put, part, Meet}
 use Rattle.uda_mem.proofs.PutLaws.{length-put, part-put_apart, put-put_comm}
-use Rattle.uda_packet.specs.declared.commands.Command.{Command}
-use Rattle.uda_packet.specs.declared.commands.Op.{Op}
-use Rattle.uda_packet.specs.declared.commands.Op.TheVariants.{Status, Controller, Available, Online, Access, Erase, Read, Write}
-use Rattle.uda_packet.specs.declared.ends.End.{End}
+use Rattle.uda_packet.specs.declared.command.Command.{Command}
+use Rattle.uda_packet.specs.declared.command.Op.{Op}
+use Rattle.uda_packet.specs.declared.end.End.{End}
+use Rattle.uda_packet.specs.declared.end.Kind.{Kind}
+use Rattle.uda_packet.specs.declared.end.Kind.TheVariants.{Access, Erase, Read, Write}
+use Rattle.uda_packet.specs.declared.transfer.Transfer.{Transfer}
+use Rattle.uda_packet.specs.Transfer.{transfer_of, changes_blocks, has_buffer}
 use Rattle.uda_exec.specs.declared.mode.Mode.{Mode}
+use Rattle.uda_exec.specs.declared.refusal.Refusal.{Refusal}
+use Rattle.uda_exec.specs.declared.refusal.Refusal.TheVariants.{UnitUnknown, NoVolume}
 use Rattle.uda_exec.specs.Disks.{Disk, Disks}
-use Rattle.uda_exec.specs.Status.{SUCCESS, UNIT_UNKNOWN, NO_VOLUME}
-use Rattle.uda_exec.specs.Commands.{is_controller, is_transfer, changes_blocks, block_of, blocks_of, address_of, room_of}
-use Rattle.uda_exec.specs.Effect.{World, Outcome, Done, Lost, moved, blocks_in, sent, stored, fault_of, Verdict, Refused, Acts, judged, verdict, mode_after, end_of, disk_after, world_after}
-use Rattle.uda_exec.specs.Order.{may_pass, Apart, Act, done, data_of}
-use Rattle.uda_exec.proofs.Blocks.{length-blocks_in}
-use Rattle.uda_exec.proofs.Transferred.{mode_after-transfer}
-use Rattle.uda_exec.proofs.Units.{slice_get-set_same, slice_get-set_other}
+use Rattle.uda_exec.specs.Commands.{block_count, room_in, is_controller, is_transfer, is_changing, changes_memory, first_block_of, blocks_of, address_of, room_of}
+use Rattle.uda_exec.specs.Transfers.{due_by, blocks_due}
+use Rattle.uda_exec.specs.Effect.{World, Outcome, Done, Lost, blocks_moved, bytes_put, blocks_put, refusal_of, Verdict, OfController, Refused, ActsOn, is_acting, verdict_of, verdict, mode_after, end_of, disk_after, world_after}
+use Rattle.uda_exec.specs.Order.{may_pass, Apart, FixedCommand, effect_of, data_by, data_of}
+use Rattle.uda_exec.proofs.Steps.{length-due_le}
+use Rattle.uda_exec.proofs.Transferred.{mode_after-transfer, speaks}
+use Rattle.uda_exec.proofs.Units.{slice_get-set_same, slice_get-set_other, world_after-idle}
 
 -- how many blocks and bytes a command puts where
-pub length-moved : (o : Outcome) (blocks : List (List ℕ)) → length (moved o blocks) ≤ length blocks
-length-moved Done blocks = omega arith
-length-moved (Lost k left) blocks = omega (arith, length-set (take (suc k) blocks) k left, length-take (suc k) blocks)
+pub length-blocks_moved : (o : Outcome) (blocks : List (List ℕ)) → length (blocks_moved o blocks) ≤ length blocks
+length-blocks_moved Done blocks = omega arith
+length-blocks_moved (Lost k left) blocks = omega (arith, length-set (take (suc k) blocks) k left, length-take (suc k) blocks)
 
-pub length-sent : (o : Outcome) (op : Op) (blocks : List (List ℕ)) → length (sent o op blocks) ≤ room_of op
-length-sent o Status blocks = omega arith
-length-sent o Controller blocks = omega arith
-length-sent o Available blocks = omega arith
-length-sent o (Online soft) blocks = omega arith
-length-sent o (Access count block) blocks = omega arith
-length-sent o (Erase count block) blocks = omega arith
-length-sent o (Read count address block) blocks = omega (arith, length-take count (concat (moved o (part blocks block (count / 512)))))
-length-sent o (Write count address block) blocks = omega arith
+length-landing : (kind : Kind) (n : ℕ) (bytes : List ℕ) → length (take n (if changes_memory kind then bytes else [])) ≤ (if has_buffer kind then n else 0)
+length-landing Access n bytes = omega (arith, length-take {A = ℕ} n [])
+length-landing Erase n bytes = omega (arith, length-take {A = ℕ} n [])
+length-landing Read n bytes = omega (arith, length-take n bytes)
+length-landing Write n bytes = omega (arith, length-take {A = ℕ} n [])
 
-pub length-stored : (o : Outcome) (op : Op) (memory : List ℕ) → length (stored o op memory) ≤ blocks_of op
-length-stored o Status memory = omega arith
-length-stored o Controller memory = omega arith
-length-stored o Available memory = omega arith
-length-stored o (Online soft) memory = omega arith
-length-stored o (Access count block) memory = omega arith
-length-stored o (Erase count block) memory =
-    let zeros : List ℕ = replicate 512 0 in
-    omega (arith, length-moved o (replicate (count / 512) zeros), length-replicate (count / 512) zeros)
-length-stored o (Read count address block) memory = omega arith
-length-stored o (Write count address block) memory = omega (arith, length-moved o (blocks_in (count / 512) (part memory address count)), length-blocks_in (count / 512) (part memory address count))
+length-if : {A : Type 0} (b : Bool) (xs : List A) (n : ℕ) → length xs ≤ n → length (if b then xs else []) ≤ n
+length-if true xs n h = h
+length-if false xs n h = omega arith
 
--- a command that changes no block stores none
-pub stored-unchanged : (o : Outcome) (op : Op) (memory : List ℕ) → changes_blocks op ≡ false → stored o op memory ≡ []
-stored-unchanged o Status memory h = refl
-stored-unchanged o Controller memory h = refl
-stored-unchanged o Available memory h = refl
-stored-unchanged o (Online soft) memory h = refl
-stored-unchanged o (Access count block) memory h = refl
-stored-unchanged o (Erase count block) memory h = absurd (cc)
-stored-unchanged o (Read count address block) memory h = refl
-stored-unchanged o (Write count address block) memory h = absurd (cc)
+module _ (o : Outcome) where
+  length-bytes_by : (t : Option Transfer) (blocks : List (List ℕ)) (memory : List ℕ) → length (bytes_put o t blocks memory) ≤ option_map_or room_in t 0
+  length-bytes_by None blocks memory = omega arith
+  length-bytes_by (Some t) blocks memory = length-landing t.kind t.count (concat (blocks_moved o (blocks_due t blocks memory)))
 
--- what is stored depends on memory by the command's data alone, and those stay where a write is beside its buffer
-pub stored-data : (o : Outcome) (op : Op) (memory other : List ℕ) → data_of op memory ≡ data_of op other → stored o op memory ≡ stored o op other
-stored-data o Status memory other h = refl
-stored-data o Controller memory other h = refl
-stored-data o Available memory other h = refl
-stored-data o (Online soft) memory other h = refl
-stored-data o (Access count block) memory other h = refl
-stored-data o (Erase count block) memory other h = refl
-stored-data o (Read count address block) memory other h = refl
-stored-data o (Write count address block) memory other h = ap (λ (b : List ℕ). moved o (blocks_in (count / 512) b)) h
+  pub length-bytes_put : (op : Op) (blocks : List (List ℕ)) (memory : List ℕ) → length (bytes_put o (transfer_of op) blocks memory) ≤ room_of op
+  length-bytes_put op blocks memory = length-bytes_by (transfer_of op) blocks memory
+
+  length-blocks_by : (t : Option Transfer) (blocks : List (List ℕ)) (memory : List ℕ) → length (blocks_put o t blocks memory) ≤ option_map_or block_count t 0
+  length-blocks_by None blocks memory = omega arith
+  length-blocks_by (Some t) blocks memory =
+      length-if (changes_blocks t.kind) (blocks_moved o (blocks_due t blocks memory)) (block_count t) (omega (arith, length-blocks_moved o (blocks_due t blocks memory), length-due_le t blocks memory t.kind))
+
+  pub length-blocks_put : (op : Op) (blocks : List (List ℕ)) (memory : List ℕ) → length (blocks_put o (transfer_of op) blocks memory) ≤ blocks_of op
+  length-blocks_put op blocks memory = length-blocks_by (transfer_of op) blocks memory
+
+  -- a command that changes no block puts none
+  blocks_by-none : (t : Option Transfer) (blocks : List (List ℕ)) (memory : List ℕ) → option_map_or (λ t. changes_blocks t.kind) t false ≡ false → blocks_put o t blocks memory ≡ []
+  blocks_by-none None blocks memory h = refl
+  blocks_by-none (Some t) blocks memory h = rw h refl
+
+  blocks_put-none : (op : Op) (blocks : List (List ℕ)) (memory : List ℕ) → is_changing op ≡ false → blocks_put o (transfer_of op) blocks memory ≡ []
+  blocks_put-none op blocks memory h = blocks_by-none (transfer_of op) blocks memory h
+
+  -- the blocks that are put depend on the command's data alone
+  stored-same : (t : Transfer) (kind : Kind) (blocks others : List (List ℕ)) (memory other : List ℕ) → data_by kind t memory ≡ data_by kind t other
+      → (if changes_blocks kind then blocks_moved o (due_by kind t blocks memory) else []) ≡ (if changes_blocks kind then blocks_moved o (due_by kind t others other) else [])
+  stored-same t Access blocks others memory other h = refl
+  stored-same t Erase blocks others memory other h = refl
+  stored-same t Read blocks others memory other h = refl
+  stored-same t Write blocks others memory other h = rw h refl
+
+  blocks_by-same : (t : Option Transfer) (blocks others : List (List ℕ)) (memory other : List ℕ) → option_map_or (λ t. data_by t.kind t memory) t [] ≡ option_map_or (λ t. data_by t.kind t other) t []
+      → blocks_put o t blocks memory ≡ blocks_put o t others other
+  blocks_by-same None blocks others memory other h = refl
+  blocks_by-same (Some t) blocks others memory other h = stored-same t t.kind blocks others memory other h
+
+  pub blocks_put-same : (op : Op) (blocks others : List (List ℕ)) (memory other : List ℕ) → data_of op memory ≡ data_of op other → blocks_put o (transfer_of op) blocks memory ≡ blocks_put o (transfer_of op) others other
+  blocks_put-same op blocks others memory other h = blocks_by-same (transfer_of op) blocks others memory other h
+
+  -- the bytes that are put depend on the blocks of the command's range alone
+  landing-same : (t : Transfer) (kind : Kind) (blocks others : List (List ℕ)) (memory other : List ℕ) → part blocks t.block (block_count t) ≡ part others t.block (block_count t)
+      → (if changes_memory kind then concat (blocks_moved o (due_by kind t blocks memory)) else []) ≡ (if changes_memory kind then concat (blocks_moved o (due_by kind t others other)) else [])
+  landing-same t Access blocks others memory other h = refl
+  landing-same t Erase blocks others memory other h = refl
+  landing-same t Read blocks others memory other h = rw h refl
+  landing-same t Write blocks others memory other h = refl
+
+  bytes_by-same : (t : Option Transfer) (blocks others : List (List ℕ)) (memory other : List ℕ)
+      → part blocks (option_map_or (λ t. t.block) t 0) (option_map_or block_count t 0) ≡ part others (option_map_or (λ t. t.block) t 0) (option_map_or block_count t 0)
+      → bytes_put o t blocks memory ≡ bytes_put o t others other
+  bytes_by-same None blocks others memory other h = refl
+  bytes_by-same (Some t) blocks others memory other h = ap (λ (b : List ℕ). take t.count b) (landing-same t t.kind blocks others memory other h)
+
+  pub bytes_put-same : (op : Op) (blocks others : List (List ℕ)) (memory other : List ℕ) → part blocks (first_block_of op) (blocks_of op) ≡ part others (first_block_of op) (blocks_of op)
+      → bytes_put o (transfer_of op) blocks memory ≡ bytes_put o (transfer_of op) others other
+  bytes_put-same op blocks others memory other h = bytes_by-same (transfer_of op) blocks others memory other h
+
+-- a command's data stay where a write is beside its buffer
+data_by-put : (t : Transfer) (kind : Kind) (memory : List ℕ) (at : ℕ) (bytes : List ℕ) → (Meet at (length bytes) t.buffer (if has_buffer kind then t.count else 0) → ⊥) → data_by kind t (put memory at bytes) ≡ data_by kind t memory
+data_by-put t Access memory at bytes h = refl
+data_by-put t Erase memory at bytes h = refl
+data_by-put t Read memory at bytes h = refl
+data_by-put t Write memory at bytes h = part-put_apart memory at bytes t.buffer t.count h
+
+data_for-put : (t : Option Transfer) (memory : List ℕ) (at : ℕ) (bytes : List ℕ) → (Meet at (length bytes) (option_map_or (λ t. t.buffer) t 0) (option_map_or room_in t 0) → ⊥)
+    → option_map_or (λ t. data_by t.kind t (put memory at bytes)) t [] ≡ option_map_or (λ t. data_by t.kind t memory) t []
+data_for-put None memory at bytes h = refl
+data_for-put (Some t) memory at bytes h = data_by-put t t.kind memory at bytes h
 
 pub data_of-put : (op : Op) (memory : List ℕ) (at : ℕ) (bytes : List ℕ) → (Meet at (length bytes) (address_of op) (room_of op) → ⊥) → data_of op (put memory at bytes) ≡ data_of op memory
-data_of-put Status memory at bytes h = refl
-data_of-put Controller memory at bytes h = refl
-data_of-put Available memory at bytes h = refl
-data_of-put (Online soft) memory at bytes h = refl
-data_of-put (Access count block) memory at bytes h = refl
-data_of-put (Erase count block) memory at bytes h = refl
-data_of-put (Read count address block) memory at bytes h = refl
-data_of-put (Write count address block) memory at bytes h = part-put_apart memory at bytes address count h
-
--- what is sent depends on the blocks of the command's range alone
-pub sent-put : (o : Outcome) (op : Op) (blocks : List (List ℕ)) (at : ℕ) (new : List (List ℕ)) → (Meet at (length new) (block_of op) (blocks_of op) → ⊥) → sent o op (put blocks at new) ≡ sent o op blocks
-sent-put o Status blocks at new h = refl
-sent-put o Controller blocks at new h = refl
-sent-put o Available blocks at new h = refl
-sent-put o (Online soft) blocks at new h = refl
-sent-put o (Access count block) blocks at new h = refl
-sent-put o (Erase count block) blocks at new h = refl
-sent-put o (Read count address block) blocks at new h = ap (λ (b : List (List ℕ)). take count (concat (moved o b))) (part-put_apart blocks at new block (count / 512) h)
-sent-put o (Write count address block) blocks at new h = refl
+data_of-put op memory at bytes h = data_for-put (transfer_of op) memory at bytes h
 
 -- how two commands that may pass each other stand to one another
 data Way (b a : Command) : Type 0 where
@@ -114,29 +138,64 @@ way b a h = way_of b a (is_controller b.op) (is_controller a.op) (nat_eq b.unit 
 verdict_same : (c : Command) (w other : World) → length other.memory ≡ length w.memory → slice_get other.disks c.unit ≡ slice_get w.disks c.unit → verdict c other ≡ verdict c w
 verdict_same c w other h g = rw (h, g) refl
 
+-- what a command puts in memory and on its disk
+abbrev pub sends : FixedCommand → Disk → List ℕ → List ℕ
+sends x d memory = bytes_put x.outcome (transfer_of x.command.op) d.blocks memory
+
+abbrev pub stores : FixedCommand → Disk → List ℕ → List (List ℕ)
+stores x d memory = blocks_put x.outcome (transfer_of x.command.op) d.blocks memory
+
 pub length-world_after : (o : Outcome) (c : Command) (v : Verdict) (w : World) → length (world_after o c v w).memory ≡ length w.memory
-length-world_after o c (Refused fault) w = refl
-length-world_after o c (Acts d) w = length-put w.memory (address_of c.op) (sent o c.op d.blocks)
+length-world_after o c OfController w = refl
+length-world_after o c (Refused refusal) w = refl
+length-world_after o c (ActsOn d) w = length-put w.memory (address_of c.op) (bytes_put o (transfer_of c.op) d.blocks w.memory)
 
 -- the other units stay as they were
 slice_get-world_after : (o : Outcome) (c : Command) (v : Verdict) (w : World) (u : ℕ) → u ≢ c.unit → slice_get (world_after o c v w).disks u ≡ slice_get w.disks u
-slice_get-world_after o c (Refused fault) w u h = refl
-slice_get-world_after o c (Acts d) w u h = slice_get-set_other w.disks c.unit u (Some (disk_after o c.op w.memory d)) h
+slice_get-world_after o c OfController w u h = refl
+slice_get-world_after o c (Refused refusal) w u h = refl
+slice_get-world_after o c (ActsOn d) w u h = slice_get-set_other w.disks c.unit u (Some (disk_after o c.op w.memory d)) h
 
--- both orders of two acts agree
-pub record Swaps (a b : Act) (w : World) : Type 0 where
-  pub end_first : (done a w).0 ≡ (done a (done b w).1).0
-  pub end_second : (done b (done a w).1).0 ≡ (done b w).0
-  pub worlds : (done b (done a w).1).1 ≡ (done a (done b w).1).1
+-- both orders of two commands agree
+pub record Swaps (a b : FixedCommand) (w : World) : Type 0 where
+  pub end_first : (effect_of a w).0 ≡ (effect_of a (effect_of b w).1).0
+  pub end_second : (effect_of b (effect_of a w).1).0 ≡ (effect_of b w).0
+  pub worlds : (effect_of b (effect_of a w).1).1 ≡ (effect_of a (effect_of b w).1).1
 
--- Set Controller Characteristics is refused nothing and does nothing
-done-controller : (a : Act) (w : World) → is_controller a.command.op ≡ true → done a w ≡ (end_of a.outcome a.command (Refused SUCCESS), w)
-done-controller a w h =
-    let is : verdict a.command w ≡ Refused SUCCESS = rw h refl in
-    ap (λ (v : Verdict). (end_of a.outcome a.command v, world_after a.outcome a.command v w)) is
+swaps_sym : (a b : FixedCommand) (w : World) → Swaps b a w → Swaps a b w
+swaps_sym a b w s = record { end_first = sym s.end_second; end_second = sym s.end_first; worlds = sym s.worlds }
 
-pub done-by : (a : Act) (w : World) (v : Verdict) → verdict a.command w ≡ v → done a w ≡ (end_of a.outcome a.command v, world_after a.outcome a.command v w)
-done-by a w v h = ap (λ (v : Verdict). (end_of a.outcome a.command v, world_after a.outcome a.command v w)) h
+-- what a command does by its verdict
+abbrev pub by : FixedCommand → Verdict → World → End × World
+by x v w = (end_of x.outcome x.command v, world_after x.outcome x.command v w)
+
+pub effect-by : (x : FixedCommand) (w : World) (v : Verdict) → verdict x.command w ≡ v → effect_of x w ≡ by x v w
+effect-by x w v h = ap (λ (v : Verdict). by x v w) h
+
+-- where the verdicts after the other command say the same ends, and the worlds agree, both orders do
+swaps_if : (a b : FixedCommand) (w : World) (va vb va' vb' : Verdict) → verdict a.command w ≡ va → verdict b.command w ≡ vb
+    → verdict a.command (by b vb w).1 ≡ va' → verdict b.command (by a va w).1 ≡ vb'
+    → end_of a.outcome a.command va' ≡ end_of a.outcome a.command va → end_of b.outcome b.command vb' ≡ end_of b.outcome b.command vb
+    → (by b vb' (by a va w).1).1 ≡ (by a va' (by b vb w).1).1 → Swaps a b w
+swaps_if a b w va vb va' vb' is_a is_b later_a later_b ends_a ends_b worlds =
+    let first = effect-by a w va is_a in
+    let other = effect-by b w vb is_b in
+    let wa : (effect_of a w).1 ≡ (by a va w).1 = ap (λ (r : End × World). r.1) first in
+    let wb : (effect_of b w).1 ≡ (by b vb w).1 = ap (λ (r : End × World). r.1) other in
+    let then_a : effect_of a (effect_of b w).1 ≡ by a va' (by b vb w).1 = ap (λ (v : World). effect_of a v) wb ∙ effect-by a (by b vb w).1 va' later_a in
+    let then_b : effect_of b (effect_of a w).1 ≡ by b vb' (by a va w).1 = ap (λ (v : World). effect_of b v) wa ∙ effect-by b (by a va w).1 vb' later_b in
+    record {
+      end_first = ap (λ (r : End × World). r.0) first ∙ sym ends_a ∙ sym (ap (λ (r : End × World). r.0) then_a);
+      end_second = ap (λ (r : End × World). r.0) then_b ∙ ends_b ∙ sym (ap (λ (r : End × World). r.0) other);
+      worlds = ap (λ (r : End × World). r.1) then_b ∙ worlds ∙ sym (ap (λ (r : End × World). r.1) then_a);
+    }
+
+-- one of the two acts on no disk, whenever it is done, and the other is judged as before
+swaps_idle : (a b : FixedCommand) (w : World) (va vb : Verdict) → is_acting vb ≡ false → verdict a.command w ≡ va → verdict b.command w ≡ vb → verdict b.command (by a va w).1 ≡ vb → Swaps a b w
+swaps_idle a b w va vb idle is_a is_b later =
+    let stays : (v : World) → world_after b.outcome b.command vb v ≡ v = λ v. world_after-idle b.outcome b.command vb v idle in
+    swaps_if a b w va vb va vb is_a is_b (ap (λ (v : World). verdict a.command v) (stays w) ∙ is_a) later refl refl
+    (stays (by a va w).1 ∙ sym (ap (λ (v : World). (by a va v).1) (stays w)))
 
 -- buffers beside one another stay so where less is written
 smaller : (a m b n x y : ℕ) → (Meet a m b n → ⊥) → x ≤ m → y ≤ n → Meet a x b y → ⊥
@@ -145,226 +204,191 @@ smaller a m b n x y h p q meet = h (omega arith)
 turned : (a m b n : ℕ) → (Meet a m b n → ⊥) → Meet b n a m → ⊥
 turned a m b n h meet = h (omega arith)
 
--- what one act leaves of the other's data and of its blocks
-module _ (a b : Act) (apart : Apart b.command a.command) where
+-- what x stores is the same behind y, whose buffer lies apart
+stores_later : (x y : FixedCommand) → (Meet (address_of y.command.op) (room_of y.command.op) (address_of x.command.op) (room_of x.command.op) → ⊥)
+    → (memory : List ℕ) (dx dx' dy : Disk) → stores x dx' (put memory (address_of y.command.op) (sends y dy memory)) ≡ stores x dx memory
+stores_later x y apart memory dx dx' dy =
+    blocks_put-same x.outcome x.command.op dx'.blocks dx.blocks _ memory
+    (data_of-put x.command.op memory (address_of y.command.op) (sends y dy memory) (smaller _ _ _ _ _ _ apart (length-bytes_put y.outcome y.command.op dy.blocks memory) (omega arith)))
+
+-- what x sends is the same from a disk with the same blocks in its range
+sends_later : (x : FixedCommand) (d d' : Disk) (memory memory' : List ℕ)
+    → part d'.blocks (first_block_of x.command.op) (blocks_of x.command.op) ≡ part d.blocks (first_block_of x.command.op) (blocks_of x.command.op) → sends x d' memory' ≡ sends x d memory
+sends_later x d d' memory memory' same = bytes_put-same x.outcome x.command.op d'.blocks d.blocks memory' memory same
+
+module _ (a b : FixedCommand) (apart : Apart b.command a.command) where
   abbrev A : Op
   A = a.command.op
 
   abbrev B : Op
   B = b.command.op
 
-  buffers : (da db : Disk) → Meet (address_of A) (length (sent a.outcome A da.blocks)) (address_of B) (length (sent b.outcome B db.blocks)) → ⊥
-  buffers da db = smaller _ _ _ _ _ _ (turned _ _ _ _ apart.no_overlap) (length-sent a.outcome A da.blocks) (length-sent b.outcome B db.blocks)
-
-  stored-first : (memory : List ℕ) (db : Disk) → stored a.outcome A (put memory (address_of B) (sent b.outcome B db.blocks)) ≡ stored a.outcome A memory
-  stored-first memory db = stored-data a.outcome A _ _ (data_of-put A memory (address_of B) (sent b.outcome B db.blocks) (smaller _ _ _ _ _ _ apart.no_overlap (length-sent b.outcome B db.blocks) (omega arith)))
-
-  stored-second : (memory : List ℕ) (da : Disk) → stored b.outcome B (put memory (address_of A) (sent a.outcome A da.blocks)) ≡ stored b.outcome B memory
-  stored-second memory da = stored-data b.outcome B _ _ (data_of-put B memory (address_of A) (sent a.outcome A da.blocks) (smaller _ _ _ _ _ _ (turned _ _ _ _ apart.no_overlap) (length-sent a.outcome A da.blocks) (omega arith)))
+  -- the bytes that the two send change places
+  sends_apart : (m : List ℕ) (da db da' db' : Disk) (ma mb : List ℕ) → sends a da' mb ≡ sends a da m → sends b db' ma ≡ sends b db m
+      → put (put m (address_of A) (sends a da m)) (address_of B) (sends b db' ma) ≡ put (put m (address_of B) (sends b db m)) (address_of A) (sends a da' mb)
+  sends_apart m da db da' db' ma mb same_a same_b =
+      ap (λ (s : List ℕ). put (put m (address_of A) (sends a da m)) (address_of B) s) same_b
+      ∙ put-put_comm m (address_of A) (sends a da m) (address_of B) (sends b db m)
+      (smaller _ _ _ _ _ _ (turned _ _ _ _ apart.no_overlap) (length-bytes_put a.outcome A da.blocks m) (length-bytes_put b.outcome B db.blocks m))
+      ∙ sym (ap (λ (s : List ℕ). put (put m (address_of B) (sends b db m)) (address_of A) s) same_a)
 
   -- on different units
   module _ (differ : b.command.unit ≢ a.command.unit) (w : World) where
-    worlds_other : (va vb : Verdict) → world_after b.outcome b.command vb (world_after a.outcome a.command va w) ≡ world_after a.outcome a.command va (world_after b.outcome b.command vb w)
-    worlds_other (Refused fault) vb = refl
-    worlds_other (Acts da) (Refused fault) = refl
-    worlds_other (Acts da) (Acts db) =
+    worlds_other : (va vb : Verdict) → (by b vb (by a va w).1).1 ≡ (by a va (by b vb w).1).1
+    worlds_other OfController vb = refl
+    worlds_other (Refused refusal) vb = refl
+    worlds_other (ActsOn da) OfController = refl
+    worlds_other (ActsOn da) (Refused refusal) = refl
+    worlds_other (ActsOn da) (ActsOn db) =
         let make_world : List ℕ → Disks → World = λ m d. record { memory = m; disks = d } in
-        let place : List ℕ → Disks → ℕ → Op → Disk → List (List ℕ) → Disks = λ m disks u op d new. set disks u (Some (record { blocks = put d.blocks (block_of op) new; size = d.size; mode = mode_after op d.mode })) in
+        let place : Disks → ℕ → Op → Disk → List (List ℕ) → Disks = λ disks u op d new. set disks u (Some (record { blocks = put d.blocks (first_block_of op) new; size = d.size; mode = mode_after op d.mode })) in
         let Da = set w.disks a.command.unit (Some (disk_after a.outcome A w.memory da)) in
         let Db = set w.disks b.command.unit (Some (disk_after b.outcome B w.memory db)) in
-        let left = ap (λ (new : List (List ℕ)). place w.memory Da b.command.unit B db new) (stored-second w.memory da) in
-        let right = ap (λ (new : List (List ℕ)). place w.memory Db a.command.unit A da new) (stored-first w.memory db) in
+        let left = ap (λ (new : List (List ℕ)). place Da b.command.unit B db new) (stores_later b a (turned _ _ _ _ apart.no_overlap) w.memory db db da) in
+        let right = ap (λ (new : List (List ℕ)). place Db a.command.unit A da new) (stores_later a b apart.no_overlap w.memory da da db) in
         let crossed : set Da b.command.unit (Some (disk_after b.outcome B w.memory db)) ≡ set Db a.command.unit (Some (disk_after a.outcome A w.memory da)) =
         set_comm w.disks a.command.unit b.command.unit _ _ (λ e. differ (sym e)) in
-        ap₂ make_world (put-put_comm w.memory (address_of A) (sent a.outcome A da.blocks) (address_of B) (sent b.outcome B db.blocks) (buffers da db)) (left ∙ crossed ∙ sym right)
+        ap₂ make_world (sends_apart w.memory da db da db _ _ (sends_later a da da w.memory _ refl) (sends_later b db db w.memory _ refl)) (left ∙ crossed ∙ sym right)
 
     swaps_other : Swaps a b w
     swaps_other =
         let va = verdict a.command w in let vb = verdict b.command w in
-        let wa = world_after a.outcome a.command va w in let wb = world_after b.outcome b.command vb w in
-        let is_b : verdict b.command wa ≡ vb = verdict_same b.command w wa (length-world_after a.outcome a.command va w) (slice_get-world_after a.outcome a.command va w b.command.unit differ) in
-        let is_a : verdict a.command wb ≡ va = verdict_same a.command w wb (length-world_after b.outcome b.command vb w) (slice_get-world_after b.outcome b.command vb w a.command.unit (λ e. differ (sym e))) in
-        let first = done-by a wb va is_a in let second = done-by b wa vb is_b in
-        record {
-          end_first = sym (ap (λ (r : End × World). r.0) first);
-          end_second = ap (λ (r : End × World). r.0) second;
-          worlds = ap (λ (r : End × World). r.1) second ∙ worlds_other va vb ∙ sym (ap (λ (r : End × World). r.1) first);
-        }
-
-speaks : (op : Op) → is_transfer op ≡ true → is_controller op ≡ false
-speaks Status h = refl
-speaks Controller h = absurd (false≢true h)
-speaks Available h = refl
-speaks (Online soft) h = refl
-speaks (Access count block) h = refl
-speaks (Erase count block) h = refl
-speaks (Read count address block) h = refl
-speaks (Write count address block) h = refl
+        swaps_if a b w va vb va vb refl refl
+        (verdict_same a.command w _ (length-world_after b.outcome b.command vb w) (slice_get-world_after b.outcome b.command vb w a.command.unit (λ e. differ (sym e))))
+        (verdict_same b.command w _ (length-world_after a.outcome a.command va w) (slice_get-world_after a.outcome a.command va w b.command.unit differ))
+        refl refl (worlds_other va vb)
 
 -- a transfer x behind a transfer y of the same unit, which acted on this disk: x is judged as before, on the disk that y left
-module _ (x y : Act) (w : World) (d : Disk) (same : x.command.unit ≡ y.command.unit) (x_transfers : is_transfer x.command.op ≡ true) (y_transfers : is_transfer y.command.op ≡ true)
+module _ (x y : FixedCommand) (w : World) (d : Disk) (tx ty : Transfer) (same : x.command.unit ≡ y.command.unit) (is_x : transfer_of x.command.op ≡ Some tx) (is_y : transfer_of y.command.op ≡ Some ty)
     (here : slice_get w.disks y.command.unit ≡ Some (Some d)) where
   abbrev left_by : Disk
   left_by = disk_after y.outcome y.command.op w.memory d
 
-  verdict_later : (fault : ℕ) → fault_of x.command.op (length w.memory) d.size d.mode ≡ fault → verdict x.command (world_after y.outcome y.command (Acts d) w) ≡ judged fault left_by
-  verdict_later fault h =
+  mode_stays : mode_after y.command.op d.mode ≡ d.mode
+  mode_stays = mode_after-transfer y.command.op ty d.mode is_y
+
+  verdict_later : (found : Option Refusal) → refusal_of (transfer_of x.command.op) (length w.memory) d.size d.mode ≡ found → verdict x.command (by y (ActsOn d) w).1 ≡ verdict_of found left_by
+  verdict_later found h =
       let there : slice_get (set w.disks y.command.unit (Some left_by)) x.command.unit ≡ Some (Some left_by) =
       ap (λ u. slice_get (set w.disks y.command.unit (Some left_by)) u) same ∙ slice_get-set_same w.disks y.command.unit (Some left_by) (slice_get_within w.disks y.command.unit (Some d) here) in
-      let mode : mode_after y.command.op d.mode ≡ d.mode = mode_after-transfer y.command.op d.mode y_transfers in
-      let long : length (put w.memory (address_of y.command.op) (sent y.outcome y.command.op d.blocks)) ≡ length w.memory = length-put w.memory (address_of y.command.op) (sent y.outcome y.command.op d.blocks) in
-      let fault_is : fault_of x.command.op (length (put w.memory (address_of y.command.op) (sent y.outcome y.command.op d.blocks))) d.size (mode_after y.command.op d.mode) ≡ fault = rw (long, mode) h in
-      rw (speaks x.command.op x_transfers, there) (ap (λ f. judged f left_by) fault_is)
+      let bytes = sends y d w.memory in
+      let found_is : refusal_of (transfer_of x.command.op) (length (put w.memory (address_of y.command.op) bytes)) d.size (mode_after y.command.op d.mode) ≡ found =
+      rw (length-put w.memory (address_of y.command.op) bytes, mode_stays) h in
+      rw (speaks x.command.op tx is_x, there) (ap (λ (f : Option Refusal). verdict_of f left_by) found_is)
 
-  verdict_now : (fault : ℕ) → fault_of x.command.op (length w.memory) d.size d.mode ≡ fault → verdict x.command w ≡ judged fault d
-  verdict_now fault h =
+  verdict_now : (found : Option Refusal) → refusal_of (transfer_of x.command.op) (length w.memory) d.size d.mode ≡ found → verdict x.command w ≡ verdict_of found d
+  verdict_now found h =
       let there : slice_get w.disks x.command.unit ≡ Some (Some d) = ap (λ u. slice_get w.disks u) same ∙ here in
-      rw (speaks x.command.op x_transfers, there) (ap (λ f. judged f d) h)
+      rw (speaks x.command.op tx is_x, there) (ap (λ (f : Option Refusal). verdict_of f d) h)
 
   -- the end of x says the same on the disk that y left
-  end_later : end_of x.outcome x.command (Acts left_by) ≡ end_of x.outcome x.command (Acts d)
-  end_later =
-      let mode : mode_after y.command.op d.mode ≡ d.mode = mode_after-transfer y.command.op d.mode y_transfers in
-      ap (λ (m : Mode). end_of x.outcome x.command (Acts (record { blocks = left_by.blocks; size = d.size; mode = m }))) mode
+  end_later : end_of x.outcome x.command (ActsOn left_by) ≡ end_of x.outcome x.command (ActsOn d)
+  end_later = ap (λ (m : Mode). end_of x.outcome x.command (ActsOn (record { blocks = left_by.blocks; size = d.size; mode = m }))) mode_stays
 
--- two refused acts leave everything
-swaps_refused : (a b : Act) (w : World) (s t : ℕ) → verdict a.command w ≡ Refused s → verdict b.command w ≡ Refused t → Swaps a b w
-swaps_refused a b w s t h g =
-    let wa : (done a w).1 ≡ w = ap (λ (r : End × World). r.1) (done-by a w (Refused s) h) in
-    let wb : (done b w).1 ≡ w = ap (λ (r : End × World). r.1) (done-by b w (Refused t) g) in
-    record {
-      end_first = sym (ap (λ (v : World). (done a v).0) wb);
-      end_second = ap (λ (v : World). (done b v).0) wa;
-      worlds = ap (λ (v : World). (done b v).1) wa ∙ wb ∙ sym (ap (λ (v : World). (done a v).1) wb ∙ wa);
-    }
-
-swaps_sym : (a b : Act) (w : World) → Swaps b a w → Swaps a b w
-swaps_sym a b w s = record { end_first = sym s.end_second; end_second = sym s.end_first; worlds = sym s.worlds }
-
--- a acts and b is refused, on one unit
-swaps_half : (a b : Act) (w : World) (d : Disk) (fault : ℕ) → b.command.unit ≡ a.command.unit → is_transfer a.command.op ≡ true → is_transfer b.command.op ≡ true
-    → slice_get w.disks a.command.unit ≡ Some (Some d) → fault_of a.command.op (length w.memory) d.size d.mode ≡ 0 → fault_of b.command.op (length w.memory) d.size d.mode ≡ suc fault → Swaps a b w
-swaps_half a b w d fault same ta tb here fa fb =
-    let first = done-by a w (Acts d) (verdict_now a a w d refl ta ta here 0 fa) in
-    let wa : (done a w).1 ≡ world_after a.outcome a.command (Acts d) w = ap (λ (r : End × World). r.1) first in
-    let wb : (done b w).1 ≡ w = ap (λ (r : End × World). r.1) (done-by b w (Refused (suc fault)) (verdict_now b a w d same tb ta here (suc fault) fb)) in
-    let later = done-by b (world_after a.outcome a.command (Acts d) w) (Refused (suc fault)) (verdict_later b a w d same tb ta here (suc fault) fb) in
-    let now = done-by b w (Refused (suc fault)) (verdict_now b a w d same tb ta here (suc fault) fb) in
-    record {
-      end_first = sym (ap (λ (v : World). (done a v).0) wb);
-      end_second = ap (λ (v : World). (done b v).0) wa ∙ ap (λ (r : End × World). r.0) later ∙ sym (ap (λ (r : End × World). r.0) now);
-      worlds = ap (λ (v : World). (done b v).1) wa ∙ ap (λ (r : End × World). r.1) later ∙ sym (ap (λ (v : World). (done a v).1) wb ∙ wa);
-    }
-
+-- what a command stores lies apart from the range of another of the unit, if it changes blocks
 or_true : (b : Bool) → (b || true) ≡ true
 or_true true = refl
 or_true false = refl
 
--- both act, on one unit
-module _ (a b : Act) (apart : Apart b.command a.command) (same : b.command.unit ≡ a.command.unit) (ta : is_transfer a.command.op ≡ true) (tb : is_transfer b.command.op ≡ true) where
+stores_apart : (x y : FixedCommand) → (is_changing x.command.op ≡ true → Meet (first_block_of x.command.op) (blocks_of x.command.op) (first_block_of y.command.op) (blocks_of y.command.op) → ⊥)
+    → (d : Disk) (memory : List ℕ) (change : Bool) → is_changing x.command.op ≡ change → Meet (first_block_of x.command.op) (length (stores x d memory)) (first_block_of y.command.op) (blocks_of y.command.op) → ⊥
+stores_apart x y ranges d memory true h meet = let less = length-blocks_put x.outcome x.command.op d.blocks memory in ranges h (omega arith)
+stores_apart x y ranges d memory false h meet = let none = ap length (blocks_put-none x.outcome x.command.op d.blocks memory h) in omega arith
+
+-- transfers of one unit
+module _ (a b : FixedCommand) (apart : Apart b.command a.command) (same : b.command.unit ≡ a.command.unit) (ta tb : Transfer) (is_a : transfer_of a.command.op ≡ Some ta) (is_b : transfer_of b.command.op ≡ Some tb) (w : World) where
   abbrev opA : Op
   opA = a.command.op
 
   abbrev opB : Op
   opB = b.command.op
 
-  ranges_apart : (changes_blocks opB || changes_blocks opA) ≡ true → Meet (block_of opB) (blocks_of opB) (block_of opA) (blocks_of opA) → ⊥
-  ranges_apart changes meet = apart.no_clash (record { transfers = rw (tb, ta) refl; one_unit = same; changes = changes; meet = meet })
+  ranges_apart : (is_changing opB || is_changing opA) ≡ true → Meet (first_block_of opB) (blocks_of opB) (first_block_of opA) (blocks_of opA) → ⊥
+  ranges_apart changes meet = apart.no_clash (record { transfers = rw (is_b, is_a) refl; one_unit = same; changes = changes; meet = meet })
 
-  stored_first_apart : (memory : List ℕ) (change : Bool) → changes_blocks opA ≡ change → Meet (block_of opA) (length (stored a.outcome opA memory)) (block_of opB) (blocks_of opB) → ⊥
-  stored_first_apart memory true h meet =
-      let less = length-stored a.outcome opA memory in
-      ranges_apart (rw h (or_true (changes_blocks opB))) (omega arith)
-  stored_first_apart memory false h meet = let none = ap length (stored-unchanged a.outcome opA memory h) in omega arith
+  a_apart : (d : Disk) (memory : List ℕ) → Meet (first_block_of opA) (length (stores a d memory)) (first_block_of opB) (blocks_of opB) → ⊥
+  a_apart d memory = stores_apart a b (λ changes. turned _ _ _ _ (ranges_apart (rw changes (or_true (is_changing opB))))) d memory (is_changing opA) refl
 
-  stored_second_apart : (memory : List ℕ) (change : Bool) → changes_blocks opB ≡ change → Meet (block_of opB) (length (stored b.outcome opB memory)) (block_of opA) (blocks_of opA) → ⊥
-  stored_second_apart memory true h meet =
-      let less = length-stored b.outcome opB memory in
-      ranges_apart (rw h refl) (omega arith)
-  stored_second_apart memory false h meet = let none = ap length (stored-unchanged b.outcome opB memory h) in omega arith
+  b_apart : (d : Disk) (memory : List ℕ) → Meet (first_block_of opB) (length (stores b d memory)) (first_block_of opA) (blocks_of opA) → ⊥
+  b_apart d memory = stores_apart b a (λ changes. ranges_apart (rw changes refl)) d memory (is_changing opB) refl
 
-  module _ (w : World) (d : Disk) (here : slice_get w.disks a.command.unit ≡ Some (Some d)) where
-    worlds_both : world_after b.outcome b.command (Acts (disk_after a.outcome opA w.memory d)) (world_after a.outcome a.command (Acts d) w)
-        ≡ world_after a.outcome a.command (Acts (disk_after b.outcome opB w.memory d)) (world_after b.outcome b.command (Acts d) w)
-    worlds_both =
-        let m = w.memory in
-        let sent_a = sent a.outcome opA d.blocks in let sent_b = sent b.outcome opB d.blocks in
-        let stored_a = stored a.outcome opA m in let stored_b = stored b.outcome opB m in
-        let make_world : List ℕ → Disks → World = λ m d. record { memory = m; disks = d } in
-        let make_disk : List (List ℕ) → Mode → Disk = λ b n. record { blocks = b; size = d.size; mode = n } in
-        -- what each sends and stores is the same in either order
-        let sends_b : sent b.outcome opB (put d.blocks (block_of opA) stored_a) ≡ sent_b = sent-put b.outcome opB d.blocks (block_of opA) stored_a (stored_first_apart m (changes_blocks opA) refl) in
-        let sends_a : sent a.outcome opA (put d.blocks (block_of opB) stored_b) ≡ sent_a = sent-put a.outcome opA d.blocks (block_of opB) stored_b (stored_second_apart m (changes_blocks opB) refl) in
-        let stores_b : stored b.outcome opB (put m (address_of opA) sent_a) ≡ stored_b = stored-second a b apart m d in
-        let stores_a : stored a.outcome opA (put m (address_of opB) sent_b) ≡ stored_a = stored-first a b apart m d in
-        let modes : mode_after opB (mode_after opA d.mode) ≡ mode_after opA (mode_after opB d.mode) =
-        mode_after-transfer opB _ tb ∙ mode_after-transfer opA d.mode ta ∙ sym (mode_after-transfer opA _ ta ∙ mode_after-transfer opB d.mode tb) in
-        let blocks : put (put d.blocks (block_of opA) stored_a) (block_of opB) stored_b ≡ put (put d.blocks (block_of opB) stored_b) (block_of opA) stored_a =
-        put-put_comm d.blocks (block_of opA) stored_a (block_of opB) stored_b (smaller _ _ _ _ _ _ (stored_first_apart m (changes_blocks opA) refl) (omega arith) (length-stored b.outcome opB m)) in
-        let memories : put (put m (address_of opA) sent_a) (address_of opB) (sent b.outcome opB (put d.blocks (block_of opA) stored_a)) ≡ put (put m (address_of opB) sent_b) (address_of opA) (sent a.outcome opA (put d.blocks (block_of opB) stored_b)) =
-        ap (λ (s : List ℕ). put (put m (address_of opA) sent_a) (address_of opB) s) sends_b ∙ put-put_comm m (address_of opA) sent_a (address_of opB) sent_b (buffers a b apart d d)
-        ∙ sym (ap (λ (s : List ℕ). put (put m (address_of opB) sent_b) (address_of opA) s) sends_a) in
-        let disks : disk_after b.outcome opB (put m (address_of opA) sent_a) (disk_after a.outcome opA m d) ≡ disk_after a.outcome opA (put m (address_of opB) sent_b) (disk_after b.outcome opB m d) =
-        ap₂ make_disk (ap (λ (s : List (List ℕ)). put (put d.blocks (block_of opA) stored_a) (block_of opB) s) stores_b ∙ blocks
-        ∙ sym (ap (λ (s : List (List ℕ)). put (put d.blocks (block_of opB) stored_b) (block_of opA) s) stores_a)) modes in
-        let over : (x y : Disk) → x ≡ y → set (set w.disks a.command.unit (Some (disk_after a.outcome opA m d))) b.command.unit (Some x) ≡ set (set w.disks b.command.unit (Some (disk_after b.outcome opB m d))) a.command.unit (Some y) = λ x y e.
-        ap (λ u. set (set w.disks a.command.unit (Some (disk_after a.outcome opA m d))) u (Some x)) same ∙ set-set w.disks a.command.unit _ _
-        ∙ ap (λ (z : Disk). set w.disks a.command.unit (Some z)) e
-        ∙ sym (ap (λ u. set (set w.disks u (Some (disk_after b.outcome opB m d))) a.command.unit (Some y)) same ∙ set-set w.disks a.command.unit _ _) in
-        ap₂ make_world memories (over _ _ disks)
-
-    swaps_acting : fault_of opA (length w.memory) d.size d.mode ≡ 0 → fault_of opB (length w.memory) d.size d.mode ≡ 0 → Swaps a b w
-    swaps_acting fa fb =
-        let here_b : slice_get w.disks b.command.unit ≡ Some (Some d) = ap (λ u. slice_get w.disks u) same ∙ here in
-        let first = done-by a w (Acts d) (verdict_now a a w d refl ta ta here 0 fa) in
-        let second = done-by b w (Acts d) (verdict_now b b w d refl tb tb here_b 0 fb) in
-        let wa : (done a w).1 ≡ world_after a.outcome a.command (Acts d) w = ap (λ (r : End × World). r.1) first in
-        let wb : (done b w).1 ≡ world_after b.outcome b.command (Acts d) w = ap (λ (r : End × World). r.1) second in
-        let b_later = done-by b (world_after a.outcome a.command (Acts d) w) (Acts (disk_after a.outcome opA w.memory d)) (verdict_later b a w d same tb ta here 0 fb) in
-        let a_later = done-by a (world_after b.outcome b.command (Acts d) w) (Acts (disk_after b.outcome opB w.memory d)) (verdict_later a b w d (sym same) ta tb here_b 0 fa) in
-        record {
-          end_first = ap (λ (r : End × World). r.0) first ∙ sym (ap (λ (v : World). (done a v).0) wb ∙ ap (λ (r : End × World). r.0) a_later ∙ end_later a b w d (sym same) ta tb here_b);
-          end_second = ap (λ (v : World). (done b v).0) wa ∙ ap (λ (r : End × World). r.0) b_later ∙ end_later b a w d same tb ta here ∙ sym (ap (λ (r : End × World). r.0) second);
-          worlds = ap (λ (v : World). (done b v).1) wa ∙ ap (λ (r : End × World). r.1) b_later ∙ worlds_both
-              ∙ sym (ap (λ (v : World). (done a v).1) wb ∙ ap (λ (r : End × World). r.1) a_later);
-        }
-
--- transfers of one unit, by what the unit is
-swaps_transfers : (a b : Act) (w : World) → Apart b.command a.command → b.command.unit ≡ a.command.unit → is_transfer a.command.op ≡ true → is_transfer b.command.op ≡ true
-    → (slot : Option (Option Disk)) → slice_get w.disks a.command.unit ≡ slot → Swaps a b w
-swaps_transfers a b w apart same ta tb None here =
-    let here_b : slice_get w.disks b.command.unit ≡ None = ap (λ u. slice_get w.disks u) same ∙ here in
-    swaps_refused a b w UNIT_UNKNOWN UNIT_UNKNOWN (rw (speaks a.command.op ta, here) refl) (rw (speaks b.command.op tb, here_b) refl)
-swaps_transfers a b w apart same ta tb (Some None) here =
-    let here_b : slice_get w.disks b.command.unit ≡ Some None = ap (λ u. slice_get w.disks u) same ∙ here in
-    swaps_refused a b w NO_VOLUME NO_VOLUME (rw (speaks a.command.op ta, here) refl) (rw (speaks b.command.op tb, here_b) refl)
-swaps_transfers a b w apart same ta tb (Some (Some d)) here =
-    by_faults (fault_of a.command.op (length w.memory) d.size d.mode) (fault_of b.command.op (length w.memory) d.size d.mode) refl refl
-  where
+  module _ (d : Disk) (here : slice_get w.disks a.command.unit ≡ Some (Some d)) where
     here_b : slice_get w.disks b.command.unit ≡ Some (Some d)
     here_b = ap (λ u. slice_get w.disks u) same ∙ here
 
-    by_faults : (fa fb : ℕ) → fault_of a.command.op (length w.memory) d.size d.mode ≡ fa → fault_of b.command.op (length w.memory) d.size d.mode ≡ fb → Swaps a b w
-    by_faults zero zero ha hb = swaps_acting a b apart same ta tb w d here ha hb
-    by_faults zero (suc fb) ha hb = swaps_half a b w d fb same ta tb here ha hb
-    by_faults (suc fa) zero ha hb = swaps_sym a b w (swaps_half b a w d fa (sym same) tb ta here_b hb ha)
-    by_faults (suc fa) (suc fb) ha hb = swaps_refused a b w (suc fa) (suc fb) (verdict_now a a w d refl ta ta here (suc fa) ha) (verdict_now b b w d refl tb tb here_b (suc fb) hb)
+    abbrev after_a : Disk
+    after_a = disk_after a.outcome opA w.memory d
+
+    abbrev after_b : Disk
+    after_b = disk_after b.outcome opB w.memory d
+
+    worlds_both : (by b (ActsOn after_a) (by a (ActsOn d) w).1).1 ≡ (by a (ActsOn after_b) (by b (ActsOn d) w).1).1
+    worlds_both =
+        let m = w.memory in
+        let make_world : List ℕ → Disks → World = λ m d. record { memory = m; disks = d } in
+        let make_disk : List (List ℕ) → Mode → Disk = λ b n. record { blocks = b; size = d.size; mode = n } in
+        -- what each sends and stores is the same in either order
+        let sends_a = sends_later a d after_b m (put m (address_of opB) (sends b d m)) (part-put_apart d.blocks (first_block_of opB) (stores b d m) (first_block_of opA) (blocks_of opA) (b_apart d m)) in
+        let sends_b = sends_later b d after_a m (put m (address_of opA) (sends a d m)) (part-put_apart d.blocks (first_block_of opA) (stores a d m) (first_block_of opB) (blocks_of opB) (a_apart d m)) in
+        let stores_a = stores_later a b apart.no_overlap m d after_b d in
+        let stores_b = stores_later b a (turned _ _ _ _ apart.no_overlap) m d after_a d in
+        let modes : mode_after opB (mode_after opA d.mode) ≡ mode_after opA (mode_after opB d.mode) =
+        mode_after-transfer opB tb _ is_b ∙ mode_after-transfer opA ta d.mode is_a ∙ sym (mode_after-transfer opA ta _ is_a ∙ mode_after-transfer opB tb d.mode is_b) in
+        let blocks : put (put d.blocks (first_block_of opA) (stores a d m)) (first_block_of opB) (stores b d m) ≡ put (put d.blocks (first_block_of opB) (stores b d m)) (first_block_of opA) (stores a d m) =
+        put-put_comm d.blocks (first_block_of opA) (stores a d m) (first_block_of opB) (stores b d m) (smaller _ _ _ _ _ _ (a_apart d m) (omega arith) (length-blocks_put b.outcome opB d.blocks m)) in
+        let disks : disk_after b.outcome opB (put m (address_of opA) (sends a d m)) after_a ≡ disk_after a.outcome opA (put m (address_of opB) (sends b d m)) after_b =
+        ap₂ make_disk (ap (λ (s : List (List ℕ)). put after_a.blocks (first_block_of opB) s) stores_b ∙ blocks ∙ sym (ap (λ (s : List (List ℕ)). put after_b.blocks (first_block_of opA) s) stores_a)) modes in
+        let over : (x y : Disk) → x ≡ y → set (set w.disks a.command.unit (Some after_a)) b.command.unit (Some x) ≡ set (set w.disks b.command.unit (Some after_b)) a.command.unit (Some y) = λ x y e.
+        ap (λ u. set (set w.disks a.command.unit (Some after_a)) u (Some x)) same ∙ set-set w.disks a.command.unit _ _
+        ∙ ap (λ (z : Disk). set w.disks a.command.unit (Some z)) e
+        ∙ sym (ap (λ u. set (set w.disks u (Some after_b)) a.command.unit (Some y)) same ∙ set-set w.disks a.command.unit _ _) in
+        ap₂ make_world (sends_apart a b apart m d d after_b after_a _ _ sends_a sends_b) (over _ _ disks)
+
+    by_refusals : (ra rb : Option Refusal) → refusal_of (transfer_of opA) (length w.memory) d.size d.mode ≡ ra → refusal_of (transfer_of opB) (length w.memory) d.size d.mode ≡ rb → Swaps a b w
+    by_refusals None None ha hb =
+        swaps_if a b w (ActsOn d) (ActsOn d) (ActsOn after_b) (ActsOn after_a)
+        (verdict_now a a w d ta ta refl is_a is_a here None ha) (verdict_now b a w d tb ta same is_b is_a here None hb)
+        (verdict_later a b w d ta tb (sym same) is_a is_b here_b None ha) (verdict_later b a w d tb ta same is_b is_a here None hb)
+        (end_later a b w d ta tb (sym same) is_a is_b here_b) (end_later b a w d tb ta same is_b is_a here) worlds_both
+    by_refusals None (Some rb) ha hb =
+        swaps_idle a b w (ActsOn d) (Refused rb) refl
+        (verdict_now a a w d ta ta refl is_a is_a here None ha) (verdict_now b a w d tb ta same is_b is_a here (Some rb) hb) (verdict_later b a w d tb ta same is_b is_a here (Some rb) hb)
+    by_refusals (Some ra) None ha hb =
+        swaps_sym a b w (swaps_idle b a w (ActsOn d) (Refused ra) refl
+        (verdict_now b a w d tb ta same is_b is_a here None hb) (verdict_now a a w d ta ta refl is_a is_a here (Some ra) ha) (verdict_later a b w d ta tb (sym same) is_a is_b here_b (Some ra) ha))
+    by_refusals (Some ra) (Some rb) ha hb =
+        let refused = verdict_now b a w d tb ta same is_b is_a here (Some rb) hb in
+        swaps_idle a b w (Refused ra) (Refused rb) refl (verdict_now a a w d ta ta refl is_a is_a here (Some ra) ha) refused refused
+
+  -- by what the unit is
+  swaps_transfers : (slot : Option (Option Disk)) → slice_get w.disks a.command.unit ≡ slot → Swaps a b w
+  swaps_transfers None here =
+      let there : slice_get w.disks b.command.unit ≡ None = ap (λ u. slice_get w.disks u) same ∙ here in
+      let refused : verdict b.command w ≡ Refused UnitUnknown = rw (speaks opB tb is_b, there) refl in
+      swaps_idle a b w (Refused UnitUnknown) (Refused UnitUnknown) refl (rw (speaks opA ta is_a, here) refl) refused refused
+  swaps_transfers (Some None) here =
+      let there : slice_get w.disks b.command.unit ≡ Some None = ap (λ u. slice_get w.disks u) same ∙ here in
+      let refused : verdict b.command w ≡ Refused NoVolume = rw (speaks opB tb is_b, there) refl in
+      swaps_idle a b w (Refused NoVolume) (Refused NoVolume) refl (rw (speaks opA ta is_a, here) refl) refused refused
+  swaps_transfers (Some (Some d)) here = by_refusals d here _ _ refl refl
 
 -- one of the two is Set Controller Characteristics
-swaps_controller : (a b : Act) (w : World) → is_controller a.command.op ≡ true → Swaps a b w
+swaps_controller : (a b : FixedCommand) (w : World) → is_controller a.command.op ≡ true → Swaps a b w
 swaps_controller a b w h =
-    let now = done-controller a w h in let later = done-controller a (done b w).1 h in
-    record {
-      end_first = ap (λ (r : End × World). r.0) now ∙ sym (ap (λ (r : End × World). r.0) later);
-      end_second = ap (λ (r : End × World). (done b r.1).0) now;
-      worlds = ap (λ (r : End × World). (done b r.1).1) now ∙ sym (ap (λ (r : End × World). r.1) later);
-    }
+    let idle : (v : World) → verdict a.command v ≡ OfController = λ v. rw h refl in
+    swaps_sym a b w (swaps_idle b a w (verdict b.command w) OfController refl refl (idle w) (idle (by b (verdict b.command w) w).1))
+
+by_transfers : (a b : FixedCommand) (w : World) → Apart b.command a.command → b.command.unit ≡ a.command.unit → (ta tb : Option Transfer) → transfer_of a.command.op ≡ ta → transfer_of b.command.op ≡ tb
+    → is_some ta ≡ true → is_some tb ≡ true → Swaps a b w
+by_transfers a b w apart same None tb is_a is_b some_a some_b = absurd (false≢true some_a)
+by_transfers a b w apart same (Some ta) None is_a is_b some_a some_b = absurd (false≢true some_b)
+by_transfers a b w apart same (Some ta) (Some tb) is_a is_b some_a some_b = swaps_transfers a b apart same ta tb is_a is_b w _ refl
 
 -- b is the older of the two
-pub swaps : (a b : Act) (w : World) → may_pass b.command a.command ≡ true → Apart b.command a.command → Swaps a b w
+pub swaps : (a b : FixedCommand) (w : World) → may_pass b.command a.command ≡ true → Apart b.command a.command → Swaps a b w
 swaps a b w may apart = elim (way b.command a.command may) [
   | older_controller h ↦ swaps_sym a b w (swaps_controller b a w h)
   | younger_controller h ↦ swaps_controller a b w h
   | other_units differ ↦ swaps_other a b apart differ w
-  | both_transfers same tb ta ↦ swaps_transfers a b w apart same ta tb (slice_get w.disks a.command.unit) refl
+  | both_transfers same tb ta ↦ by_transfers a b w apart same _ _ refl refl ta tb
 ]

@@ -1,173 +1,258 @@
--- A transfer that passed its checks takes effect, done or lost.
-use Rattle.std.proofs.Common.{◌≡◌, ℕ, zero, suc, ◌+◌, ◌*◌, ◌%◌, ◌<◌, ◌≤◌, true, List, [], ◌∷◌, ◌++◌, length, get_or, take, set, refl, sym, ap, ap₂, ◌∙◌, arith, add-one, add-zero, length-append, length-take}
-use Rattle.std.specs.Prelude.{if◌then◌else◌}
+-- A transfer takes effect, done, lost or refused; and so does a command that moves no blocks.
+use Rattle.std.proofs.Common.{◌≡◌, ℕ, suc, ◌+◌, ◌*◌, ◌%◌, ◌<◌, ◌≤◌, zero-le, Bool, true, false, List, [], ◌∷◌, ◌++◌, length, get_or, take, set, refl, sym, ap, ap₂, ◌∙◌, arith, add-one, add-zero, length-append, length-take, Option, Some, None}
+use Rattle.std.specs.Prelude.{if◌then◌else◌, nat_lt}
 use Rattle.std.specs.List.{concat}
 use Rattle.std.proofs.lemmas.List.{take_all, take_more, set_at, length-take-le}
 use Rattle.std.proofs.lemmas.List.Elements.{All-push}
 use Rattle.std.proofs.lemmas.Bool.Decides.{nat_tests}
 use Rattle.uda_mem.specs.Put.{put}
-use Rattle.uda_packet.specs.declared.commands.Command.{Command}
-use Rattle.uda_packet.specs.declared.commands.Op.{Op}
-use Rattle.uda_packet.specs.declared.commands.Op.TheVariants.{Status, Controller, Available, Online, Access, Erase, Read, Write}
-use Rattle.uda_packet.specs.declared.ends.End.{End}
-use Rattle.uda_packet.specs.declared.ends.EndBody.{EndBody}
-use Rattle.uda_image.specs.Blocks.{IsImage}
+use Rattle.uda_mem.proofs.PutLaws.{put-nil}
+use Rattle.uda_packet.specs.declared.command.Command.{Command}
+use Rattle.uda_packet.specs.declared.command.Op.{Op}
+use Rattle.uda_packet.specs.declared.command.Op.TheVariants.{Status, Controller, Available, Online, Access, Erase, Read, Write}
+use Rattle.uda_packet.specs.declared.end.End.{End}
+use Rattle.uda_packet.specs.declared.end.EndBody.{EndBody}
+use Rattle.uda_packet.specs.declared.end.EndBody.TheVariants as body
+use Rattle.uda_packet.specs.declared.transfer.Transfer.{Transfer}
+use Rattle.uda_packet.specs.Opcode.{answered_opcode, blank_body}
+use Rattle.uda_packet.specs.Transfer.{transfer_of}
+use Rattle.uda_image.specs.Store.{StoreState, KeepsNature, IsImage}
 use Rattle.uda_exec.specs.declared.mode.Mode.{Mode}
-use Rattle.uda_exec.specs.Disks.{Disk, Volume}
+use Rattle.uda_exec.specs.declared.refusal.Refusal.{Refusal}
+use Rattle.uda_exec.specs.Disks.{Disk, UnitState, disk_of}
 use Rattle.uda_exec.specs.Status.{SUCCESS, DRIVE_ERROR}
-use Rattle.uda_exec.specs.Commands.{is_transfer, count_of, block_of, blocks_of, address_of, room_of}
-use Rattle.uda_exec.specs.Effect.{Outcome, Done, Lost, moved, sent, stored, transfer_fault, Refused, Acts, verdict_on, mode_after, status_of, body_of, plain_body, moved_status, moved_bytes, is_lost, FitsVerdict}
-use Rattle.uda_exec.specs.Transfers.{due, lands, landed, written, Progress, Lapse}
-use Rattle.uda_exec.specs.Execution.{TakesEffectOn, calls_store}
+use Rattle.uda_exec.specs.Commands.{is_controller, block_count, room_in, count_of, changes_memory}
+use Rattle.uda_exec.specs.Refusal.{refusal_status, transfer_refusal}
+use Rattle.uda_exec.specs.Transfers.{ChangesAt, blocks_due, bytes_landing, blocks_stored, Progress, StopsAt}
+use Rattle.uda_exec.specs.Effect.{Outcome, Done, Lost, blocks_moved, Refused, ActsOn, verdict_on, mode_after, mode_body, reply, plain_body, with_bytes_moved, transfer_status, transfer_bytes, is_lost, Fits, end_of}
+use Rattle.uda_exec.specs.Execution.{bytes_of, IsBodyOf, Answers, TakesEffectOn, calls_store, ServesUnit}
+use Rattle.uda_exec.proofs.Changes.{changes_nothing}
 use Rattle.uda_exec.proofs.Blocks.{AreBlocks, AreBlocks-take, length-concat_blocks}
-use Rattle.uda_exec.proofs.Progress.{InBounds, length-due, AreBlocks-due}
+use Rattle.uda_exec.proofs.Steps.{length-due_by, length-due_le, AreBlocks-due}
+
+-- ---- the ends
+
+opcode-with_bytes : (b : EndBody) (bytes : ℕ) → answered_opcode (with_bytes_moved b bytes) ≡ answered_opcode b
+opcode-with_bytes body.Invalid bytes = refl
+opcode-with_bytes (body.Status flags) bytes = refl
+opcode-with_bytes body.Controller bytes = refl
+opcode-with_bytes body.Available bytes = refl
+opcode-with_bytes (body.Online flags size) bytes = refl
+opcode-with_bytes (body.Moved kind old) bytes = refl
+
+bytes_of-with_bytes : (b : EndBody) (bytes : ℕ) → bytes_of (with_bytes_moved b bytes) ≤ bytes
+bytes_of-with_bytes body.Invalid bytes = zero-le
+bytes_of-with_bytes (body.Status flags) bytes = zero-le
+bytes_of-with_bytes body.Controller bytes = zero-le
+bytes_of-with_bytes body.Available bytes = zero-le
+bytes_of-with_bytes (body.Online flags size) bytes = zero-le
+bytes_of-with_bytes (body.Moved kind old) bytes = omega arith
+
+-- the plain body is the command's, with a byte count of at most its own
+pub IsBodyOf-plain : (op : Op) (bytes : ℕ) → bytes ≤ count_of op → IsBodyOf op (plain_body op bytes)
+IsBodyOf-plain op bytes h = record { opcode = opcode-with_bytes (blank_body op) bytes; within = omega (arith, bytes_of-with_bytes (blank_body op) bytes) }
+
+pub Answers-plain : (c : Command) (status bytes : ℕ) → bytes ≤ count_of c.op → Answers c (reply c status (plain_body c.op bytes))
+Answers-plain c status bytes h = record { reference = refl; unit = refl; body = IsBodyOf-plain c.op bytes h }
+
+IsBodyOf-mode : (op : Op) (size : ℕ) (mode : Mode) → IsBodyOf op (mode_body op size mode)
+IsBodyOf-mode Status size mode = record { opcode = refl; within = zero-le }
+IsBodyOf-mode Controller size mode = IsBodyOf-plain Controller 0 zero-le
+IsBodyOf-mode Available size mode = IsBodyOf-plain Available 0 zero-le
+IsBodyOf-mode (Online soft) size mode = record { opcode = refl; within = zero-le }
+IsBodyOf-mode (Access count block) size mode = IsBodyOf-plain (Access count block) 0 zero-le
+IsBodyOf-mode (Erase count block) size mode = IsBodyOf-plain (Erase count block) 0 zero-le
+IsBodyOf-mode (Read count address block) size mode = IsBodyOf-plain (Read count address block) 0 zero-le
+IsBodyOf-mode (Write count address block) size mode = IsBodyOf-plain (Write count address block) 0 zero-le
+
+pub Answers-mode : (c : Command) (disk : Disk) → transfer_of c.op ≡ None → Answers c (end_of Done c (ActsOn disk))
+Answers-mode c disk is = rw is (record { reference = refl; unit = refl; body = IsBodyOf-mode c.op disk.size disk.mode })
+
+-- ---- a command that moves no blocks
+
+-- the unit's mode is what the command leaves, and nothing else changed
+pub takes_mode : (c : Command) (unit : UnitState) (memory : List ℕ) → transfer_of c.op ≡ None
+    → TakesEffectOn c unit memory (end_of Done c (ActsOn (disk_of unit))) (record unit { mode = mode_after c.op unit.mode }) memory
+takes_mode c unit memory is =
+    let none = put-nil memory 0 in
+    record {
+      outcome = Done;
+      fits = tt;
+      end_is = rw (is, is) refl;
+      memory_is = rw (is, is) (sym (put-nil memory 0));
+      disk_is = rw (is, is) (ap (λ (b : List (List ℕ)). record { blocks = b; size = unit.store.size; mode = mode_after c.op unit.mode }) (sym (put-nil unit.store.blocks 0)));
+      failures_are = sym (add-zero unit.store.failures);
+      sure = λ never. refl;
+    }
+
+-- no command changes a unit's own protection
+hard-online : (online : Bool) (mode other : Mode) → other.hard ≡ mode.hard → (if online then mode else other).hard ≡ mode.hard
+hard-online true mode other h = refl
+hard-online false mode other h = h
+
+hard-mode_after : (op : Op) (mode : Mode) → (mode_after op mode).hard ≡ mode.hard
+hard-mode_after Status mode = refl
+hard-mode_after Controller mode = refl
+hard-mode_after Available mode = refl
+hard-mode_after (Online soft) mode = hard-online mode.online mode _ refl
+hard-mode_after (Access count block) mode = refl
+hard-mode_after (Erase count block) mode = refl
+hard-mode_after (Read count address block) mode = refl
+hard-mode_after (Write count address block) mode = refl
+
+pub serves_mode : (c : Command) (unit : UnitState) (memory : List ℕ) → transfer_of c.op ≡ None
+    → ServesUnit c unit memory (end_of Done c (ActsOn (disk_of unit))) (record unit { mode = mode_after c.op unit.mode }) memory
+serves_mode c unit memory is = record {
+  answers = Answers-mode c (disk_of unit) is;
+  memory_stays = changes_nothing memory _ _;
+  nature_stays = ap (λ (hard : Bool). record { size = unit.store.size; hard = hard; faithful = unit.store.faithful; never_fails = unit.store.never_fails }) (hard-mode_after c.op unit.mode);
+  mode_stays = λ transfers. let none = rw is at transfers in absurd (cc);
+  unit_stays = λ idle. let none = rw is at idle in absurd (cc);
+  takes_effect = λ trusted. takes_mode c unit memory is;
+}
+
+-- ---- a transfer
 
 -- what a transfer that passes its checks is known of
-pub record Passes (op : Op) (memory size : ℕ) : Type 0 where
-  pub whole : count_of op % 512 ≡ 0
-  pub on_unit : block_of op + blocks_of op ≤ size
-  pub in_memory : address_of op + room_of op ≤ memory
+pub record Passes (t : Transfer) (memory size : ℕ) : Type 0 where
+  pub whole : t.count % 512 ≡ 0
+  pub on_unit : t.block + block_count t ≤ size
+  pub in_memory : t.buffer + room_in t ≤ memory
 
-pub passes_if : (op : Op) (memory size : ℕ) (mode : Mode) → transfer_fault op memory size mode ≡ 0 → Passes op memory size
-passes_if op memory size mode h = record {
+pub passes_if : (t : Transfer) (memory size : ℕ) (mode : Mode) → transfer_refusal t memory size mode ≡ None → Passes t memory size
+passes_if t memory size mode h = record {
   whole = grind (arith, nat_tests);
   on_unit = grind (arith, nat_tests);
   in_memory = grind (arith, nat_tests);
 }
 
--- a transfer leaves its unit's mode, and its end says what was moved
-pub mode_after-transfer : (op : Op) (mode : Mode) → is_transfer op ≡ true → mode_after op mode ≡ mode
-mode_after-transfer Status mode h = absurd (cc)
-mode_after-transfer Controller mode h = absurd (cc)
-mode_after-transfer Available mode h = absurd (cc)
-mode_after-transfer (Online soft) mode h = absurd (cc)
-mode_after-transfer (Access count block) mode h = refl
-mode_after-transfer (Erase count block) mode h = refl
-mode_after-transfer (Read count address block) mode h = refl
-mode_after-transfer (Write count address block) mode h = refl
+-- a transfer speaks of a unit, and leaves its mode
+pub record OfTransfer (op : Op) : Type 0 where
+  pub speaks : is_controller op ≡ false
+  pub leaves_mode : (mode : Mode) → mode_after op mode ≡ mode
 
-status_of-transfer : (o : Outcome) (op : Op) (mode : Mode) → is_transfer op ≡ true → status_of o op mode ≡ moved_status o
-status_of-transfer o Status mode h = absurd (cc)
-status_of-transfer o Controller mode h = absurd (cc)
-status_of-transfer o Available mode h = absurd (cc)
-status_of-transfer o (Online soft) mode h = absurd (cc)
-status_of-transfer o (Access count block) mode h = refl
-status_of-transfer o (Erase count block) mode h = refl
-status_of-transfer o (Read count address block) mode h = refl
-status_of-transfer o (Write count address block) mode h = refl
+of_transfer : (op : Op) (t : Transfer) → transfer_of op ≡ Some t → OfTransfer op
+of_transfer Status t h = absurd (cc)
+of_transfer Controller t h = absurd (cc)
+of_transfer Available t h = absurd (cc)
+of_transfer (Online soft) t h = absurd (cc)
+of_transfer (Access count block) t h = record { speaks = refl; leaves_mode = λ mode. refl }
+of_transfer (Erase count block) t h = record { speaks = refl; leaves_mode = λ mode. refl }
+of_transfer (Read count address block) t h = record { speaks = refl; leaves_mode = λ mode. refl }
+of_transfer (Write count address block) t h = record { speaks = refl; leaves_mode = λ mode. refl }
 
-body_of-transfer : (o : Outcome) (op : Op) (size : ℕ) (mode : Mode) → is_transfer op ≡ true → body_of o op size mode ≡ plain_body op (moved_bytes o (count_of op))
-body_of-transfer o Status size mode h = absurd (cc)
-body_of-transfer o Controller size mode h = absurd (cc)
-body_of-transfer o Available size mode h = absurd (cc)
-body_of-transfer o (Online soft) size mode h = absurd (cc)
-body_of-transfer o (Access count block) size mode h = refl
-body_of-transfer o (Erase count block) size mode h = refl
-body_of-transfer o (Read count address block) size mode h = refl
-body_of-transfer o (Write count address block) size mode h = refl
+pub speaks : (op : Op) (t : Transfer) → transfer_of op ≡ Some t → is_controller op ≡ false
+speaks op t h = (of_transfer op t h).speaks
 
--- the bytes and blocks of an outcome, by what is due
-sent-due : (o : Outcome) (op : Op) (blocks : List (List ℕ)) (memory : List ℕ) → sent o op blocks ≡ (if lands op then take (count_of op) (concat (moved o (due op blocks memory))) else [])
-sent-due o Status blocks memory = refl
-sent-due o Controller blocks memory = refl
-sent-due o Available blocks memory = refl
-sent-due o (Online soft) blocks memory = refl
-sent-due o (Access count block) blocks memory = refl
-sent-due o (Erase count block) blocks memory = refl
-sent-due o (Read count address block) blocks memory = refl
-sent-due o (Write count address block) blocks memory = refl
-
-stored-due : (o : Outcome) (op : Op) (blocks : List (List ℕ)) (memory : List ℕ) → stored o op memory ≡ written op (moved o (due op blocks memory))
-stored-due o Status blocks memory = refl
-stored-due o Controller blocks memory = refl
-stored-due o Available blocks memory = refl
-stored-due o (Online soft) blocks memory = refl
-stored-due o (Access count block) blocks memory = refl
-stored-due o (Erase count block) blocks memory = refl
-stored-due o (Read count address block) blocks memory = refl
-stored-due o (Write count address block) blocks memory = refl
+pub mode_after-transfer : (op : Op) (t : Transfer) (mode : Mode) → transfer_of op ≡ Some t → mode_after op mode ≡ mode
+mode_after-transfer op t mode h = (of_transfer op t h).leaves_mode mode
 
 -- the first k blocks and what is left at block k
-moved-lost : (k : ℕ) (left : List ℕ) (blocks : List (List ℕ)) → k < length blocks → moved (Lost k left) blocks ≡ take k blocks ++ left ∷ []
-moved-lost k left blocks h =
+blocks_moved-lost : (k : ℕ) (left : List ℕ) (blocks : List (List ℕ)) → k < length blocks → blocks_moved (Lost k left) blocks ≡ take k blocks ++ left ∷ []
+blocks_moved-lost k left blocks h =
     let more : take (suc k) blocks ≡ take k blocks ++ get_or blocks k [] ∷ [] = rw (← add-one) (take_more blocks k [] h) in
     ap (λ (b : List (List ℕ)). set b k left) more ∙ set_at (take k blocks) (get_or blocks k []) [] left k (length-take-le k blocks (omega arith))
 
--- a transfer that passes its checks calls the store
-pub is_called : (op : Op) (memory : ℕ) (disk : Disk) → is_transfer op ≡ true → transfer_fault op memory disk.size disk.mode ≡ 0 → calls_store op (verdict_on op memory disk) ≡ true
-is_called op memory disk transfers no_fault = rw (transfers, no_fault) refl
+length-landing : (b : Bool) (blocks : List (List ℕ)) (n : ℕ) → AreBlocks blocks → 512 * length blocks ≤ n → length (if b then concat blocks else []) ≤ n
+length-landing true blocks n are h = omega (arith, length-concat_blocks blocks are)
+length-landing false blocks n are h = zero-le
 
-module _ (c : Command) (volume : Volume) (memory : List ℕ) (transfers : is_transfer c.op ≡ true)
-    (no_fault : transfer_fault c.op (length memory) volume.disk.size volume.disk.mode ≡ 0) (image : IsImage volume.disk.size volume.disk.blocks) where
-  acted : verdict_on c.op (length memory) volume.disk ≡ Acts volume.disk
-  acted = rw (transfers, no_fault) refl
+module _ (c : Command) (t : Transfer) (unit : UnitState) (memory : List ℕ) (is : transfer_of c.op ≡ Some t) where
+  -- a transfer that fails a check is refused, and changes nothing
+  pub takes_refused : (refusal : Refusal) → transfer_refusal t (length memory) unit.store.size unit.mode ≡ Some refusal
+      → TakesEffectOn c unit memory (reply c (refusal_status refusal) (plain_body c.op 0)) unit memory
+  takes_refused refusal h = record {
+    outcome = Done;
+    fits = tt;
+    end_is = rw (is, h) refl;
+    memory_is = rw (is, h) refl;
+    disk_is = rw (is, h) refl;
+    failures_are = sym (add-zero unit.store.failures);
+    sure = λ never. refl;
+  }
 
-  bounds : InBounds c.op volume.disk.blocks memory
-  bounds =
-      let passed = passes_if c.op (length memory) volume.disk.size volume.disk.mode no_fault in
-      record { are_blocks = image.whole; on_unit = rw image.counted passed.on_unit; in_memory = passed.in_memory }
+  pub serves_refused : (refusal : Refusal) → transfer_refusal t (length memory) unit.store.size unit.mode ≡ Some refusal
+      → ServesUnit c unit memory (reply c (refusal_status refusal) (plain_body c.op 0)) unit memory
+  serves_refused refusal h = record {
+    answers = Answers-plain c (refusal_status refusal) 0 zero-le;
+    memory_stays = changes_nothing memory _ _;
+    nature_stays = refl;
+    mode_stays = λ transfers. refl;
+    unit_stays = λ idle. refl;
+    takes_effect = λ trusted. takes_refused refusal h;
+  }
 
-  -- what is due, cut as an outcome says, is whole blocks within the count
-  all_sent : (o : Outcome) (front : List (List ℕ)) → moved o (due c.op volume.disk.blocks memory) ≡ front → AreBlocks front → length front ≤ blocks_of c.op → landed c.op front ≡ sent o c.op volume.disk.blocks
-  all_sent o front is blocks short =
-      let passed = passes_if c.op (length memory) volume.disk.size volume.disk.mode no_fault in
-      let size = length-concat_blocks front blocks in
-      let all : take (count_of c.op) (concat front) ≡ concat front = take_all (count_of c.op) (concat front) (omega arith) in
-      let cut : concat front ≡ take (count_of c.op) (concat (moved o (due c.op volume.disk.blocks memory))) = sym (ap (λ (f : List (List ℕ)). take (count_of c.op) (concat f)) is ∙ all) in
-      ap (λ (b : List ℕ). if lands c.op then b else []) cut ∙ sym (sent-due o c.op volume.disk.blocks memory)
+  module _ (passed : transfer_refusal t (length memory) unit.store.size unit.mode ≡ None) where
+    pub acts : verdict_on c.op (length memory) (disk_of unit) ≡ ActsOn (disk_of unit)
+    acts = rw (is, passed) refl
 
-  module _ (volume_after : Volume) (memory_left : List ℕ) (same_size : volume_after.disk.size ≡ volume.disk.size) (same_mode : volume_after.disk.mode ≡ volume.disk.mode) where
-    -- whatever the outcome: where the blocks and bytes stand as it says, the transfer takes effect
-    takes : (o : Outcome) (front : List (List ℕ)) → moved o (due c.op volume.disk.blocks memory) ≡ front → AreBlocks front → length front ≤ blocks_of c.op
-        → FitsVerdict o c.op (Acts volume.disk)
-        → memory_left ≡ put memory (address_of c.op) (landed c.op front)
-        → volume_after.disk.blocks ≡ put volume.disk.blocks (block_of c.op) (written c.op front)
-        → volume_after.failures ≡ volume.failures + (if is_lost o then 1 else 0)
-        → TakesEffectOn c volume memory (record { reference = c.reference; unit = c.unit; status = moved_status o; body = plain_body c.op (moved_bytes o (count_of c.op)) }) volume_after memory_left
-    takes o front is blocks short fits in_memory in_unit failed =
-        let make_end : ℕ → EndBody → End = λ s b. record { reference = c.reference; unit = c.unit; status = s; body = b } in
-        let make_disk : List (List ℕ) → ℕ → Mode → Disk = λ b n m. record { blocks = b; size = n; mode = m } in
-        let stands : volume_after.disk.blocks ≡ put volume.disk.blocks (block_of c.op) (stored o c.op memory) =
-        in_unit ∙ ap (λ (b : List (List ℕ)). put volume.disk.blocks (block_of c.op) b) (ap (written c.op) (sym is) ∙ sym (stored-due o c.op volume.disk.blocks memory)) in
-        let same : volume_after.disk.mode ≡ mode_after c.op volume.disk.mode = same_mode ∙ sym (mode_after-transfer c.op volume.disk.mode transfers) in
-        record {
-          outcome = o;
-          fits = rw acted fits;
-          end_is = rw acted (ap₂ make_end (sym (status_of-transfer o c.op volume.disk.mode transfers)) (sym (body_of-transfer o c.op volume.disk.size volume.disk.mode transfers)));
-          memory_is = rw acted (in_memory ∙ ap (λ (b : List ℕ). put memory (address_of c.op) b) (all_sent o front is blocks short));
-          disk_is = rw acted (ap (λ (b : List (List ℕ)). make_disk b volume_after.disk.size volume_after.disk.mode) stands ∙ ap₂ (make_disk (put volume.disk.blocks (block_of c.op) (stored o c.op memory))) same_size same);
-          failures_are = failed;
-        }
+    -- one of some blocks calls the store
+    pub is_called : 0 < block_count t → calls_store c.op (verdict_on c.op (length memory) (disk_of unit)) ≡ true
+    is_called some = let calls : nat_lt 0 (block_count t) ≡ true = grind (arith, nat_tests) in rw (is, passed, calls) refl
 
-    pub takes_done : Progress c.op (blocks_of c.op) volume.disk.blocks memory volume.failures volume_after.disk.blocks memory_left volume_after.failures
-        → TakesEffectOn c volume memory (record { reference = c.reference; unit = c.unit; status = SUCCESS; body = plain_body c.op (count_of c.op) }) volume_after memory_left
-    takes_done h =
-        let size = length-due c.op volume.disk.blocks memory bounds in
-        let all : take (blocks_of c.op) (due c.op volume.disk.blocks memory) ≡ due c.op volume.disk.blocks memory = take_all _ _ (omega arith) in
-        takes Done (due c.op volume.disk.blocks memory) refl (AreBlocks-due c.op volume.disk.blocks memory bounds) (omega arith) tt (rw all at h.in_memory) (rw all at h.in_unit) (h.failures_stay ∙ sym (add-zero volume.failures))
+    bounds : Passes t (length memory) unit.store.size
+    bounds = passes_if t (length memory) unit.store.size unit.mode passed
 
-    pub takes_lost : (k : ℕ) → k < blocks_of c.op → Lapse c.op k volume.disk.blocks memory volume.failures volume_after.disk.blocks memory_left volume_after.failures
-        → TakesEffectOn c volume memory (record { reference = c.reference; unit = c.unit; status = DRIVE_ERROR; body = plain_body c.op (512 * k) }) volume_after memory_left
-    takes_lost k inside h =
-        let size = length-due c.op volume.disk.blocks memory bounds in
-        let are = AreBlocks-due c.op volume.disk.blocks memory bounds in
-        let front = take k (due c.op volume.disk.blocks memory) in
-        let front_are : AreBlocks front = AreBlocks-take (due c.op volume.disk.blocks memory) k are in
-        let count : length (front ++ h.left ∷ []) ≤ blocks_of c.op = omega (arith, length-append front (h.left ∷ []), length-take k (due c.op volume.disk.blocks memory)) in
-        takes (Lost k h.left) (front ++ h.left ∷ []) (moved-lost k h.left _ (omega arith)) (All-push (λ b. length b ≡ 512) front h.left front_are h.whole) count
-        (record { passes = refl; within = inside; whole = h.whole }) h.in_memory h.in_unit h.counted
-
--- a transfer that fails a check is refused, and changes nothing
-pub takes_refused : (c : Command) (volume : Volume) (memory : List ℕ) (fault : ℕ) → is_transfer c.op ≡ true → transfer_fault c.op (length memory) volume.disk.size volume.disk.mode ≡ fault → 0 < fault
-    → TakesEffectOn c volume memory (record { reference = c.reference; unit = c.unit; status = fault; body = plain_body c.op 0 }) volume memory
-takes_refused c volume memory zero transfers is some = absurd (omega arith)
-takes_refused c volume memory (suc fault) transfers is some =
-    let refused : verdict_on c.op (length memory) volume.disk ≡ Refused (suc fault) = rw (transfers, is) refl in
-    record {
-      outcome = Done;
-      fits = tt;
-      end_is = rw refused refl;
-      memory_is = rw refused refl;
-      disk_is = rw refused refl;
-      failures_are = sym (add-zero volume.failures);
+    -- whatever the store
+    pub serves_moved : (new : StoreState) (memory_left : List ℕ) → KeepsNature unit.store new → ChangesAt memory t.buffer (if changes_memory t.kind then t.count else 0) memory_left
+        → (status bytes : ℕ) → bytes ≤ t.count
+        → ((0 < block_count t → unit.store.faithful ≡ true) → TakesEffectOn c unit memory (reply c status (plain_body c.op bytes)) (record { store = new; mode = unit.mode }) memory_left)
+        → ServesUnit c unit memory (reply c status (plain_body c.op bytes)) (record { store = new; mode = unit.mode }) memory_left
+    serves_moved new memory_left nature changes status bytes few takes = record {
+      answers = Answers-plain c status bytes (rw is few);
+      memory_stays = rw is changes;
+      nature_stays = rw (nature.size_stays, nature.faithful_stays, nature.never_fails_stays) refl;
+      mode_stays = λ transfers. refl;
+      unit_stays = λ idle. let none = rw acts at idle in absurd (cc);
+      takes_effect = λ trusted. takes (λ some. trusted (is_called some));
     }
+
+    module _ (image : 0 < block_count t → IsImage unit.store.size unit.store.blocks) (new : StoreState) (memory_left : List ℕ) (nature : KeepsNature unit.store new) where
+      abbrev due : List (List ℕ)
+      due = blocks_due t unit.store.blocks memory
+
+      are_due : AreBlocks due
+      are_due = AreBlocks-due t unit.store.blocks memory (λ some. (image some).whole) bounds.in_memory
+
+      short : length due ≤ block_count t
+      short = length-due_le t unit.store.blocks memory t.kind
+
+      -- whatever the outcome: where the blocks and bytes stand as it says, the transfer takes effect
+      takes : (o : Outcome) (front : List (List ℕ)) → blocks_moved o due ≡ front → AreBlocks front → length front ≤ block_count t
+          → Fits o c.op (ActsOn (disk_of unit))
+          → memory_left ≡ put memory t.buffer (bytes_landing t front)
+          → new.blocks ≡ put unit.store.blocks t.block (blocks_stored t front)
+          → new.failures ≡ unit.store.failures + (if is_lost o then 1 else 0)
+          → (unit.store.never_fails ≡ true → o ≡ Done)
+          → TakesEffectOn c unit memory (reply c (transfer_status o) (plain_body c.op (transfer_bytes o t.count))) (record { store = new; mode = unit.mode }) memory_left
+      takes o front moved are few fits in_memory in_store failed sure =
+          let room : length (bytes_landing t front) ≤ t.count = length-landing (changes_memory t.kind) front t.count are (omega (arith, bounds.whole)) in
+          let all : take t.count (bytes_landing t (blocks_moved o due)) ≡ bytes_landing t front = rw moved (take_all t.count (bytes_landing t front) room) in
+          let make : List (List ℕ) → ℕ → Disk = λ b n. record { blocks = b; size = n; mode = unit.mode } in
+          let mode : mode_after c.op unit.mode ≡ unit.mode = mode_after-transfer c.op t unit.mode is in
+          record {
+            outcome = o;
+            fits = rw acts fits;
+            end_is = rw (is, passed, is) refl;
+            memory_is = rw (is, passed, is) (in_memory ∙ ap (λ (b : List ℕ). put memory t.buffer b) (sym all));
+            disk_is = rw (is, passed, is, mode) (ap₂ make (in_store ∙ ap (λ (b : List (List ℕ)). put unit.store.blocks t.block (blocks_stored t b)) (sym moved)) nature.size_stays);
+            failures_are = failed;
+            sure = sure;
+          }
+
+      pub takes_done : Progress t (block_count t) unit.store memory new memory_left
+          → TakesEffectOn c unit memory (reply c SUCCESS (plain_body c.op t.count)) (record { store = new; mode = unit.mode }) memory_left
+      takes_done h =
+          let all : take (block_count t) due ≡ due = take_all _ _ short in
+          let stand = rw all at h.stand in
+          takes Done due refl are_due short tt stand.in_memory stand.in_store (h.failures_stay ∙ sym (add-zero unit.store.failures)) (λ never. refl)
+
+      pub takes_lost : (k : ℕ) → k < block_count t → (unit.store.never_fails ≡ true → ⊥) → StopsAt t k unit.store memory new memory_left
+          → TakesEffectOn c unit memory (reply c DRIVE_ERROR (plain_body c.op (512 * k))) (record { store = new; mode = unit.mode }) memory_left
+      takes_lost k inside unsure h =
+          let here : length due ≡ block_count t = length-due_by t unit.store.blocks memory (rw (image (omega arith)).counted bounds.on_unit) t.kind in
+          let front = take k due in
+          let front_are : AreBlocks front = AreBlocks-take due k are_due in
+          let few : length (front ++ h.left ∷ []) ≤ block_count t = omega (arith, length-append front (h.left ∷ []), length-take k due) in
+          takes (Lost k h.left) (front ++ h.left ∷ []) (blocks_moved-lost k h.left due (omega arith)) (All-push (λ b. length b ≡ 512) front h.left front_are h.whole) few
+          (record { passes = refl; within = rw is inside; whole = h.whole }) h.stand.in_memory h.stand.in_store h.counted (λ never. absurd (unsure never))

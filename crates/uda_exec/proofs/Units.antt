@@ -1,19 +1,20 @@
 -- One command on the units of an executor.
-use Rattle.std.proofs.Common.{◌≡◌, ◌≢◌, ℕ, zero, suc, ◌<◌, ◌≤◌, zero-le, true, false, List, [], ◌∷◌, length, set, Option, Some, None, refl, sym, ap, ap₂, ◌∙◌, arith, add-zero}
-use Rattle.std.specs.Prelude.{option_map, slice_get}
+use Rattle.std.proofs.Common.{◌≡◌, ◌≢◌, ℕ, ◌<◌, ◌≤◌, zero-le, zero, suc, true, false, List, [], ◌∷◌, length, set, Option, Some, None, refl, sym, ap, ap₂, ◌∙◌, arith, add-zero}
+use Rattle.std.specs.Prelude.{option_map, slice_get, map, All}
 use Rattle.std.proofs.lemmas.List.{map-set}
 use Rattle.std.proofs.lemmas.Option.{slice_get_past, slice_get_within, slice_get-map}
-use Rattle.uda_packet.specs.declared.commands.Command.{Command}
-use Rattle.uda_packet.specs.declared.commands.Op.{Op}
-use Rattle.uda_packet.specs.declared.commands.Op.TheVariants.{Status, Controller, Available, Online, Access, Erase, Read, Write}
-use Rattle.uda_packet.specs.declared.ends.End.{End}
-use Rattle.uda_exec.specs.Disks.{Disk, Disks, Volume, disks_of}
-use Rattle.uda_exec.specs.Commands.{is_controller, address_of, landing_of}
-use Rattle.uda_exec.specs.Effect.{World, Outcome, Done, Verdict, Refused, Acts, verdict, verdict_on, plain_body, world_after, memory_after, disk_left}
-use Rattle.uda_exec.specs.Status.{SUCCESS, UNIT_UNKNOWN, NO_VOLUME}
-use Rattle.uda_exec.specs.Transfers.{ChangesAt}
-use Rattle.uda_exec.specs.Execution.{Answers, IsBodyOf, Nature, nature_of, natures_of, world_of, TakesEffectOn, calls_store, Executes}
-use Rattle.uda_exec.proofs.Changes.{changes_nothing}
+use Rattle.uda_packet.specs.declared.command.Command.{Command}
+use Rattle.uda_packet.specs.declared.end.End.{End}
+use Rattle.uda_exec.specs.declared.mode.Mode.{Mode}
+use Rattle.std.proofs.lemmas.List.Elements.{All-map, All-weaker}
+use Rattle.uda_exec.specs.Disks.{Disk, Disks, UnitState, disk_of, disks_of, HoldsImage, AreImages}
+use Rattle.uda_exec.specs.Drives.{reset_unit}
+use Rattle.uda_exec.specs.Commands.{is_controller, landing_of}
+use Rattle.uda_exec.specs.Effect.{World, Outcome, Done, Lost, Verdict, OfController, Refused, ActsOn, is_acting, verdict, verdict_on, effect, end_of, world_after, Fits}
+use Rattle.uda_exec.specs.declared.refusal.Refusal.TheVariants.{UnitUnknown, NoVolume}
+use Rattle.uda_exec.specs.Execution.{Answers, Nature, nature_of, natures_of, modes_of, world_of, EndsBy, ServesUnit, TakesEffectOn, Executes, memory_by, disk_by}
+use Rattle.uda_exec.proofs.Changes.{changes_nothing, ChangesAt-none}
+use Rattle.uda_exec.proofs.Transferred.{Answers-plain}
 
 pub slice_get-set_same : {A : Type 0} (xs : List A) (i : ℕ) (a : A) → i < length xs → slice_get (set xs i a) i ≡ Some a
 slice_get-set_same [] i a h = absurd (omega arith)
@@ -33,80 +34,106 @@ set-itself [] i a h = refl
 set-itself (x ∷ xs) zero a h = let same : x ≡ a = cc in ap (λ y. y ∷ xs) (sym same)
 set-itself (x ∷ xs) (suc i) a h = ap (λ ys. x ∷ ys) (set-itself xs i a h)
 
--- the body of an opcode with a byte count of at most its own
-pub body_of-plain : (op : Op) → IsBodyOf op (plain_body op 0)
-body_of-plain Status = tt
-body_of-plain Controller = tt
-body_of-plain Available = tt
-body_of-plain (Online soft) = tt
-body_of-plain (Access count block) = zero-le
-body_of-plain (Erase count block) = zero-le
-body_of-plain (Read count address block) = zero-le
-body_of-plain (Write count address block) = zero-le
+-- what is known of each unit stays where it stays of the one that is set
+map-set_same : {A B : Type 0} (f : A → B) (units : List (Option A)) (i : ℕ) (old new : A) → slice_get units i ≡ Some (Some old) → f new ≡ f old
+    → map (option_map f) (set units i (Some new)) ≡ map (option_map f) units
+map-set_same f units i old new here same =
+    map-set (option_map f) units i (Some new) ∙ ap (λ b. set (map (option_map f) units) i (Some b)) same
+    ∙ set-itself (map (option_map f) units) i (Some (f old)) (slice_get-map (option_map f) units i ∙ ap (option_map (option_map f)) here)
 
--- a command that is refused, or that speaks of no unit, changes nothing
-pub executes_refused : (c : Command) (units : List (Option Volume)) (memory : List ℕ) (fault : ℕ) → verdict c (world_of units memory) ≡ Refused fault
-    → Executes c units memory (record { reference = c.reference; unit = c.unit; status = fault; body = plain_body c.op 0 }) units memory
-executes_refused c units memory fault h = record {
-  answers = record { reference = refl; unit = refl; body = body_of-plain c.op };
+-- a command that acts on no disk changes nothing
+pub world_after-idle : (o : Outcome) (c : Command) (v : Verdict) (w : World) → is_acting v ≡ false → world_after o c v w ≡ w
+world_after-idle o c OfController w idle = refl
+world_after-idle o c (Refused refusal) w idle = refl
+world_after-idle o c (ActsOn disk) w idle = absurd (cc)
+
+pub executes_idle : (c : Command) (units : List (Option UnitState)) (memory : List ℕ) (v : Verdict) (e : End) → verdict c (world_of units memory) ≡ v → is_acting v ≡ false
+    → e ≡ end_of Done c v → Answers c e → Executes c units memory e units memory
+executes_idle c units memory v e judged idle is_end answers = record {
+  answers = answers;
   memory_stays = changes_nothing memory _ _;
+  memory_is_kept = λ unread. refl;
   others_stay = λ u apart. refl;
   natures_stay = refl;
-  takes_effect = λ called. record { outcome = Done; fits = tt; effect_is = rw h refl; failures_are = sym (add-zero _) };
+  modes_stay = λ transfers. refl;
+  units_stay = λ acts. refl;
+  takes_effect = λ trusted. record {
+    outcome = Done;
+    ends = rw judged (ap₂ (λ (a : End) (b : World). (a, b)) is_end (sym (world_after-idle Done c v (world_of units memory) idle)));
+    failures_are = sym (add-zero _);
+    sure = λ never. refl;
+  };
 }
 
 -- the world that a verdict leaves, by memory and by the unit's disk
 world_after-parts : (o : Outcome) (c : Command) (v : Verdict) (w : World) (disk : Disk) → slice_get w.disks c.unit ≡ Some (Some disk)
-    → world_after o c v w ≡ record { memory = memory_after o c.op v w.memory; disks = set w.disks c.unit (Some (disk_left o c.op v w.memory disk)) }
-world_after-parts o c (Refused fault) w disk here =
-    let make : Disks → World = λ disks. record { memory = w.memory; disks = disks } in ap make (sym (set-itself w.disks c.unit (Some disk) here))
-world_after-parts o c (Acts d) w disk here = refl
+    → world_after o c v w ≡ record { memory = memory_by o c.op v w.memory; disks = set w.disks c.unit (Some (disk_by o c.op v w.memory disk)) }
+world_after-parts o c OfController w disk here = ap (λ (d : Disks). record { memory = w.memory; disks = d }) (sym (set-itself w.disks c.unit (Some disk) here))
+world_after-parts o c (Refused refusal) w disk here = ap (λ (d : Disks). record { memory = w.memory; disks = d }) (sym (set-itself w.disks c.unit (Some disk) here))
+world_after-parts o c (ActsOn d) w disk here = refl
 
-pub executes_on : (c : Command) (units : List (Option Volume)) (memory : List ℕ) (volume volume_after : Volume) (e : End) (memory_left : List ℕ)
-    → is_controller c.op ≡ false → slice_get units c.unit ≡ Some (Some volume)
-    → Answers c e → ChangesAt memory (address_of c.op) (landing_of c.op) memory_left → nature_of volume_after ≡ nature_of volume
-    → ((calls_store c.op (verdict_on c.op (length memory) volume.disk) ≡ true → volume.faithful ≡ true) → TakesEffectOn c volume memory e volume_after memory_left)
-    → Executes c units memory e (set units c.unit (Some volume_after)) memory_left
-executes_on c units memory volume volume_after e memory_left speaks here answers changes nature takes =
-    let inside : c.unit < length units = slice_get_within units c.unit (Some volume) here in
-    let disk_here : slice_get (disks_of units) c.unit ≡ Some (Some volume.disk) = slice_get-map _ units c.unit ∙ ap (option_map (option_map (λ (v : Volume). v.disk))) here in
-    let judged : verdict c (world_of units memory) ≡ verdict_on c.op (length memory) volume.disk = rw (speaks, disk_here) refl in
-    let there : slice_get (set units c.unit (Some volume_after)) c.unit ≡ Some (Some volume_after) = slice_get-set_same units c.unit (Some volume_after) inside in
-    let natures : natures_of (set units c.unit (Some volume_after)) ≡ natures_of units =
-    map-set (option_map nature_of) units c.unit (Some volume_after) ∙ ap (λ (n : Nature). set (natures_of units) c.unit (Some n)) nature
-    ∙ set-itself (natures_of units) c.unit (Some (nature_of volume)) (slice_get-map (option_map nature_of) units c.unit ∙ ap (option_map (option_map nature_of)) here) in
-    record {
-      answers = answers;
-      memory_stays = changes;
-      others_stay = λ u apart. slice_get-set_other units c.unit u (Some volume_after) apart;
-      natures_stay = natures;
-      takes_effect = λ called.
-          let t = takes (λ calls. let trusted = called (rw judged calls) in rw here at trusted) in
-          let make_world : List ℕ → Disks → World = λ m d. record { memory = m; disks = d } in
-          let v = verdict_on c.op (length memory) volume.disk in
-          let disks_are : disks_of (set units c.unit (Some volume_after)) ≡ set (disks_of units) c.unit (Some (disk_left t.outcome c.op v memory volume.disk)) =
-          map-set _ units c.unit (Some volume_after) ∙ ap (λ (d : Disk). set (disks_of units) c.unit (Some d)) t.disk_is in
-          let worlds : make_world memory_left (disks_of (set units c.unit (Some volume_after))) ≡ world_after t.outcome c v (world_of units memory) =
-          ap₂ make_world t.memory_is disks_are ∙ sym (world_after-parts t.outcome c v (world_of units memory) volume.disk disk_here) in
-          let make_pair : End → World → End × World = λ a b. (a, b) in
-          record {
-            outcome = t.outcome;
-            fits = rw judged t.fits;
-            effect_is = rw judged (ap₂ make_pair t.end_is worlds);
-            failures_are = rw (there, here) t.failures_are;
-          };
-    }
+-- the end and the world are an effect of the outcome, which fits
+ends_by : (o : Outcome) (c : Command) (w : World) (e : End) (after : World) → Fits o c.op (verdict c w) → (e, after) ≡ effect o c w → EndsBy o c w e after
+ends_by Done c w e after fits is = is
+ends_by (Lost k left) c w e after fits is = record { fits = fits; effect_is = is }
+
+module _ (c : Command) (units : List (Option UnitState)) (memory : List ℕ) (unit unit_after : UnitState) (e : End) (memory_left : List ℕ)
+    (speaks : is_controller c.op ≡ false) (here : slice_get units c.unit ≡ Some (Some unit)) where
+  there : slice_get (set units c.unit (Some unit_after)) c.unit ≡ Some (Some unit_after)
+  there = slice_get-set_same units c.unit (Some unit_after) (slice_get_within units c.unit (Some unit) here)
+
+  disk_here : slice_get (disks_of units) c.unit ≡ Some (Some (disk_of unit))
+  disk_here = slice_get-map _ units c.unit ∙ ap (option_map (option_map disk_of)) here
+
+  judged : verdict c (world_of units memory) ≡ verdict_on c.op (length memory) (disk_of unit)
+  judged = rw (speaks, disk_here) refl
+
+  pub executes_on : ServesUnit c unit memory e unit_after memory_left → Executes c units memory e (set units c.unit (Some unit_after)) memory_left
+  executes_on s = record {
+    answers = s.answers;
+    memory_stays = s.memory_stays;
+    memory_is_kept = λ unread. ChangesAt-none memory memory_left _ (rw unread at s.memory_stays);
+    others_stay = λ u apart. slice_get-set_other units c.unit u (Some unit_after) apart;
+    natures_stay = map-set_same nature_of units c.unit unit unit_after here s.nature_stays;
+    modes_stay = λ transfers. map-set_same (λ (u : UnitState). u.mode) units c.unit unit unit_after here (s.mode_stays transfers);
+    units_stay = λ idle. ap (λ (u : UnitState). set units c.unit (Some u)) (s.unit_stays (rw judged at idle)) ∙ set-itself units c.unit (Some unit) here;
+    takes_effect = λ trusted.
+        let t = s.takes_effect (λ calls. let faithful = trusted (rw judged calls) in rw here at faithful) in
+        let v = verdict_on c.op (length memory) (disk_of unit) in
+        let make_world : List ℕ → Disks → World = λ m d. record { memory = m; disks = d } in
+        let disks_are : disks_of (set units c.unit (Some unit_after)) ≡ set (disks_of units) c.unit (Some (disk_by t.outcome c.op v memory (disk_of unit))) =
+        map-set _ units c.unit (Some unit_after) ∙ ap (λ (d : Disk). set (disks_of units) c.unit (Some d)) t.disk_is in
+        let worlds : make_world memory_left (disks_of (set units c.unit (Some unit_after))) ≡ world_after t.outcome c v (world_of units memory) =
+        ap₂ make_world t.memory_is disks_are ∙ sym (world_after-parts t.outcome c v (world_of units memory) (disk_of unit) disk_here) in
+        let make_pair : End → World → End × World = λ a b. (a, b) in
+        record {
+          outcome = t.outcome;
+          ends = ends_by t.outcome c _ e _ (rw judged t.fits) (rw judged (ap₂ make_pair t.end_is worlds));
+          failures_are = rw (there, here) t.failures_are;
+          sure = λ never. let promised = rw here at never in t.sure promised;
+        };
+  }
 
 -- the ways in which a command finds no disk
-pub verdict-controller : (c : Command) (w : World) → is_controller c.op ≡ true → verdict c w ≡ Refused SUCCESS
+pub verdict-controller : (c : Command) (w : World) → is_controller c.op ≡ true → verdict c w ≡ OfController
 verdict-controller c w h = rw h refl
 
-pub verdict-unknown : (c : Command) (units : List (Option Volume)) (memory : List ℕ) → is_controller c.op ≡ false → length units ≤ c.unit → verdict c (world_of units memory) ≡ Refused UNIT_UNKNOWN
+pub verdict-unknown : (c : Command) (units : List (Option UnitState)) (memory : List ℕ) → is_controller c.op ≡ false → length units ≤ c.unit
+    → verdict c (world_of units memory) ≡ Refused UnitUnknown
 verdict-unknown c units memory h past =
-    let none : slice_get (disks_of units) c.unit ≡ None = slice_get-map _ units c.unit ∙ ap (option_map (option_map (λ (v : Volume). v.disk))) (slice_get_past units c.unit past) in
+    let none : slice_get (disks_of units) c.unit ≡ None = slice_get-map _ units c.unit ∙ ap (option_map (option_map disk_of)) (slice_get_past units c.unit past) in
     rw (h, none) refl
 
-pub verdict-empty : (c : Command) (units : List (Option Volume)) (memory : List ℕ) → is_controller c.op ≡ false → slice_get units c.unit ≡ Some None → verdict c (world_of units memory) ≡ Refused NO_VOLUME
+pub verdict-empty : (c : Command) (units : List (Option UnitState)) (memory : List ℕ) → is_controller c.op ≡ false → slice_get units c.unit ≡ Some None
+    → verdict c (world_of units memory) ≡ Refused NoVolume
 verdict-empty c units memory h here =
-    let none : slice_get (disks_of units) c.unit ≡ Some None = slice_get-map _ units c.unit ∙ ap (option_map (option_map (λ (v : Volume). v.disk))) here in
+    let none : slice_get (disks_of units) c.unit ≡ Some None = slice_get-map _ units c.unit ∙ ap (option_map (option_map disk_of)) here in
     rw (h, none) refl
+
+-- a unit that is reset has the blocks that it had
+HoldsImage-reset : (unit : Option UnitState) → HoldsImage unit → HoldsImage (reset_unit unit)
+HoldsImage-reset None holds = tt
+HoldsImage-reset (Some unit) holds = holds
+
+pub AreImages-reset : (units : List (Option UnitState)) → AreImages units → AreImages (map reset_unit units)
+AreImages-reset units are = All-map HoldsImage reset_unit units (All-weaker HoldsImage (λ unit. HoldsImage (reset_unit unit)) HoldsImage-reset units are)

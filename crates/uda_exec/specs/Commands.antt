@@ -1,57 +1,53 @@
--- What a command names: the blocks of its range and the bytes of its buffer. MSCP Basic Disk Functions Manual: transfer commands.
-use Rattle.std.specs.Prelude.{ℕ, ◌/◌, Bool, true, false}
-use Rattle.uda_packet.specs.declared.commands.Op.{Op}
-use Rattle.uda_packet.specs.declared.commands.Op.TheVariants.{Controller, Access, Erase, Read, Write}
+-- What a command names: the blocks of its range and the bytes of its buffer.
+-- MSCP Basic Disk Functions Manual: transfer commands.
+use Rattle.std.specs.Prelude.{ℕ, ◌/◌, Bool, true, false, is_some, if◌then◌else◌}
+use Rattle.std.specs.Option.{option_map_or}
+use Rattle.uda_packet.specs.declared.command.Op.{Op}
+use Rattle.uda_packet.specs.declared.command.Op.TheVariants.{Controller}
+use Rattle.uda_packet.specs.declared.end.Kind.{Kind}
+use Rattle.uda_packet.specs.declared.end.Kind.TheVariants.{Read}
+use Rattle.uda_packet.specs.declared.transfer.Transfer.{Transfer}
+use Rattle.uda_packet.specs.Transfer.{transfer_of, changes_blocks, has_buffer}
 
+-- how many blocks a transfer's range has, and how many bytes its buffer
+abbrev pub block_count : Transfer → ℕ
+block_count t = t.count / 512
+
+abbrev pub room_in : Transfer → ℕ
+room_in t = if has_buffer t.kind then t.count else 0
+
+-- a Read alone changes memory
+abbrev pub changes_memory : Kind → Bool
+changes_memory Read = true
+changes_memory _ = false
+
+-- Set Controller Characteristics speaks of no unit
 abbrev pub is_controller : Op → Bool
 is_controller Controller = true
 is_controller _ = false
 
--- Access, Erase, Read and Write
+-- the same of any command: an operation that is no transfer names nothing
 abbrev pub is_transfer : Op → Bool
-is_transfer (Access count block) = true
-is_transfer (Erase count block) = true
-is_transfer (Read count address block) = true
-is_transfer (Write count address block) = true
-is_transfer _ = false
+is_transfer op = is_some (transfer_of op)
 
--- Write and Erase change blocks
-abbrev pub changes_blocks : Op → Bool
-changes_blocks (Erase count block) = true
-changes_blocks (Write count address block) = true
-changes_blocks _ = false
+abbrev pub is_changing : Op → Bool
+is_changing op = option_map_or (λ t. changes_blocks t.kind) (transfer_of op) false
 
--- bytes of a transfer; 0 for the other commands
 abbrev pub count_of : Op → ℕ
-count_of (Access count block) = count
-count_of (Erase count block) = count
-count_of (Read count address block) = count
-count_of (Write count address block) = count
-count_of _ = 0
+count_of op = option_map_or (λ t. t.count) (transfer_of op) 0
 
--- the first block of a transfer's range, and how many there are; nothing for the other commands
-abbrev pub block_of : Op → ℕ
-block_of (Access count block) = block
-block_of (Erase count block) = block
-block_of (Read count address block) = block
-block_of (Write count address block) = block
-block_of _ = 0
+abbrev pub first_block_of : Op → ℕ
+first_block_of op = option_map_or (λ t. t.block) (transfer_of op) 0
 
 abbrev pub blocks_of : Op → ℕ
-blocks_of op = count_of op / 512
+blocks_of op = option_map_or block_count (transfer_of op) 0
 
--- the first byte of a host buffer, and how many it has; only Read and Write have one
 abbrev pub address_of : Op → ℕ
-address_of (Read count address block) = address
-address_of (Write count address block) = address
-address_of _ = 0
+address_of op = option_map_or (λ t. t.buffer) (transfer_of op) 0
 
 abbrev pub room_of : Op → ℕ
-room_of (Read count address block) = count
-room_of (Write count address block) = count
-room_of _ = 0
+room_of op = option_map_or room_in (transfer_of op) 0
 
--- how much of its buffer a command may change: a Read's alone
+-- how much of its buffer a command may change
 abbrev pub landing_of : Op → ℕ
-landing_of (Read count address block) = count
-landing_of _ = 0
+landing_of op = option_map_or (λ t. if changes_memory t.kind then t.count else 0) (transfer_of op) 0

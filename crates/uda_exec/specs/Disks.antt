@@ -1,8 +1,8 @@
 -- The units of a controller as its commands see them.
 -- MSCP Basic Disk Functions Manual: unit states, write protection.
-use Rattle.std.specs.Prelude.{◌≡◌, ℕ, ◌+◌, Bool, true, List, Option, Some, None, map, option_map, All, if◌then◌else◌}
-use Rattle.uda_packet.specs.declared.commands.Command.{Command}
-use Rattle.uda_image.specs.Blocks.{IsImage}
+use Rattle.std.specs.Prelude.{◌≡◌, ℕ, ◌+◌, true, List, Option, Some, None, map, option_map, All, if◌then◌else◌}
+use Rattle.uda_packet.specs.declared.command.Command.{Command}
+use Rattle.uda_image.specs.Store.{StoreState, IsImage}
 use Rattle.uda_exec.specs.declared.mode.Mode.{Mode}
 
 -- a unit with a drive: its blocks, how many there are, and its mode
@@ -19,24 +19,26 @@ Disks = List (Option Disk)
 abbrev pub flags_of : Mode → ℕ
 flags_of mode = (if mode.soft then 0x1000 else 0) + (if mode.hard then 0x2000 else 0)
 
--- a unit as an executor holds it: a disk, and what is known of the store behind it
-pub record Volume : Type 0 where
-  pub disk : Disk
-  pub faithful : Bool
-  pub failures : ℕ
+-- a unit with a drive as an executor holds it
+pub record UnitState : Type 0 where
+  pub store : StoreState
+  pub mode : Mode
 
 -- an executor: its units, and the commands that it has accepted and not done, oldest first
-pub record State : Type 0 where
-  pub units : List (Option Volume)
+pub record ExecState : Type 0 where
+  pub units : List (Option UnitState)
   pub pending : List Command
 
-abbrev pub disks_of : List (Option Volume) → Disks
-disks_of units = map (option_map (λ volume. volume.disk)) units
+abbrev pub disk_of : UnitState → Disk
+disk_of unit = record { blocks = unit.store.blocks; size = unit.store.size; mode = unit.mode }
+
+abbrev pub disks_of : List (Option UnitState) → Disks
+disks_of units = map (option_map disk_of) units
 
 -- a unit whose store is faithful has as many blocks as its size says, each of 512 bytes
-abbrev pub HoldsImage : Option Volume → Type 0
+abbrev pub HoldsImage : Option UnitState → Type 0
 HoldsImage None = Unit {0}
-HoldsImage (Some volume) = volume.faithful ≡ true → IsImage volume.disk.size volume.disk.blocks
+HoldsImage (Some unit) = unit.store.faithful ≡ true → IsImage unit.store.size unit.store.blocks
 
-abbrev pub AreImages : List (Option Volume) → Type 0
+abbrev pub AreImages : List (Option UnitState) → Type 0
 AreImages units = All HoldsImage units

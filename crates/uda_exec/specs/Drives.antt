@@ -1,49 +1,34 @@
 -- Drives as they are handed to an executor and handed back.
-use Rattle.std.specs.Prelude.{ℕ, Bool, false, List, Option, map, option_map}
+use Rattle.std.specs.Prelude.{Bool, false, List, Option, map, option_map}
 use Rattle.uda_image.specs.declared.store.Drive.{Drive}
-use Rattle.uda_exec.specs.Disks.{Volume}
+use Rattle.uda_image.specs.Store.{StoreState}
+use Rattle.uda_exec.specs.Disks.{UnitState}
 
--- what contracts see of a drive: its hardware protection, and its store's blocks, their number, whether it is faithful, and its failures
-pub record Seen : Type 0 where
+-- what contracts see of a drive: its store, and its own write protection
+pub record DriveState : Type 0 where
+  pub store : StoreState
   pub hard : Bool
-  pub blocks : List (List ℕ)
-  pub size : ℕ
-  pub faithful : Bool
-  pub failures : ℕ
 
-abbrev pub seen_of : {S : Type 0} → (S → List (List ℕ)) → (S → ℕ) → (S → Bool) → (S → ℕ) → Drive S → Seen
-seen_of blocks size faithful failures drive = record {
-  hard = drive.hard;
-  blocks = blocks drive.store;
-  size = size drive.store;
-  faithful = faithful drive.store;
-  failures = failures drive.store;
-}
+abbrev pub drive_state : {S : Type 0} → (S → StoreState) → Drive S → DriveState
+drive_state state drive = record { store = state drive.store; hard = drive.hard }
 
--- a drive in its place at first: available, without software protection
-abbrev pub fresh : Seen → Volume
-fresh seen = record {
-  disk = record { blocks = seen.blocks; size = seen.size; mode = record { online = false; hard = seen.hard; soft = false } };
-  faithful = seen.faithful;
-  failures = seen.failures;
-}
+abbrev pub drive_states : {S : Type 0} → (S → StoreState) → List (Option (Drive S)) → List (Option DriveState)
+drive_states state drives = map (option_map (drive_state state)) drives
+
+-- a drive as a unit at first: available, without software protection
+abbrev pub fresh_unit : DriveState → UnitState
+fresh_unit drive = record { store = drive.store; mode = record { online = false; hard = drive.hard; soft = false } }
+
+abbrev pub fresh_units : List (Option DriveState) → List (Option UnitState)
+fresh_units drives = map (option_map fresh_unit) drives
 
 -- a unit's drive as it is
-abbrev pub seen_in : Volume → Seen
-seen_in volume = record {
-  hard = volume.disk.mode.hard;
-  blocks = volume.disk.blocks;
-  size = volume.disk.size;
-  faithful = volume.faithful;
-  failures = volume.failures;
-}
+abbrev pub drive_in : UnitState → DriveState
+drive_in unit = record { store = unit.store; hard = unit.mode.hard }
 
-abbrev pub fresh_units : List (Option Seen) → List (Option Volume)
-fresh_units drives = map (option_map fresh) drives
+abbrev pub drives_in : List (Option UnitState) → List (Option DriveState)
+drives_in units = map (option_map drive_in) units
 
--- every unit with a drive available again, without software protection; blocks stay
-abbrev pub reset_unit : Option Volume → Option Volume
-reset_unit unit = option_map (λ volume. fresh (seen_in volume)) unit
-
-abbrev pub drives_in : List (Option Volume) → List (Option Seen)
-drives_in units = map (option_map seen_in) units
+-- a unit with a drive is available again, without software protection; its store stays
+abbrev pub reset_unit : Option UnitState → Option UnitState
+reset_unit unit = option_map (λ u. fresh_unit (drive_in u)) unit

@@ -1,9 +1,9 @@
 pub mod Status
 pub mod Disks
-pub mod Commands
-pub mod Effect
 pub mod Drives
-pub mod Faults
+pub mod Commands
+pub mod Refusal
 pub mod Transfers
-pub mod Execution
+pub mod Effect
 pub mod Order
+pub mod Execution

@@ -1,19 +1,21 @@
 //! The executor: four units, and the commands that it has accepted.
 //!
 //! MSCP Basic Disk Functions Manual: unit states, command ordering.
-ghost use Rattle.std.specs.Prelude.{◌≡◌, ℕ, ◌+◌, ◌<◌, ◌≤◌, ◌↔◌, [], ◌∷◌, ◌++◌, length, map, option_map, IsNone, IfNone, IfSome};
+ghost use Rattle.std.specs.Prelude.{◌≡◌, ℕ, ◌+◌, ◌<◌, ◌≤◌, [], ◌∷◌, ◌++◌, length, map, option_map, IsNone, IfNone, IfSome, ◌↔◌};
 ghost use Rattle.uda_exec.specs.Disks.{HoldsImage, AreImages};
-ghost use Rattle.uda_exec.specs.Drives.{seen_of, seen_in, fresh, fresh_units, drives_in, reset_unit};
+ghost use Rattle.uda_exec.specs.Commands.{is_controller};
+ghost use Rattle.uda_exec.specs.Drives.{drive_state, drive_states, drive_in, fresh_unit, fresh_units, drives_in, reset_unit};
 ghost use Rattle.uda_exec.specs.Execution.{Executes, ExecutesAt};
 
-use crate::checks::is_controller;
-use crate::places::Place;
-use crate::replies::{plain_body, refuse, reply};
+use crate::choice::{Position, next_place};
+use crate::drive_unit::DriveUnit;
+use crate::refusal::Refusal;
+use crate::reply::{plain_body, refuse, reply};
 use arrayvec::ArrayVec;
 use std::marker::Model;
 use uda_image::{BlockStore, Drive};
 use uda_mem::HostMemory;
-use uda_packet::{Command, End, status};
+use uda_packet::{Command, End, Op, status};
 
 /// The most commands that may be pending at a time: as many as a host may have out.
 pub const PENDING: usize = 8;
@@ -21,47 +23,48 @@ pub const PENDING: usize = 8;
 /// Four units, numbered from 0, and the commands that were accepted and are not yet done.
 ///
 /// A unit has a drive or none. One with a drive is available or online, and has hardware protection,
-/// software protection, both or neither. Contracts see of each drive its blocks, how many there are, its
-/// mode, whether its store is faithful and how often that has failed, and the pending commands with the
-/// oldest first. Only the stores may take memory or touch a file: the executor itself does neither.
+/// software protection, both or neither. Contracts see of each drive its store and its mode, and the
+/// pending commands with the oldest first. Only the stores may take memory or touch a file: the executor
+/// itself does neither.
 ///
 /// MSCP Basic Disk Functions Manual: unit states, write protection, command ordering.
 #[derive(Drop)]
 pub struct Exec<S: BlockStore> {
-    places: [Option<Place<S>>; 4],
+    units: [Option<DriveUnit<S>>; 4],
     pending: ArrayVec<Command, PENDING>,
+    position: Position,
 }
 
-// Clauses see the units as volumes, and the pending commands in order.
+// The position that the last transfer reached decides which command goes next, and no contract tells it.
 impl<S: BlockStore> Model for Exec<S> {
-    ghost use Rattle.uda_exec.specs.Disks.{State};
+    ghost use Rattle.uda_exec.specs.Disks.{ExecState, AreImages};
     ghost use Rattle.arrayvec.specs.ArrayVec.{array_vec_len};
     ghost use Rattle.std.specs.Prelude.{◌≡◌, length};
 
-    ghost Value = { State };
+    ghost Value = { ExecState };
 
-    ghost view = { λ e. record { units = e.places; pending = e.pending.items } };
+    ghost view = { λ e. record { units = e.units; pending = e.pending.items } };
 
-    ghost invariant = { λ e. length e.places ≡ 4 };
+    ghost invariant = { λ e. (length e.units ≡ 4) × AreImages e.units };
 }
 
-fn place_of<S: BlockStore>(drive: Option<Drive<S>>) -> Option<Place<S>>
-    ensures place { result ≡ option_map fresh (option_map (seen_of S.blocks S.block_count S.faithful S.failures) drive) }
+fn unit_of<S: BlockStore>(drive: Option<Drive<S>>) -> Option<DriveUnit<S>>
+    ensures unit { result ≡ option_map fresh_unit (option_map (drive_state S.state) drive) }
     ensures image { HoldsImage result }
 {
     match drive {
         None => None,
-        Some(drive) => Some(Place::new(drive)),
+        Some(drive) => Some(DriveUnit::new(drive)),
     }
 }
 
-fn places_of<S: BlockStore>(drives: [Option<Drive<S>>; 4]) -> [Option<Place<S>>; 4]
-    ensures places { result ≡ fresh_units (map (option_map (seen_of S.blocks S.block_count S.faithful S.failures)) drives) }
+fn units_of<S: BlockStore>(drives: [Option<Drive<S>>; 4]) -> [Option<DriveUnit<S>>; 4]
+    ensures units { result ≡ fresh_units (drive_states S.state drives) }
     ensures four { length result ≡ 4 }
     ensures images { AreImages result }
 {
     let [a, b, c, d] = drives;
-    [place_of(a), place_of(b), place_of(c), place_of(d)]
+    [unit_of(a), unit_of(b), unit_of(c), unit_of(d)]
 }
 
 impl<S: BlockStore> Exec<S> {
@@ -72,14 +75,15 @@ impl<S: BlockStore> Exec<S> {
     ///
     /// MSCP Basic Disk Functions Manual: unit states.
     pub fn new(drives: [Option<Drive<S>>; 4]) -> Exec<S>
-        ensures units { result.units ≡ fresh_units (map (option_map (seen_of S.blocks S.block_count S.faithful S.failures)) drives) }
+        ensures units { result.units ≡ fresh_units (drive_states S.state drives) }
         ensures pending { result.pending ≡ [] }
         ensures four { length result.units ≡ 4 }
         ensures images { AreImages result.units }
     {
         Exec {
-            places: places_of(drives),
+            units: units_of(drives),
             pending: ArrayVec::new(),
+            position: Position::START,
         }
     }
 
@@ -104,8 +108,12 @@ impl<S: BlockStore> Exec<S> {
         self.pending.len()
     }
 
-    /// Executes the oldest pending command, takes it out and answers its end message. None where nothing
-    /// is pending, and then nothing changes.
+    /// Executes one pending command that may go, takes it out and answers its end message. None where
+    /// nothing is pending, and then nothing changes.
+    ///
+    /// A command may go where each older one is of another unit, or both are transfers. Which of those
+    /// goes no contract says; it is the oldest that is no transfer, and else the transfer that comes next
+    /// by unit and block behind the last one, or the very first where none does.
     ///
     /// Of `memory` only the buffer of a Read changes, and of the units only the command's own. A command
     /// that is refused changes nothing. Its status is
@@ -128,17 +136,15 @@ impl<S: BlockStore> Exec<S> {
     pub fn execute_one(&mut self, memory: &mut HostMemory) -> Option<End>
         ensures idle { IsNone result ↔ (self.old.pending ≡ []) }
         ensures unchanged { IfNone result ((self.new ≡ self.old) × (memory.new ≡ memory.old)) }
-        ensures images { AreImages self.old.units → AreImages self.new.units }
+        ensures fewer { IfSome result (λ _. length self.new.pending + 1 ≡ length self.old.pending) }
+        ensures four { length self.new.units ≡ 4 }
+        ensures images { AreImages self.new.units }
         ensures executes { IfSome result (λ end. (j : ℕ) × ExecutesAt j self.old memory.old end self.new memory.new) }
-
-        // Until commands may be chosen, the oldest goes.
-        ensures oldest { IfSome result (λ end. ExecutesAt 0 self.old memory.old end self.new memory.new) }
     {
-        if self.pending.is_empty() {
-            return None;
-        }
-        let command = self.pending.remove(0);
-        Some(execute(&mut self.places, command, memory))
+        let place = next_place(self.pending.as_slice(), self.position)?;
+        let command = self.pending.remove(place);
+        self.position = self.position.after(command);
+        Some(execute(&mut self.units, command, memory))
     }
 
     /// Forgets the pending commands, which get no end message, and makes every unit with a drive
@@ -148,70 +154,80 @@ impl<S: BlockStore> Exec<S> {
     pub fn reset(&mut self)
         ensures units { self.new.units ≡ map reset_unit self.old.units }
         ensures pending { self.new.pending ≡ [] }
+        ensures four { length self.new.units ≡ 4 }
+        ensures images { AreImages self.new.units }
     {
         self.pending.clear();
-        reset(&mut self.places);
+        self.position = Position::START;
+        reset(&mut self.units);
     }
 
     /// The drives, taken out: drive `u` is that of unit `u`, None where that has none. Each has its blocks
     /// as the commands left them and its hardware protection. Pending commands are forgotten.
     pub fn into_stores(self) -> [Option<Drive<S>>; 4]
-        ensures drives { map (option_map (seen_of S.blocks S.block_count S.faithful S.failures)) result ≡ drives_in self.units }
+        ensures drives { drive_states S.state result ≡ drives_in self.units }
     {
-        drives_of(self.places)
+        drives_of(self.units)
     }
 }
 
-fn drive_of<S: BlockStore>(place: Option<Place<S>>) -> Option<Drive<S>>
-    ensures { option_map (seen_of S.blocks S.block_count S.faithful S.failures) result ≡ option_map seen_in place }
+fn drive_of<S: BlockStore>(unit: Option<DriveUnit<S>>) -> Option<Drive<S>>
+    ensures { option_map (drive_state S.state) result ≡ option_map drive_in unit }
 {
-    match place {
+    match unit {
         None => None,
-        Some(place) => Some(place.into_drive()),
+        Some(unit) => Some(unit.into_drive()),
     }
 }
 
-fn drives_of<S: BlockStore>(places: [Option<Place<S>>; 4]) -> [Option<Drive<S>>; 4]
-    ensures { map (option_map (seen_of S.blocks S.block_count S.faithful S.failures)) result ≡ drives_in places }
+fn drives_of<S: BlockStore>(units: [Option<DriveUnit<S>>; 4]) -> [Option<Drive<S>>; 4]
+    ensures { drive_states S.state result ≡ drives_in units }
 {
-    let [a, b, c, d] = places;
+    let [a, b, c, d] = units;
     [drive_of(a), drive_of(b), drive_of(c), drive_of(d)]
 }
 
-fn reset_place<S: BlockStore>(place: &mut Option<Place<S>>)
-    ensures { place.new ≡ reset_unit place.old }
+fn reset_unit<S: BlockStore>(unit: &mut Option<DriveUnit<S>>)
+    ensures { unit.new ≡ reset_unit unit.old }
 {
-    if let Some(place) = place {
-        place.reset();
+    if let Some(unit) = unit {
+        unit.reset();
     }
 }
 
-fn reset<S: BlockStore>(places: &mut [Option<Place<S>>])
-    ensures { places.new ≡ map reset_unit places.old }
+fn reset<S: BlockStore>(units: &mut [Option<DriveUnit<S>>])
+    ensures { units.new ≡ map reset_unit units.old }
 {
-    for place in places.iter_mut() {
-        reset_place(place);
+    for unit in units.iter_mut() {
+        reset_unit(unit);
     }
+}
+
+// Whether a command is Set Controller Characteristics, which speaks of no unit.
+fn is_controller(op: Op) -> bool
+    ensures { result ≡ is_controller op }
+{
+    matches!(op, Op::Controller)
 }
 
 // Does one command on the units: on its own, or on none where there is no such unit.
 fn execute<S: BlockStore>(
-    places: &mut [Option<Place<S>>],
+    units: &mut [Option<DriveUnit<S>>],
     command: Command,
     memory: &mut HostMemory,
 ) -> End
-    ensures executes { Executes command places.old memory.old result places.new memory.new }
-    ensures images { AreImages places.old → AreImages places.new }
+    ensures executes { Executes command units.old memory.old result units.new memory.new }
+    ensures images { AreImages units.old → AreImages units.new }
 {
     if is_controller(command.op) {
         return reply(command, status::SUCCESS, plain_body(command.op, 0));
     }
     let unit = usize::from(command.unit);
-    if unit >= places.len() {
-        return refuse(command, status::UNIT_UNKNOWN);
+    if unit >= units.len() {
+        return refuse(command, Refusal::UnitUnknown);
     }
-    match &mut places[unit] {
-        None => refuse(command, status::NO_VOLUME),
-        Some(place) => place.execute(command, memory),
+    match &mut units[unit] {
+        None => refuse(command, Refusal::NoVolume),
+        Some(unit) => unit.execute(command, memory),
     }
 }

@@ -2,22 +2,24 @@
 //! them, with blocks moved between host memory and the stores of the units.
 //!
 //! What a command does is said by one definition, its effect (`specs/Effect.antt`), and what one
-//! execution does by another (`specs/Execution.antt`). The laws of doing commands in another order are
-//! in `order`.
+//! execution does by another (`specs/Execution.antt`). Which of the pending commands goes next is chosen
+//! in `choice`, and no contract tells it. The laws of doing commands in another order are in `order`.
 //!
 //! MSCP Basic Disk Functions Manual: unit states, commands and end messages, command ordering.
 #![tactic(auto)]
 
-mod checks;
+mod choice;
+mod drive_unit;
 mod executor;
 mod mode;
+mod movement;
 pub mod order;
-mod places;
-mod replies;
-mod transfers;
+mod refusal;
+mod reply;
 
 pub use executor::{Exec, PENDING};
 pub use mode::Mode;
+pub use refusal::Refusal;
 
 #[cfg(test)]
 mod tests;

@@ -21,7 +21,7 @@ impl Mode {
     ghost use Rattle.std.specs.Prelude.{◌≡◌, false, unwrap_or, if◌then◌else◌};
     ghost use Rattle.uda_exec.specs.Disks.{flags_of};
     ghost use Rattle.uda_exec.specs.Effect.{mode_after};
-    ghost use Rattle.uda_packet.specs.declared.commands.Op.TheVariants.{Available as AvailableOp, Online as OnlineOp};
+    ghost use Rattle.uda_packet.specs.declared.command.Op.TheVariants.{Available as AvailableOp, Online as OnlineOp};
 
     /// The unit flags of an end message: 0x1000 where software protection is on, and 0x2000 where
     /// hardware protection is.

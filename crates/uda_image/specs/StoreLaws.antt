@@ -20,12 +20,12 @@ pub block_count-le : (bytes : List ℕ) → block_count_of bytes ≤ BLOCK_LIMIT
 unfolding block_count_of
 block_count-le bytes = min-le (length bytes / 512)
 
-length-first_chunks : (k : ℕ) (bytes : List ℕ) → length (first_chunks 512 k bytes) ≡ k
+pub length-first_chunks : (k : ℕ) (bytes : List ℕ) → length (first_chunks 512 k bytes) ≡ k
 length-first_chunks zero bytes = refl
 length-first_chunks (suc k) bytes = ap suc (length-first_chunks k (drop 512 bytes))
 
 -- where there are so many bytes, each block is whole
-All-first_chunks : (k : ℕ) (bytes : List ℕ) → k * 512 ≤ length bytes
+pub All-first_chunks : (k : ℕ) (bytes : List ℕ) → k * 512 ≤ length bytes
     → All (λ block. length block ≡ 512) (first_chunks 512 k bytes)
 All-first_chunks zero bytes h = All-nil (λ block. length block ≡ 512)
 All-first_chunks (suc k) bytes h =

@@ -1,5 +1,5 @@
 //! Images in memory that fail at one call.
-ghost use Rattle.std.specs.Prelude.{◌≡◌, ◌-◌, ◌<◌, ◌↔◌, true, is_ok, IsErr, IfErr, if◌then◌else◌};
+ghost use Rattle.std.specs.Prelude.{length, ◌≡◌, ◌-◌, ◌<◌, ◌↔◌, true, is_ok, IsErr, IfErr, if◌then◌else◌};
 ghost use Rattle.uda_image.specs.Store.{Reads, Writes, KeepsNature};
 ghost use Rattle.uda_image.specs.Image.{block_count_of, block_of, with_block, half_written, failing_state};
 ghost use Rattle.uda_image.specs.StoreLaws.{block_count-le, IsImage-blocks_of};
@@ -99,6 +99,7 @@ impl BlockStore for FailingImage {
         ensures to { to.new ≡ (if is_ok result then block_of self.old.bytes n else to.old) }
         ensures error { IfErr result (λ e. e ≡ StoreError.Read) }
         ensures reads { Reads (failing_state self.old) n (failing_state self.new) to.new result }
+        ensures long { length to.new ≡ 512 }
     {
         if self.fails_now() {
             return Err(StoreError::Read);

@@ -1,5 +1,5 @@
 //! Images in files.
-ghost use Rattle.std.specs.Prelude.{◌≡◌, ◌≢◌, ◌≤◌, false, IfOk, IfErr};
+ghost use Rattle.std.specs.Prelude.{length, ◌≡◌, ◌≢◌, ◌≤◌, false, IfOk, IfErr};
 ghost use Rattle.uda_image.specs.declared.store.TheConstants.{BLOCK_LIMIT};
 ghost use Rattle.uda_image.specs.Image.{file_state};
 ghost use Rattle.uda_image.specs.StoreLaws.{min-le, no_image};
@@ -93,6 +93,7 @@ impl BlockStore for FileImage {
     fn read(&mut self, n: u32, to: &mut [u8; 512]) -> Result<(), StoreError>
         ensures unchanged { self.new ≡ self.old }
         ensures error { IfErr result (λ e. e ≡ StoreError.Read) }
+        ensures long { length to.new ≡ 512 }
     {
         match self.file.read_exact_at(to, 512 * u64::from(n)) {
             Ok(()) => Ok(()),

@@ -117,6 +117,7 @@ impl BlockStore for MemImage {
         ensures unchanged { self.new ≡ self.old }
         ensures value { to.new ≡ block_of self.old n }
         ensures reads { Reads (image_state self.old) n (image_state self.new) to.new result }
+        ensures long { length to.new ≡ 512 }
     {
         let start = 512 * n as usize;
         to.copy_from_slice(&self.bytes[start..start + 512]);

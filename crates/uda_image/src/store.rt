@@ -1,5 +1,5 @@
 //! What a store of a unit's blocks is: the trait `BlockStore`, and a drive that holds one.
-ghost use Rattle.std.specs.Prelude.{◌≡◌, ◌<◌, ◌≤◌, true, IfErr, IsOk};
+ghost use Rattle.std.specs.Prelude.{length, ◌≡◌, ◌<◌, ◌≤◌, true, IfErr, IsOk};
 ghost use Rattle.uda_image.specs.Store.{StoreState, IsImage, KeepsNature, Reads, Writes};
 ghost use Rattle.uda_image.specs.declared.store.TheConstants.{BLOCK_LIMIT};
 
@@ -59,6 +59,7 @@ pub trait BlockStore {
         ensures nature { KeepsNature (state self.old) (state self.new) }
         ensures error { IfErr result (λ e. e ≡ StoreError.Read) }
         ensures sure { (state self.old).never_fails ≡ true → IsOk result }
+        ensures long { length to.new ≡ 512 }
         ensures reads { (state self.old).faithful ≡ true
             → Reads (state self.old) n (state self.new) to.new result };
 

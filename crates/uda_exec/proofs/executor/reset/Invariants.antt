@@ -3,5 +3,5 @@ use Rattle.uda_exec.specs.Drives.{reset_unit}
 use Rattle.uda_exec.proofs.executor.reset.Given as goal
 
 -- the units before this one are reset, and the others as they were
-abbrev pub invariant-loop-place : goal.invariant-loop-place
-invariant-loop-place g l = l.places ≡ map reset_unit (take l.place-index l.initial.places) ++ drop l.place-index l.initial.places
+abbrev pub invariant-loop-unit : goal.invariant-loop-unit
+invariant-loop-unit g l = l.units ≡ map reset_unit (take l.unit-index l.initial.units) ++ drop l.unit-index l.initial.units

@@ -2,12 +2,13 @@
 //!
 //! MSCP Basic Disk Functions Manual: end messages.
 ghost use Rattle.std.specs.Prelude.{◌≡◌};
-ghost use Rattle.uda_exec.specs.Effect.{plain_body};
+ghost use Rattle.uda_exec.specs.Effect.{plain_body, reply};
+ghost use Rattle.uda_exec.specs.Refusal.{refusal_status};
 
+use crate::refusal::Refusal;
 use uda_packet::{Command, End, EndBody, Kind, Op};
 
-/// The body of an end message with this byte count, where its opcode has one, and all other
-/// numbers 0.
+// The body of an end message with this byte count, where its opcode has one, and all other numbers 0.
 pub fn plain_body(op: Op, bytes: u32) -> EndBody
     ensures { result ≡ plain_body op bytes }
 {
@@ -29,9 +30,9 @@ fn moved(kind: Kind, bytes: u32) -> EndBody
     EndBody::Moved { kind, bytes }
 }
 
-/// The end message of a command, with this status and this body.
+// The end message of a command, with this status and this body.
 pub fn reply(command: Command, status: u16, body: EndBody) -> End
-    ensures { result ≡ record { reference = command.reference; unit = command.unit; status = status; body = body } }
+    ensures { result ≡ reply command status body }
 {
     End {
         reference: command.reference,
@@ -41,9 +42,9 @@ pub fn reply(command: Command, status: u16, body: EndBody) -> End
     }
 }
 
-/// The end message of a command that was refused: all its numbers are 0.
-pub fn refuse(command: Command, status: u16) -> End
-    ensures { result ≡ record { reference = command.reference; unit = command.unit; status = status; body = plain_body command.op 0 } }
+// The end message of a command that was refused: all its numbers are 0.
+pub fn refuse(command: Command, refusal: Refusal) -> End
+    ensures { result ≡ reply command (refusal_status refusal) (plain_body command.op 0) }
 {
-    reply(command, status, plain_body(command.op, 0))
+    reply(command, refusal.status(), plain_body(command.op, 0))
 }

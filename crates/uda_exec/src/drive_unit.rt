@@ -1,0 +1,135 @@
+//! A unit with a drive, and what its commands do to it.
+//!
+//! MSCP Basic Disk Functions Manual: Access, Available, Erase, Get Unit Status, Online, Read and Write
+//! commands.
+ghost use Rattle.std.specs.Prelude.{◌≡◌, false};
+ghost use Rattle.uda_packet.specs.Transfer.{transfer_of};
+ghost use Rattle.uda_exec.specs.Disks.{HoldsImage, disk_of};
+ghost use Rattle.uda_exec.specs.Commands.{is_controller};
+ghost use Rattle.uda_exec.specs.Effect.{Done, ActsOn, end_of, mode_after};
+ghost use Rattle.uda_exec.specs.Drives.{drive_state, drive_in, fresh_unit};
+ghost use Rattle.uda_exec.specs.Execution.{ServesUnit};
+
+use crate::mode::Mode;
+use crate::movement::{BLOCK, move_blocks};
+use crate::refusal::transfer_refusal;
+use crate::reply::{plain_body, refuse, reply};
+use std::marker::Model;
+use uda_image::{BlockStore, Drive};
+use uda_mem::HostMemory;
+use uda_packet::{Command, End, EndBody, Op, Transfer, status};
+
+/// The store of a unit's blocks, and the unit's mode.
+#[derive(Drop)]
+pub struct DriveUnit<S: BlockStore> {
+    store: S,
+    mode: Mode,
+}
+
+impl<S: BlockStore> Model for DriveUnit<S> {
+    ghost use Rattle.uda_exec.specs.Disks.{UnitState};
+
+    ghost Value = { UnitState };
+
+    ghost view = { λ u. record { store = S.state u.store; mode = u.mode } };
+}
+
+impl<S: BlockStore> DriveUnit<S> {
+    /// A drive as a unit: available, without software protection.
+    pub fn new(drive: Drive<S>) -> Self
+        ensures unit { result ≡ fresh_unit (drive_state S.state drive) }
+        ensures image { HoldsImage (Some result) }
+    {
+        let Drive { store, hard } = drive;
+        let mode = Mode {
+            online: false,
+            hard,
+            soft: false,
+        };
+        DriveUnit { store, mode }
+    }
+
+    /// The drive, taken out, with its hardware protection.
+    pub fn into_drive(self) -> Drive<S>
+        ensures drive { drive_state S.state result ≡ drive_in self }
+    {
+        let DriveUnit { store, mode } = self;
+        Drive {
+            store,
+            hard: mode.hard,
+        }
+    }
+
+    /// Makes the unit available, without software protection.
+    pub fn reset(&mut self)
+        ensures unit { self.new ≡ fresh_unit (drive_in self.old) }
+    {
+        self.mode = self.mode.available();
+    }
+
+    // Access, Erase, Read or Write: all checks, and then the blocks.
+    fn transfer(&mut self, command: Command, t: Transfer, memory: &mut HostMemory) -> End
+        requires { transfer_of command.op ≡ Some t }
+        ensures serves { ServesUnit command self.old memory.old result self.new memory.new }
+        ensures image { HoldsImage (Some self.new) }
+    {
+        if let Some(refusal) = transfer_refusal(t, memory.len(), self.store.size(), self.mode) {
+            return refuse(command, refusal);
+        }
+        let (status, bytes) = match move_blocks(t, &mut self.store, memory) {
+            Ok(()) => (status::SUCCESS, t.count),
+            Err(lost) => (status::DRIVE_ERROR, BLOCK * lost.block),
+        };
+        reply(command, status, plain_body(command.op, bytes))
+    }
+
+    // Get Unit Status, which tells an available unit from an online one by its status; Available, which
+    // succeeds on an available unit too; or Online, which changes nothing of a unit that is online.
+    fn set_mode(&mut self, command: Command) -> End
+        requires transfer { transfer_of command.op ≡ None }
+        requires controller { is_controller command.op ≡ false }
+        ensures end { result ≡ end_of Done command (ActsOn (disk_of self.old)) }
+        ensures unit { self.new ≡ record self.old { mode = mode_after command.op self.old.mode } }
+        ensures image { HoldsImage (Some self.new) }
+    {
+        let was_online = self.mode.online;
+        match command.op {
+            Op::Available => {
+                self.mode = self.mode.available();
+                reply(command, status::SUCCESS, EndBody::Available)
+            }
+            Op::Online { soft } => {
+                self.mode = self.mode.online(soft);
+                let status = if was_online {
+                    status::ALREADY_ONLINE
+                } else {
+                    status::SUCCESS
+                };
+                let (flags, size) = (self.mode.flags(), self.store.size());
+                reply(command, status, EndBody::Online { flags, size })
+            }
+            _ => {
+                let status = if was_online {
+                    status::SUCCESS
+                } else {
+                    status::AVAILABLE
+                };
+                let flags = self.mode.flags();
+                reply(command, status, EndBody::Status { flags })
+            }
+        }
+    }
+
+    /// Does a command of this unit, any but Set Controller Characteristics, and answers its end
+    /// message.
+    pub fn execute(&mut self, command: Command, memory: &mut HostMemory) -> End
+        requires unit { is_controller command.op ≡ false }
+        ensures serves { ServesUnit command self.old memory.old result self.new memory.new }
+        ensures image { HoldsImage (Some self.new) }
+    {
+        match command.op.transfer() {
+            Some(t) => self.transfer(command, t, memory),
+            None => self.set_mode(command),
+        }
+    }
+}

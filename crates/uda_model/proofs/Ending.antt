@@ -14,6 +14,7 @@ use Rattle.uda_exec.specs.Commands.{address_of, room_of, landing_of}
 use Rattle.uda_exec.specs.Transfers.{ChangesAt}
 use Rattle.uda_exec.specs.Order.{Apart, OrderIsFree}
 use Rattle.uda_exec.specs.Execution.{ExecutesAt}
+use Rattle.uda_exec.proofs.Changes.{landing-le}
 use Rattle.uda_exec.proofs.Units.{slice_get-set_same, slice_get-set_other}
 use Rattle.uda_model.specs.Request.{Request, Online, Available, Status, Read, Access, Write, Erase, too_long}
 use Rattle.uda_model.specs.Answer.{Answer, TooLong}
@@ -21,7 +22,7 @@ use Rattle.uda_model.specs.Posting.{answer_of, Posted, posted_command, commands_
 use Rattle.uda_model.specs.Keeping.{Owes, Ended, Tells, Beside, IsNotDue, Keeps}
 use Rattle.uda_model.proofs.Lists.{map-remove, All-remove, All-insert, All-at, insert-remove}
 use Rattle.uda_model.proofs.Ordering.{beside_pairs, beside_others}
-use Rattle.uda_model.proofs.Owing.{owes_skip, owes_post, owes_put, owes_execute, Executed, slice_get-append, slice_get-last, front_same, front_of, landing-le}
+use Rattle.uda_model.proofs.Owing.{owes_skip, owes_post, owes_put, owes_execute, Executed, slice_get-append, slice_get-last, front_same, front_of}
 
 -- ---- what a memory that changed elsewhere leaves of an end that waits
 

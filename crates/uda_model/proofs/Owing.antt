@@ -19,6 +19,7 @@ use Rattle.uda_exec.specs.Effect.{World, Fits, is_lost}
 use Rattle.uda_exec.specs.Transfers.{ChangesAt}
 use Rattle.uda_exec.specs.Order.{MayGo, Apart, OrderIsFree}
 use Rattle.uda_exec.specs.Execution.{is_faithful, failures_at, world_of, Executes, ExecutesAt}
+use Rattle.uda_exec.proofs.Changes.{landing-le}
 use Rattle.uda_exec.proofs.Swap.{data_of-put}
 use Rattle.uda_exec.proofs.Units.{slice_get-set_same, slice_get-set_other}
 use Rattle.uda_model.specs.Request as ask
@@ -212,16 +213,6 @@ one_more_error lost u unit n m same h = let own : nat_eq unit u ≡ true = eq-eq
 
 no_more_error : (lost : Bool) (u unit n m : ℕ) → u ≢ unit → m ≡ n → m ≡ n + (let k : ℕ = if nat_eq unit u && lost then 1 else 0 in k)
 no_more_error lost u unit n m other h = let apart : nat_eq unit u ≡ false = ne_eqb unit u (λ e. other (sym e)) in rw apart (h ∙ omega arith)
-
-pub landing-le : (o : Op) → landing_of o ≤ room_of o
-landing-le op.Status = omega arith
-landing-le op.Controller = omega arith
-landing-le op.Available = omega arith
-landing-le (op.Online soft) = omega arith
-landing-le (op.Access count block) = omega arith
-landing-le (op.Erase count block) = omega arith
-landing-le (op.Read count address block) = omega arith
-landing-le (op.Write count address block) = omega arith
 
 -- memory that one command changed leaves the others ready
 ready-changed : (c : Command) (memory left : List ℕ) (ps : List Posted) → ChangesAt memory (address_of c.op) (landing_of c.op) left → All (Beside c) (commands_in ps) → All (λ p. Ready p memory) ps → All (λ p. Ready p left) ps

@@ -13,7 +13,8 @@ use Rattle.uda_exec.specs.Status.{SUCCESS, ALREADY_ONLINE, AVAILABLE, DRIVE_ERRO
 use Rattle.uda_exec.specs.Refusal.{refusal_status}
 use Rattle.uda_exec.specs.Effect.{Outcome, Done, Lost, blocks_moved, transfer_status}
 use Rattle.uda_model.specs.Request as ask
-use Rattle.uda_model.specs.Request.{Request, Extent, unit_of, extent_of, first_of, count_of, too_long}
+use Rattle.uda_model.specs.Request.{Request, unit_of, extent_of, first_of, count_of, too_long}
+use Rattle.uda_model.specs.declared.extent.Extent.{Extent}
 use Rattle.uda_model.specs.Answer.{Answer, TooLong, Plain, Online, Status, Moved, Data, blank_answer, status_of}
 
 -- ---- what bars a request

@@ -27,7 +27,7 @@ use Rattle.uda_model.specs.Answer.{Answer, TooLong}
 use Rattle.uda_model.specs.Clash.{clash}
 use Rattle.uda_model.specs.Posting.{Posted, posted_command, commands_in, answer_of, buffer_of, bytes_brought, Ready}
 use Rattle.uda_model.specs.Keeping.{Ended, Beside, Has, Keeps, Owes, Outs}
-use Rattle.uda_host.specs.Layout.{command_packet, command_descriptor, owner_word, packet, HoldsPacket, with_command, with_packet, with_response, memory_reopened}
+use Rattle.uda_host.specs.Layout.{slots, buffers_start, flag_word, response_descriptor, response_packet, command_packet, command_descriptor, owner_word, packet, HoldsPacket, with_command, with_packet, with_response, memory_reopened}
 use Rattle.uda_host.specs.InStep.{IsAbove, IsSound, InStep, turns_left, FetchesFirst, DoesOne, HandsOver}
 use Rattle.uda_driver.specs.Driving.{IsOut, Driving, posted_desk, taken_desk, Fetches, Does, IsOneOf, Brings, DrivesOn}
 use Rattle.uda_driver.specs.declared.desk.Desk.{Desk}
@@ -100,7 +100,7 @@ high_up {out} {due} {ended} outs are = record {
 }
 
 low_put : {start : List (Option UnitState)} {requests : List Request} {due : List Posted} {ended : List Ended} {answers : List Answer} {units : List (Option UnitState)} {memory : List ℕ}
-    (at : ℕ) (bytes : List ℕ) → at + length bytes ≤ 4096 → HighUp due ended → Keeps start requests due ended answers units memory → Keeps start requests due ended answers units (put memory at bytes)
+    (at : ℕ) (bytes : List ℕ) → at + length bytes ≤ buffers_start → HighUp due ended → Keeps start requests due ended answers units memory → Keeps start requests due ended answers units (put memory at bytes)
 low_put at bytes low high keeps = keeps_put at bytes (λ k d lt m. high.of_due k d lt (omega arith)) (λ k d lt m. high.of_ended k d lt (omega arith)) keeps
 
 -- ---- a fetch
@@ -112,13 +112,13 @@ driving_fetch {start} {requests} {out} {answers} {desk} {port} {memory} port_aft
     let pending : port_after.exec.pending ≡ port.exec.pending ++ f.command ∷ [] = ap (λ (p : PortState). p.exec.pending) is in
     let units : port_after.exec.units ≡ port.exec.units = ap (λ (p : PortState). p.exec.units) is in
     let waiting : port_after.waiting ≡ port.waiting = ap (λ (p : PortState). p.waiting) is in
-    let place : port_after.commands.place ≡ (port.commands.place + 1) % 8 = ap (λ (p : PortState). p.commands.place) is in
+    let place : port_after.commands.place ≡ (port.commands.place + 1) % slots = ap (λ (p : PortState). p.commands.place) is in
     let slot : port_after.responses.place ≡ port.responses.place = ap (λ (p : PortState). p.responses.place) is in
     let were : length D.unfetched ≡ length f.rest + 1 = ap length f.were ∙ omega arith in
     let at = 40 + 4 * port.commands.place + 2 in
     let lt = D.step.commands.within in
-    let two = length-word_bytes 16384 in
-    let kept = low_put at (word_bytes 16384) (omega arith) (high_up D.outs D.are_out) D.keeps in
+    let two = length-word_bytes flag_word in
+    let kept = low_put at (word_bytes flag_word) (omega arith) (high_up D.outs D.are_out) D.keeps in
     record {
       now = record {
         unfetched = f.rest;
@@ -205,15 +205,15 @@ driving_deliver {start} {requests} {out} {answers} {desk} {port} {memory} port_a
     let pending : port_after.exec.pending ≡ port.exec.pending = ap (λ (p : PortState). p.exec.pending) is in
     let units : port_after.exec.units ≡ port.exec.units = ap (λ (p : PortState). p.exec.units) is in
     let place : port_after.commands.place ≡ port.commands.place = ap (λ (p : PortState). p.commands.place) is in
-    let slot : port_after.responses.place ≡ (i + 1) % 8 = ap (λ (p : PortState). p.responses.place) is in
+    let slot : port_after.responses.place ≡ (i + 1) % slots = ap (λ (p : PortState). p.responses.place) is in
     let first = first_ended D.ended e port_after.waiting (sym h.first ∙ D.outs.waiting_is) in
     let outs : Outs out D.due (first.done ∷ first.later) (e ∷ port_after.waiting) = subst₂ (λ (es : List Ended) (w : List End). Outs out D.due es w) first.is h.first D.outs in
     let high = high_up D.outs D.are_out in
     let n = length-packet credits (written_end e) (length-written_end e) in
-    let two = length-word_bytes 16384 in let two' = length-word_bytes 32768 in
-    let kept1 = low_put (256 + 64 * i) (packet credits (written_end e)) (omega arith) high D.keeps in
-    let kept2 = low_put (8 + 4 * i + 2) (word_bytes 16384) (omega arith) high kept1 in
-    let kept3 = low_put (8 + 4 * i + 2) (word_bytes 32768) (omega arith) high kept2 in
+    let two = length-word_bytes flag_word in let two' = length-word_bytes owner_word in
+    let kept1 = low_put (response_packet i) (packet credits (written_end e)) (omega arith) high D.keeps in
+    let kept2 = low_put (response_descriptor i + 2) (word_bytes flag_word) (omega arith) high kept1 in
+    let kept3 = low_put (response_descriptor i + 2) (word_bytes owner_word) (omega arith) high kept2 in
     let kept4 = subst₂ (λ (us : List (Option UnitState)) (m : List ℕ). Keeps start requests D.due D.ended answers us (memory_reopened m i)) (sym units) (sym h.written) kept3 in
     let kept : Keeps start requests D.due (first.done ∷ first.later) answers port_after.exec.units final = subst (λ (es : List Ended). Keeps start requests D.due es answers port_after.exec.units final) first.is kept4 in
     let delivered = keeps_deliver first.done room kept in
@@ -223,7 +223,7 @@ driving_deliver {start} {requests} {out} {answers} {desk} {port} {memory} port_a
     let waits : port_after.exec.pending ++ [] ≡ commands_in D.due = ap₂ (λ (a b : List Command). a ++ b) pending (sym h.all_fetched) ∙ D.waits in
     record {
       end = e;
-      there = subst (λ (k : ℕ). HoldsPacket memory_after (256 + 64 * k) credits (written_end e)) at_slot h.there;
+      there = subst (λ (k : ℕ). HoldsPacket memory_after (response_packet k) credits (written_end e)) at_slot h.there;
       legible = h.legible;
       some = record { number = own.0; posted = first.done.posted; stands = own.1; referred = sym (sym (ap (λ (x : End). x.reference) first.end_is) ∙ told) };
       taken = λ k q stands referred.
@@ -240,7 +240,7 @@ driving_deliver {start} {requests} {out} {answers} {desk} {port} {memory} port_a
             ended = first.later;
             step = h.in_step;
             next = omega (arith, D.next, none, place);
-            slot = ap (λ (s : ℕ). (s + 1) % 8) D.slot ∙ sym slot;
+            slot = ap (λ (s : ℕ). (s + 1) % slots) D.slot ∙ sym slot;
             waits = waits;
             keeps = put_in;
             outs = d.outs;
@@ -307,9 +307,9 @@ driving_post {start} {requests} {out} {answers} {desk} {port} {memory} p credit 
     let i = desk.command_place in
     let bytes = bytes_brought p.request in
     let brought = put memory p.address bytes in
-    let from : 4096 ≤ p.address = omega (arith, is.at) in
+    let from : buffers_start ≤ p.address = omega (arith, is.at) in
     let next = D.next in
-    let lt : i < 8 = omega arith in
+    let lt : i < slots = omega arith in
     let sound : IsSound c = record { legible = legible; above = above_of p is } in
     let step = step_post brought port D.unfetched i c (step_poke memory port D.unfetched p.address bytes D.step from) credit next sound in
     let size = D.step.commands.size in

@@ -29,14 +29,14 @@ use Rattle.uda_port.specs.Turn.{TurnGoes}
 use Rattle.uda_model.specs.Request as ask
 use Rattle.uda_model.specs.Request.{Request, too_long, IsWhole}
 use Rattle.uda_model.specs.Answer.{Answer, TooLong}
-use Rattle.uda_model.specs.Clash.{clash, lead_from, lead}
+use Rattle.uda_model.specs.Clash.{clash, lead_from, lead, is_short, posted_count}
 use Rattle.uda_model.specs.Posting.{Posted, posted_command, commands_in, op_of, command_of, answer_of, buffer_of, bytes_brought}
 use Rattle.uda_model.specs.Keeping.{Ended, Tells, Beside, Has, Keeps, Owes, Outs}
 use Rattle.uda_host.specs.InStep.{InStep}
-use Rattle.uda_host.specs.Layout.{response_packet, HoldsPacket, with_command, memory_reopened}
+use Rattle.uda_host.specs.Layout.{slots, memory_size, buffer_address, owner_word, response_descriptor, response_packet, HoldsPacket, with_command, memory_reopened}
 use Rattle.uda_driver.specs.Driving.{IsOut, Driving, posted_desk, taken_desk, Fetches, Does, IsOneOf, Brings}
 use Rattle.uda_model.specs.Values.{request_value, answer_value}
-use Rattle.uda_driver.specs.Underway.{AtRest, posted_of, outs_of, triangle, is_short, posted_in, Prepared, IsBlank, AreBlank, IsPrepared, turns_due, Underway, Leading, Ahead, Leads, Led, Sailing, Onward, IsReady, Settles, Ran}
+use Rattle.uda_driver.specs.Underway.{AtRest, posted_of, outs_of, triangle, Prepared, IsBlank, AreBlank, IsPrepared, turns_due, Underway, Leading, Ahead, Leads, Led, Sailing, Onward, IsReady, Settles, Ran}
 use Rattle.uda_model.specs.declared.request.Request.{Request as CodeRequest}
 use Rattle.uda_model.specs.declared.answer.Answer.{Answer as CodeAnswer}
 use Rattle.uda_driver.specs.declared.desk.Desk.{Desk}
@@ -56,7 +56,7 @@ triangle-more n = rw add-one refl
 
 -- as many credits are held as are not out
 pub under_held : {start : PortState} {requests : List CodeRequest} {n bound : ℕ} {out : List Out} {answers : List CodeAnswer} {desk : Desk} {port : PortState} {memory : List ℕ}
-    → Underway start requests n bound out answers desk port memory → desk.held + length out ≡ 8
+    → Underway start requests n bound out answers desk port memory → desk.held + length out ≡ slots
 under_held {requests = requests} {out = out} U =
     let D = U.driving in
     let many = many_out D in
@@ -142,18 +142,18 @@ under_other {requests = requests} {out = out} {port = port} {memory = memory} De
 
 -- ---- an answer is told
 
-pub port_not_looking : (requests : List CodeRequest) (answers : List CodeAnswer) (done : Out) (e : End) (memory : List ℕ) (request : CodeRequest) (blank now told d : CodeAnswer)
+pub answer_told : (requests : List CodeRequest) (answers : List CodeAnswer) (done : Out) (e : End) (memory : List ℕ) (request : CodeRequest) (blank now told d : CodeAnswer)
     → IsReady requests answers done memory → request ≡ get_or requests done.place request → blank ≡ get_or answers done.place d
-    → (Prepared (request_value request) (answer_value blank) → answer_value told ≡ answer_of (request_value request) e (part memory (address_of (op_of (request_value request) (4096 + 16384 * done.buffer))) (room_of (op_of (request_value request) (4096 + 16384 * done.buffer)))))
+    → (Prepared (request_value request) (answer_value blank) → answer_value told ≡ answer_of (request_value request) e (part memory (address_of (op_of (request_value request) (buffer_address done.buffer))) (room_of (op_of (request_value request) (buffer_address done.buffer)))))
     → map answer_value (slice_set (slice_set answers done.place now) done.place told)
     ≡ slice_set (map answer_value answers) done.place (answer_of (posted_of (map request_value requests) done).request e (buffer_of (posted_of (map request_value requests) done) memory))
-port_not_looking requests answers done e memory request blank now told d ready is was tells =
+answer_told requests answers done e memory request blank now told d ready is was tells =
     let p = posted_of (map request_value requests) done in
     let ask_is : p.request ≡ request_value request = value_at requests done.place (ask.Status 0) request ready.there ∙ ap request_value (sym is) in
     let stands : slice_get (map answer_value answers) done.place ≡ Some (answer_value blank) =
     slice_get-map answer_value answers done.place ∙ ap (option_map answer_value) (slice_get-get_or answers done.place d (omega (arith, ready.there, ready.sized)) ∙ ap (λ (a : CodeAnswer). Some a) (sym was)) in
     let prepared : Prepared (request_value request) (answer_value blank) = subst (λ (r : Request). Prepared r (answer_value blank)) ask_is (ready.prepared (answer_value blank) stands) in
-    let F : Request → Answer = λ r. answer_of r e (buffer_of (record { place = done.place; address = 4096 + 16384 * done.buffer; request = r }) memory) in
+    let F : Request → Answer = λ r. answer_of r e (buffer_of (record { place = done.place; address = buffer_address done.buffer; request = r }) memory) in
     let answer : answer_value told ≡ F p.request = tells prepared ∙ ap F (sym ask_is) in
     ap (map answer_value) (set-set answers done.place now told) ∙ map-set answer_value answers done.place told ∙ ap (λ (a : Answer). set (map answer_value answers) done.place a) answer
   where
@@ -175,7 +175,7 @@ brings_one {requests = requests} {out = out} {port = port} {memory = memory} por
 
 -- what is there to be read
 record IsRead (memory_after : List ℕ) (slot : ℕ) (e : End) (credits : ℕ) : Type 0 where
-  size : length memory_after ≡ 135168
+  size : length memory_after ≡ memory_size
   end_is : read_end (part memory_after (response_packet slot + 4) 48) ≡ Some e
   credits_are : word_at memory_after (response_packet slot + 2) ≡ credits
 
@@ -184,17 +184,17 @@ is_read : {start : List (Option UnitState)} {requests : List Request} {out : Lis
 is_read {desk = desk} {memory_after = memory_after} B =
     let slot = desk.response_place in
     let one = B.taken B.some.number B.some.posted B.some.stands B.some.referred in
-    let text : 256 + 64 * slot + 4 ≡ response_packet slot + 4 = refl in
-    let word : 256 + 64 * slot + 2 ≡ response_packet slot + 2 = refl in
+    let text : response_packet slot + 4 ≡ response_packet slot + 4 = refl in
+    let word : response_packet slot + 2 ≡ response_packet slot + 2 = refl in
     record {
-      size = sym (length-put memory_after (8 + 4 * slot + 2) (word_bytes 32768)) ∙ one.step.commands.size;
+      size = sym (length-put memory_after (response_descriptor slot + 2) (word_bytes owner_word)) ∙ one.step.commands.size;
       end_is = ap read_end (ap (λ (a : ℕ). part memory_after a 48) (sym text) ∙ B.there.text_is) ∙ B.legible;
       credits_are = ap (word_at memory_after) (sym word) ∙ B.there.second_word;
     }
 
 pub never_no_end : {start : PortState} {requests : List CodeRequest} {n bound : ℕ} {out : List Out} {answers : List CodeAnswer} {desk : Desk} {port : PortState} {memory : List ℕ} (port_after : PortState) (memory_after : List ℕ)
     → OrderIsFree → 0 < length out → CreditsAgree port_after → TurnGoes port.phase port memory Delivered port_after memory_after
-    → (length memory_after ≡ 135168 → None ≡ read_end (part memory_after (response_packet desk.response_place + 4) 48)) → Underway start requests n bound out answers desk port memory → ⊥
+    → (length memory_after ≡ memory_size → None ≡ read_end (part memory_after (response_packet desk.response_place + 4) 48)) → Underway start requests n bound out answers desk port memory → ⊥
 never_no_end port_after memory_after law some agree goes read U =
     let B = brings_one port_after memory_after law some agree goes U in
     let r = is_read B in
@@ -203,7 +203,7 @@ never_no_end port_after memory_after law some agree goes read U =
 
 pub never_unknown : {start : PortState} {requests : List CodeRequest} {n bound : ℕ} {out : List Out} {answers : List CodeAnswer} {desk : Desk} {port : PortState} {memory : List ℕ} (port_after : PortState) (memory_after : List ℕ)
     → OrderIsFree → 0 < length out → CreditsAgree port_after → TurnGoes port.phase port memory Delivered port_after memory_after
-    → (e : End) → (length memory_after ≡ 135168 → Some e ≡ read_end (part memory_after (response_packet desk.response_place + 4) 48))
+    → (e : End) → (length memory_after ≡ memory_size → Some e ≡ read_end (part memory_after (response_packet desk.response_place + 4) 48))
     → ((k : ℕ) (o : Out) → k < length out → (get_or out k o).place + 1 ≢ e.reference) → Underway start requests n bound out answers desk port memory → ⊥
 never_unknown {requests = requests} {out = out} port_after memory_after law some agree goes e read none U =
     let B = brings_one port_after memory_after law some agree goes U in
@@ -225,10 +225,10 @@ pub record Landed (start : PortState) (requests : List CodeRequest) (n bound : �
 pub under_taken : {start : PortState} {requests : List CodeRequest} {n bound : ℕ} {out : List Out} {answers : List CodeAnswer} {desk : Desk} {port : PortState} {memory : List ℕ} (port_after : PortState) (memory_after : List ℕ)
     → OrderIsFree → AreImages port_after.exec.units → 0 < length out → CreditsAgree port_after → TurnGoes port.phase port memory Delivered port_after memory_after
     → (e : End) (i : ℕ) (o : Out) (items : List Out) (credits : ℕ) (memory_left : List ℕ) (noted : List CodeAnswer)
-    → (length memory_after ≡ 135168 → Some e ≡ read_end (part memory_after (response_packet desk.response_place + 4) 48))
+    → (length memory_after ≡ memory_size → Some e ≡ read_end (part memory_after (response_packet desk.response_place + 4) 48))
     → i < length out → o ≡ get_or out i o → o.place + 1 ≡ e.reference → items ≡ remove out i
-    → (length memory_after ≡ 135168 → credits ≡ word_at memory_after (response_packet desk.response_place + 2))
-    → (length memory_after ≡ 135168 → memory_left ≡ memory_reopened memory_after desk.response_place)
+    → (length memory_after ≡ memory_size → credits ≡ word_at memory_after (response_packet desk.response_place + 2))
+    → (length memory_after ≡ memory_size → memory_left ≡ memory_reopened memory_after desk.response_place)
     → Settles requests answers o e memory_left noted
     → Underway start requests n bound out answers desk port memory
     → Landed start requests n bound out items noted (taken_desk desk credits) port port_after memory_left
@@ -251,7 +251,7 @@ under_taken {start} {requests} {n} {bound} {out} {answers} {desk} {port} {memory
     let low : o.place < length (take n rs) = All-at (λ (q : Posted). q.place < length (take n rs)) (outs_of requests out) i p D.placed stands in
     let short_n = length-take n rs in
     let size_rs = length-map requests request_value in
-    let left_size : length memory_left ≡ 135168 = ap length left ∙ length-put memory_after (8 + 4 * slot + 2) (word_bytes 32768) ∙ r.size in
+    let left_size : length memory_left ≡ memory_size = ap length left ∙ length-put memory_after (response_descriptor slot + 2) (word_bytes owner_word) ∙ r.size in
     let ready : IsReady requests answers o memory_left = record {
       there = omega arith;
       sized = U.sized;
@@ -370,12 +370,12 @@ next requests n request lt is =
       counted = omega (arith, length-take n rs);
     }
 
-posted-skip : (requests : List CodeRequest) (n : ℕ) (request : CodeRequest) → n < length requests → request ≡ get_or requests n request → too_long (request_value request) ≡ true → posted_in (take (n + 1) (map request_value requests)) ≡ posted_in (take n (map request_value requests))
+posted-skip : (requests : List CodeRequest) (n : ℕ) (request : CodeRequest) → n < length requests → request ≡ get_or requests n request → too_long (request_value request) ≡ true → posted_count (take (n + 1) (map request_value requests)) ≡ posted_count (take n (map request_value requests))
 posted-skip requests n request lt is long =
     let w = next requests n request lt is in
     count_by_more_no is_short (map request_value requests) n (ask.Status 0) w.within (ap is_short (next_of requests n request lt is) ∙ ap not long)
 
-posted-more : (requests : List CodeRequest) (n : ℕ) (request : CodeRequest) → n < length requests → request ≡ get_or requests n request → too_long (request_value request) ≡ false → posted_in (take (n + 1) (map request_value requests)) ≡ posted_in (take n (map request_value requests)) + 1
+posted-more : (requests : List CodeRequest) (n : ℕ) (request : CodeRequest) → n < length requests → request ≡ get_or requests n request → too_long (request_value request) ≡ false → posted_count (take (n + 1) (map request_value requests)) ≡ posted_count (take n (map request_value requests)) + 1
 posted-more requests n request lt is short =
     let w = next requests n request lt is in
     count_by_more_yes is_short (map request_value requests) n (ask.Status 0) w.within (ap is_short (next_of requests n request lt is) ∙ ap not short)
@@ -463,13 +463,13 @@ wait_some {requests = requests} {out = out} {desk = desk} request seen same wait
 
 -- the lead is over once a request has to wait, or no more come
 record Over (requests : List CodeRequest) (n bound : ℕ) : Type 0 where
-  le : lead (map request_value requests) ≤ posted_in (take n (map request_value requests))
-  bound_is : bound ≡ triangle (lead (map request_value requests)) + (posted_in (take n (map request_value requests)) - lead (map request_value requests))
+  le : lead (map request_value requests) ≤ posted_count (take n (map request_value requests))
+  bound_is : bound ≡ triangle (lead (map request_value requests)) + (posted_count (take n (map request_value requests)) - lead (map request_value requests))
 
 over_from : {start : PortState} {requests : List CodeRequest} {n bound : ℕ} {out : List Out} {desk : Desk} {port : PortState} → ((l : Leading start requests n out desk port) → lead_from desk.held l.seen (drop n (map request_value requests)) ≡ 0)
     → Ahead start requests n bound out desk port → Over requests n bound
 over_from {requests = requests} {n = n} {out = out} ends (Leads is_bound l) =
-    let k : lead (map request_value requests) ≡ posted_in (take n (map request_value requests)) = l.ahead ∙ ap (λ (m : ℕ). length out + m) (ends l) ∙ omega (arith, l.all_out) in
+    let k : lead (map request_value requests) ≡ posted_count (take n (map request_value requests)) = l.ahead ∙ ap (λ (m : ℕ). length out + m) (ends l) ∙ omega (arith, l.all_out) in
     record { le = omega arith; bound_is = is_bound ∙ ap triangle (sym k) ∙ omega arith }
 over_from ends (Led le is_bound) = record { le = le; bound_is = is_bound }
 
@@ -499,8 +499,8 @@ sailing_step {start} {requests} {n} {out} {answers} {desk} {port} {memory} reque
 pub record Draining (start : PortState) (requests : List CodeRequest) (out : List Out) (answers : List CodeAnswer) (desk : Desk) (port : PortState) (memory : List ℕ) : Type 0 where
   pub bound : ℕ
   pub under : Underway start requests (length requests) bound out answers desk port memory
-  pub le : lead (map request_value requests) ≤ posted_in (map request_value requests)
-  pub bound_is : bound ≡ triangle (lead (map request_value requests)) + (posted_in (map request_value requests) - lead (map request_value requests))
+  pub le : lead (map request_value requests) ≤ posted_count (map request_value requests)
+  pub bound_is : bound ≡ triangle (lead (map request_value requests)) + (posted_count (map request_value requests) - lead (map request_value requests))
 
 pub draining : {start : PortState} {requests : List CodeRequest} {n : ℕ} {out : List Out} {answers : List CodeAnswer} {desk : Desk} {port : PortState} {memory : List ℕ}
     → n ≡ length requests → Sailing start requests n out answers desk port memory → Draining start requests out answers desk port memory
@@ -509,7 +509,7 @@ draining {start} {requests} {n} {out} {answers} {desk} {port} {memory} all S =
     let whole : take n rs ≡ rs = take_all n rs (omega (arith, length-map requests request_value)) in
     let none : drop n rs ≡ [] = drop_all n rs (omega (arith, length-map requests request_value)) in
     let over = over_from (λ l. ap (lead_from desk.held l.seen) none ∙ lead-none desk.held l.seen) S.ahead in
-    let p = ap posted_in whole in
+    let p = ap posted_count whole in
     record {
       bound = S.bound;
       under = subst (λ (k : ℕ). Underway start requests k S.bound out answers desk port memory) all S.under;
@@ -542,14 +542,14 @@ any-push requests out o r =
     ap (list_any test) (map_push f out o) ∙ list_any-append test (map f out) (f o ∷ []) ∙ ap (λ (b : Bool). list_any test (map f out) || b) (or-nothing (test (f o))) ∙ or-swap (list_any test (map f out)) (test (f o))
 
 abbrev pub command_for : CodeRequest → Out → Command
-command_for request o = command_of (request_value request) (o.place + 1) (4096 + 16384 * o.buffer)
+command_for request o = command_of (request_value request) (o.place + 1) (buffer_address o.buffer)
 
 pub sailing_post : {start : PortState} {requests : List CodeRequest} {n : ℕ} {out : List Out} {answers : List CodeAnswer} {desk : Desk} {port : PortState} {memory : List ℕ}
     (request : CodeRequest) (seen : List Out) (new : Out) (items : List Out) (desk_after : Desk) (port_after : PortState) (memory_after : List ℕ)
     → n < length requests → request ≡ get_or requests n request → too_long (request_value request) ≡ false → seen ≡ out → WaitsFor requests seen desk request ≡ false
-    → new.place ≡ n → new.buffer < 8 → (buffers : List Out) → buffers ≡ out → list_any (λ o. nat_eq o.buffer new.buffer) buffers ≡ false
+    → new.place ≡ n → new.buffer < slots → (buffers : List Out) → buffers ≡ out → list_any (λ o. nat_eq o.buffer new.buffer) buffers ≡ false
     → items ≡ out ++ new ∷ [] → desk_after ≡ posted_desk desk → IsWhole (request_value request) → read_command (written_command (command_for request new)) ≡ Ok (command_for request new)
-    → memory_after ≡ with_command (put memory (4096 + 16384 * new.buffer) (bytes_brought (request_value request))) desk.command_place (command_for request new)
+    → memory_after ≡ with_command (put memory (buffer_address new.buffer) (bytes_brought (request_value request))) desk.command_place (command_for request new)
     → (port.phase ≡ Running → port_after ≡ record port { looking = true })
     → Sailing start requests n out answers desk port memory → Sailing start requests (n + 1) items answers desk_after port_after memory_after
 sailing_post {start} {requests} {n} {out} {answers} {desk} {port} {memory} request seen new items desk_after port_after memory_after lt is short same waits place few buffers same_buffers free items_are desk_is whole legible memory_is port_is S =
@@ -561,7 +561,7 @@ sailing_post {start} {requests} {n} {out} {answers} {desk} {port} {memory} reque
     let D = U.driving in
     let more = posted-more requests n request lt is short in
     let request_is : (f new).request ≡ r = ap (λ (k : ℕ). get_or rs k (ask.Status 0)) place ∙ next_of requests n request lt is in
-    let P : Request → Posted = λ x. record { place = new.place; address = 4096 + 16384 * new.buffer; request = x } in
+    let P : Request → Posted = λ x. record { place = new.place; address = buffer_address new.buffer; request = x } in
     let q : Posted = P r in
     let q_is : f new ≡ q = ap P request_is in
     let clear2 = or_none (nat_eq desk.held 0) _ (subst (λ (os : List Out). WaitsFor requests os desk request ≡ false) same waits) in
@@ -572,7 +572,7 @@ sailing_post {start} {requests} {n} {out} {answers} {desk} {port} {memory} reque
     let apart : All (λ (x : Posted). x.address ≢ q.address) (outs_of requests out) = All-map (λ (x : Posted). x.address ≢ q.address) f out (λ k d l e. let ne = eqb-false (get_or out k d).buffer new.buffer (unused k d l) in ne (omega arith)) in
     let own : IsOut q = record { number = new.buffer; few = few; at = refl; short = short } in
     let port' : PortState = record port { looking = true } in
-    let memory' = with_command (put memory (4096 + 16384 * new.buffer) (bytes_brought r)) desk.command_place (command_for request new) in
+    let memory' = with_command (put memory (buffer_address new.buffer) (bytes_brought r)) desk.command_place (command_for request new) in
     let posted = driving_post q credit (place ∙ sym w.counted) own whole legible apart clear D in
     let outs_are : outs_of requests out ++ q ∷ [] ≡ outs_of requests (out ++ new ∷ []) = ap (λ (x : Posted). outs_of requests out ++ x ∷ []) (sym q_is) ∙ sym (map_push f out new) in
     let driving = subst₂ (λ (qs : List Request) (ps : List Posted). Driving start.exec.units qs ps (map answer_value answers) (posted_desk desk) port' memory') w.more outs_are posted in
@@ -599,11 +599,11 @@ sailing_post {start} {requests} {n} {out} {answers} {desk} {port} {memory} reque
     } in
     let sailed : F (out ++ new ∷ []) (posted_desk desk) port' memory' = elim S.ahead [
       | Leads is_bound l ↦
-          let count : length (out ++ new ∷ []) ≡ posted_in (take (n + 1) rs) = omega (arith, longer, l.all_out, more) in
-          let all : length (out ++ new ∷ []) - length port.waiting ≡ posted_in (take (n + 1) rs) = omega (arith, l.none_done, count) in
+          let count : length (out ++ new ∷ []) ≡ posted_count (take (n + 1) rs) = omega (arith, longer, l.all_out, more) in
+          let all : length (out ++ new ∷ []) - length port.waiting ≡ posted_count (take (n + 1) rs) = omega (arith, l.none_done, count) in
           record {
-            bound = triangle (posted_in (take (n + 1) rs));
-            under = under (triangle (posted_in (take (n + 1) rs))) (omega (arith, l.load_is, ap triangle all));
+            bound = triangle (posted_count (take (n + 1) rs));
+            under = under (triangle (posted_count (take (n + 1) rs))) (omega (arith, l.load_is, ap triangle all));
             ahead = Leads refl (record {
               seen = r ∷ l.seen;
               same = λ x. ap₂ (λ (a b : Bool). a || b) (ap (clash x) (sym request_is)) (l.same x) ∙ sym (any-push requests out new x);
@@ -674,7 +674,7 @@ sailing_start requests answers out desk port memory rest images empty sized blan
       deliveries = omega arith;
       load = omega arith;
     } in
-    let held : desk.held ≡ 8 = omega (arith, under_held under) in
+    let held : desk.held ≡ slots = omega (arith, under_held under) in
     subst (λ (os : List Out). Sailing port requests 0 os answers desk port memory) (sym empty) (record {
       bound = 0;
       under = under;
@@ -703,7 +703,7 @@ drained {start} {requests} {out} {answers} {desk} {desk'} {port} {memory} {memor
     let rs = map request_value requests in
     let U = subst (λ (os : List Out). Underway start requests (length requests) S.bound os answers desk port memory) empty S.under in
     let whole : take (length requests) rs ≡ rs = take_all (length requests) rs (omega (arith, length-map requests request_value)) in
-    let p = ap posted_in whole in
+    let p = ap posted_count whole in
     let D = subst (λ (qs : List Request). Driving start.exec.units qs [] (map answer_value answers) desk port memory) whole U.driving in
     let many = many_out D in
     let none : D.unfetched ≡ [] = nil_from_length D.unfetched (omega arith) in
@@ -731,19 +731,21 @@ drained {start} {requests} {out} {answers} {desk} {desk'} {port} {memory} {memor
       counted = U.sized;
       images = U.images;
       owes = driving_end (omega (arith, size, length-map requests request_value, U.sized)) D;
-      turns = omega (arith, U.turns, p, n_p, n_w);
-      fetches = omega (arith, U.deliveries, p, n_p, n_w, were_p, were_w, now, before);
-      deliveries = omega (arith, U.deliveries, p);
-      load = let z : triangle (length {A = Out} [] - length port.waiting) ≡ 0 = ap (λ (w : ℕ). triangle (0 - w)) n_w in omega (arith, U.load, S.bound_is, t, z);
+      counts = record {
+        turns = omega (arith, U.turns, p, n_p, n_w);
+        fetches = omega (arith, U.deliveries, p, n_p, n_w, were_p, were_w, now, before);
+        deliveries = omega (arith, U.deliveries, p);
+        load = let z : triangle (length {A = Out} [] - length port.waiting) ≡ 0 = ap (λ (w : ℕ). triangle (0 - w)) n_w in omega (arith, U.load, S.bound_is, t, z);
+      };
     }
 
 -- what the code needs of its numbers
 pub record InRange (out : List Out) (desk : Desk) (memory : List ℕ) : Type 0 where
-  pub command : desk.command_place < 8
-  pub response : desk.response_place < 8
-  pub held : desk.held ≤ 8
-  pub size : length memory ≡ 135168
-  pub together : desk.held + length out ≡ 8
+  pub command : desk.command_place < slots
+  pub response : desk.response_place < slots
+  pub held : desk.held ≤ slots
+  pub size : length memory ≡ memory_size
+  pub together : desk.held + length out ≡ slots
 
 pub in_range : {start : PortState} {requests : List CodeRequest} {n bound : ℕ} {out : List Out} {answers : List CodeAnswer} {desk : Desk} {port : PortState} {memory : List ℕ}
     → Underway start requests n bound out answers desk port memory → InRange out desk memory

@@ -12,15 +12,15 @@ use Rattle.uda_model.specs.Request.{Request, too_long}
 use Rattle.uda_model.specs.Answer.{Answer}
 use Rattle.uda_model.specs.Posting.{Posted, posted_command, commands_in, answer_of, buffer_of}
 use Rattle.uda_model.specs.Keeping.{Ended, Keeps, Outs}
-use Rattle.uda_host.specs.Layout.{HoldsPacket, memory_reopened}
+use Rattle.uda_host.specs.Layout.{slots, buffer_address, response_packet, HoldsPacket, memory_reopened}
 use Rattle.uda_host.specs.InStep.{InStep}
 use Rattle.uda_driver.specs.declared.desk.Desk.{Desk}
 
 -- it has one of the eight buffers, and isn't too long
 pub record IsOut (p : Posted) : Type 0 where
   pub number : ℕ
-  pub few : number < 8
-  pub at : p.address ≡ 4096 + 16384 * number
+  pub few : number < slots
+  pub at : p.address ≡ buffer_address number
   pub short : too_long p.request ≡ false
 
 -- Of the requests so far these are out; the answers of all others are told.
@@ -29,7 +29,7 @@ pub record Driving (start : List (Option UnitState)) (requests : List Request) (
   pub due : List Posted
   pub ended : List Ended
   pub step : InStep memory port unfetched desk.held
-  pub next : desk.command_place ≡ (port.commands.place + length unfetched) % 8
+  pub next : desk.command_place ≡ (port.commands.place + length unfetched) % slots
   pub slot : desk.response_place ≡ port.responses.place
   pub waits : port.exec.pending ++ unfetched ≡ commands_in due
   pub keeps : Keeps start requests due ended answers port.exec.units memory
@@ -38,10 +38,10 @@ pub record Driving (start : List (Option UnitState)) (requests : List Request) (
   pub placed : All (λ p. p.place < length requests) out
 
 abbrev pub posted_desk : Desk → Desk
-posted_desk desk = record { command_place = (desk.command_place + 1) % 8; response_place = desk.response_place; held = desk.held - 1 }
+posted_desk desk = record { command_place = (desk.command_place + 1) % slots; response_place = desk.response_place; held = desk.held - 1 }
 
 abbrev pub taken_desk : Desk → ℕ → Desk
-taken_desk desk credits = record { command_place = desk.command_place; response_place = (desk.response_place + 1) % 8; held = desk.held + credits }
+taken_desk desk credits = record { command_place = desk.command_place; response_place = (desk.response_place + 1) % slots; held = desk.held + credits }
 
 -- a fetch leaves the ledger alone
 pub record Fetches (start : List (Option UnitState)) (requests : List Request) (out : List Posted) (answers : List Answer) (desk : Desk) (port port_after : PortState) (memory_after : List ℕ) : Type 0 where
@@ -72,7 +72,7 @@ pub record IsOneOf (out : List Posted) (end : End) : Type 0 where
 -- an end lies in the slot that the driver looks at; once it is taken, its request's answer is told
 pub record Brings (start : List (Option UnitState)) (requests : List Request) (out : List Posted) (answers : List Answer) (desk : Desk) (port port_after : PortState) (memory_after : List ℕ) : Type 0 where
   pub end : End
-  pub there : HoldsPacket memory_after (256 + 64 * desk.response_place) (next_grant port.deliveries) (written_end end)
+  pub there : HoldsPacket memory_after (response_packet desk.response_place) (next_grant port.deliveries) (written_end end)
   pub legible : read_end (written_end end) ≡ Some end
   pub some : IsOneOf out end
   pub taken : (i : ℕ) (q : Posted) → slice_get out i ≡ Some q → q.place + 1 ≡ end.reference

@@ -1,12 +1,11 @@
--- A port that is new.
-use Rattle.std.specs.Prelude.{◌≡◌, ℕ, List, []}
-use Rattle.uda_port.specs.declared.phase.Phase.TheVariants.{Step1}
+-- How a driver starts its port up.
+-- UDA50 Programmer's Documentation Kit: initialisation, communication area.
+use Rattle.std.specs.Prelude.{◌≡◌, ℕ, []}
+use Rattle.uda_port.specs.declared.phase.Phase.TheVariants.{Step1, Running}
 use Rattle.uda_port.specs.Port.{PortState}
-use Rattle.uda_exec.specs.Disks.{AreImages}
-use Rattle.uda_driver.specs.declared.desk.Desk.{Desk}
-use Rattle.uda_driver.specs.Underway.{AtRest}
-use Rattle.uda_driver.specs.declared.driver.Driver.TheInside.{Inside}
+use Rattle.uda_host.specs.Layout.{command_ring_at, response_ring_at}
 
+-- a port that is new
 pub record IsNew (port : PortState) : Type 0 where
   pub step : port.phase ≡ Step1
   pub nothing_pending : port.exec.pending ≡ []
@@ -15,13 +14,6 @@ pub record IsNew (port : PortState) : Type 0 where
   pub fetches : port.fetches ≡ 0
   pub deliveries : port.deliveries ≡ 0
 
--- a driver as its callers see it
-pub record DriverState : Type 0 where
-  pub memory : List ℕ
-  pub port : PortState
-  pub desk : Desk
-
--- it is at rest between two calls
-pub record IsDriver {S : Type 0} (d : Inside S) : Type 0 where
-  pub rest : AtRest d.desk d.port d.memory
-  pub images : AreImages d.port.exec.units
+-- it runs, its rings where the driver has them
+abbrev pub port_running : PortState → PortState
+port_running port = record port { phase = Running; responses = response_ring_at 0; commands = command_ring_at 0 }

@@ -1,6 +1,6 @@
 -- What a driver keeps while it has requests done.
 use Rattle.std.specs.Prelude.{◌≡◌, ℕ, zero, suc, ◌+◌, ◌-◌, ◌*◌, ◌/◌, ◌<◌, ◌≤◌, Bool, true, false, not, List, [], length, map, take, drop, slice_index_or, slice_get, slice_set, All, Some}
-use Rattle.std.specs.List.{count_by, list_any}
+use Rattle.std.specs.List.{list_any}
 use Rattle.uda_packet.specs.declared.end.End.{End}
 use Rattle.uda_exec.specs.Disks.{AreImages}
 use Rattle.uda_port.specs.Port.{PortState}
@@ -8,16 +8,18 @@ use Rattle.uda_model.specs.Request as ask
 use Rattle.uda_model.specs.Request.{Request, too_long}
 use Rattle.uda_model.specs.Answer as tell
 use Rattle.uda_model.specs.Answer.{Answer}
-use Rattle.uda_model.specs.Clash.{clash, lead_from, lead}
+use Rattle.uda_model.specs.Clash.{clash, lead_from, lead, is_short, posted_count}
 use Rattle.uda_model.specs.Posting.{Posted, answer_of, buffer_of}
 use Rattle.uda_model.specs.Keeping.{Owes}
 use Rattle.uda_host.specs.InStep.{InStep}
+use Rattle.uda_driver.specs.Run.{CountsOn}
 use Rattle.uda_driver.specs.Driving.{Driving}
 use Rattle.uda_model.specs.Values.{request_value, answer_value}
 use Rattle.uda_model.specs.declared.request.Request.{Request as CodeRequest}
 use Rattle.uda_model.specs.declared.answer.Answer.{Answer as CodeAnswer}
 use Rattle.uda_driver.specs.declared.desk.Desk.{Desk}
 use Rattle.uda_driver.specs.declared.desk.Out.{Out}
+use Rattle.uda_host.specs.Layout.{buffer_size, buffer_address}
 
 -- nothing is out, pending or waiting, and the driver's own command was answered
 pub record AtRest (desk : Desk) (port : PortState) (memory : List ℕ) : Type 0 where
@@ -29,7 +31,7 @@ pub record AtRest (desk : Desk) (port : PortState) (memory : List ℕ) : Type 0 
   pub begun : 0 < port.deliveries
 
 abbrev pub posted_of : List Request → Out → Posted
-posted_of requests o = record { place = o.place; address = 4096 + 16384 * o.buffer; request = slice_index_or requests o.place (ask.Status 0) }
+posted_of requests o = record { place = o.place; address = buffer_address o.buffer; request = slice_index_or requests o.place (ask.Status 0) }
 
 abbrev pub outs_of : List CodeRequest → List Out → List Posted
 outs_of requests out = map (posted_of (map request_value requests)) out
@@ -38,13 +40,6 @@ outs_of requests out = map (posted_of (map request_value requests)) out
 abbrev pub triangle : ℕ → ℕ
 triangle zero = 0
 triangle (suc n) = suc n + triangle n
-
-abbrev pub is_short : Request → Bool
-is_short r = not (too_long r)
-
--- how many are posted of these
-abbrev pub posted_in : List Request → ℕ
-posted_in requests = count_by is_short requests
 
 -- an answer that has room for the bytes that a Read bytes_brought
 abbrev pub Prepared : Request → Answer → Type 0
@@ -77,8 +72,8 @@ pub record Underway (start : PortState) (requests : List CodeRequest) (n bound :
   pub within : n ≤ length requests
   pub images : AreImages port.exec.units
   pub begun : 0 < port.deliveries
-  pub turns : port.turns + 3 * length out ≡ start.turns + 3 * posted_in (take n (map request_value requests)) + (length port.exec.pending + 2 * length port.waiting)
-  pub deliveries : port.deliveries + length out ≡ start.deliveries + posted_in (take n (map request_value requests))
+  pub turns : port.turns + 3 * length out ≡ start.turns + 3 * posted_count (take n (map request_value requests)) + (length port.exec.pending + 2 * length port.waiting)
+  pub deliveries : port.deliveries + length out ≡ start.deliveries + posted_count (take n (map request_value requests))
   pub load : start.load + bound ≤ port.load + triangle (length out - length port.waiting)
 
 -- nothing was done yet, and the lead goes on
@@ -86,14 +81,14 @@ pub record Leading (start : PortState) (requests : List CodeRequest) (n : ℕ) (
   pub seen : List Request
   pub same : (r : Request) → list_any (clash r) seen ≡ list_any (λ p. clash r p.request) (outs_of requests out)
   pub ahead : lead (map request_value requests) ≡ length out + lead_from desk.held seen (drop n (map request_value requests))
-  pub all_out : length out ≡ posted_in (take n (map request_value requests))
+  pub all_out : length out ≡ posted_count (take n (map request_value requests))
   pub none_done : length port.waiting ≡ 0
   pub load_is : port.load ≡ start.load
 
 pub data Ahead (start : PortState) (requests : List CodeRequest) (n bound : ℕ) (out : List Out) (desk : Desk) (port : PortState) : Type 0 where
-  Leads : bound ≡ triangle (posted_in (take n (map request_value requests))) → Leading start requests n out desk port → Ahead start requests n bound out desk port
-  Led : lead (map request_value requests) ≤ posted_in (take n (map request_value requests))
-      → bound ≡ triangle (lead (map request_value requests)) + (posted_in (take n (map request_value requests)) - lead (map request_value requests))
+  Leads : bound ≡ triangle (posted_count (take n (map request_value requests))) → Leading start requests n out desk port → Ahead start requests n bound out desk port
+  Led : lead (map request_value requests) ≤ posted_count (take n (map request_value requests))
+      → bound ≡ triangle (lead (map request_value requests)) + (posted_count (take n (map request_value requests)) - lead (map request_value requests))
       → Ahead start requests n bound out desk port
 
 -- the same, whatever the bound
@@ -112,7 +107,7 @@ pub record IsReady (requests : List CodeRequest) (answers : List CodeAnswer) (do
   pub there : done.place < length requests
   pub sized : length answers ≡ length requests
   pub short : too_long (posted_of (map request_value requests) done).request ≡ false
-  pub inside : 4096 + 16384 * done.buffer + 16384 ≤ length memory
+  pub inside : buffer_address done.buffer + buffer_size ≤ length memory
   pub prepared : IsPrepared (map answer_value answers) (posted_of (map request_value requests) done)
 
 abbrev pub Settles : List CodeRequest → List CodeAnswer → Out → End → List ℕ → List CodeAnswer → Type 0
@@ -126,7 +121,4 @@ pub record Ran (start : PortState) (requests : List CodeRequest) (answers : List
   pub counted : length answers ≡ length requests
   pub images : AreImages port.exec.units
   pub owes : Owes start.exec.units (map request_value requests) [] (map answer_value answers) port.exec.units memory
-  pub turns : port.turns ≡ start.turns + 3 * posted_in (map request_value requests)
-  pub fetches : port.fetches ≡ start.fetches + posted_in (map request_value requests)
-  pub deliveries : port.deliveries ≡ start.deliveries + posted_in (map request_value requests)
-  pub load : start.load + (lead (map request_value requests) * (lead (map request_value requests) + 1) / 2 + (posted_in (map request_value requests) - lead (map request_value requests))) ≤ port.load
+  pub counts : CountsOn (map request_value requests) start port

@@ -1,15 +1,11 @@
 //! The driver.
-ghost use Rattle.std.specs.Prelude.{◌≡◌, ℕ, ◌+◌, ◌-◌, ◌*◌, ◌/◌, ◌<◌, ◌≤◌, length, map, slice_get, Some, Err, IfOk, IfErr};
-ghost use Rattle.uda_exec.specs.Disks.{disks_of};
+ghost use Rattle.std.specs.Prelude.{◌≡◌, ◌<◌, ◌↔◌, length, Err, IfOk, IfErr};
 ghost use Rattle.uda_exec.specs.Drives.{drive_states, fresh_units, drives_in};
-ghost use Rattle.uda_exec.specs.Execution.{failures_at, natures_of};
-ghost use Rattle.uda_model.specs.Request.{Request as RequestValue};
-ghost use Rattle.uda_model.specs.Answer.{IsAnswerOf, Answer as AnswerValue};
-ghost use Rattle.uda_model.specs.Plain.{plain, PlainFaulty, drive_errors};
-ghost use Rattle.uda_model.specs.Clash.{lead};
+ghost use Rattle.uda_exec.specs.Execution.{natures_of};
 ghost use Rattle.uda_model.specs.Keeping.{AllFaithful};
-ghost use Rattle.uda_model.specs.Values.{request_value, answer_value};
-ghost use Rattle.uda_driver.specs.Underway.{AtRest, posted_in};
+ghost use Rattle.uda_model.specs.Values.{request_values, answer_values};
+ghost use Rattle.uda_driver.specs.Run.{request_limit, AreAnswersOf, NoneFailed, IsPlainRun, TellsLosses, CountsOn};
+ghost use Rattle.uda_driver.specs.Driver.{units_of, IsAtRest};
 
 use crate::desk::Desk;
 use crate::serve::run;
@@ -21,16 +17,21 @@ use uda_mem::{HostMemory, NoMemory};
 use uda_model::{Answer, Request};
 use uda_port::Port;
 
+/// The most requests of one run.
+pub const REQUEST_LIMIT: usize = 4096;
+
 /// Why nothing was done.
 #[derive(Clone, Copy, Debug, PartialEq, Eq)]
 pub enum RunError {
     /// No memory was left for the answers.
     NoMemory,
-    /// More than 4096 requests.
+    /// More than [`REQUEST_LIMIT`] requests.
     TooMany,
 }
 
-/// A class driver: its memory and its port.
+/// A class driver: host memory, a port over the units' executor, and what it keeps of that.
+///
+/// It reaches its units through the port alone, and keeps nothing of their blocks.
 #[derive(Drop)]
 pub struct Driver<S: BlockStore> {
     alloc: Global,
@@ -40,7 +41,7 @@ pub struct Driver<S: BlockStore> {
 }
 
 impl<S: BlockStore> Model for Driver<S> {
-    ghost use Rattle.uda_driver.specs.Starting.{DriverState, IsDriver};
+    ghost use Rattle.uda_driver.specs.Driver.{DriverState, IsDriver};
 
     ghost Value = { DriverState };
 
@@ -50,14 +51,23 @@ impl<S: BlockStore> Model for Driver<S> {
 }
 
 impl<S: BlockStore> Driver<S> {
-    /// Makes memory and port, and has the start-up done. With no memory the drives are handed back.
+    /// A driver over the drives of units 0 to 3: it makes memory and port, starts the port up, and has
+    /// one Set Controller Characteristics done.
+    ///
+    /// No store is called. Every unit with a drive is then available, without software protection, with
+    /// its blocks and hardware protection as given; nothing is out, and the driver holds eight credits.
+    /// Where `alloc` has no memory the answer is [`NoMemory`] with the drives as they were.
+    ///
+    /// UDA50 Programmer's Documentation Kit: initialisation, credits.
     pub fn start(
         alloc: Global,
         drives: [Option<Drive<S>>; 4],
     ) -> Result<Driver<S>, (NoMemory, [Option<Drive<S>>; 4])>
-        ensures rest { IfOk result (λ driver. AtRest driver.desk driver.port driver.memory) }
-        ensures ok { IfOk result (λ driver. driver.port.exec.units ≡ fresh_units (drive_states S.state drives)) }
-        ensures err { IfErr result (λ refusal. drive_states S.state refusal.1 ≡ drive_states S.state drives) }
+        ensures rest { IfOk result (λ driver. IsAtRest driver) }
+        ensures units { IfOk result (λ driver.
+            units_of driver ≡ fresh_units (drive_states S.state drives)) }
+        ensures refused { IfErr result (λ refusal.
+            drive_states S.state refusal.1 ≡ drive_states S.state drives) }
     {
         let Ok(mut memory) = host_memory(alloc) else {
             return Err((NoMemory, drives));
@@ -76,30 +86,40 @@ impl<S: BlockStore> Driver<S> {
         }
     }
 
-    /// Has the requests done: the headline, over stores that may fail, with the port's counts and load.
+    /// Has the requests done, and answers each.
+    ///
+    /// Up to eight commands are out at once, and the controller does them in any order it chooses. Yet
+    /// answers and disks are those of one plain array of blocks for each unit, served in order, where
+    /// every store is faithful and none fails (`headline`); where stores fail, those of such a run with
+    /// transfers lost, each loss told once (`losses`). Whatever the stores, each request has an answer of
+    /// its own form (`shape`), and the port's turns are counted (`counts`).
+    ///
+    /// More than 4096 requests are `TooMany`, and where no memory is left for the answers the error is
+    /// `NoMemory`: then nothing was done. All memory is taken before the first command.
     pub fn run(&mut self, requests: &[Request]) -> Result<Vec<Answer>, RunError>
-        ensures rest { AtRest self.new.desk self.new.port self.new.memory }
+        ensures too_many { (result ≡ Err RunError.TooMany) ↔ (request_limit < length requests.now) }
         ensures unchanged { IfErr result (λ _. self.new ≡ self.old) }
-        ensures natures { IfOk result (λ _. natures_of self.new.port.exec.units ≡ natures_of self.old.port.exec.units) }
-        ensures few { length requests.now ≤ 4096 → IfErr result (λ e. e ≡ RunError.NoMemory) }
-        ensures many { 4096 < length requests.now → result ≡ Err RunError.TooMany }
-        ensures counted { IfOk result (λ answers. length answers.items ≡ length requests.now) }
-        ensures formed { IfOk result (λ answers. (k : ℕ) (r : RequestValue) (a : AnswerValue) → slice_get (map request_value requests.now) k ≡ Some r → slice_get (map answer_value answers.items) k ≡ Some a → IsAnswerOf r a) }
-        ensures faulty { IfOk result (λ answers. AllFaithful self.old.port.exec.units → PlainFaulty (disks_of self.old.port.exec.units) (map request_value requests.now) (map answer_value answers.items) (disks_of self.new.port.exec.units)) }
-        ensures errors { IfOk result (λ answers. AllFaithful self.old.port.exec.units → (u : ℕ) → failures_at (slice_get self.new.port.exec.units u) ≡ failures_at (slice_get self.old.port.exec.units u) + drive_errors u (map request_value requests.now) (map answer_value answers.items)) }
-        ensures plain { IfOk result (λ answers. AllFaithful self.old.port.exec.units → ((u : ℕ) → failures_at (slice_get self.new.port.exec.units u) ≡ failures_at (slice_get self.old.port.exec.units u))
-            → (map answer_value answers.items, disks_of self.new.port.exec.units) ≡ plain (disks_of self.old.port.exec.units) (map request_value requests.now)) }
-        ensures turns { IfOk result (λ _. self.new.port.turns ≡ self.old.port.turns + 3 * posted_in (map request_value requests.now)) }
-        ensures fetches { IfOk result (λ _. self.new.port.fetches ≡ self.old.port.fetches + posted_in (map request_value requests.now)) }
-        ensures deliveries { IfOk result (λ _. self.new.port.deliveries ≡ self.old.port.deliveries + posted_in (map request_value requests.now)) }
-        ensures load { IfOk result (λ _. let k = lead (map request_value requests.now) in self.old.port.load + (k * (k + 1) / 2 + (posted_in (map request_value requests.now) - k)) ≤ self.new.port.load) }
+        ensures rest { IsAtRest self.new }
+        ensures natures { natures_of (units_of self.new) ≡ natures_of (units_of self.old) }
+        ensures shape { IfOk result (λ answers.
+            AreAnswersOf (request_values requests.now) (answer_values answers.items)) }
+        ensures headline { IfOk result (λ answers.
+            AllFaithful (units_of self.old) → NoneFailed (units_of self.old) (units_of self.new)
+            → IsPlainRun (units_of self.old) (request_values requests.now)
+                (answer_values answers.items) (units_of self.new)) }
+        ensures losses { IfOk result (λ answers.
+            AllFaithful (units_of self.old)
+            → TellsLosses (units_of self.old) (request_values requests.now)
+                (answer_values answers.items) (units_of self.new)) }
+        ensures counts { IfOk result (λ _.
+            CountsOn (request_values requests.now) self.old.port self.new.port) }
     {
         run(self.alloc, &mut self.port, &mut self.memory, &mut self.desk, requests)
     }
 
-    /// The drives back.
+    /// The drives as the last run left them, hardware protection too. No store is called.
     pub fn into_stores(self) -> [Option<Drive<S>>; 4]
-        ensures drives { drive_states S.state result ≡ drives_in self.port.exec.units }
+        ensures drives { drive_states S.state result ≡ drives_in (units_of self) }
     {
         let Driver { port, .. } = self;
         stores_of(port)

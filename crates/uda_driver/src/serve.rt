@@ -1,36 +1,39 @@
 //! A list of requests had done by commands, of which up to eight are out at once.
-ghost use Rattle.std.specs.Prelude.{◌≡◌, ◌≢◌, ℕ, ◌+◌, ◌-◌, ◌*◌, ◌/◌, ◌<◌, ◌≤◌, ◌||◌, nat_eq, true, false, List, Option, length, map, take, slice_index_or, slice_get, All, MatchOption, IfOk, OnOk, IfErr, ◌∷◌, ◌++◌, [], Ok, Some, Err};
-ghost use Rattle.std.specs.List.{list_any, count_by};
+ghost use Rattle.std.specs.Prelude.{◌≡◌, ◌≢◌, ℕ, ◌+◌, ◌*◌, ◌<◌, ◌≤◌, ◌||◌, ◌↔◌, nat_eq, true, false, length, map, slice_index_or, MatchOption, IfOk, IfErr, ◌∷◌, ◌++◌, [], Ok, Err};
+ghost use Rattle.std.specs.List.{list_any};
 ghost use Rattle.uda_mem.specs.Put.{put, part};
 ghost use Rattle.uda_packet.specs.Written.{written_command};
 ghost use Rattle.uda_packet.specs.Reading.{read_command};
-ghost use Rattle.uda_exec.specs.Disks.{AreImages, disks_of};
+ghost use Rattle.uda_exec.specs.Disks.{AreImages};
 ghost use Rattle.uda_exec.specs.Commands.{address_of, room_of};
-ghost use Rattle.uda_exec.specs.Execution.{failures_at, natures_of};
+ghost use Rattle.uda_exec.specs.Execution.{natures_of};
 ghost use Rattle.uda_port.specs.declared.phase.Phase.TheVariants.{Running};
-ghost use Rattle.uda_model.specs.Request.{too_long, IsWhole, Request as RequestValue, Status};
-ghost use Rattle.uda_model.specs.Answer.{IsAnswerOf, Answer as AnswerValue};
-ghost use Rattle.uda_model.specs.Plain.{plain, PlainFaulty, drive_errors};
-ghost use Rattle.uda_model.specs.Clash.{clash, lead};
+ghost use Rattle.uda_port.specs.Port.{port_asked};
+ghost use Rattle.uda_model.specs.Request.{too_long, IsWhole, Status};
+ghost use Rattle.uda_model.specs.Clash.{clash};
 ghost use Rattle.uda_model.specs.Posting.{op_of, command_of, answer_of, bytes_brought};
 ghost use Rattle.uda_model.specs.Keeping.{AllFaithful};
-ghost use Rattle.uda_model.specs.Values.{request_value, answer_value};
-ghost use Rattle.uda_host.specs.Layout.{with_command};
+ghost use Rattle.uda_model.specs.Values.{request_value, answer_value, request_values, answer_values};
+ghost use Rattle.uda_host.specs.Layout.{slots, memory_size, buffer_size, buffer_address, with_command};
+ghost use Rattle.uda_driver.specs.Run.{request_limit, AreAnswersOf, NoneFailed, IsPlainRun, TellsLosses, CountsOn};
 ghost use Rattle.uda_driver.specs.Driving.{posted_desk};
-ghost use Rattle.uda_driver.specs.Underway.{AtRest, Prepared, AreBlank, Settles, Onward, posted_in, Ran};
+ghost use Rattle.uda_driver.specs.Underway.{AtRest, Prepared, AreBlank, Settles, Onward, Ran};
 
 use crate::bring::bring;
 use crate::desk::{Desk, Out};
-use crate::driver::RunError;
+use crate::driver::{REQUEST_LIMIT, RunError};
 use arrayvec::ArrayVec;
 use std::alloc::{AllocError, Global};
 use uda_exec::order::order_is_free;
-use uda_host::{credits_at, end_at, reopen, write_command};
+use uda_host::{BUFFER_SIZE, SLOTS, buffer_address, credits_at, end_at, reopen, write_command};
 use uda_image::BlockStore;
 use uda_mem::HostMemory;
 use uda_model::{Answer, Request};
 use uda_packet::{End, EndBody};
 use uda_port::{Port, Turn};
+
+// How many requests may be out.
+const ROOM: usize = SLOTS as usize;
 
 // The answer that stands before a request is posted.
 fn blank(alloc: Global, request: &Request) -> Result<Answer, AllocError>
@@ -38,7 +41,7 @@ fn blank(alloc: Global, request: &Request) -> Result<Answer, AllocError>
     ensures room { IfOk result (λ a. too_long (request_value request.now) ≡ false → Prepared (request_value request.now) (answer_value a)) }
 {
     match request {
-        Request::Read { count, .. } if *count <= 32 => Ok(Answer::Data {
+        Request::Read { count, .. } if !request.is_too_long() => Ok(Answer::Data {
             status: 0,
             bytes: Vec::from_elem(alloc, 0, 512 * *count as usize)?,
         }),
@@ -68,7 +71,7 @@ fn clashes_at(requests: &[Request], place: u32, request: &Request) -> bool
 }
 
 // Whether a request clashes with one that is out.
-fn hindered(out: &[Out], requests: &[Request], request: &Request) -> bool
+fn clashes_with_any(out: &[Out], requests: &[Request], request: &Request) -> bool
     ensures { result ≡ list_any (λ o. clash (request_value request.now) (slice_index_or (map request_value requests.now) o.place (Status 0))) out.now }
 {
     out.iter().any(|o| clashes_at(requests, o.place, request))
@@ -77,7 +80,7 @@ fn hindered(out: &[Out], requests: &[Request], request: &Request) -> bool
 fn must_wait(desk: &Desk, out: &[Out], requests: &[Request], request: &Request) -> bool
     ensures { result ≡ (nat_eq desk.now.held 0 || list_any (λ o. clash (request_value request.now) (slice_index_or (map request_value requests.now) o.place (Status 0))) out.now) }
 {
-    desk.held == 0 || hindered(out, requests, request)
+    desk.held == 0 || clashes_with_any(out, requests, request)
 }
 
 // Whether a buffer is in use.
@@ -89,11 +92,11 @@ fn is_used(out: &[Out], buffer: u8) -> bool
 
 // A buffer that none has that is out.
 fn free_buffer(out: &[Out]) -> u8
-    requires { length out.now < 8 }
-    ensures below { result < 8 }
+    requires { length out.now < slots }
+    ensures below { result < slots }
     ensures free { list_any (λ o. nat_eq o.buffer result) out.now ≡ false }
 {
-    for buffer in 0..8 {
+    for buffer in 0..SLOTS as u8 {
         if !is_used(out, buffer) {
             return buffer;
         }
@@ -116,9 +119,9 @@ fn find(out: &[Out], reference: u32) -> Option<usize>
 }
 
 // The answer of a request by its end, in place of the blank.
-fn told(blank: Answer, request: &Request, end: End, memory: &HostMemory, address: u32) -> Answer
+fn answer_for(blank: Answer, request: &Request, end: End, memory: &HostMemory, address: u32) -> Answer
     requires short { too_long (request_value request.now) ≡ false }
-    requires inside { address + 16384 ≤ length memory.now }
+    requires inside { address + buffer_size ≤ length memory.now }
     ensures { Prepared (request_value request.now) (answer_value blank) → answer_value result ≡ answer_of (request_value request.now) end
         (part memory.now (address_of (op_of (request_value request.now) address)) (room_of (op_of (request_value request.now) address))) }
 {
@@ -170,12 +173,12 @@ fn settle(answers: &mut Vec<Answer>, requests: &[Request], done: Out, end: End, 
     ensures { Settles requests.now answers.old.items done end memory.now answers.new.items }
 {
     let place = done.place as usize;
-    let address = 0x1000 + 0x4000 * u32::from(done.buffer);
-    if place < requests.len() && place < answers.len() && memory.has(address, 0x4000) {
+    let address = buffer_address(done.buffer);
+    if place < requests.len() && place < answers.len() && memory.has(address, BUFFER_SIZE) {
         let request = &requests[place];
         if !request.is_too_long() {
             let blank = std::mem::replace(&mut answers[place], Answer::TooLong);
-            answers[place] = told(blank, request, end, memory, address);
+            answers[place] = answer_for(blank, request, end, memory, address);
         }
     }
 }
@@ -185,13 +188,13 @@ fn step<S: BlockStore>(
     port: &mut Port<S>,
     memory: &mut HostMemory,
     desk: &mut Desk,
-    out: &mut ArrayVec<Out, 8>,
+    out: &mut ArrayVec<Out, ROOM>,
     requests: &[Request],
     answers: &mut Vec<Answer>,
 )
     requires some { 0 < length out.old.items }
-    requires slot { desk.old.response_place < 8 }
-    requires held { desk.old.held ≤ 8 }
+    requires slot { desk.old.response_place < slots }
+    requires held { desk.old.held ≤ slots }
     ensures { Onward requests.now out.old.items answers.old.items desk.old port.old memory.old out.new.items answers.new.items desk.new port.new memory.new }
 {
     // It does nothing: its contract is the law that whichever command goes, nothing is different.
@@ -204,7 +207,7 @@ fn step<S: BlockStore>(
                 reopen(memory, desk.response_place);
                 *desk = Desk {
                     command_place: desk.command_place,
-                    response_place: (desk.response_place + 1) % 8,
+                    response_place: (desk.response_place + 1) % SLOTS,
                     held: desk.held + credits,
                 };
                 settle(answers, requests, done, end, memory);
@@ -218,39 +221,37 @@ fn post<S: BlockStore>(
     port: &mut Port<S>,
     memory: &mut HostMemory,
     desk: &mut Desk,
-    out: &mut ArrayVec<Out, 8>,
+    out: &mut ArrayVec<Out, ROOM>,
     new: Out,
     request: &Request,
 )
-    requires few { new.place < 4096 }
-    requires buffer { new.buffer < 8 }
+    requires few { new.place < request_limit }
+    requires buffer { new.buffer < slots }
     requires short { too_long (request_value request.now) ≡ false }
-    requires room { length out.old.items < 8 }
+    requires room { length out.old.items < slots }
     requires credit { 0 < desk.old.held }
-    requires slot { desk.old.command_place < 8 }
-    requires size { length memory.old ≡ 135168 }
+    requires slot { desk.old.command_place < slots }
+    requires size { length memory.old ≡ memory_size }
     ensures out { out.new.items ≡ out.old.items ++ new ∷ [] }
     ensures desk { desk.new ≡ posted_desk desk.old }
     ensures whole { IsWhole (request_value request.now) }
-    ensures legible { read_command (written_command (command_of (request_value request.now) (new.place + 1) (4096 + 16384 * new.buffer))) ≡ Ok (command_of (request_value request.now) (new.place + 1) (4096 + 16384 * new.buffer)) }
-    ensures memory { memory.new ≡ with_command (put memory.old (4096 + 16384 * new.buffer) (bytes_brought (request_value request.now))) desk.old.command_place (command_of (request_value request.now) (new.place + 1) (4096 + 16384 * new.buffer)) }
+    ensures legible { read_command (written_command (command_of (request_value request.now) (new.place + 1) (buffer_address new.buffer))) ≡ Ok (command_of (request_value request.now) (new.place + 1) (buffer_address new.buffer)) }
+    ensures memory { memory.new ≡ with_command (put memory.old (buffer_address new.buffer) (bytes_brought (request_value request.now))) desk.old.command_place (command_of (request_value request.now) (new.place + 1) (buffer_address new.buffer)) }
     ensures port { port.old.phase ≡ Running → port.new ≡ record port.old { looking = true } }
 {
-    let address = 0x1000 + 0x4000 * u32::from(new.buffer);
+    let address = buffer_address(new.buffer);
     bring(request, memory, address);
     write_command(memory, desk.command_place, &request.command(new.place + 1, address));
     port.read_ip();
     *desk = Desk {
-        command_place: (desk.command_place + 1) % 8,
+        command_place: (desk.command_place + 1) % SLOTS,
         response_place: desk.response_place,
         held: desk.held - 1,
     };
     out.push(new);
 }
 
-/// Has the requests done, over stores that may fail: the answers and the disks are those of a plain run with
-/// losses; each unit's requests are told as many drive errors as its store has failed; and where no store
-/// failed, answers and disks are those of the plain run. Nothing is taken from memory once a command is posted.
+// Has the requests done. Nothing is taken from memory once a command is posted.
 pub(crate) fn run<S: BlockStore>(
     alloc: Global,
     port: &mut Port<S>,
@@ -261,23 +262,24 @@ pub(crate) fn run<S: BlockStore>(
     requires rest { AtRest desk.old port.old memory.old }
     requires images { AreImages port.old.exec.units }
     ensures rest { AtRest desk.new port.new memory.new }
-    ensures unchanged { IfErr result (λ _. (desk.new ≡ desk.old) × (port.new ≡ port.old) × (memory.new ≡ memory.old)) }
-    ensures few { length requests.now ≤ 4096 → IfErr result (λ e. e ≡ RunError.NoMemory) }
-    ensures many { 4096 < length requests.now → result ≡ Err RunError.TooMany }
+    ensures unchanged { IfErr result (λ _.
+        (desk.new ≡ desk.old) × (port.new ≡ port.old) × (memory.new ≡ memory.old)) }
+    ensures too_many { (result ≡ Err RunError.TooMany) ↔ (request_limit < length requests.now) }
     ensures images { AreImages port.new.exec.units }
-    ensures natures { IfOk result (λ _. natures_of port.new.exec.units ≡ natures_of port.old.exec.units) }
-    ensures counted { IfOk result (λ answers. length answers.items ≡ length requests.now) }
-    ensures formed { IfOk result (λ answers. (k : ℕ) (r : RequestValue) (a : AnswerValue) → slice_get (map request_value requests.now) k ≡ Some r → slice_get (map answer_value answers.items) k ≡ Some a → IsAnswerOf r a) }
-    ensures faulty { IfOk result (λ answers. AllFaithful port.old.exec.units → PlainFaulty (disks_of port.old.exec.units) (map request_value requests.now) (map answer_value answers.items) (disks_of port.new.exec.units)) }
-    ensures errors { IfOk result (λ answers. AllFaithful port.old.exec.units → (u : ℕ) → failures_at (slice_get port.new.exec.units u) ≡ failures_at (slice_get port.old.exec.units u) + drive_errors u (map request_value requests.now) (map answer_value answers.items)) }
-    ensures plain { IfOk result (λ answers. AllFaithful port.old.exec.units → ((u : ℕ) → failures_at (slice_get port.new.exec.units u) ≡ failures_at (slice_get port.old.exec.units u))
-        → (map answer_value answers.items, disks_of port.new.exec.units) ≡ plain (disks_of port.old.exec.units) (map request_value requests.now)) }
-    ensures turns { IfOk result (λ _. port.new.turns ≡ port.old.turns + 3 * posted_in (map request_value requests.now)) }
-    ensures fetches { IfOk result (λ _. port.new.fetches ≡ port.old.fetches + posted_in (map request_value requests.now)) }
-    ensures deliveries { IfOk result (λ _. port.new.deliveries ≡ port.old.deliveries + posted_in (map request_value requests.now)) }
-    ensures load { IfOk result (λ _. let k = lead (map request_value requests.now) in port.old.load + (k * (k + 1) / 2 + (posted_in (map request_value requests.now) - k)) ≤ port.new.load) }
+    ensures natures { natures_of port.new.exec.units ≡ natures_of port.old.exec.units }
+    ensures shape { IfOk result (λ answers.
+        AreAnswersOf (request_values requests.now) (answer_values answers.items)) }
+    ensures headline { IfOk result (λ answers.
+        AllFaithful port.old.exec.units → NoneFailed port.old.exec.units port.new.exec.units
+        → IsPlainRun port.old.exec.units (request_values requests.now)
+            (answer_values answers.items) port.new.exec.units) }
+    ensures losses { IfOk result (λ answers.
+        AllFaithful port.old.exec.units
+        → TellsLosses port.old.exec.units (request_values requests.now)
+            (answer_values answers.items) port.new.exec.units) }
+    ensures counts { IfOk result (λ _. CountsOn (request_values requests.now) port.old port.new) }
 {
-    if requests.len() > 4096 {
+    if requests.len() > REQUEST_LIMIT {
         return Err(RunError::TooMany);
     }
     match blanks(alloc, requests) {
@@ -296,12 +298,12 @@ fn drive<S: BlockStore>(
 ) -> Vec<Answer>
     requires rest { AtRest desk.old port.old memory.old }
     requires images { AreImages port.old.exec.units }
-    requires few { length requests.now ≤ 4096 }
+    requires few { length requests.now ≤ request_limit }
     requires counted { length answers.items ≡ length requests.now }
     requires blank { AreBlank (map request_value requests.now) 0 (map answer_value answers.items) }
     ensures { Ran port.old requests.now result.items desk.new port.new memory.new }
 {
-    let mut out: ArrayVec<Out, 8> = ArrayVec::new();
+    let mut out: ArrayVec<Out, ROOM> = ArrayVec::new();
     for n in 0..requests.len() {
         let request = &requests[n];
         if !request.is_too_long() {

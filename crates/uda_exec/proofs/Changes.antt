@@ -1,9 +1,17 @@
 -- Memory that changed at most in one range.
-use Rattle.std.proofs.Common.{◌≡◌, ℕ, ◌+◌, ◌-◌, ◌<◌, ◌≤◌, ◌⊎◌, inl, inr, List, length, get_or, refl, sym, ap, ◌∙◌, arith}
+use Rattle.std.proofs.Common.{◌≡◌, ℕ, ◌+◌, ◌-◌, ◌<◌, ◌≤◌, ◌⊎◌, inl, inr, List, Option, Some, None, length, get_or, refl, sym, ap, ◌∙◌, arith}
 use Rattle.std.proofs.lemmas.List.{same_lists}
 use Rattle.std.proofs.lemmas.Bool.{cases_lt}
+use Rattle.std.specs.Prelude.{if◌then◌else◌}
 use Rattle.uda_mem.specs.Put.{put, part}
 use Rattle.uda_mem.proofs.PutLaws.{length-put, length-part, get_or-part, get_or-put_before, get_or-put_at, get_or-put_behind, put-nil, put-put_same}
+use Rattle.std.specs.Option.{option_map_or}
+use Rattle.uda_packet.specs.declared.command.Op.{Op}
+use Rattle.uda_packet.specs.declared.end.Kind.{Kind}
+use Rattle.uda_packet.specs.declared.end.Kind.TheVariants.{Access, Erase, Read, Write}
+use Rattle.uda_packet.specs.declared.transfer.Transfer.{Transfer}
+use Rattle.uda_packet.specs.Transfer.{transfer_of, has_buffer}
+use Rattle.uda_exec.specs.Commands.{changes_memory, room_in, landing_of, room_of}
 use Rattle.uda_exec.specs.Transfers.{ChangesAt}
 
 module _ (old new : List ℕ) (at n : ℕ) where
@@ -45,3 +53,17 @@ changes_again a b c at n h g =
     let size_b = length-part b at n in let size_c = length-part c at n in let same = length-changes b c at n g in
     let over : put (put a at (part b at n)) at (part c at n) ≡ put a at (part c at n) = put-put_same a at (part b at n) (part c at n) (omega arith) in
     g ∙ ap (λ (m : List ℕ). put m at (part c at n)) h ∙ over
+
+-- a command changes no more of its buffer than there is
+landing_by : (t : Transfer) (kind : Kind) → (if changes_memory kind then t.count else 0) ≤ (if has_buffer kind then t.count else 0)
+landing_by t Access = omega arith
+landing_by t Erase = omega arith
+landing_by t Read = omega arith
+landing_by t Write = omega arith
+
+landing_for : (t : Option Transfer) → option_map_or (λ t. if changes_memory t.kind then t.count else 0) t 0 ≤ option_map_or room_in t 0
+landing_for None = omega arith
+landing_for (Some t) = landing_by t t.kind
+
+pub landing-le : (op : Op) → landing_of op ≤ room_of op
+landing-le op = landing_for (transfer_of op)

@@ -1,3 +1,4 @@
 pub mod Store
 pub mod Image
 pub mod StoreLaws
+pub mod Display

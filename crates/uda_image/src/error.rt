@@ -17,6 +17,11 @@ pub enum ImageError {
 }
 
 impl fmt::Display for ImageError {
+    ghost use Rattle.std.specs.Prelude.{Some};
+    ghost use Rattle.uda_image.specs.Display.{image_error_display};
+
+    ghost output = { λ error. Some (image_error_display error) };
+
     fn fmt<W: fmt::Write>(&self, f: &mut fmt::Formatter<W>) -> fmt::Result {
         match self {
             ImageError::NoMemory => f.write_str("out of memory"),

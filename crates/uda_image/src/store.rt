@@ -21,6 +21,11 @@ pub enum StoreError {
 }
 
 impl fmt::Display for StoreError {
+    ghost use Rattle.std.specs.Prelude.{Some};
+    ghost use Rattle.uda_image.specs.Display.{store_error_display};
+
+    ghost output = { λ error. Some (store_error_display error) };
+
     fn fmt<W: fmt::Write>(&self, f: &mut fmt::Formatter<W>) -> fmt::Result {
         match self {
             StoreError::Read => f.write_str("a block could not be read"),

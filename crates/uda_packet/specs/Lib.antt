@@ -9,3 +9,4 @@ pub mod Range
 pub mod Envelope
 pub mod Bad
 pub mod Transfer
+pub mod Display

@@ -1,6 +1,6 @@
 -- The status words of end messages: the major status in bits 4-0, the subcode above.
 -- MSCP Basic Disk Functions Manual: status and event codes.
-use Rattle.std.specs.Prelude.{ℕ, ◌==◌, Option, Some, None, List, codes, if◌then◌else◌}
+use Rattle.std.specs.Prelude.{ℕ, ◌==◌, List, codes, if◌then◌else◌}
 
 -- the command was carried out
 abbrev pub SUCCESS : ℕ
@@ -62,23 +62,23 @@ NO_SUCH_MEMORY = 0x0069
 abbrev pub DRIVE_ERROR : ℕ
 DRIVE_ERROR = 0x000B
 
--- what a status word is called, where it is one of these
-abbrev pub status_name : ℕ → Option (List ℕ)
+-- what a status word is called
+unfoldable pub status_name : ℕ → List ℕ
 status_name word =
-    if word == SUCCESS then Some (codes "success")
-    else if word == ALREADY_ONLINE then Some (codes "already online")
-    else if word == INVALID_LENGTH then Some (codes "invalid length")
-    else if word == INVALID_OPCODE then Some (codes "invalid opcode")
-    else if word == INVALID_MODIFIERS then Some (codes "invalid modifiers")
-    else if word == INVALID_COUNT then Some (codes "invalid byte count or version")
-    else if word == INVALID_BLOCK then Some (codes "invalid block number")
-    else if word == UNIT_UNKNOWN then Some (codes "unit unknown")
-    else if word == NO_VOLUME then Some (codes "no volume")
-    else if word == AVAILABLE then Some (codes "available")
-    else if word == HARDWARE_PROTECTED then Some (codes "hardware write protected")
-    else if word == SOFTWARE_PROTECTED then Some (codes "software write protected")
-    else if word == ODD_ADDRESS then Some (codes "odd buffer address")
-    else if word == ODD_COUNT then Some (codes "odd byte count")
-    else if word == NO_SUCH_MEMORY then Some (codes "no such memory")
-    else if word == DRIVE_ERROR then Some (codes "drive error")
-    else None
+    if word == SUCCESS then codes "success"
+    else if word == ALREADY_ONLINE then codes "already online"
+    else if word == INVALID_LENGTH then codes "invalid length"
+    else if word == INVALID_OPCODE then codes "invalid opcode"
+    else if word == INVALID_MODIFIERS then codes "invalid modifiers"
+    else if word == INVALID_COUNT then codes "invalid byte count or version"
+    else if word == INVALID_BLOCK then codes "invalid block number"
+    else if word == UNIT_UNKNOWN then codes "unit unknown"
+    else if word == NO_VOLUME then codes "no volume"
+    else if word == AVAILABLE then codes "available"
+    else if word == HARDWARE_PROTECTED then codes "hardware write protected"
+    else if word == SOFTWARE_PROTECTED then codes "software write protected"
+    else if word == ODD_ADDRESS then codes "odd buffer address"
+    else if word == ODD_COUNT then codes "odd byte count"
+    else if word == NO_SUCH_MEMORY then codes "no such memory"
+    else if word == DRIVE_ERROR then codes "drive error"
+    else codes "unknown status"

@@ -1,7 +1,8 @@
 //! Texts that are no command's.
 
-ghost use Rattle.std.specs.Prelude.{◌≡◌};
+ghost use Rattle.std.specs.Prelude.{◌≡◌, Some};
 ghost use Rattle.uda_packet.specs.Bad.{fault_number, fault_status, bad_end};
+ghost use Rattle.uda_packet.specs.Display.{bad_display, fault_display};
 
 use crate::end::{End, EndBody};
 use crate::status;
@@ -73,6 +74,8 @@ impl BadKind {
 }
 
 impl fmt::Display for BadKind {
+    ghost output = { λ kind. Some (fault_display kind) };
+
     fn fmt<W: fmt::Write>(&self, f: &mut fmt::Formatter<W>) -> fmt::Result {
         f.write_str(match self {
             BadKind::Opcode => "no command has this opcode",
@@ -86,6 +89,8 @@ impl Error for BadKind {}
 
 /// As `reference 7, unit 2: no command has this opcode`.
 impl fmt::Display for Bad {
+    ghost output = { λ bad. Some (bad_display bad) };
+
     fn fmt<W: fmt::Write>(&self, f: &mut fmt::Formatter<W>) -> fmt::Result {
         let Bad {
             reference,

@@ -1,7 +1,8 @@
 //! End messages.
 
-ghost use Rattle.std.specs.Prelude.{◌≡◌};
+ghost use Rattle.std.specs.Prelude.{◌≡◌, Some};
 ghost use Rattle.uda_packet.specs.Bad.{other_length_end};
+ghost use Rattle.uda_packet.specs.Display.{end_display, body_display, kind_display};
 
 use crate::field::{REFERENCE, UNIT};
 use crate::status;
@@ -44,6 +45,8 @@ impl End {
 
 /// As `reference 3, unit 0, status 0x0000 (success): Read, 512 bytes`.
 impl fmt::Display for End {
+    ghost output = { λ end. Some (end_display end) };
+
     fn fmt<W: fmt::Write>(&self, f: &mut fmt::Formatter<W>) -> fmt::Result {
         let End {
             reference,
@@ -51,10 +54,10 @@ impl fmt::Display for End {
             status,
             body,
         } = *self;
-        let name = status::name(status).unwrap_or("of no known name");
+        let name = status::name(status);
         write!(
             f,
-            "reference {reference}, unit {unit}, status {status:#06x} ({name}): {body}"
+            "reference {reference}, unit {unit}, status 0x{status:04x} ({name}): {body}"
         )
     }
 }
@@ -94,14 +97,16 @@ pub enum EndBody {
 
 /// As `Read, 512 bytes`, or `Online, flags 0x1000, 891072 blocks`.
 impl fmt::Display for EndBody {
+    ghost output = { λ body. Some (body_display body) };
+
     fn fmt<W: fmt::Write>(&self, f: &mut fmt::Formatter<W>) -> fmt::Result {
         match *self {
             EndBody::Invalid => f.write_str("invalid command"),
-            EndBody::Status { flags } => write!(f, "Get Unit Status, flags {flags:#06x}"),
+            EndBody::Status { flags } => write!(f, "Get Unit Status, flags 0x{flags:04x}"),
             EndBody::Controller => f.write_str("Set Controller Characteristics"),
             EndBody::Available => f.write_str("Available"),
             EndBody::Online { flags, size } => {
-                write!(f, "Online, flags {flags:#06x}, {size} blocks")
+                write!(f, "Online, flags 0x{flags:04x}, {size} blocks")
             }
             EndBody::Moved { kind, bytes } => write!(f, "{kind}, {bytes} bytes"),
         }
@@ -122,6 +127,8 @@ pub enum Kind {
 }
 
 impl fmt::Display for Kind {
+    ghost output = { λ kind. Some (kind_display kind) };
+
     fn fmt<W: fmt::Write>(&self, f: &mut fmt::Formatter<W>) -> fmt::Result {
         f.write_str(match self {
             Kind::Access => "Access",

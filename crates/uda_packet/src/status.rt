@@ -2,7 +2,7 @@
 //!
 //! MSCP Basic Disk Functions Manual: status and event codes.
 
-ghost use Rattle.std.specs.Prelude.{◌≡◌, option_map};
+ghost use Rattle.std.specs.Prelude.{◌≡◌};
 ghost use Rattle.uda_packet.specs.Status.{status_name};
 
 /// The command was carried out.
@@ -56,28 +56,29 @@ pub const NO_SUCH_MEMORY: u16 = 0x0069;
 /// The store failed.
 pub const DRIVE_ERROR: u16 = 0x000B;
 
-/// What a status word is called; `None` where it is none of this module's. The same word stands for
-/// an invalid byte count and an invalid version, whose fields lie at one place.
-pub fn name(status: u16) -> Option<&'static str>
-    ensures name { option_map (λ text. text.now) result ≡ status_name status }
+/// What a status word is called; `unknown status` where it is none of this module's. The same word
+/// stands for an invalid byte count and an invalid version, whose fields lie at one place.
+#[tactic(auto, unfolding(crate::specs::Status::status_name))]
+pub fn name(status: u16) -> &'static str
+    ensures name { result.now ≡ status_name status }
 {
     match status {
-        SUCCESS => Some("success"),
-        ALREADY_ONLINE => Some("already online"),
-        INVALID_LENGTH => Some("invalid length"),
-        INVALID_OPCODE => Some("invalid opcode"),
-        INVALID_MODIFIERS => Some("invalid modifiers"),
-        INVALID_COUNT => Some("invalid byte count or version"),
-        INVALID_BLOCK => Some("invalid block number"),
-        UNIT_UNKNOWN => Some("unit unknown"),
-        NO_VOLUME => Some("no volume"),
-        AVAILABLE => Some("available"),
-        HARDWARE_PROTECTED => Some("hardware write protected"),
-        SOFTWARE_PROTECTED => Some("software write protected"),
-        ODD_ADDRESS => Some("odd buffer address"),
-        ODD_COUNT => Some("odd byte count"),
-        NO_SUCH_MEMORY => Some("no such memory"),
-        DRIVE_ERROR => Some("drive error"),
-        _ => None,
+        SUCCESS => "success",
+        ALREADY_ONLINE => "already online",
+        INVALID_LENGTH => "invalid length",
+        INVALID_OPCODE => "invalid opcode",
+        INVALID_MODIFIERS => "invalid modifiers",
+        INVALID_COUNT => "invalid byte count or version",
+        INVALID_BLOCK => "invalid block number",
+        UNIT_UNKNOWN => "unit unknown",
+        NO_VOLUME => "no volume",
+        AVAILABLE => "available",
+        HARDWARE_PROTECTED => "hardware write protected",
+        SOFTWARE_PROTECTED => "software write protected",
+        ODD_ADDRESS => "odd buffer address",
+        ODD_COUNT => "odd byte count",
+        NO_SUCH_MEMORY => "no such memory",
+        DRIVE_ERROR => "drive error",
+        _ => "unknown status",
     }
 }

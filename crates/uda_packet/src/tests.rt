@@ -202,7 +202,7 @@ fn ends_and_faults_as_texts(rt: HostRuntime) -> Result<(), Fail> {
         ),
         (
             end(7, 2, 0x1234, EndBody::Invalid),
-            "reference 7, unit 2, status 0x1234 (of no known name): invalid command",
+            "reference 7, unit 2, status 0x1234 (unknown status): invalid command",
         ),
         (
             end(1, 0, 0, EndBody::Controller),

@@ -1,0 +1,5 @@
+pub mod Lists
+pub mod Frames
+pub mod CommandSides
+pub mod ResponseSides
+pub mod Steps

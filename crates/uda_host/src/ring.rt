@@ -1,0 +1,80 @@
+//! What a driver writes to its memory and reads there.
+ghost use Rattle.std.specs.Prelude.{◌≡◌, ℕ, ◌+◌, ◌*◌, ◌%◌, ◌<◌, ◌≤◌, length, Ok};
+ghost use Rattle.uda_mem.specs.Put.{put, part};
+ghost use Rattle.uda_mem.specs.Words.{word_at, word_bytes};
+ghost use Rattle.uda_packet.specs.Written.{written_command};
+ghost use Rattle.uda_packet.specs.Reading.{read_command, read_end};
+ghost use Rattle.uda_host.specs.Layout.{slots, memory_size, response_packet, with_command, memory_reopened};
+
+use uda_mem::HostMemory;
+use uda_packet::{Command, End, decode_end, encode_command};
+
+/// How many bytes the driver's memory has.
+pub const MEMORY_SIZE: u32 = 135_168;
+
+/// How many descriptors each ring has, and so how many buffers there are.
+pub const SLOTS: u32 = 8;
+
+const COMMAND_RING: u32 = 40;
+const RESPONSE_RING: u32 = 8;
+const COMMAND_PACKETS: u32 = 0x300;
+const RESPONSE_PACKETS: u32 = 0x100;
+const PACKET_STEP: u32 = 64;
+const OWNER: u16 = 0x8000;
+
+// Writes a text of 48 bytes where there is room for it.
+fn put_text(memory: &mut HostMemory, at: u32, text: &[u8; 48])
+    requires { at + 48 ≤ length memory.old }
+    ensures put { memory.new ≡ put memory.old at text.now }
+{
+    memory.within(at, 48).copy_from_slice(text);
+}
+
+/// Posts a command at a place of the command ring: its packet, and then its descriptor, which the port
+/// owns from then on.
+pub fn write_command(memory: &mut HostMemory, place: u32, command: &Command)
+    requires size { length memory.old ≡ memory_size }
+    requires within { place < slots }
+    ensures posted { memory.new ≡ with_command memory.old place command.now }
+    ensures legible { read_command (written_command command.now) ≡ Ok command.now }
+{
+    let packet = COMMAND_PACKETS + PACKET_STEP * place;
+    let descriptor = COMMAND_RING + 4 * place;
+    memory.put_word(packet, 48);
+    memory.put_word(packet + 2, 0);
+    put_text(memory, packet + 4, &encode_command(command));
+    memory.put_word(descriptor, (packet + 4) as u16);
+    memory.put_word(descriptor + 2, OWNER);
+}
+
+/// The end message that lies at a place of the response ring.
+pub fn end_at(memory: &HostMemory, place: u32) -> Option<End>
+    requires within { place < slots }
+    ensures end { length memory.now ≡ memory_size → result ≡ read_end (part memory.now (response_packet place + 4) 48) }
+{
+    let mut text = [0; 48];
+    if let Some(window) = memory.window(RESPONSE_PACKETS + PACKET_STEP * place + 4, 48) {
+        text.copy_from_slice(window);
+    }
+    decode_end(&text)
+}
+
+/// The credits that the end message there grants.
+pub fn credits_at(memory: &HostMemory, place: u32) -> u32
+    requires within { place < slots }
+    ensures few { result < 65536 }
+    ensures word { length memory.now ≡ memory_size → result ≡ word_at memory.now (response_packet place + 2) }
+{
+    match memory.read_word(RESPONSE_PACKETS + PACKET_STEP * place + 2) {
+        Some(word) => u32::from(word),
+        None => 0,
+    }
+}
+
+/// Gives the response descriptor at a place to the port.
+pub fn reopen(memory: &mut HostMemory, place: u32)
+    requires within { place < slots }
+    ensures open { length memory.old ≡ memory_size → memory.new ≡ memory_reopened memory.old place }
+{
+    memory.write_word(RESPONSE_RING + 4 * place + 2, OWNER);
+}

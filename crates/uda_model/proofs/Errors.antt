@@ -1,0 +1,94 @@
+-- A plain effects with losses in which no drive error is told is a plain effects; and how the count of drive errors grows.
+use Rattle.std.proofs.Common.{◌≡◌, ℕ, zero, suc, ◌+◌, Bool, true, false, List, [], ◌∷◌, ◌++◌, length, Some, refl, sym, ap, ap₂, ◌∙◌, arith}
+use Rattle.std.specs.Prelude.{slice_get, slice_set, nat_eq, ◌&&◌, if◌then◌else◌}
+use Rattle.std.proofs.lemmas.Bool.{eq-eqb}
+use Rattle.uda_exec.specs.Disks.{Disk, Disks}
+use Rattle.uda_exec.specs.Status.{DRIVE_ERROR}
+use Rattle.uda_exec.specs.Effect.{Outcome, Done, Lost}
+use Rattle.uda_model.specs.Request.{Request, Online, Available, Status, Read, Access, Write, Erase, unit_of, too_long}
+use Rattle.uda_model.specs.Answer.{Answer, TooLong, status_of}
+use Rattle.uda_model.specs.Plain.{Bar, Barred, Free, bar, answer_by, step_by, step_as, step, plain, FixedRequest, step_of, plain_as, requests_of, PlainFaulty, tells_error, drive_errors}
+
+abbrev pub is_error : Answer → Bool
+is_error a = nat_eq (status_of a) DRIVE_ERROR
+
+-- a transfer that is free tells its loss, so what tells none is as if nothing was lost
+free-clean : (k : ℕ) (left : List ℕ) (r : Request) (disks : Disks) (d : Disk) → is_error (answer_by (Lost k left) r (Free d)) ≡ false
+    → step_by (Lost k left) r (Free d) disks ≡ step_by Done r (Free d) disks
+free-clean k left (Online unit protect) disks d h = refl
+free-clean k left (Available unit) disks d h = refl
+free-clean k left (Status unit) disks d h = refl
+free-clean k left (Read unit f n) disks d h = absurd (cc)
+free-clean k left (Access unit f n) disks d h = absurd (cc)
+free-clean k left (Write unit f blocks) disks d h = absurd (cc)
+free-clean k left (Erase unit f n) disks d h = absurd (cc)
+
+bar-clean : (k : ℕ) (left : List ℕ) (r : Request) (disks : Disks) (b : Bar) → is_error (answer_by (Lost k left) r b) ≡ false → step_by (Lost k left) r b disks ≡ step_by Done r b disks
+bar-clean k left r disks (Barred refusal) h = refl
+bar-clean k left r disks (Free d) h = free-clean k left r disks d h
+
+abbrev chosen : Outcome → Request → Disks → Bool → Answer × Disks
+chosen o r disks b = if b then (TooLong, disks) else step_by o r (bar disks r) disks
+
+-- what tells no drive error is as if nothing was lost
+step-clean : (o : Outcome) (r : Request) (disks : Disks) → is_error (step_as o disks r).0 ≡ false → step_as o disks r ≡ step disks r
+step-clean Done r disks h = refl
+step-clean (Lost k left) r disks h = by (too_long r) h
+  where
+    by : (b : Bool) → is_error (chosen (Lost k left) r disks b).0 ≡ false → chosen (Lost k left) r disks b ≡ chosen Done r disks b
+    by true e = refl
+    by false e = bar-clean k left r disks (bar disks r) e
+
+no_error : (r : Request) (a : Answer) → tells_error (unit_of r) r a ≡ 0 → is_error a ≡ false
+no_error r a h = by (is_error a) refl
+  where
+    own : nat_eq (unit_of r) (unit_of r) ≡ true
+    own = eq-eqb (unit_of r) (unit_of r) refl
+
+    by : (b : Bool) → is_error a ≡ b → is_error a ≡ false
+    by false e = e
+    by true e = let one : tells_error (unit_of r) r a ≡ 1 = rw (own, e) refl in absurd (omega arith)
+
+plain_as-clean : (xs : List FixedRequest) (disks : Disks) → ((u : ℕ) → drive_errors u (requests_of xs) (plain_as disks xs).0 ≡ 0) → plain_as disks xs ≡ plain disks (requests_of xs)
+plain_as-clean [] disks h = refl
+plain_as-clean (d ∷ ds) disks h =
+    let r = d.request in
+    let now = step_of d disks in
+    let first : tells_error (unit_of r) r now.0 ≡ 0 = omega (arith, h (unit_of r)) in
+    let same : now ≡ step disks r = step-clean d.outcome r disks (no_error r now.0 first) in
+    let induction = plain_as-clean ds now.1 (λ u. omega (arith, h u)) in
+    let behind : Answer × Disks → List Answer × Disks → List Answer × Disks = λ a x. (a.0 ∷ x.0, x.1) in
+    ap₂ behind same (induction ∙ ap (λ (x : Answer × Disks). plain x.1 (requests_of ds)) same)
+
+pub plain_from_faulty : (start : Disks) (requests : List Request) (answers : List Answer) (left : Disks) → PlainFaulty start requests answers left
+    → ((u : ℕ) → drive_errors u requests answers ≡ 0) → (answers, left) ≡ plain start requests
+plain_from_faulty start requests answers left h none =
+    let at : List Answer → List Request → Type 0 = λ as' rs. (u : ℕ) → drive_errors u rs as' ≡ 0 in
+    let given : (u : ℕ) → drive_errors u (requests_of h.fixed) (plain_as start h.fixed).0 ≡ 0 = λ u.
+    ap (λ (x : List Answer × Disks). drive_errors u (requests_of h.fixed) x.0) h.gives ∙ ap (λ (rs : List Request). drive_errors u rs answers) h.are_requests ∙ none u in
+    sym h.gives ∙ plain_as-clean h.fixed start given ∙ ap (plain start) h.are_requests
+
+tells_nothing : (b : Bool) → (let n : ℕ = if b && false then 1 else 0 in n) ≡ 0
+tells_nothing true = refl
+tells_nothing false = refl
+
+pub tells-long : (u : ℕ) (r : Request) → tells_error u r TooLong ≡ 0
+tells-long u r = tells_nothing (nat_eq (unit_of r) u)
+
+-- an answer in the place of a request that was not yet answer_by
+pub errors-set : (u : ℕ) (requests : List Request) (told : List Answer) (k : ℕ) (r : Request) (a : Answer) → slice_get requests k ≡ Some r → slice_get told k ≡ Some TooLong
+    → drive_errors u requests (slice_set told k a) ≡ drive_errors u requests told + tells_error u r a
+errors-set u [] told k r a at blank = absurd (cc)
+errors-set u (q ∷ rest) [] k r a at blank = absurd (cc)
+errors-set u (q ∷ rest) (t ∷ ts) zero r a at blank =
+    let same : q ≡ r = cc in let is : t ≡ TooLong = cc in
+    let now : tells_error u q a ≡ tells_error u r a = ap (λ (x : Request). tells_error u x a) same in
+    let before : tells_error u q t ≡ 0 = ap (tells_error u q) is ∙ tells-long u q in
+    omega arith
+errors-set u (q ∷ rest) (t ∷ ts) (suc k) r a at blank = let more = errors-set u rest ts k r a at blank in omega arith
+
+pub errors-push : (u : ℕ) (requests : List Request) (told : List Answer) (r : Request) → length told ≡ length requests → drive_errors u (requests ++ r ∷ []) (told ++ TooLong ∷ []) ≡ drive_errors u requests told
+errors-push u [] [] r e = let none = tells-long u r in omega arith
+errors-push u [] (t ∷ ts) r e = absurd (omega arith)
+errors-push u (q ∷ rest) [] r e = absurd (omega arith)
+errors-push u (q ∷ rest) (t ∷ ts) r e = let more = errors-push u rest ts r (omega arith) in omega arith

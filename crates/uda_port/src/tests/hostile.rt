@@ -156,7 +156,8 @@ fn start_up_in_mid_work(rt: HostRuntime) -> Result<(), Fail> {
     for (unit, drive) in port.into_exec().into_stores().into_iter().enumerate() {
         if let Some(drive) = drive {
             assert_eq!(rt; unit, 0);
-            assert_eq!(rt; &drive.store.bytes()[1024..1536], [0x77; 512].as_slice());
+            let written = drive.store.bytes().get(1024..1536);
+            assert_eq!(rt; written, Some([0x77; 512].as_slice()));
         }
     }
     Ok(())

@@ -106,15 +106,21 @@ impl<S: BlockStore> Driver<S> {
         ensures headline { IfOk result (λ answers.
             AllFaithful (units_of self.old) → NoneFailed (units_of self.old) (units_of self.new)
             → IsPlainRun (units_of self.old) (request_values requests.now)
-                (answer_values answers.items) (units_of self.new)) }
+            (answer_values answers.items) (units_of self.new)) }
         ensures losses { IfOk result (λ answers.
             AllFaithful (units_of self.old)
             → TellsLosses (units_of self.old) (request_values requests.now)
-                (answer_values answers.items) (units_of self.new)) }
+            (answer_values answers.items) (units_of self.new)) }
         ensures counts { IfOk result (λ _.
             CountsOn (request_values requests.now) self.old.port self.new.port) }
     {
-        run(self.alloc, &mut self.port, &mut self.memory, &mut self.desk, requests)
+        run(
+            self.alloc,
+            &mut self.port,
+            &mut self.memory,
+            &mut self.desk,
+            requests,
+        )
     }
 
     /// The drives as the last run left them, hardware protection too. No store is called.
@@ -125,4 +131,3 @@ impl<S: BlockStore> Driver<S> {
         stores_of(port)
     }
 }
-

@@ -6,5 +6,7 @@ mod desk;
 mod driver;
 mod serve;
 mod start;
+#[cfg(test)]
+mod tests;
 
 pub use driver::{Driver, RunError};

@@ -119,7 +119,13 @@ fn find(out: &[Out], reference: u32) -> Option<usize>
 }
 
 // The answer of a request by its end, in place of the blank.
-fn answer_for(blank: Answer, request: &Request, end: End, memory: &HostMemory, address: u32) -> Answer
+fn answer_for(
+    blank: Answer,
+    request: &Request,
+    end: End,
+    memory: &HostMemory,
+    address: u32,
+) -> Answer
     requires short { too_long (request_value request.now) ≡ false }
     requires inside { address + buffer_size ≤ length memory.now }
     ensures { Prepared (request_value request.now) (answer_value blank) → answer_value result ≡ answer_of (request_value request.now) end
@@ -241,7 +247,11 @@ fn post<S: BlockStore>(
 {
     let address = buffer_address(new.buffer);
     bring(request, memory, address);
-    write_command(memory, desk.command_place, &request.command(new.place + 1, address));
+    write_command(
+        memory,
+        desk.command_place,
+        &request.command(new.place + 1, address),
+    );
     port.read_ip();
     *desk = Desk {
         command_place: (desk.command_place + 1) % SLOTS,
@@ -272,11 +282,11 @@ pub(crate) fn run<S: BlockStore>(
     ensures headline { IfOk result (λ answers.
         AllFaithful port.old.exec.units → NoneFailed port.old.exec.units port.new.exec.units
         → IsPlainRun port.old.exec.units (request_values requests.now)
-            (answer_values answers.items) port.new.exec.units) }
+        (answer_values answers.items) port.new.exec.units) }
     ensures losses { IfOk result (λ answers.
         AllFaithful port.old.exec.units
         → TellsLosses port.old.exec.units (request_values requests.now)
-            (answer_values answers.items) port.new.exec.units) }
+        (answer_values answers.items) port.new.exec.units) }
     ensures counts { IfOk result (λ _. CountsOn (request_values requests.now) port.old port.new) }
 {
     if requests.len() > REQUEST_LIMIT {

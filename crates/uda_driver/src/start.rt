@@ -11,8 +11,10 @@ ghost use Rattle.uda_driver.specs.Underway.{AtRest};
 use crate::desk::Desk;
 use std::alloc::Global;
 use uda_exec::Exec;
-use uda_host::{MEMORY_SIZE, OWNER, PACKET_STEP, RESPONSE_PACKETS, RESPONSE_RING, SLOTS};
-use uda_host::{credits_at, reopen, write_command};
+use uda_host::{
+    MEMORY_SIZE, OWNER, PACKET_STEP, RESPONSE_PACKETS, RESPONSE_RING, SLOTS, credits_at, reopen,
+    write_command,
+};
 use uda_image::{BlockStore, Drive};
 use uda_mem::{HostMemory, NoMemory};
 use uda_packet::{Command, Op};

@@ -10,7 +10,7 @@ err_weaker (Err e) P Q f h = f e h
 pub returns-clause-unchanged : goal.returns-clause-unchanged
 returns-clause-unchanged g c =
     err_weaker c.run.result _ _ (λ e same. (let is : ◌≡◌ {A = DriverState} (record { memory = c.run.new.memory; port = c.run.new.port; desk = c.run.new.desk }) (record { memory = c.self.inside.memory; port = c.self.inside.port; desk = c.self.inside.desk })
-        = λ i. record { memory = same.2 i; port = same.1 i; desk = same.0 i } in is ∙ c.self.view_is)) c.run.ensures.unchanged
+    = λ i. record { memory = same.2 i; port = same.1 i; desk = same.0 i } in is ∙ c.self.view_is)) c.run.ensures.unchanged
 
 pub invariant_of-self : goal.invariant_of-self
 invariant_of-self g c = record { rest = c.run.ensures.rest; images = c.run.ensures.images }

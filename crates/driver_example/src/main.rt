@@ -1,0 +1,55 @@
+//! How the driver is called: two disks in memory, one of them protected by its drive, requests for both,
+//! and what each was answered.
+#![tactic(auto)]
+
+use anyhow::{Result, anyhow};
+use std::alloc::Global;
+use uda_driver::Driver;
+use uda_image::{Drive, MemImage};
+use uda_model::Request;
+
+fn main(rt: HostRuntime) -> Result<()> {
+    let alloc = rt.alloc();
+    let disk = Drive {
+        store: MemImage::new(alloc, 10)?,
+        hard: false,
+    };
+    let archive = Drive {
+        store: MemImage::new(alloc, 4)?,
+        hard: true,
+    };
+    let drives = [Some(disk), Some(archive), None, None];
+    let mut driver = Driver::start(alloc, drives).map_err(|_| anyhow!("no memory"))?;
+
+    let answers = driver
+        .run(&[
+            online(0),
+            online(1),
+            write(alloc, 0, 8, 2)?,
+            write(alloc, 1, 0, 1)?,
+            read(0, 9, 2),
+            read(0, 9, 1),
+        ])
+        .map_err(|_| anyhow!("no memory"))?;
+    for answer in &answers {
+        println!(rt; "{answer}")?;
+    }
+    Ok(())
+}
+
+fn online(unit: u16) -> Request {
+    Request::Online {
+        unit,
+        protect: false,
+    }
+}
+
+fn read(unit: u16, lbn: u32, count: u32) -> Request {
+    Request::Read { unit, lbn, count }
+}
+
+// A Write of blocks of which each byte is 0x55.
+fn write(alloc: Global, unit: u16, lbn: u32, count: usize) -> Result<Request> {
+    let blocks = Vec::from_elem(alloc, [0x55; 512], count)?;
+    Ok(Request::Write { unit, lbn, blocks })
+}

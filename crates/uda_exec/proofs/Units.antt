@@ -1,5 +1,5 @@
 -- One command on the units of an executor.
-use Rattle.std.proofs.Common.{◌≡◌, ◌≢◌, ℕ, ◌<◌, ◌≤◌, zero-le, zero, suc, true, false, List, [], ◌∷◌, length, set, Option, Some, None, refl, sym, ap, ap₂, ◌∙◌, arith, add-zero}
+use Rattle.std.proofs.Common.{◌≡◌, ◌≢◌, ℕ, ◌<◌, ◌≤◌, zero-le, zero, suc, Bool, true, false, List, [], ◌∷◌, length, set, Option, Some, None, refl, sym, ap, ap₂, ◌∙◌, arith, add-zero}
 use Rattle.std.specs.Prelude.{option_map, slice_get, map, All}
 use Rattle.std.proofs.lemmas.List.{map-set}
 use Rattle.std.proofs.lemmas.Option.{slice_get_past, slice_get_within, slice_get-map}
@@ -12,7 +12,7 @@ use Rattle.uda_exec.specs.Drives.{reset_unit}
 use Rattle.uda_exec.specs.Commands.{is_controller, landing_of}
 use Rattle.uda_exec.specs.Effect.{World, Outcome, Done, Lost, Verdict, OfController, Refused, ActsOn, is_acting, verdict, verdict_on, effect, end_of, world_after, Fits}
 use Rattle.uda_exec.specs.declared.refusal.Refusal.TheVariants.{UnitUnknown, NoVolume}
-use Rattle.uda_exec.specs.Execution.{Answers, Nature, nature_of, natures_of, modes_of, world_of, EndsBy, ServesUnit, TakesEffectOn, Executes, memory_by, disk_by}
+use Rattle.uda_exec.specs.Execution.{Answers, Nature, nature_of, natures_of, modes_of, is_faithful, is_sure, world_of, EndsBy, ServesUnit, TakesEffectOn, Executes, memory_by, disk_by}
 use Rattle.uda_exec.proofs.Changes.{changes_nothing, ChangesAt-none}
 use Rattle.uda_exec.proofs.Transferred.{Answers-plain}
 
@@ -40,6 +40,31 @@ map-set_same : {A B : Type 0} (f : A → B) (units : List (Option A)) (i : ℕ) 
 map-set_same f units i old new here same =
     map-set (option_map f) units i (Some new) ∙ ap (λ b. set (map (option_map f) units) i (Some b)) same
     ∙ set-itself (map (option_map f) units) i (Some (f old)) (slice_get-map (option_map f) units i ∙ ap (option_map (option_map f)) here)
+
+-- what is asked of a unit's nature is as it was where the natures are
+abbrev asked : (Nature → Bool) → Option (Option Nature) → Bool
+asked f (Some (Some nature)) = f nature
+asked f _ = true
+
+asked_faithful : (unit : Option (Option UnitState)) → asked (λ n. n.faithful) (option_map (option_map nature_of) unit) ≡ is_faithful unit
+asked_faithful None = refl
+asked_faithful (Some None) = refl
+asked_faithful (Some (Some unit)) = refl
+
+asked_sure : (unit : Option (Option UnitState)) → asked (λ n. n.never_fails) (option_map (option_map nature_of) unit) ≡ is_sure unit
+asked_sure None = refl
+asked_sure (Some None) = refl
+asked_sure (Some (Some unit)) = refl
+
+module _ (old new : List (Option UnitState)) (same : natures_of new ≡ natures_of old) (u : ℕ) where
+  nature_stays : option_map (option_map nature_of) (slice_get new u) ≡ option_map (option_map nature_of) (slice_get old u)
+  nature_stays = sym (slice_get-map (option_map nature_of) new u) ∙ ap (λ (n : List (Option Nature)). slice_get n u) same ∙ slice_get-map (option_map nature_of) old u
+
+  pub faithful_stays : is_faithful (slice_get new u) ≡ is_faithful (slice_get old u)
+  faithful_stays = sym (asked_faithful (slice_get new u)) ∙ ap (asked (λ n. n.faithful)) nature_stays ∙ asked_faithful (slice_get old u)
+
+  pub sure_stays : is_sure (slice_get new u) ≡ is_sure (slice_get old u)
+  sure_stays = sym (asked_sure (slice_get new u)) ∙ ap (asked (λ n. n.never_fails)) nature_stays ∙ asked_sure (slice_get old u)
 
 -- a command that acts on no disk changes nothing
 pub world_after-idle : (o : Outcome) (c : Command) (v : Verdict) (w : World) → is_acting v ≡ false → world_after o c v w ≡ w

@@ -19,29 +19,22 @@ use Rattle.uda_exec.proofs.Blocks.{AreBlocks, AreBlocks-part, AreBlocks-take, le
 
 module _ (t : Transfer) (blocks : List (List ℕ)) (memory : List ℕ) where
   pub length-due_by : t.block + block_count t ≤ length blocks → (kind : Kind) → length (due_by kind t blocks memory) ≡ block_count t
-  length-due_by on_unit Access = length-part-le blocks t.block (block_count t) on_unit
   length-due_by on_unit Erase = length-replicate (block_count t) (replicate 512 0)
-  length-due_by on_unit Read = length-part-le blocks t.block (block_count t) on_unit
   length-due_by on_unit Write = length-first_chunks (block_count t) (part memory t.buffer t.count)
+  length-due_by on_unit _ = length-part-le blocks t.block (block_count t) on_unit
 
   pub length-due_le : (kind : Kind) → length (due_by kind t blocks memory) ≤ block_count t
-  length-due_le Access = omega (arith, length-part blocks t.block (block_count t))
-  length-due_le Erase = omega (arith, length-due_by_erase)
-    where
-      length-due_by_erase : length (due_by Erase t blocks memory) ≡ block_count t
-      length-due_by_erase = length-replicate (block_count t) (replicate 512 0)
-  length-due_le Read = omega (arith, length-part blocks t.block (block_count t))
+  length-due_le Erase = let all : length (due_by Erase t blocks memory) ≡ block_count t = length-replicate (block_count t) (replicate 512 0) in omega arith
   length-due_le Write = omega (arith, length-first_chunks (block_count t) (part memory t.buffer t.count))
+  length-due_le _ = omega (arith, length-part blocks t.block (block_count t))
 
   -- where the unit's blocks are whole, if there are any to move, and the buffer lies in memory
   AreBlocks-due_by : (0 < block_count t → AreBlocks blocks) → (kind : Kind) → t.kind ≡ kind → t.buffer + room_in t ≤ length memory → AreBlocks (due_by kind t blocks memory)
-  AreBlocks-due_by are Access is room = AreBlocks-part blocks t.block (block_count t) are
   AreBlocks-due_by are Erase is room = All-replicate (λ b. length b ≡ 512) (block_count t) (replicate 512 0) refl
-  AreBlocks-due_by are Read is room = AreBlocks-part blocks t.block (block_count t) are
   AreBlocks-due_by are Write is room =
       let within : t.buffer + t.count ≤ length memory = rw is at room in
-      let size : length (part memory t.buffer t.count) ≡ t.count = length-part-le memory t.buffer t.count within in
-      All-first_chunks (block_count t) (part memory t.buffer t.count) (omega arith)
+      All-first_chunks (block_count t) (part memory t.buffer t.count) (omega (arith, length-part-le memory t.buffer t.count within))
+  AreBlocks-due_by are _ is room = AreBlocks-part blocks t.block (block_count t) are
 
   pub AreBlocks-due : (0 < block_count t → AreBlocks blocks) → t.buffer + room_in t ≤ length memory → AreBlocks (blocks_due t blocks memory)
   AreBlocks-due are room = AreBlocks-due_by are t.kind refl room
@@ -55,10 +48,9 @@ pub record InBounds (t : Transfer) (blocks : List (List ℕ)) (memory : List ℕ
 -- what is due does not change on the way: a Read leaves the blocks, a Write memory
 due_by-stays : (kind : Kind) (t : Transfer) (blocks : List (List ℕ)) (memory bytes : List ℕ) (stored : List (List ℕ)) (at place : ℕ)
     → due_by kind t (put blocks place (if changes_blocks kind then stored else [])) (put memory at (if changes_memory kind then bytes else [])) ≡ due_by kind t blocks memory
-due_by-stays Access t blocks memory bytes stored at place = ap (λ (b : List (List ℕ)). part b t.block (block_count t)) (put-nil blocks place)
 due_by-stays Erase t blocks memory bytes stored at place = refl
-due_by-stays Read t blocks memory bytes stored at place = ap (λ (b : List (List ℕ)). part b t.block (block_count t)) (put-nil blocks place)
 due_by-stays Write t blocks memory bytes stored at place = rw put-nil refl
+due_by-stays _ t blocks memory bytes stored at place = ap (λ (b : List (List ℕ)). part b t.block (block_count t)) (put-nil blocks place)
 
 -- one block more behind those that are there
 land_next : (b : Bool) (memory : List ℕ) (at k : ℕ) (front : List (List ℕ)) (x : List ℕ) → length (concat front) ≡ 512 * k
@@ -111,7 +103,7 @@ module _ (t : Transfer) (k : ℕ) (old : StoreState) (memory : List ℕ) (now : 
 
 nothing_put : {A : Type 0} (b : Bool) (xs : List A) (at : ℕ) → xs ≡ put xs at (if b then [] else [])
 nothing_put true xs at = sym (put-nil xs at)
-nothing_put false xs at = sym (put-nil xs at)
+nothing_put _ xs at = sym (put-nil xs at)
 
 pub progress_none : (t : Transfer) (old : StoreState) (memory : List ℕ) → Progress t 0 old memory old memory
 progress_none t old memory = record {

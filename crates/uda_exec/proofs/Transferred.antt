@@ -1,6 +1,6 @@
 -- A transfer takes effect, done, lost or refused; and so does a command that moves no blocks.
 use Rattle.std.proofs.Common.{◌≡◌, ℕ, suc, ◌+◌, ◌*◌, ◌%◌, ◌<◌, ◌≤◌, zero-le, Bool, true, false, List, [], ◌∷◌, ◌++◌, length, get_or, take, set, refl, sym, ap, ap₂, ◌∙◌, arith, add-one, add-zero, length-append, length-take, Option, Some, None}
-use Rattle.std.specs.Prelude.{if◌then◌else◌, nat_lt}
+use Rattle.std.specs.Prelude.{if◌then◌else◌, nat_lt, unwrap_or}
 use Rattle.std.specs.List.{concat}
 use Rattle.std.proofs.lemmas.List.{take_all, take_more, set_at, length-take-le}
 use Rattle.std.proofs.lemmas.List.Elements.{All-push}
@@ -9,7 +9,7 @@ use Rattle.uda_mem.specs.Put.{put}
 use Rattle.uda_mem.proofs.PutLaws.{put-nil}
 use Rattle.uda_packet.specs.declared.command.Command.{Command}
 use Rattle.uda_packet.specs.declared.command.Op.{Op}
-use Rattle.uda_packet.specs.declared.command.Op.TheVariants.{Status, Controller, Available, Online, Access, Erase, Read, Write}
+use Rattle.uda_packet.specs.declared.command.Op.TheVariants.{Status, Controller, Available, Online}
 use Rattle.uda_packet.specs.declared.end.End.{End}
 use Rattle.uda_packet.specs.declared.end.EndBody.{EndBody}
 use Rattle.uda_packet.specs.declared.end.EndBody.TheVariants as body
@@ -33,20 +33,12 @@ use Rattle.uda_exec.proofs.Steps.{length-due_by, length-due_le, AreBlocks-due}
 -- ---- the ends
 
 opcode-with_bytes : (b : EndBody) (bytes : ℕ) → answered_opcode (with_bytes_moved b bytes) ≡ answered_opcode b
-opcode-with_bytes body.Invalid bytes = refl
-opcode-with_bytes (body.Status flags) bytes = refl
-opcode-with_bytes body.Controller bytes = refl
-opcode-with_bytes body.Available bytes = refl
-opcode-with_bytes (body.Online flags size) bytes = refl
 opcode-with_bytes (body.Moved kind old) bytes = refl
+opcode-with_bytes _ bytes = refl
 
 bytes_of-with_bytes : (b : EndBody) (bytes : ℕ) → bytes_of (with_bytes_moved b bytes) ≤ bytes
-bytes_of-with_bytes body.Invalid bytes = zero-le
-bytes_of-with_bytes (body.Status flags) bytes = zero-le
-bytes_of-with_bytes body.Controller bytes = zero-le
-bytes_of-with_bytes body.Available bytes = zero-le
-bytes_of-with_bytes (body.Online flags size) bytes = zero-le
 bytes_of-with_bytes (body.Moved kind old) bytes = omega arith
+bytes_of-with_bytes _ bytes = zero-le
 
 -- the plain body is the command's, with a byte count of at most its own
 pub IsBodyOf-plain : (op : Op) (bytes : ℕ) → bytes ≤ count_of op → IsBodyOf op (plain_body op bytes)
@@ -57,13 +49,8 @@ Answers-plain c status bytes h = record { reference = refl; unit = refl; body = 
 
 IsBodyOf-mode : (op : Op) (size : ℕ) (mode : Mode) → IsBodyOf op (mode_body op size mode)
 IsBodyOf-mode Status size mode = record { opcode = refl; within = zero-le }
-IsBodyOf-mode Controller size mode = IsBodyOf-plain Controller 0 zero-le
-IsBodyOf-mode Available size mode = IsBodyOf-plain Available 0 zero-le
 IsBodyOf-mode (Online soft) size mode = record { opcode = refl; within = zero-le }
-IsBodyOf-mode (Access count block) size mode = IsBodyOf-plain (Access count block) 0 zero-le
-IsBodyOf-mode (Erase count block) size mode = IsBodyOf-plain (Erase count block) 0 zero-le
-IsBodyOf-mode (Read count address block) size mode = IsBodyOf-plain (Read count address block) 0 zero-le
-IsBodyOf-mode (Write count address block) size mode = IsBodyOf-plain (Write count address block) 0 zero-le
+IsBodyOf-mode op size mode = IsBodyOf-plain op 0 zero-le
 
 pub Answers-mode : (c : Command) (disk : Disk) → transfer_of c.op ≡ None → Answers c (end_of Done c (ActsOn disk))
 Answers-mode c disk is = rw is (record { reference = refl; unit = refl; body = IsBodyOf-mode c.op disk.size disk.mode })
@@ -86,19 +73,10 @@ takes_mode c unit memory is =
     }
 
 -- no command changes a unit's own protection
-hard-online : (online : Bool) (mode other : Mode) → other.hard ≡ mode.hard → (if online then mode else other).hard ≡ mode.hard
-hard-online true mode other h = refl
-hard-online false mode other h = h
-
 hard-mode_after : (op : Op) (mode : Mode) → (mode_after op mode).hard ≡ mode.hard
-hard-mode_after Status mode = refl
-hard-mode_after Controller mode = refl
+hard-mode_after (Online soft) mode = elim mode.online as (λ b. (if b then mode else record mode { online = true; soft = unwrap_or soft false }).hard ≡ mode.hard) [ true ↦ refl | _ ↦ refl ]
 hard-mode_after Available mode = refl
-hard-mode_after (Online soft) mode = hard-online mode.online mode _ refl
-hard-mode_after (Access count block) mode = refl
-hard-mode_after (Erase count block) mode = refl
-hard-mode_after (Read count address block) mode = refl
-hard-mode_after (Write count address block) mode = refl
+hard-mode_after _ mode = refl
 
 pub serves_mode : (c : Command) (unit : UnitState) (memory : List ℕ) → transfer_of c.op ≡ None
     → ServesUnit c unit memory (end_of Done c (ActsOn (disk_of unit))) (record unit { mode = mode_after c.op unit.mode }) memory
@@ -127,25 +105,14 @@ passes_if t memory size mode h = record {
 }
 
 -- a transfer speaks of a unit, and leaves its mode
-pub record OfTransfer (op : Op) : Type 0 where
-  pub speaks : is_controller op ≡ false
-  pub leaves_mode : (mode : Mode) → mode_after op mode ≡ mode
-
-of_transfer : (op : Op) (t : Transfer) → transfer_of op ≡ Some t → OfTransfer op
-of_transfer Status t h = absurd (cc)
-of_transfer Controller t h = absurd (cc)
-of_transfer Available t h = absurd (cc)
-of_transfer (Online soft) t h = absurd (cc)
-of_transfer (Access count block) t h = record { speaks = refl; leaves_mode = λ mode. refl }
-of_transfer (Erase count block) t h = record { speaks = refl; leaves_mode = λ mode. refl }
-of_transfer (Read count address block) t h = record { speaks = refl; leaves_mode = λ mode. refl }
-of_transfer (Write count address block) t h = record { speaks = refl; leaves_mode = λ mode. refl }
-
 pub speaks : (op : Op) (t : Transfer) → transfer_of op ≡ Some t → is_controller op ≡ false
-speaks op t h = (of_transfer op t h).speaks
+speaks Controller t h = absurd (cc)
+speaks _ t h = refl
 
 pub mode_after-transfer : (op : Op) (t : Transfer) (mode : Mode) → transfer_of op ≡ Some t → mode_after op mode ≡ mode
-mode_after-transfer op t mode h = (of_transfer op t h).leaves_mode mode
+mode_after-transfer Available t mode h = absurd (cc)
+mode_after-transfer (Online soft) t mode h = absurd (cc)
+mode_after-transfer _ t mode h = refl
 
 -- the first k blocks and what is left at block k
 blocks_moved-lost : (k : ℕ) (left : List ℕ) (blocks : List (List ℕ)) → k < length blocks → blocks_moved (Lost k left) blocks ≡ take k blocks ++ left ∷ []

@@ -1,8 +1,8 @@
 -- One command on the units of an executor.
-use Rattle.std.proofs.Common.{◌≡◌, ◌≢◌, ℕ, ◌<◌, ◌≤◌, zero-le, zero, suc, Bool, true, false, List, [], ◌∷◌, length, set, Option, Some, None, refl, sym, ap, ap₂, ◌∙◌, arith, add-zero}
+use Rattle.std.proofs.Common.{◌≡◌, ◌≢◌, ℕ, ◌<◌, ◌≤◌, zero-le, zero, suc, Bool, true, false, List, [], ◌∷◌, length, length-set, set, Option, Some, None, refl, sym, ap, ap₂, ◌∙◌, arith, add-zero}
 use Rattle.std.specs.Prelude.{option_map, slice_get, map, All}
-use Rattle.std.proofs.lemmas.List.{map-set}
-use Rattle.std.proofs.lemmas.Option.{slice_get_past, slice_get_within, slice_get-map}
+use Rattle.std.proofs.lemmas.List.{map-set, get_or-set_same, set-get_or}
+use Rattle.std.proofs.lemmas.Option.{slice_get_past, slice_get_within, slice_get-map, slice_get-get_or, get_or_from_slice_get}
 use Rattle.uda_packet.specs.declared.command.Command.{Command}
 use Rattle.uda_packet.specs.declared.end.End.{End}
 use Rattle.uda_exec.specs.declared.mode.Mode.{Mode}
@@ -17,22 +17,17 @@ use Rattle.uda_exec.proofs.Changes.{changes_nothing, ChangesAt-none}
 use Rattle.uda_exec.proofs.Transferred.{Answers-plain}
 
 pub slice_get-set_same : {A : Type 0} (xs : List A) (i : ℕ) (a : A) → i < length xs → slice_get (set xs i a) i ≡ Some a
-slice_get-set_same [] i a h = absurd (omega arith)
-slice_get-set_same (x ∷ xs) zero a h = refl
-slice_get-set_same (x ∷ xs) (suc i) a h = slice_get-set_same xs i a (omega arith)
+slice_get-set_same xs i a h = slice_get-get_or (set xs i a) i a (omega (arith, length-set xs i a)) ∙ ap Some (get_or-set_same xs i a a h)
 
 pub slice_get-set_other : {A : Type 0} (xs : List A) (i j : ℕ) (a : A) → j ≢ i → slice_get (set xs i a) j ≡ slice_get xs j
 slice_get-set_other [] i j a h = refl
 slice_get-set_other (x ∷ xs) zero zero a h = absurd (h refl)
-slice_get-set_other (x ∷ xs) zero (suc j) a h = refl
-slice_get-set_other (x ∷ xs) (suc i) zero a h = refl
 slice_get-set_other (x ∷ xs) (suc i) (suc j) a h = slice_get-set_other xs i j a (λ e. h (ap suc e))
+slice_get-set_other (x ∷ xs) _ _ a h = refl
 
 -- an item set to itself
 pub set-itself : {A : Type 0} (xs : List A) (i : ℕ) (a : A) → slice_get xs i ≡ Some a → set xs i a ≡ xs
-set-itself [] i a h = refl
-set-itself (x ∷ xs) zero a h = let same : x ≡ a = cc in ap (λ y. y ∷ xs) (sym same)
-set-itself (x ∷ xs) (suc i) a h = ap (λ ys. x ∷ ys) (set-itself xs i a h)
+set-itself xs i a h = ap (λ x. set xs i x) (sym (get_or_from_slice_get xs i a a h)) ∙ set-get_or xs i a
 
 -- what is known of each unit stays where it stays of the one that is set
 map-set_same : {A B : Type 0} (f : A → B) (units : List (Option A)) (i : ℕ) (old new : A) → slice_get units i ≡ Some (Some old) → f new ≡ f old
@@ -47,14 +42,12 @@ asked f (Some (Some nature)) = f nature
 asked f _ = true
 
 asked_faithful : (unit : Option (Option UnitState)) → asked (λ n. n.faithful) (option_map (option_map nature_of) unit) ≡ is_faithful unit
-asked_faithful None = refl
-asked_faithful (Some None) = refl
 asked_faithful (Some (Some unit)) = refl
+asked_faithful _ = refl
 
 asked_sure : (unit : Option (Option UnitState)) → asked (λ n. n.never_fails) (option_map (option_map nature_of) unit) ≡ is_sure unit
-asked_sure None = refl
-asked_sure (Some None) = refl
 asked_sure (Some (Some unit)) = refl
+asked_sure _ = refl
 
 module _ (old new : List (Option UnitState)) (same : natures_of new ≡ natures_of old) (u : ℕ) where
   nature_stays : option_map (option_map nature_of) (slice_get new u) ≡ option_map (option_map nature_of) (slice_get old u)
@@ -68,9 +61,8 @@ module _ (old new : List (Option UnitState)) (same : natures_of new ≡ natures_
 
 -- a command that acts on no disk changes nothing
 pub world_after-idle : (o : Outcome) (c : Command) (v : Verdict) (w : World) → is_acting v ≡ false → world_after o c v w ≡ w
-world_after-idle o c OfController w idle = refl
-world_after-idle o c (Refused refusal) w idle = refl
 world_after-idle o c (ActsOn disk) w idle = absurd (cc)
+world_after-idle o c _ w idle = refl
 
 pub executes_idle : (c : Command) (units : List (Option UnitState)) (memory : List ℕ) (v : Verdict) (e : End) → verdict c (world_of units memory) ≡ v → is_acting v ≡ false
     → e ≡ end_of Done c v → Answers c e → Executes c units memory e units memory
@@ -93,9 +85,8 @@ executes_idle c units memory v e judged idle is_end answers = record {
 -- the world that a verdict leaves, by memory and by the unit's disk
 world_after-parts : (o : Outcome) (c : Command) (v : Verdict) (w : World) (disk : Disk) → slice_get w.disks c.unit ≡ Some (Some disk)
     → world_after o c v w ≡ record { memory = memory_by o c.op v w.memory; disks = set w.disks c.unit (Some (disk_by o c.op v w.memory disk)) }
-world_after-parts o c OfController w disk here = ap (λ (d : Disks). record { memory = w.memory; disks = d }) (sym (set-itself w.disks c.unit (Some disk) here))
-world_after-parts o c (Refused refusal) w disk here = ap (λ (d : Disks). record { memory = w.memory; disks = d }) (sym (set-itself w.disks c.unit (Some disk) here))
 world_after-parts o c (ActsOn d) w disk here = refl
+world_after-parts o c _ w disk here = ap (λ (d : Disks). record { memory = w.memory; disks = d }) (sym (set-itself w.disks c.unit (Some disk) here))
 
 -- the end and the world are an effect of the outcome, which fits
 ends_by : (o : Outcome) (c : Command) (w : World) (e : End) (after : World) → Fits o c.op (verdict c w) → (e, after) ≡ effect o c w → EndsBy o c w e after

@@ -2,12 +2,9 @@
 use Rattle.std.proofs.Common.{◌≡◌, ℕ, ◌+◌, ◌-◌, ◌<◌, ◌≤◌, ◌⊎◌, inl, inr, List, Option, Some, None, length, get_or, refl, sym, ap, ◌∙◌, arith}
 use Rattle.std.proofs.lemmas.List.{same_lists}
 use Rattle.std.proofs.lemmas.Bool.{cases_lt}
-use Rattle.uda_mem.specs.Put.{put, part}
 use Rattle.uda_mem.proofs.PutLaws.{length-put, length-part, get_or-part, get_or-put_before, get_or-put_at, get_or-put_behind, put-part, put-part_none, put-put_same}
-use Rattle.uda_packet.specs.declared.command.Op.{Op}
 use Rattle.uda_packet.specs.declared.command.Op.TheVariants.{Read}
-use Rattle.uda_exec.specs.Commands.{landing_of, room_of}
-use Rattle.uda_exec.specs.Transfers.{ChangesAt}
+use Rattle.uda_exec.proofs.Words.{put, part, Op, landing_of, room_of, ChangesAt}
 
 -- a write inside the range
 pub changes_by_put : (old : List ℕ) (at n place : ℕ) (bytes : List ℕ) → at ≤ place → place + length bytes ≤ at + n → ChangesAt old at n (put old place bytes)

@@ -4,14 +4,8 @@ use Rattle.std.specs.Prelude.{MatchResult, is_err, true, false, slice_set}
 use Rattle.std.specs.Simd.{first_chunks}
 use Rattle.std.proofs.lemmas.List.{take_all}
 use Rattle.std.proofs.lemmas.Option.{get_or_from_slice_get}
-use Rattle.uda_mem.specs.Put.{put, part}
 use Rattle.uda_mem.proofs.PutLaws.{put-nil}
-use Rattle.uda_packet.specs.Transfer.{changes_blocks}
-use Rattle.uda_packet.specs.declared.transfer.Transfer.{Transfer}
-use Rattle.uda_image.specs.declared.store.StoreError.{StoreError}
-use Rattle.uda_image.specs.Store.{StoreState, Reads, Writes}
-use Rattle.uda_exec.specs.Commands.{block_count, changes_memory}
-use Rattle.uda_exec.specs.Transfers.{blocks_due, bytes_landing, MovesBlock, LosesBlock}
+use Rattle.uda_exec.proofs.Words.{put, part, changes_blocks, Transfer, StoreError, StoreState, Reads, Writes, block_count, changes_memory, blocks_due, bytes_landing, MovesBlock, LosesBlock}
 use Rattle.uda_exec.proofs.Blocks.{get_or-first_chunks, part-part}
 
 -- what one block's move may end in

@@ -2,16 +2,10 @@
 use Rattle.std.proofs.lemmas.Bool.{eq-eqb, both_ways}
 use Rattle.std.specs.Prelude.{nat_eq}
 use Rattle.std.proofs.Common.{◌≡◌, ℕ, Bool, true, false, List, [], ◌∷◌, ◌++◌, get_or, replicate, Some, None, refl, ap}
-use Rattle.uda_mem.specs.Put.{put, part}
-use Rattle.uda_packet.specs.declared.command.Command.{Command}
-use Rattle.uda_packet.specs.declared.command.Op.{Op}
 use Rattle.uda_packet.specs.declared.command.Op.TheVariants.{Online, Access, Read, Write}
-use Rattle.uda_packet.specs.declared.end.End.{End}
 use Rattle.uda_packet.specs.declared.end.EndBody.TheVariants.{Invalid, Moved}
 use Rattle.uda_packet.specs.declared.end.Kind.TheVariants.{Read as ReadKind}
-use Rattle.uda_exec.specs.Disks.{Disks}
-use Rattle.uda_exec.specs.Effect.{World, Outcome, Done, Lost, effect}
-use Rattle.uda_exec.specs.Order.{FixedCommand, effects, effects_first}
+use Rattle.uda_exec.proofs.Words.{put, part, Command, Op, End, Disks, World, Outcome, Done, Lost, effect, FixedCommand, effects, effects_first}
 
 -- numbers that a computation tells apart
 differ : (m n : ℕ) → nat_eq m n ≡ false → m ≡ n → ⊥

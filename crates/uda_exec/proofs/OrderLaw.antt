@@ -5,16 +5,9 @@ use Rattle.std.proofs.lemmas.List.{same_lists}
 use Rattle.std.proofs.lemmas.Bool.{cases_lt}
 use Rattle.std.proofs.lemmas.List.Elements.{All-head, All-tail}
 use Rattle.std.proofs.lemmas.Option.{slice_get-map, slice_get_within, get_or_from_slice_get}
-use Rattle.uda_mem.specs.Put.{put, part, Meet}
 use Rattle.uda_mem.proofs.PutLaws.{length-put, length-part, get_or-part, get_or-put_before, get_or-put_at, get_or-put_behind, put-put_comm}
-use Rattle.uda_packet.specs.declared.command.Command.{Command}
-use Rattle.uda_packet.specs.declared.command.Op.{Op}
 use Rattle.uda_packet.specs.declared.command.Op.TheVariants.{Write}
-use Rattle.uda_packet.specs.declared.end.End.{End}
-use Rattle.uda_exec.specs.Disks.{Disks}
-use Rattle.uda_exec.specs.Commands.{first_block_of, address_of, room_of}
-use Rattle.uda_exec.specs.Effect.{World, Verdict, OfController, Refused, ActsOn, verdict, mode_after, end_of, world_after}
-use Rattle.uda_exec.specs.Order.{may_pass, MayGo, Apart, FixedCommand, commands_of, effect_of, effects, OrderIsFree, OneMore, with_bytes, PassesThrough, data_of, SameData, DependsOnDataAlone}
+use Rattle.uda_exec.proofs.Words.{put, part, Meet, Command, Op, End, Disks, first_block_of, address_of, room_of, World, Verdict, OfController, Refused, ActsOn, verdict, mode_after, end_of, world_after, may_pass, MayGo, Apart, FixedCommand, commands_of, effect_of, effects, OrderIsFree, OneMore, with_bytes, PassesThrough, data_of, SameData, DependsOnDataAlone}
 use Rattle.uda_exec.proofs.Swap.{swaps, by, effect-by, sends, length-bytes_put, bytes_put-same, blocks_put-same, data_of-put}
 
 pairs_rest : (c : Command) (cs : List Command) → AllPairs Apart (c ∷ cs) → AllPairs Apart cs

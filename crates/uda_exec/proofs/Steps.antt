@@ -5,16 +5,10 @@ use Rattle.std.specs.List.{concat}
 use Rattle.std.proofs.lemmas.List.{take_more, length-take-le, length-replicate}
 use Rattle.std.proofs.lemmas.List.Folds.{concat-append}
 use Rattle.std.proofs.lemmas.List.Elements.{All-replicate}
-use Rattle.uda_mem.specs.Put.{put, part}
 use Rattle.uda_mem.proofs.PutLaws.{put-nil, put-put_next, length-part, length-part-le}
-use Rattle.uda_packet.specs.declared.end.Kind.{Kind}
 use Rattle.uda_packet.specs.declared.end.Kind.TheVariants.{Access, Erase, Read, Write}
-use Rattle.uda_packet.specs.declared.transfer.Transfer.{Transfer}
-use Rattle.uda_packet.specs.Transfer.{changes_blocks}
-use Rattle.uda_image.specs.Store.{StoreState, KeepsNature}
 use Rattle.uda_image.specs.StoreLaws.{length-first_chunks, All-first_chunks}
-use Rattle.uda_exec.specs.Commands.{block_count, room_in, changes_memory}
-use Rattle.uda_exec.specs.Transfers.{ChangesAt, due_by, blocks_due, bytes_landing, blocks_stored, Stands, MovesBlock, LosesBlock, Progress, StopsAt}
+use Rattle.uda_exec.proofs.Words.{put, part, Kind, Transfer, changes_blocks, StoreState, KeepsNature, block_count, room_in, changes_memory, ChangesAt, due_by, blocks_due, bytes_landing, blocks_stored, Stands, MovesBlock, LosesBlock, Progress, StopsAt}
 use Rattle.uda_exec.proofs.Blocks.{AreBlocks, AreBlocks-part, AreBlocks-take, length-concat_blocks}
 
 module _ (t : Transfer) (blocks : List (List ℕ)) (memory : List ℕ) where

@@ -6,23 +6,11 @@ use Rattle.std.specs.Option.{option_map_or}
 use Rattle.std.proofs.lemmas.List.{set_comm, set-set, length-replicate}
 use Rattle.std.proofs.lemmas.Bool.{eq-eqb, eqb-true, both_ways, false≢true}
 use Rattle.std.proofs.lemmas.Option.{slice_get_within}
-use Rattle.uda_mem.specs.Put.{put, part, Meet}
 use Rattle.uda_mem.proofs.PutLaws.{length-put, part-put_apart, put-put_comm}
-use Rattle.uda_packet.specs.declared.command.Command.{Command}
-use Rattle.uda_packet.specs.declared.command.Op.{Op}
 use Rattle.uda_packet.specs.declared.command.Op.TheVariants.{Status, Erase, Read, Write}
-use Rattle.uda_packet.specs.declared.end.End.{End}
-use Rattle.uda_packet.specs.declared.transfer.Transfer.{Transfer}
-use Rattle.uda_packet.specs.Transfer.{transfer_of, changes_blocks, has_buffer}
-use Rattle.uda_exec.specs.declared.mode.Mode.{Mode}
-use Rattle.uda_exec.specs.declared.refusal.Refusal.{Refusal}
 use Rattle.uda_exec.specs.declared.refusal.Refusal.TheVariants.{UnitUnknown, NoVolume}
-use Rattle.uda_exec.specs.Disks.{Disk, Disks}
-use Rattle.uda_exec.specs.Commands.{block_count, room_in, is_controller, is_transfer, is_changing, changes_memory, first_block_of, blocks_of, address_of, room_of}
-use Rattle.uda_exec.specs.Transfers.{due_by, blocks_due}
-use Rattle.uda_exec.specs.Effect.{World, Outcome, Done, Lost, blocks_moved, bytes_put, blocks_put, refusal_of, Verdict, OfController, Refused, ActsOn, is_acting, verdict_of, verdict_at, verdict, mode_after, end_of, disk_after, world_after}
-use Rattle.uda_exec.specs.Order.{may_pass, Apart, FixedCommand, effect_of, data_by, data_of}
 use Rattle.uda_image.specs.StoreLaws.{length-first_chunks}
+use Rattle.uda_exec.proofs.Words.{put, part, Meet, Command, Op, End, Transfer, transfer_of, changes_blocks, has_buffer, Mode, Refusal, Disk, Disks, block_count, room_in, is_controller, is_transfer, is_changing, changes_memory, first_block_of, blocks_of, address_of, room_of, due_by, blocks_due, World, Outcome, Done, Lost, blocks_moved, bytes_put, blocks_put, refusal_of, Verdict, OfController, Refused, ActsOn, is_acting, verdict_of, verdict_at, verdict, mode_after, end_of, disk_after, world_after, may_pass, Apart, FixedCommand, effect_of, data_by, data_of}
 use Rattle.uda_exec.proofs.Transferred.{mode_after-transfer, speaks}
 use Rattle.uda_exec.proofs.Units.{slice_get-set_same, slice_get-set_other, world_after-idle}
 

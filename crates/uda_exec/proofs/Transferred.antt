@@ -5,27 +5,12 @@ use Rattle.std.specs.List.{concat}
 use Rattle.std.proofs.lemmas.List.{take_all, take_more, set_at, length-take-le}
 use Rattle.std.proofs.lemmas.List.Elements.{All-push}
 use Rattle.std.proofs.lemmas.Bool.Decides.{nat_tests}
-use Rattle.uda_mem.specs.Put.{put}
 use Rattle.uda_mem.proofs.PutLaws.{put-nil}
-use Rattle.uda_packet.specs.declared.command.Command.{Command}
-use Rattle.uda_packet.specs.declared.command.Op.{Op}
 use Rattle.uda_packet.specs.declared.command.Op.TheVariants.{Status, Controller, Available, Online}
-use Rattle.uda_packet.specs.declared.end.End.{End}
-use Rattle.uda_packet.specs.declared.end.EndBody.{EndBody}
 use Rattle.uda_packet.specs.declared.end.EndBody.TheVariants as body
-use Rattle.uda_packet.specs.declared.transfer.Transfer.{Transfer}
 use Rattle.uda_packet.specs.Opcode.{answered_opcode, blank_body}
-use Rattle.uda_packet.specs.Transfer.{transfer_of}
-use Rattle.uda_image.specs.Store.{StoreState, KeepsNature, IsImage}
-use Rattle.uda_exec.specs.declared.mode.Mode.{Mode}
-use Rattle.uda_exec.specs.declared.refusal.Refusal.{Refusal}
-use Rattle.uda_exec.specs.Disks.{Disk, UnitState, disk_of}
 use Rattle.uda_exec.specs.Status.{SUCCESS, DRIVE_ERROR}
-use Rattle.uda_exec.specs.Commands.{is_controller, block_count, room_in, count_of, changes_memory}
-use Rattle.uda_exec.specs.Refusal.{refusal_status, transfer_refusal}
-use Rattle.uda_exec.specs.Transfers.{ChangesAt, blocks_due, bytes_landing, blocks_stored, Progress, StopsAt}
-use Rattle.uda_exec.specs.Effect.{Outcome, Done, Lost, blocks_moved, Refused, ActsOn, verdict_on, mode_after, mode_body, reply, plain_body, with_bytes_moved, transfer_status, transfer_bytes, is_lost, Fits, end_of}
-use Rattle.uda_exec.specs.Execution.{bytes_of, IsBodyOf, Answers, TakesEffectOn, calls_store, ServesUnit}
+use Rattle.uda_exec.proofs.Words.{put, Command, Op, End, EndBody, Transfer, transfer_of, StoreState, KeepsNature, IsImage, Mode, Refusal, Disk, UnitState, disk_of, is_controller, block_count, room_in, count_of, changes_memory, refusal_status, transfer_refusal, ChangesAt, blocks_due, bytes_landing, blocks_stored, Progress, StopsAt, Outcome, Done, Lost, blocks_moved, Refused, ActsOn, verdict_on, mode_after, mode_body, reply, plain_body, with_bytes_moved, transfer_status, transfer_bytes, is_lost, Fits, end_of, bytes_of, IsBodyOf, Answers, TakesEffectOn, calls_store, ServesUnit}
 use Rattle.uda_exec.proofs.Changes.{changes_nothing}
 use Rattle.uda_exec.proofs.Blocks.{AreBlocks, AreBlocks-take, length-concat_blocks}
 use Rattle.uda_exec.proofs.Steps.{length-due_by, length-due_le, AreBlocks-due}

@@ -3,16 +3,9 @@ use Rattle.std.proofs.Common.{◌≡◌, ◌≢◌, ℕ, ◌<◌, ◌≤◌, zer
 use Rattle.std.specs.Prelude.{option_map, slice_get, map, All}
 use Rattle.std.proofs.lemmas.List.{map-set, get_or-set_same, set-get_or}
 use Rattle.std.proofs.lemmas.Option.{slice_get_past, slice_get_within, slice_get-map, slice_get-get_or, get_or_from_slice_get}
-use Rattle.uda_packet.specs.declared.command.Command.{Command}
-use Rattle.uda_packet.specs.declared.end.End.{End}
-use Rattle.uda_exec.specs.declared.mode.Mode.{Mode}
 use Rattle.std.proofs.lemmas.List.Elements.{All-map, All-weaker}
-use Rattle.uda_exec.specs.Disks.{Disk, Disks, UnitState, disk_of, disks_of, HoldsImage, AreImages}
-use Rattle.uda_exec.specs.Drives.{reset_unit}
-use Rattle.uda_exec.specs.Commands.{is_controller, landing_of}
-use Rattle.uda_exec.specs.Effect.{World, Outcome, Done, Lost, Verdict, OfController, Refused, ActsOn, is_acting, verdict, verdict_on, effect, end_of, world_after, Fits}
 use Rattle.uda_exec.specs.declared.refusal.Refusal.TheVariants.{UnitUnknown, NoVolume}
-use Rattle.uda_exec.specs.Execution.{Answers, Nature, nature_of, natures_of, modes_of, is_faithful, is_sure, world_of, EndsBy, ServesUnit, TakesEffectOn, Executes, memory_by, disk_by}
+use Rattle.uda_exec.proofs.Words.{Command, End, Mode, Disk, Disks, UnitState, disk_of, disks_of, HoldsImage, AreImages, reset_unit, is_controller, landing_of, World, Outcome, Done, Lost, Verdict, OfController, Refused, ActsOn, is_acting, verdict, verdict_on, effect, end_of, world_after, Fits, Answers, Nature, nature_of, natures_of, modes_of, is_faithful, is_sure, world_of, EndsBy, ServesUnit, TakesEffectOn, Executes, memory_by, disk_by}
 use Rattle.uda_exec.proofs.Changes.{changes_nothing, ChangesAt-none}
 use Rattle.uda_exec.proofs.Transferred.{Answers-plain}
 

@@ -1,8 +1,7 @@
 use Rattle.std.proofs.Common.{◌≡◌, ◌≤◌, false, true, Some, None, length, refl, sym, ◌∙◌, zero-le}
 use Rattle.std.specs.Prelude.{slice_get}
 use Rattle.std.proofs.lemmas.Option.{slice_get-get_or}
-use Rattle.uda_exec.specs.Commands.{is_controller}
-use Rattle.uda_exec.specs.Execution.{world_of}
+use Rattle.uda_exec.proofs.Words.{is_controller, world_of}
 use Rattle.uda_exec.proofs.Transferred.{Answers-plain}
 use Rattle.uda_exec.proofs.Units.{executes_idle, executes_on, verdict-controller, verdict-unknown, verdict-empty, set-itself}
 use Rattle.uda_exec.proofs.executor.execute.Goals as goal

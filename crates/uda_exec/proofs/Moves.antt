@@ -57,12 +57,3 @@ module _ (t : Transfer) (k : ℕ) (old : StoreState) (memory : List ℕ) (new : 
 -- the block that is due at place k
 pub due-Write : (t : Transfer) (k : ℕ) (memory from : List ℕ) → k < block_count t → from ≡ part memory (t.buffer + 512 * k) 512 → get_or (first_chunks 512 (block_count t) (part memory t.buffer t.count)) k [] ≡ from
 due-Write t k memory from inside was = get_or-first_chunks (block_count t) (part memory t.buffer t.count) k inside ∙ part-part memory t.buffer t.count (512 * k) 512 (omega arith) ∙ sym was
-
--- the side of a result that a test has shown
-pub lost_if : (result : Result Unit StoreError) (P Q : Type 0) → MatchResult result (λ _. P) (λ _. Q) → is_err result ≡ true → Q
-lost_if (Ok u) P Q h test = absurd (cc)
-lost_if (Err e) P Q h test = h
-
-pub kept_if : (result : Result Unit StoreError) (P Q : Type 0) → MatchResult result (λ _. P) (λ _. Q) → is_err result ≡ false → P
-kept_if (Ok u) P Q h test = h
-kept_if (Err e) P Q h test = absurd (cc)

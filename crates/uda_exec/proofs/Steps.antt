@@ -8,7 +8,7 @@ use Rattle.std.proofs.lemmas.List.Elements.{All-replicate}
 use Rattle.uda_mem.proofs.PutLaws.{put-nil, put-put_next, length-part, length-part-le}
 use Rattle.uda_packet.specs.declared.end.Kind.TheVariants.{Access, Erase, Read, Write}
 use Rattle.uda_image.specs.StoreLaws.{length-first_chunks, All-first_chunks}
-use Rattle.uda_exec.proofs.Words.{put, part, Kind, Transfer, changes_blocks, StoreState, KeepsNature, block_count, room_in, changes_memory, ChangesAt, due_by, blocks_due, bytes_landing, blocks_stored, Stands, MovesBlock, LosesBlock, Progress, StopsAt}
+use Rattle.uda_exec.proofs.Words.{put, part, Kind, Transfer, changes_blocks, StoreState, KeepsNature, IsImage, block_count, room_in, changes_memory, ChangesAt, due_by, blocks_due, bytes_landing, blocks_stored, Stands, MovesBlock, LosesBlock, Progress, StopsAt}
 use Rattle.uda_exec.proofs.Blocks.{AreBlocks, AreBlocks-part, AreBlocks-take, length-concat_blocks}
 
 module _ (t : Transfer) (blocks : List (List ℕ)) (memory : List ℕ) where
@@ -33,12 +33,6 @@ module _ (t : Transfer) (blocks : List (List ℕ)) (memory : List ℕ) where
   pub AreBlocks-due : (0 < block_count t → AreBlocks blocks) → t.buffer + room_in t ≤ length memory → AreBlocks (blocks_due t blocks memory)
   AreBlocks-due are room = AreBlocks-due_by are t.kind refl room
 
--- a transfer's range and buffer lie on the unit and in memory
-pub record InBounds (t : Transfer) (blocks : List (List ℕ)) (memory : List ℕ) : Type 0 where
-  pub are_blocks : AreBlocks blocks
-  pub on_unit : t.block + block_count t ≤ length blocks
-  pub in_memory : t.buffer + room_in t ≤ length memory
-
 -- what is due does not change on the way: a Read leaves the blocks, a Write memory
 due_by-stays : (kind : Kind) (t : Transfer) (blocks : List (List ℕ)) (memory bytes : List ℕ) (stored : List (List ℕ)) (at place : ℕ)
     → due_by kind t (put blocks place (if changes_blocks kind then stored else [])) (put memory at (if changes_memory kind then bytes else [])) ≡ due_by kind t blocks memory
@@ -59,16 +53,19 @@ store_next true blocks at k front x size = put-put_next blocks at front (x ∷ [
 store_next false blocks at k front x size = put-nil _ _
 
 module _ (t : Transfer) (k : ℕ) (old : StoreState) (memory : List ℕ) (now : StoreState) (memory_now : List ℕ)
-    (bounds : InBounds t old.blocks memory) (inside : k < block_count t) (h : Progress t k old memory now memory_now) where
+    (image : IsImage old.size old.blocks) (on_unit : t.block + block_count t ≤ old.size) (in_memory : t.buffer + room_in t ≤ length memory) (inside : k < block_count t) (h : Progress t k old memory now memory_now) where
   abbrev front : List (List ℕ)
   front = take k (blocks_due t old.blocks memory)
+
+  all_due : length (blocks_due t old.blocks memory) ≡ block_count t
+  all_due = length-due_by t old.blocks memory (rw image.counted on_unit) t.kind
 
   -- the next block of any content stands behind the first k
   joins : (x : List ℕ) (new : StoreState) (memory_after : List ℕ) → Stands t k x now memory_now new memory_after
       → (memory_after ≡ put memory t.buffer (bytes_landing t (front ++ x ∷ []))) × (new.blocks ≡ put old.blocks t.block (blocks_stored t (front ++ x ∷ [])))
   joins x new memory_after s =
-      let size : length front ≡ k = length-take-le k (blocks_due t old.blocks memory) (omega (arith, length-due_by t old.blocks memory bounds.on_unit t.kind)) in
-      let bytes = length-concat_blocks front (AreBlocks-take (blocks_due t old.blocks memory) k (AreBlocks-due t old.blocks memory (λ some. bounds.are_blocks) bounds.in_memory)) in
+      let size : length front ≡ k = length-take-le k (blocks_due t old.blocks memory) (omega (arith, all_due)) in
+      let bytes = length-concat_blocks front (AreBlocks-take (blocks_due t old.blocks memory) k (AreBlocks-due t old.blocks memory (λ some. image.whole) in_memory)) in
       let bytes_are : length (concat front) ≡ 512 * k = bytes ∙ ap (λ i. 512 * i) size in (
         s.in_memory ∙ ap (λ (m : List ℕ). put m (t.buffer + 512 * k) (bytes_landing t (x ∷ []))) h.stand.in_memory ∙ land_next (changes_memory t.kind) memory t.buffer k front x bytes_are,
         s.in_store ∙ ap (λ (b : List (List ℕ)). put b (t.block + k) (blocks_stored t (x ∷ []))) h.stand.in_store ∙ store_next (changes_blocks t.kind) old.blocks t.block k front x size,
@@ -81,7 +78,7 @@ module _ (t : Transfer) (k : ℕ) (old : StoreState) (memory : List ℕ) (now : 
       rw (h.stand.in_store, h.stand.in_memory) (due_by-stays t.kind t old.blocks memory (concat front) front t.buffer t.block) in
       let stands : Stands t k piece now memory_now new memory_after = rw same at m.stands in
       let both = joins piece new memory_after stands in
-      let below : k < length (blocks_due t old.blocks memory) = omega (arith, length-due_by t old.blocks memory bounds.on_unit t.kind) in
+      let below : k < length (blocks_due t old.blocks memory) = omega (arith, all_due) in
       let more : take (suc k) (blocks_due t old.blocks memory) ≡ front ++ piece ∷ [] = rw (← add-one) (take_more (blocks_due t old.blocks memory) k [] below) in
       record { stand = rw more (record { in_memory = both.0; in_store = both.1 }); failures_stay = m.failures_stay ∙ h.failures_stay }
 

@@ -1,20 +1,14 @@
 use Rattle.std.proofs.Common.{◌≡◌, length, refl, arith, sym}
 use Rattle.std.proofs.lemmas.List.{append-nil, get_or-replicate}
 use Rattle.uda_mem.proofs.PutLaws.{get_or-part, put-nil}
-use Rattle.uda_exec.proofs.Changes.{changes_nothing, changes_by_put}
+use Rattle.uda_exec.proofs.Changes.{changes_by_put}
 use Rattle.uda_exec.proofs.Moves.{reads_block, writes_block, due-Write}
 use Rattle.uda_exec.proofs.movement.move_block.Goals as goal
-
-pub returns-in-Access-clause-changes : goal.returns-in-Access-clause-changes
-returns-in-Access-clause-changes g c = changes_nothing _ _ _
 
 pub returns-in-Access-clause-moves : goal.returns-in-Access-clause-moves
 returns-in-Access-clause-moves g c faithful =
     let inside = c.requires.in_range in
     reads_block _ _ _ _ _ (rw c.in-Access.is refl) _ _ _ c.read.ensures.long (rw c.in-Access.is (get_or-part _ _ _ _ _ inside)) (rw c.in-Access.is (sym (put-nil _ _))) (c.read.ensures.reads faithful)
-
-pub returns-in-Erase-clause-changes : goal.returns-in-Erase-clause-changes
-returns-in-Erase-clause-changes g c = changes_nothing _ _ _
 
 pub returns-in-Erase-clause-moves : goal.returns-in-Erase-clause-moves
 returns-in-Erase-clause-moves g c faithful =
@@ -31,9 +25,6 @@ pub returns-in-Read-clause-moves : goal.returns-in-Read-clause-moves
 returns-in-Read-clause-moves g c faithful =
     let inside = c.requires.in_range in
     reads_block _ _ _ _ _ (rw c.in-Read.is refl) _ _ _ c.read-in-Read.ensures.long (rw c.in-Read.is (get_or-part _ _ _ _ _ inside)) (rw (c.in-Read.is, append-nil) refl) (c.read-in-Read.ensures.reads faithful)
-
-pub returns-in-Write-clause-changes : goal.returns-in-Write-clause-changes
-returns-in-Write-clause-changes g c = changes_nothing _ _ _
 
 pub returns-in-Write-clause-moves : goal.returns-in-Write-clause-moves
 returns-in-Write-clause-moves g c faithful =

@@ -1,6 +1,6 @@
 -- One block of a transfer, for each kind of transfer.
 use Rattle.std.proofs.Common.{◌≡◌, ℕ, zero, suc, ◌+◌, ◌*◌, ◌<◌, List, [], ◌∷◌, length, get_or, refl, sym, ap, ◌∙◌, arith, add-one, Result, Ok, Err}
-use Rattle.std.specs.Prelude.{MatchResult, is_err, true, false, slice_set}
+use Rattle.std.specs.Prelude.{MatchResult, true, false, slice_set}
 use Rattle.std.specs.Simd.{first_chunks}
 use Rattle.std.proofs.lemmas.List.{take_all}
 use Rattle.std.proofs.lemmas.Option.{get_or_from_slice_get}

@@ -1,5 +1,5 @@
 -- Whichever command that may go is effect_of first, nothing is different; and what else a driver needs of a list of commands.
-use Rattle.std.proofs.Common.{◌≡◌, ℕ, zero, suc, ◌+◌, ◌-◌, inl, inr, min, subst, ◌<◌, true, List, [], ◌∷◌, length, get_or, set, Option, Some, None, refl, sym, ap, ap₂, ◌∙◌, arith}
+use Rattle.std.proofs.Common.{◌≡◌, ℕ, zero, suc, ◌+◌, ◌-◌, inl, inr, min, subst, ◌<◌, true, List, [], ◌∷◌, length, get_or, set, Option, Some, refl, sym, ap, ap₂, ◌∙◌, arith}
 use Rattle.std.specs.Prelude.{slice_get, option_map, insert, remove, AllPairs}
 use Rattle.std.proofs.lemmas.List.{same_lists}
 use Rattle.std.proofs.lemmas.Bool.{cases_lt}
@@ -7,7 +7,7 @@ use Rattle.std.proofs.lemmas.List.Elements.{All-head, All-tail}
 use Rattle.std.proofs.lemmas.Option.{slice_get-map, slice_get_within, get_or_from_slice_get}
 use Rattle.uda_mem.proofs.PutLaws.{length-put, length-part, get_or-part, get_or-put_before, get_or-put_at, get_or-put_behind, put-put_comm}
 use Rattle.uda_packet.specs.declared.command.Op.TheVariants.{Write}
-use Rattle.uda_exec.proofs.Words.{put, part, Meet, Command, Op, End, Disks, first_block_of, address_of, room_of, World, Verdict, OfController, Refused, ActsOn, verdict, mode_after, end_of, world_after, may_pass, MayGo, Apart, FixedCommand, commands_of, effect_of, effects, OrderIsFree, OneMore, with_bytes, PassesThrough, data_of, SameData, DependsOnDataAlone}
+use Rattle.uda_exec.proofs.Words.{put, part, Meet, Command, Op, End, Disks, first_block_of, address_of, room_of, World, Verdict, ActsOn, verdict, mode_after, end_of, may_pass, MayGo, Apart, FixedCommand, commands_of, effect_of, effects, OrderIsFree, OneMore, with_bytes, PassesThrough, data_of, SameData, DependsOnDataAlone}
 use Rattle.uda_exec.proofs.Swap.{swaps, by, effect-by, sends, length-bytes_put, bytes_put-same, blocks_put-same, data_of-put}
 
 pairs_rest : (c : Command) (cs : List Command) → AllPairs Apart (c ∷ cs) → AllPairs Apart cs

@@ -1,12 +1,12 @@
 -- A transfer block by block: what the first k blocks leave, one block more, and the end.
-use Rattle.std.proofs.Common.{◌≡◌, ℕ, zero, suc, ◌+◌, ◌*◌, ◌<◌, ◌≤◌, min, Bool, true, false, List, [], ◌∷◌, ◌++◌, length, get_or, take, replicate, refl, sym, ap, ◌∙◌, arith, add-one, Result}
-use Rattle.std.specs.Prelude.{if◌then◌else◌, IsOk, MatchResult}
+use Rattle.std.proofs.Common.{◌≡◌, ℕ, suc, ◌+◌, ◌*◌, ◌<◌, ◌≤◌, Bool, true, false, List, [], ◌∷◌, ◌++◌, length, get_or, take, replicate, refl, sym, ap, ◌∙◌, arith, add-one}
+use Rattle.std.specs.Prelude.{if◌then◌else◌}
 use Rattle.std.specs.List.{concat}
 use Rattle.std.proofs.lemmas.List.{take_more, length-take-le, length-replicate}
 use Rattle.std.proofs.lemmas.List.Folds.{concat-append}
 use Rattle.std.proofs.lemmas.List.Elements.{All-replicate}
 use Rattle.uda_mem.proofs.PutLaws.{put-nil, put-put_next, length-part, length-part-le}
-use Rattle.uda_packet.specs.declared.end.Kind.TheVariants.{Access, Erase, Read, Write}
+use Rattle.uda_packet.specs.declared.end.Kind.TheVariants.{Erase, Write}
 use Rattle.uda_image.specs.StoreLaws.{length-first_chunks, All-first_chunks}
 use Rattle.uda_exec.proofs.Words.{put, part, Kind, Transfer, changes_blocks, StoreState, KeepsNature, IsImage, block_count, room_in, changes_memory, ChangesAt, due_by, blocks_due, bytes_landing, blocks_stored, Stands, MovesBlock, LosesBlock, Progress, StopsAt}
 use Rattle.uda_exec.proofs.Blocks.{AreBlocks, AreBlocks-part, AreBlocks-take, length-concat_blocks}
@@ -40,17 +40,11 @@ due_by-stays Erase t blocks memory bytes stored at place = refl
 due_by-stays Write t blocks memory bytes stored at place = rw put-nil refl
 due_by-stays _ t blocks memory bytes stored at place = ap (λ (b : List (List ℕ)). part b t.block (block_count t)) (put-nil blocks place)
 
--- one block more behind those that are there
-land_next : (b : Bool) (memory : List ℕ) (at k : ℕ) (front : List (List ℕ)) (x : List ℕ) → length (concat front) ≡ 512 * k
-    → put (put memory at (if b then concat front else [])) (at + 512 * k) (if b then concat (x ∷ []) else []) ≡ put memory at (if b then concat (front ++ x ∷ []) else [])
-land_next true memory at k front x size =
-    put-put_next memory at (concat front) (concat (x ∷ [])) (at + 512 * k) (omega arith) ∙ ap (λ (b : List ℕ). put memory at b) (sym (concat-append front (x ∷ [])))
-land_next false memory at k front x size = put-nil _ _
-
-store_next : (b : Bool) (blocks : List (List ℕ)) (at k : ℕ) (front : List (List ℕ)) (x : List ℕ) → length front ≡ k
-    → put (put blocks at (if b then front else [])) (at + k) (if b then x ∷ [] else []) ≡ put blocks at (if b then front ++ x ∷ [] else [])
-store_next true blocks at k front x size = put-put_next blocks at front (x ∷ []) (at + k) (omega arith)
-store_next false blocks at k front x size = put-nil _ _
+-- more behind what is there, if there is to be any
+more_behind : {A : Type 0} (b : Bool) (xs : List A) (at n : ℕ) (front more : List A) → length front ≡ n
+    → put (put xs at (if b then front else [])) (at + n) (if b then more else []) ≡ put xs at (if b then front ++ more else [])
+more_behind true xs at n front more size = put-put_next xs at front more (at + n) (omega arith)
+more_behind false xs at n front more size = put-nil _ _
 
 module _ (t : Transfer) (k : ℕ) (old : StoreState) (memory : List ℕ) (now : StoreState) (memory_now : List ℕ)
     (image : IsImage old.size old.blocks) (on_unit : t.block + block_count t ≤ old.size) (in_memory : t.buffer + room_in t ≤ length memory) (inside : k < block_count t) (h : Progress t k old memory now memory_now) where
@@ -67,8 +61,8 @@ module _ (t : Transfer) (k : ℕ) (old : StoreState) (memory : List ℕ) (now : 
       let size : length front ≡ k = length-take-le k (blocks_due t old.blocks memory) (omega (arith, all_due)) in
       let bytes = length-concat_blocks front (AreBlocks-take (blocks_due t old.blocks memory) k (AreBlocks-due t old.blocks memory (λ some. image.whole) in_memory)) in
       let bytes_are : length (concat front) ≡ 512 * k = bytes ∙ ap (λ i. 512 * i) size in (
-        s.in_memory ∙ ap (λ (m : List ℕ). put m (t.buffer + 512 * k) (bytes_landing t (x ∷ []))) h.stand.in_memory ∙ land_next (changes_memory t.kind) memory t.buffer k front x bytes_are,
-        s.in_store ∙ ap (λ (b : List (List ℕ)). put b (t.block + k) (blocks_stored t (x ∷ []))) h.stand.in_store ∙ store_next (changes_blocks t.kind) old.blocks t.block k front x size,
+        s.in_memory ∙ ap (λ (m : List ℕ). put m (t.buffer + 512 * k) (bytes_landing t (x ∷ []))) h.stand.in_memory ∙ rw (concat-append front (x ∷ [])) (more_behind (changes_memory t.kind) memory t.buffer (512 * k) (concat front) (concat (x ∷ [])) bytes_are),
+        s.in_store ∙ ap (λ (b : List (List ℕ)). put b (t.block + k) (blocks_stored t (x ∷ []))) h.stand.in_store ∙ more_behind (changes_blocks t.kind) old.blocks t.block k front (x ∷ []) size,
       )
 
   pub progress_next : (new : StoreState) (memory_after : List ℕ) → MovesBlock t k now memory_now new memory_after → Progress t (suc k) old memory new memory_after

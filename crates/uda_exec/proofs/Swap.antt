@@ -2,15 +2,15 @@
 use Rattle.std.proofs.Common.{◌≡◌, ◌≢◌, ℕ, suc, ◌/◌, ◌≤◌, Bool, true, false, List, [], length, set, take, replicate, Option, Some, None, refl, sym, ap, ap₂, ◌∙◌, arith, length-set, length-take, zero-le}
 use Rattle.std.specs.Prelude.{slice_get, nat_eq, ◌&&◌, ◌||◌, not, if◌then◌else◌, is_some}
 use Rattle.std.specs.Simd.{first_chunks}
-use Rattle.std.specs.Option.{option_map_or}
 use Rattle.std.proofs.lemmas.List.{set_comm, set-set, length-replicate}
+use Rattle.std.proofs.Math.Bool.{or-true}
 use Rattle.std.proofs.lemmas.Bool.{eq-eqb, eqb-true, both_ways, false≢true}
 use Rattle.std.proofs.lemmas.Option.{slice_get_within}
 use Rattle.uda_mem.proofs.PutLaws.{length-put, part-put_apart, put-put_comm}
 use Rattle.uda_packet.specs.declared.command.Op.TheVariants.{Status, Erase, Read, Write}
 use Rattle.uda_exec.specs.declared.refusal.Refusal.TheVariants.{UnitUnknown, NoVolume}
 use Rattle.uda_image.specs.StoreLaws.{length-first_chunks}
-use Rattle.uda_exec.proofs.Words.{put, part, Meet, Command, Op, End, Transfer, transfer_of, changes_blocks, has_buffer, Mode, Refusal, Disk, Disks, block_count, room_in, is_controller, is_transfer, is_changing, changes_memory, first_block_of, blocks_of, address_of, room_of, due_by, blocks_due, World, Outcome, Done, Lost, blocks_moved, bytes_put, blocks_put, refusal_of, Verdict, OfController, Refused, ActsOn, is_acting, verdict_of, verdict_at, verdict, mode_after, end_of, disk_after, world_after, may_pass, Apart, FixedCommand, effect_of, data_by, data_of}
+use Rattle.uda_exec.proofs.Words.{put, part, Meet, Command, Op, End, Transfer, transfer_of, Mode, Refusal, Disk, Disks, is_controller, is_transfer, is_changing, first_block_of, blocks_of, address_of, room_of, World, Outcome, Done, Lost, blocks_moved, bytes_put, blocks_put, refusal_of, Verdict, OfController, Refused, ActsOn, is_acting, verdict_of, verdict_at, verdict, mode_after, end_of, disk_after, world_after, may_pass, Apart, FixedCommand, effect_of, data_of}
 use Rattle.uda_exec.proofs.Transferred.{mode_after-transfer, speaks}
 use Rattle.uda_exec.proofs.Units.{slice_get-set_same, slice_get-set_other, world_after-idle}
 
@@ -50,24 +50,6 @@ module _ (o : Outcome) where
 pub data_of-put : (op : Op) (memory : List ℕ) (at : ℕ) (bytes : List ℕ) → (Meet at (length bytes) (address_of op) (room_of op) → ⊥) → data_of op (put memory at bytes) ≡ data_of op memory
 data_of-put (Write count address block) memory at bytes h = part-put_apart memory at bytes address count h
 data_of-put _ memory at bytes h = refl
-
--- how two commands that may pass each other stand to one another
-data Way (b a : Command) : Type 0 where
-  older_controller : is_controller b.op ≡ true → Way b a
-  younger_controller : is_controller a.op ≡ true → Way b a
-  other_units : b.unit ≢ a.unit → Way b a
-  both_transfers : b.unit ≡ a.unit → is_transfer b.op ≡ true → is_transfer a.op ≡ true → Way b a
-
-way_of : (b a : Command) (kb ka same tb ta : Bool) → is_controller b.op ≡ kb → is_controller a.op ≡ ka → nat_eq b.unit a.unit ≡ same → is_transfer b.op ≡ tb → is_transfer a.op ≡ ta
-    → (not (if kb then ka else not ka && same) || (tb && ta)) ≡ true → Way b a
-way_of b a true ka same tb ta hb ha hs htb hta h = older_controller hb
-way_of b a false true same tb ta hb ha hs htb hta h = younger_controller ha
-way_of b a false false false tb ta hb ha hs htb hta h = other_units (λ e. let is = eq-eqb b.unit a.unit e in both_ways (nat_eq b.unit a.unit) hs is)
-way_of b a false false true true true hb ha hs htb hta h = both_transfers (eqb-true b.unit a.unit hs) htb hta
-way_of b a false false true _ _ hb ha hs htb hta h = absurd (false≢true h)
-
-way : (b a : Command) → may_pass b a ≡ true → Way b a
-way b a h = way_of b a (is_controller b.op) (is_controller a.op) (nat_eq b.unit a.unit) (is_transfer b.op) (is_transfer a.op) refl refl refl refl refl h
 
 -- a verdict reads the length of memory and the command's unit
 verdict_same : (c : Command) (w other : World) → length other.memory ≡ length w.memory → slice_get other.disks c.unit ≡ slice_get w.disks c.unit → verdict c other ≡ verdict c w
@@ -216,10 +198,6 @@ module _ (x y : FixedCommand) (w : World) (d : Disk) (tx ty : Transfer) (same : 
   end_later = ap (λ (m : Mode). end_of x.outcome x.command (ActsOn (record { blocks = left_by.blocks; size = d.size; mode = m }))) mode_stays
 
 -- what a command stores lies apart from the range of another of the unit, if it changes blocks
-or_true : (b : Bool) → (b || true) ≡ true
-or_true true = refl
-or_true false = refl
-
 stores_apart : (x y : FixedCommand) → (is_changing x.command.op ≡ true → Meet (first_block_of x.command.op) (blocks_of x.command.op) (first_block_of y.command.op) (blocks_of y.command.op) → ⊥)
     → (d : Disk) (memory : List ℕ) (change : Bool) → is_changing x.command.op ≡ change → Meet (first_block_of x.command.op) (length (stores x d memory)) (first_block_of y.command.op) (blocks_of y.command.op) → ⊥
 stores_apart x y ranges d memory true h meet = let less = length-blocks_put x.outcome x.command.op d.blocks memory in ranges h (omega arith)
@@ -237,7 +215,7 @@ module _ (a b : FixedCommand) (apart : Apart b.command a.command) (same : b.comm
   ranges_apart changes meet = apart.no_clash (record { transfers = rw (is_b, is_a) refl; one_unit = same; changes = changes; meet = meet })
 
   a_apart : (d : Disk) (memory : List ℕ) → Meet (first_block_of opA) (length (stores a d memory)) (first_block_of opB) (blocks_of opB) → ⊥
-  a_apart d memory = stores_apart a b (λ changes. turned _ _ _ _ (ranges_apart (rw changes (or_true (is_changing opB))))) d memory (is_changing opA) refl
+  a_apart d memory = stores_apart a b (λ changes. turned _ _ _ _ (ranges_apart (rw changes (or-true (is_changing opB))))) d memory (is_changing opA) refl
 
   b_apart : (d : Disk) (memory : List ℕ) → Meet (first_block_of opB) (length (stores b d memory)) (first_block_of opA) (blocks_of opA) → ⊥
   b_apart d memory = stores_apart b a (λ changes. ranges_apart (rw changes refl)) d memory (is_changing opB) refl
@@ -313,11 +291,16 @@ by_transfers : (a b : FixedCommand) (w : World) → Apart b.command a.command �
 by_transfers a b w apart same (Some ta) (Some tb) is_a is_b some_a some_b = swaps_transfers a b apart same ta tb is_a is_b w _ refl
 by_transfers a b w apart same _ _ is_a is_b some_a some_b = absurd (cc)
 
+-- by how the two stand to one another
+swaps_by : (a b : FixedCommand) (w : World) → Apart b.command a.command → (kb ka same tb ta : Bool) → is_controller b.command.op ≡ kb → is_controller a.command.op ≡ ka
+    → nat_eq b.command.unit a.command.unit ≡ same → is_transfer b.command.op ≡ tb → is_transfer a.command.op ≡ ta → (not (if kb then ka else not ka && same) || (tb && ta)) ≡ true → Swaps a b w
+swaps_by a b w apart true ka same tb ta hb ha hs htb hta may = swaps_sym a b w (swaps_controller b a w hb)
+swaps_by a b w apart false true same tb ta hb ha hs htb hta may = swaps_controller a b w ha
+swaps_by a b w apart false false false tb ta hb ha hs htb hta may =
+    swaps_other a b apart (λ e. let is = eq-eqb b.command.unit a.command.unit e in both_ways (nat_eq b.command.unit a.command.unit) hs is) w
+swaps_by a b w apart false false true true true hb ha hs htb hta may = by_transfers a b w apart (eqb-true b.command.unit a.command.unit hs) _ _ refl refl hta htb
+swaps_by a b w apart false false true _ _ hb ha hs htb hta may = absurd (false≢true may)
+
 -- b is the older of the two
 pub swaps : (a b : FixedCommand) (w : World) → may_pass b.command a.command ≡ true → Apart b.command a.command → Swaps a b w
-swaps a b w may apart = elim (way b.command a.command may) [
-  | older_controller h ↦ swaps_sym a b w (swaps_controller b a w h)
-  | younger_controller h ↦ swaps_controller a b w h
-  | other_units differ ↦ swaps_other a b apart differ w
-  | both_transfers same tb ta ↦ by_transfers a b w apart same _ _ refl refl ta tb
-]
+swaps a b w may apart = swaps_by a b w apart _ _ _ _ _ refl refl refl refl refl may

@@ -1,5 +1,5 @@
 -- A transfer takes effect, done, lost or refused; and so does a command that moves no blocks.
-use Rattle.std.proofs.Common.{◌≡◌, ℕ, suc, ◌+◌, ◌*◌, ◌%◌, ◌<◌, ◌≤◌, zero-le, Bool, true, false, List, [], ◌∷◌, ◌++◌, length, get_or, take, set, refl, sym, ap, ap₂, ◌∙◌, arith, add-one, add-zero, length-append, length-take, Option, Some, None}
+use Rattle.std.proofs.Common.{◌≡◌, ℕ, suc, ◌+◌, ◌*◌, ◌%◌, ◌<◌, ◌≤◌, zero-le, Bool, true, false, List, [], ◌∷◌, ◌++◌, length, get_or, take, set, refl, sym, ap, ap₂, ◌∙◌, arith, add-one, add-zero, length-append, length-take, Some, None}
 use Rattle.std.specs.Prelude.{if◌then◌else◌, nat_lt, unwrap_or}
 use Rattle.std.specs.List.{concat}
 use Rattle.std.proofs.lemmas.List.{take_all, take_more, set_at, length-take-le}
@@ -10,7 +10,7 @@ use Rattle.uda_packet.specs.declared.command.Op.TheVariants.{Status, Controller,
 use Rattle.uda_packet.specs.declared.end.EndBody.TheVariants as body
 use Rattle.uda_packet.specs.Opcode.{answered_opcode, blank_body}
 use Rattle.uda_exec.specs.Status.{SUCCESS, DRIVE_ERROR}
-use Rattle.uda_exec.proofs.Words.{put, Command, Op, End, EndBody, Transfer, transfer_of, StoreState, KeepsNature, IsImage, Mode, Refusal, Disk, UnitState, disk_of, is_controller, block_count, room_in, count_of, changes_memory, refusal_status, transfer_refusal, ChangesAt, blocks_due, bytes_landing, blocks_stored, Progress, StopsAt, Outcome, Done, Lost, blocks_moved, Refused, ActsOn, verdict_on, mode_after, mode_body, reply, plain_body, with_bytes_moved, transfer_status, transfer_bytes, is_lost, Fits, end_of, bytes_of, IsBodyOf, Answers, TakesEffectOn, calls_store, ServesUnit}
+use Rattle.uda_exec.proofs.Words.{put, Command, Op, EndBody, Transfer, transfer_of, StoreState, KeepsNature, IsImage, Mode, Refusal, Disk, UnitState, disk_of, is_controller, block_count, room_in, count_of, changes_memory, refusal_status, transfer_refusal, ChangesAt, blocks_due, bytes_landing, blocks_stored, Progress, StopsAt, Outcome, Done, Lost, blocks_moved, ActsOn, verdict_on, mode_after, mode_body, reply, plain_body, with_bytes_moved, transfer_status, transfer_bytes, is_lost, Fits, end_of, bytes_of, IsBodyOf, Answers, TakesEffectOn, calls_store, ServesUnit}
 use Rattle.uda_exec.proofs.Changes.{changes_nothing}
 use Rattle.uda_exec.proofs.Blocks.{AreBlocks, AreBlocks-take, length-concat_blocks}
 use Rattle.uda_exec.proofs.Steps.{length-due_by, length-due_le, AreBlocks-due}
@@ -42,27 +42,13 @@ Answers-mode c disk is = rw is (record { reference = refl; unit = refl; body = I
 
 -- ---- a command that moves no blocks
 
--- the unit's mode is what the command leaves, and nothing else changed
-pub takes_mode : (c : Command) (unit : UnitState) (memory : List ℕ) → transfer_of c.op ≡ None
-    → TakesEffectOn c unit memory (end_of Done c (ActsOn (disk_of unit))) (record unit { mode = mode_after c.op unit.mode }) memory
-takes_mode c unit memory is =
-    let none = put-nil memory 0 in
-    record {
-      outcome = Done;
-      fits = tt;
-      end_is = rw (is, is) refl;
-      memory_is = rw (is, is) (sym (put-nil memory 0));
-      disk_is = rw (is, is) (ap (λ (b : List (List ℕ)). record { blocks = b; size = unit.store.size; mode = mode_after c.op unit.mode }) (sym (put-nil unit.store.blocks 0)));
-      failures_are = sym (add-zero unit.store.failures);
-      sure = λ never. refl;
-    }
-
 -- no command changes a unit's own protection
 hard-mode_after : (op : Op) (mode : Mode) → (mode_after op mode).hard ≡ mode.hard
 hard-mode_after (Online soft) mode = elim mode.online as (λ b. (if b then mode else record mode { online = true; soft = unwrap_or soft false }).hard ≡ mode.hard) [ true ↦ refl | _ ↦ refl ]
 hard-mode_after Available mode = refl
 hard-mode_after _ mode = refl
 
+-- the unit's mode is what the command leaves, and nothing else changed
 pub serves_mode : (c : Command) (unit : UnitState) (memory : List ℕ) → transfer_of c.op ≡ None
     → ServesUnit c unit memory (end_of Done c (ActsOn (disk_of unit))) (record unit { mode = mode_after c.op unit.mode }) memory
 serves_mode c unit memory is = record {
@@ -71,7 +57,15 @@ serves_mode c unit memory is = record {
   nature_stays = ap (λ (hard : Bool). record { size = unit.store.size; hard = hard; faithful = unit.store.faithful; never_fails = unit.store.never_fails }) (hard-mode_after c.op unit.mode);
   mode_stays = λ transfers. let none = rw is at transfers in absurd (cc);
   unit_stays = λ idle. let none = rw is at idle in absurd (cc);
-  takes_effect = λ trusted. takes_mode c unit memory is;
+  takes_effect = λ trusted. record {
+    outcome = Done;
+    fits = tt;
+    end_is = rw (is, is) refl;
+    memory_is = rw (is, is) (sym (put-nil memory 0));
+    disk_is = rw (is, is) (ap (λ (b : List (List ℕ)). record { blocks = b; size = unit.store.size; mode = mode_after c.op unit.mode }) (sym (put-nil unit.store.blocks 0)));
+    failures_are = sym (add-zero unit.store.failures);
+    sure = λ never. refl;
+  };
 }
 
 -- ---- a transfer
@@ -111,18 +105,6 @@ length-landing false blocks n are h = zero-le
 
 module _ (c : Command) (t : Transfer) (unit : UnitState) (memory : List ℕ) (is : transfer_of c.op ≡ Some t) where
   -- a transfer that fails a check is refused, and changes nothing
-  pub takes_refused : (refusal : Refusal) → transfer_refusal t (length memory) unit.store.size unit.mode ≡ Some refusal
-      → TakesEffectOn c unit memory (reply c (refusal_status refusal) (plain_body c.op 0)) unit memory
-  takes_refused refusal h = record {
-    outcome = Done;
-    fits = tt;
-    end_is = rw (is, h) refl;
-    memory_is = rw (is, h) refl;
-    disk_is = rw (is, h) refl;
-    failures_are = sym (add-zero unit.store.failures);
-    sure = λ never. refl;
-  }
-
   pub serves_refused : (refusal : Refusal) → transfer_refusal t (length memory) unit.store.size unit.mode ≡ Some refusal
       → ServesUnit c unit memory (reply c (refusal_status refusal) (plain_body c.op 0)) unit memory
   serves_refused refusal h = record {
@@ -131,7 +113,15 @@ module _ (c : Command) (t : Transfer) (unit : UnitState) (memory : List ℕ) (is
     nature_stays = refl;
     mode_stays = λ transfers. refl;
     unit_stays = λ idle. refl;
-    takes_effect = λ trusted. takes_refused refusal h;
+    takes_effect = λ trusted. record {
+      outcome = Done;
+      fits = tt;
+      end_is = rw (is, h) refl;
+      memory_is = rw (is, h) refl;
+      disk_is = rw (is, h) refl;
+      failures_are = sym (add-zero unit.store.failures);
+      sure = λ never. refl;
+    };
   }
 
   module _ (passed : transfer_refusal t (length memory) unit.store.size unit.mode ≡ None) where

@@ -1,13 +1,11 @@
 -- One command on the units of an executor.
-use Rattle.std.proofs.Common.{◌≡◌, ◌≢◌, ℕ, ◌<◌, ◌≤◌, zero-le, zero, suc, Bool, true, false, List, [], ◌∷◌, length, length-set, set, Option, Some, None, refl, sym, ap, ap₂, ◌∙◌, arith, add-zero}
-use Rattle.std.specs.Prelude.{option_map, slice_get, map, All}
+use Rattle.std.proofs.Common.{◌≡◌, ◌≢◌, ℕ, ◌<◌, zero, suc, Bool, true, false, List, [], ◌∷◌, length, length-set, set, Option, Some, None, refl, sym, ap, ap₂, ◌∙◌, arith, add-zero}
+use Rattle.std.specs.Prelude.{option_map, slice_get, map}
 use Rattle.std.proofs.lemmas.List.{map-set, get_or-set_same, set-get_or}
-use Rattle.std.proofs.lemmas.Option.{slice_get_past, slice_get_within, slice_get-map, slice_get-get_or, get_or_from_slice_get}
+use Rattle.std.proofs.lemmas.Option.{slice_get_within, slice_get-map, slice_get-get_or, get_or_from_slice_get}
 use Rattle.std.proofs.lemmas.List.Elements.{All-map, All-weaker}
-use Rattle.uda_exec.specs.declared.refusal.Refusal.TheVariants.{UnitUnknown, NoVolume}
-use Rattle.uda_exec.proofs.Words.{Command, End, Mode, Disk, Disks, UnitState, disk_of, disks_of, HoldsImage, AreImages, reset_unit, is_controller, landing_of, World, Outcome, Done, Lost, Verdict, OfController, Refused, ActsOn, is_acting, verdict, verdict_on, effect, end_of, world_after, Fits, Answers, Nature, nature_of, natures_of, modes_of, is_faithful, is_sure, world_of, EndsBy, ServesUnit, TakesEffectOn, Executes, memory_by, disk_by}
+use Rattle.uda_exec.proofs.Words.{Command, End, Disk, Disks, UnitState, disk_of, disks_of, HoldsImage, AreImages, reset_unit, is_controller, World, Outcome, Done, Lost, Verdict, ActsOn, is_acting, verdict, verdict_at, verdict_on, effect, end_of, world_after, Fits, Answers, Nature, nature_of, natures_of, is_faithful, is_sure, world_of, EndsBy, ServesUnit, Executes, memory_by, disk_by}
 use Rattle.uda_exec.proofs.Changes.{changes_nothing, ChangesAt-none}
-use Rattle.uda_exec.proofs.Transferred.{Answers-plain}
 
 pub slice_get-set_same : {A : Type 0} (xs : List A) (i : ℕ) (a : A) → i < length xs → slice_get (set xs i a) i ≡ Some a
 slice_get-set_same xs i a h = slice_get-get_or (set xs i a) i a (omega (arith, length-set xs i a)) ∙ ap Some (get_or-set_same xs i a a h)
@@ -86,6 +84,13 @@ ends_by : (o : Outcome) (c : Command) (w : World) (e : End) (after : World) → 
 ends_by Done c w e after fits is = is
 ends_by (Lost k left) c w e after fits is = record { fits = fits; effect_is = is }
 
+-- a command is judged by what its unit is
+pub verdict-slot : (c : Command) (units : List (Option UnitState)) (memory : List ℕ) (slot : Option (Option UnitState)) → is_controller c.op ≡ false → slice_get units c.unit ≡ slot
+    → verdict c (world_of units memory) ≡ verdict_at c.op (length memory) (option_map (option_map disk_of) slot)
+verdict-slot c units memory slot speaks here =
+    let there : slice_get (disks_of units) c.unit ≡ option_map (option_map disk_of) slot = slice_get-map _ units c.unit ∙ ap (option_map (option_map disk_of)) here in
+    rw (speaks, there) refl
+
 module _ (c : Command) (units : List (Option UnitState)) (memory : List ℕ) (unit unit_after : UnitState) (e : End) (memory_left : List ℕ)
     (speaks : is_controller c.op ≡ false) (here : slice_get units c.unit ≡ Some (Some unit)) where
   there : slice_get (set units c.unit (Some unit_after)) c.unit ≡ Some (Some unit_after)
@@ -95,7 +100,7 @@ module _ (c : Command) (units : List (Option UnitState)) (memory : List ℕ) (un
   disk_here = slice_get-map _ units c.unit ∙ ap (option_map (option_map disk_of)) here
 
   judged : verdict c (world_of units memory) ≡ verdict_on c.op (length memory) (disk_of unit)
-  judged = rw (speaks, disk_here) refl
+  judged = verdict-slot c units memory (Some (Some unit)) speaks here
 
   pub executes_on : ServesUnit c unit memory e unit_after memory_left → Executes c units memory e (set units c.unit (Some unit_after)) memory_left
   executes_on s = record {
@@ -123,26 +128,10 @@ module _ (c : Command) (units : List (Option UnitState)) (memory : List ℕ) (un
         };
   }
 
--- the ways in which a command finds no disk
-pub verdict-controller : (c : Command) (w : World) → is_controller c.op ≡ true → verdict c w ≡ OfController
-verdict-controller c w h = rw h refl
-
-pub verdict-unknown : (c : Command) (units : List (Option UnitState)) (memory : List ℕ) → is_controller c.op ≡ false → length units ≤ c.unit
-    → verdict c (world_of units memory) ≡ Refused UnitUnknown
-verdict-unknown c units memory h past =
-    let none : slice_get (disks_of units) c.unit ≡ None = slice_get-map _ units c.unit ∙ ap (option_map (option_map disk_of)) (slice_get_past units c.unit past) in
-    rw (h, none) refl
-
-pub verdict-empty : (c : Command) (units : List (Option UnitState)) (memory : List ℕ) → is_controller c.op ≡ false → slice_get units c.unit ≡ Some None
-    → verdict c (world_of units memory) ≡ Refused NoVolume
-verdict-empty c units memory h here =
-    let none : slice_get (disks_of units) c.unit ≡ Some None = slice_get-map _ units c.unit ∙ ap (option_map (option_map disk_of)) here in
-    rw (h, none) refl
-
 -- a unit that is reset has the blocks that it had
-HoldsImage-reset : (unit : Option UnitState) → HoldsImage unit → HoldsImage (reset_unit unit)
-HoldsImage-reset None holds = tt
-HoldsImage-reset (Some unit) holds = holds
+image_reset : (unit : Option UnitState) → HoldsImage unit → HoldsImage (reset_unit unit)
+image_reset None holds = tt
+image_reset (Some unit) holds = holds
 
-pub AreImages-reset : (units : List (Option UnitState)) → AreImages units → AreImages (map reset_unit units)
-AreImages-reset units are = All-map HoldsImage reset_unit units (All-weaker HoldsImage (λ unit. HoldsImage (reset_unit unit)) HoldsImage-reset units are)
+pub images_reset : (units : List (Option UnitState)) → AreImages units → AreImages (map reset_unit units)
+images_reset units are = All-map HoldsImage reset_unit units (All-weaker HoldsImage (λ unit. HoldsImage (reset_unit unit)) image_reset units are)

@@ -156,6 +156,7 @@ impl<S: BlockStore> Exec<S> {
     /// available, without software protection. Hardware protection and all blocks stay.
     ///
     /// UDA50 Programmer's Documentation Kit: initialisation.
+    #[tactic(auto, using(crate::proofs::Units::images_reset))]
     pub fn reset(&mut self)
         ensures units { self.new.units ≡ map reset_unit self.old.units }
         ensures pending { self.new.pending ≡ [] }

@@ -1,4 +1,4 @@
-use Rattle.std.proofs.Common.{◌≡◌, refl, ◌∙◌, sym, arith, add-one}
+use Rattle.std.proofs.Common.{refl, ◌∙◌, arith, add-one}
 use Rattle.uda_exec.proofs.Changes.{changes_nothing, changes_again, length-changes}
 use Rattle.uda_exec.proofs.Steps.{progress_none, progress_next, progress_stops}
 use Rattle.uda_exec.proofs.movement.move_blocks.Goals as goal

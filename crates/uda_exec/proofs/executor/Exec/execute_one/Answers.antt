@@ -1,4 +1,3 @@
-use Rattle.std.proofs.Common.{rules, ◌≡◌, refl}
 use Rattle.uda_exec.proofs.Changes.{length-changes}
 use Rattle.uda_exec.proofs.Units.{faithful_stays, sure_stays}
 use Rattle.uda_exec.proofs.executor.Exec.execute_one.Goals as goal

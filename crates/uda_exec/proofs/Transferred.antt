@@ -77,11 +77,7 @@ pub record Passes (t : Transfer) (memory size : ℕ) : Type 0 where
   pub in_memory : t.buffer + room_in t ≤ memory
 
 pub passes_if : (t : Transfer) (memory size : ℕ) (mode : Mode) → transfer_refusal t memory size mode ≡ None → Passes t memory size
-passes_if t memory size mode h = record {
-  whole = grind (arith, nat_tests);
-  on_unit = grind (arith, nat_tests);
-  in_memory = grind (arith, nat_tests);
-}
+passes_if t memory size mode h = record { whole = grind (arith, nat_tests); on_unit = grind (arith, nat_tests); in_memory = grind (arith, nat_tests) }
 
 -- a transfer speaks of a unit, and leaves its mode
 pub speaks : (op : Op) (t : Transfer) → transfer_of op ≡ Some t → is_controller op ≡ false

@@ -137,7 +137,7 @@ abbrev pub FitsRequest : FixedRequest → Type 0
 FitsRequest x = FitsCount (count_of x.request) x.outcome
 
 -- a plain run in which transfers may be lost: some outcomes that fit give these answers and leave these disks
-pub record PlainFaulty (disks : Disks) (requests : List Request) (answers : List Answer) (left : Disks) : Type 0 where
+pub record PlainWithLosses (disks : Disks) (requests : List Request) (answers : List Answer) (left : Disks) : Type 0 where
   pub fixed : List FixedRequest
   pub are_requests : requests_of fixed ≡ requests
   pub fit : All FitsRequest fixed

@@ -1,4 +1,5 @@
 -- The requests and answers of the code, as pure data.
+use Rattle.std.specs.Prelude.{List, map}
 use Rattle.uda_model.specs.Request as ask
 use Rattle.uda_model.specs.Answer as tell
 use Rattle.uda_model.specs.declared.request.Request.{Request}
@@ -22,3 +23,9 @@ answer_value (answer.Online status flags size) = tell.Online status flags size
 answer_value (answer.Status status flags) = tell.Status status flags
 answer_value (answer.Moved status bytes) = tell.Moved status bytes
 answer_value (answer.Data status bytes) = tell.Data status bytes.items
+
+abbrev pub request_values : List Request → List ask.Request
+request_values requests = map request_value requests
+
+abbrev pub answer_values : List Answer → List tell.Answer
+answer_values answers = map answer_value answers

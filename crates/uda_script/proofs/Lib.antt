@@ -1,3 +1,4 @@
 pub mod Writes
 pub mod Probing
 pub mod Bytes
+pub mod Starting

@@ -1,144 +1,317 @@
--- The probe's message goes from ring to ring.
-use Rattle.std.proofs.Common.{◌≡◌, ℕ, ◌≤◌, Bool, true, false, List, length, Option, Some, None, Result, Ok, Err, refl, sym, ap, ◌∙◌, subst, arith, lit≤, lit<, inr}
+-- The probe's message goes through the rings: its port starts up, fetches the command, executes it and delivers its end.
+use Rattle.std.proofs.Common.{◌≡◌, ℕ, zero, suc, ◌+◌, ◌-◌, ◌≤◌, true, false, List, [], ◌∷◌, length, Option, Some, None, Result, Ok, Err, refl, sym, ap, ◌∙◌, subst, arith, lit≤, lit<, inl, inr}
+use Rattle.std.specs.Prelude.{◌%◌, slice_get, remove}
 use Rattle.std.proofs.lemmas.Option.{same_Some}
 use Rattle.std.proofs.lemmas.Bool.{false≢true}
 use Rattle.uda_mem.specs.Put.{put, part}
 use Rattle.uda_mem.specs.Words.{word_at, word_bytes}
 use Rattle.uda_mem.proofs.PutLaws.{length-put, part-put_at, part-put_apart}
-use Rattle.uda_packet.specs.declared.command.Command.{Command}
-use Rattle.uda_packet.specs.Written.{written_command}
-use Rattle.uda_packet.specs.Field.{number_in, reference_field}
-use Rattle.uda_packet.proofs.WrittenLaws.{written_command_text, length-written_end}
 use Rattle.uda_mem.proofs.WordLaws.{length-word_bytes, word_at-put_apart}
+use Rattle.uda_packet.specs.declared.command.Command.{Command}
+use Rattle.uda_packet.specs.declared.end.End.{End}
+use Rattle.uda_packet.specs.Written.{written_command, written_end}
+use Rattle.uda_packet.specs.Reading.{read_command}
+use Rattle.uda_packet.proofs.TextLaws.{command_is_read}
+use Rattle.uda_packet.proofs.WrittenLaws.{written_command_text, length-written_end}
+use Rattle.uda_exec.specs.Disks.{UnitState}
+use Rattle.uda_exec.specs.Effect.{Outcome, Done, Lost, end_of, verdict}
+use Rattle.uda_exec.specs.Execution.{EndsBy, Executes, world_of}
 use Rattle.uda_port.proofs.RingLaws.{descriptor_at-put_other}
 use Rattle.uda_port.specs.declared.descriptor.Descriptor.{Descriptor}
-use Rattle.uda_port.specs.declared.command_ring.Fetched.{Fetched}
-use Rattle.uda_port.specs.declared.command_ring.RingFault.{RingFault}
-use Rattle.uda_port.specs.declared.command_ring.RingFault.TheVariants.{Ring as RingLost, Packet as PacketLost}
-use Rattle.uda_port.specs.Ring.{is_owned, address_of, given_back, descriptor_at, RingState}
-use Rattle.uda_port.specs.Fetch.{HasPacket, IsPacketAt, Takes, FetchGoes}
-use Rattle.uda_script.specs.Probe.{probing, probe_memory}
-use Rattle.uda_script.specs.StatusService.{AsksStatus, CanRespond, responded, status_end, ServesStatus, AnswersFetched}
+use Rattle.uda_port.specs.declared.packet.Fetched.{Fetched}
+use Rattle.uda_port.specs.declared.phase.Fatal.{Fatal}
+use Rattle.uda_port.specs.declared.phase.Fatal.TheVariants.{PacketRead, PacketWrite, RingRead, RingWrite, CreditsExceeded, WrongEnvelope, StartUpWord}
+use Rattle.uda_port.specs.declared.turn.Turn.{Turn}
+use Rattle.uda_port.specs.declared.turn.Turn.TheVariants.{Fetched as TurnFetched, Executed, Delivered, Idle, Dead}
+use Rattle.uda_port.specs.Ring.{is_owned, address_of, descriptor_at, RingState}
+use Rattle.uda_port.specs.Packet.{HasPacket, HasRoom, IsPacketAt}
+use Rattle.uda_port.specs.Fetch.{Takes, FindsNone}
+use Rattle.uda_port.specs.Delivery.{Puts}
+use Rattle.uda_port.specs.Message.{IsSequential, message_in}
+use Rattle.uda_port.specs.Port.{PortState, port_asked}
+use Rattle.uda_port.specs.Turn.{port_turn_on, port_with_message, TurnGoes, RunningTurn, FetchLine, GoesOn, Fails, InFetch, InRest}
+use Rattle.uda_script.specs.Probe.{probing, probe_end, probe_text, started_memory, probe_memory, IsAvailable, started_port}
 
-abbrev pub start : RingState
-start = record { base = 40; count = 8; place = 0 }
+-- ---- what the host left in memory
 
 command_descriptor : descriptor_at probe_memory 40 ≡ Some (record { low = 0x0304; high = 0x8000 })
-unfolding probe_memory put part word_at word_bytes written_command
+unfolding probe_memory started_memory put part word_at word_bytes written_command
 command_descriptor = refl
 
+next_descriptor : descriptor_at probe_memory 44 ≡ Some (record { low = 0; high = 0 })
+unfolding probe_memory started_memory put part word_at word_bytes written_command
+next_descriptor = refl
+
 response_descriptor : descriptor_at probe_memory 8 ≡ Some (record { low = 0x0104; high = 0x8000 })
-unfolding probe_memory put part word_at word_bytes written_command
+unfolding probe_memory started_memory put part word_at word_bytes written_command
 response_descriptor = refl
 
 long : length probe_memory ≡ 135168
-unfolding probe_memory put part word_at word_bytes written_command
+unfolding probe_memory started_memory put part word_at word_bytes written_command
 long = refl
 
 text_length : word_at probe_memory 0x0300 ≡ 48
-unfolding probe_memory put part word_at word_bytes written_command
+unfolding probe_memory started_memory put part word_at word_bytes written_command
 text_length = refl
 
 text_grant : word_at probe_memory 0x0302 ≡ 0
-unfolding probe_memory put part word_at word_bytes written_command
+unfolding probe_memory started_memory put part word_at word_bytes written_command
 text_grant = refl
 
 room_length : word_at probe_memory 0x0100 ≡ 48
-unfolding probe_memory put part word_at word_bytes written_command
+unfolding probe_memory started_memory put part word_at word_bytes written_command
 room_length = refl
 
 text : part probe_memory 0x0304 48 ≡ written_command probing
-unfolding probe_memory put part word_at word_bytes written_command
+unfolding probe_memory started_memory put part word_at word_bytes written_command
 text = refl
 
--- the fetch can't fault and can't find nothing: the command's descriptor is there, owned and readable
 readable : HasPacket probe_memory 0x0304
 readable = record { even = refl; above = lit≤ tt; within = omega (arith, long) }
 
-not_none : (next : Descriptor) → descriptor_at probe_memory 40 ≡ Some next → next ≡ record { low = 0x0304; high = 0x8000 }
-not_none next h = same_Some _ _ (sym h ∙ command_descriptor)
+-- ---- the port, turn by turn
 
-asked : (p : Fetched) → p.words.0 ≡ 48 → p.words.1 ≡ 0 → p.text ≡ written_command probing → AsksStatus p probing
-asked p first second is = record {
-  long = first;
-  sequential = rw second refl;
-  mscp = rw second refl;
-  text = rw is (written_command_text probing (record { reference_fits = lit< tt; unit_fits = lit< tt; op_fits = tt }));
-  status = refl;
-  unit_zero = refl;
+abbrev pub looking_port : List (Option UnitState) → PortState
+looking_port units = record (started_port units) { looking = true }
+
+abbrev pub fetched_port : List (Option UnitState) → PortState
+fetched_port units = record (looking_port units) {
+  turns = 1;
+  exec = record { units = units; pending = probing ∷ [] };
+  commands = record { base = 40; count = 8; place = 1 };
+  credits = 0;
+  fetches = 1;
 }
 
--- the reference of a text is that of the command that it is the text of
-one_reference : (p : Fetched) (c : Command) → AsksStatus p c → p.text ≡ written_command probing → c.reference ≡ 1
-one_reference p c asks is = sym asks.text.reference_is ∙ ap (λ (t : List ℕ). number_in reference_field t) is ∙ (written_command_text probing (record { reference_fits = lit< tt; unit_fits = lit< tt; op_fits = tt })).reference_is
+abbrev pub executed_port : List (Option UnitState) → PortState
+executed_port units = record (fetched_port units) {
+  turns = 2;
+  looking = false;
+  exec = record { units = units; pending = [] };
+  waiting = probe_end ∷ [];
+  load = 1;
+}
 
--- what stands in memory after the fetch: the command's descriptor is given back, and nothing else changed
-module _ (between : List ℕ) (given : between ≡ put probe_memory 42 (word_bytes 16384)) where
-  two : length (word_bytes 16384) ≡ 2
-  two = length-word_bytes 16384
+-- memory after the fetch: the command's descriptor is given back, and nothing else changed
+abbrev pub fetched_memory : List ℕ
+fetched_memory = put probe_memory 42 (word_bytes 0x4000)
 
-  between_long : length between ≡ 135168
-  between_long = ap length given ∙ length-put probe_memory 42 (word_bytes 16384) ∙ long
+two : length (word_bytes 0x4000) ≡ 2
+two = length-word_bytes 0x4000
 
-  word_kept : (at : ℕ) → 44 ≤ at → word_at between at ≡ word_at probe_memory at
-  word_kept at above = ap (λ (m : List ℕ). word_at m at) given ∙ word_at-put_apart probe_memory 42 (word_bytes 16384) at (λ meet. omega (arith, two))
+fetched_long : length fetched_memory ≡ 135168
+fetched_long = length-put probe_memory 42 (word_bytes 0x4000) ∙ long
 
-  response_kept : descriptor_at between 8 ≡ Some (record { low = 0x0104; high = 0x8000 })
-  response_kept = ap (λ (m : List ℕ). descriptor_at m 8) given ∙ descriptor_at-put_other probe_memory 40 8 16384 (inr (lit≤ tt)) ∙ response_descriptor
+next_kept : descriptor_at fetched_memory 44 ≡ Some (record { low = 0; high = 0 })
+next_kept = descriptor_at-put_other probe_memory 40 44 0x4000 (inl (lit≤ tt)) ∙ next_descriptor
 
-  room : CanRespond between 8 (record { low = 0x0104; high = 0x8000 })
-  room = record {
-    there = response_kept;
-    owned = refl;
-    writable = record { even = refl; above = lit≤ tt; within = omega (arith, between_long) };
-    long = subst (λ n. 48 ≤ n) (sym (word_kept 0x0100 (lit≤ tt) ∙ room_length)) (lit≤ tt);
-  }
+response_kept : descriptor_at fetched_memory 8 ≡ Some (record { low = 0x0104; high = 0x8000 })
+response_kept = descriptor_at-put_other probe_memory 40 8 0x4000 (inr (lit≤ tt)) ∙ response_descriptor
 
-  -- the answer's text is the end of the command that was posted
-  answered : (reference : ℕ) (d : Descriptor) (memory_after : List ℕ) → CanRespond between 8 d → reference ≡ 1 → memory_after ≡ responded between 8 d (status_end reference) → part memory_after 0x0104 48 ≡ status_end 1
-  answered reference d memory_after can one written =
-      let is : d ≡ record { low = 0x0104; high = 0x8000 } = same_Some _ _ (sym can.there ∙ response_kept) in
-      let size : length (status_end 1) ≡ 48 = length-written_end _ in
-      let m1 = put between 0x0104 (status_end 1) in
-      let m2 = put m1 0x0100 (word_bytes 48) in
-      let m3 = put m2 0x0102 (word_bytes 8) in
-      let whole : memory_after ≡ put m3 10 (word_bytes 16384) =
-      written ∙ ap (λ (d : Descriptor). responded between 8 d (status_end reference)) is ∙ ap (λ r. responded between 8 (record { low = 0x0104; high = 0x8000 }) (status_end r)) one in
-      ap (λ (m : List ℕ). part m 0x0104 48) whole
-      ∙ part-put_apart m3 10 (word_bytes 16384) 0x0104 48 (λ meet. omega (arith, two))
-      ∙ part-put_apart m2 0x0102 (word_bytes 8) 0x0104 48 (λ meet. omega (arith, length-word_bytes 8))
-      ∙ part-put_apart m1 0x0100 (word_bytes 48) 0x0104 48 (λ meet. omega (arith, length-word_bytes 48))
-      ∙ part-put_at between 0x0104 48 (status_end 1) (omega (arith, between_long, size)) (sym size)
+room : HasRoom fetched_memory 0x0104
+room = record {
+  packet = record { even = refl; above = lit≤ tt; within = omega (arith, fetched_long) };
+  long = subst (λ n. 48 ≤ n) (sym (word_at-put_apart probe_memory 42 (word_bytes 0x4000) 0x0100 (λ meet. omega (arith, two)) ∙ room_length)) (lit≤ tt);
+}
 
--- what the fetch takes is the posted command's packet
-module _ (p : Fetched) (ring_after : RingState) (between : List ℕ) (takes : Takes start probe_memory p ring_after between) where
+-- a descriptor is one alone
+same_descriptor : (memory : List ℕ) (at : ℕ) (a b : Descriptor) → descriptor_at memory at ≡ Some a → descriptor_at memory at ≡ Some b → a ≡ b
+same_descriptor memory at a b is also = same_Some _ _ (sym is ∙ also)
+
+-- one that the port owns isn't one that it doesn't
+owned_not : (memory : List ℕ) (at : ℕ) (a b : Descriptor) → descriptor_at memory at ≡ Some a → descriptor_at memory at ≡ Some b → is_owned a ≡ true → is_owned b ≡ false → ⊥
+owned_not memory at a b is also owned free = false≢true (sym free ∙ ap is_owned (sym (same_descriptor memory at a b is also)) ∙ owned)
+
+not_none : (memory : List ℕ) (at : ℕ) (a : Descriptor) → descriptor_at memory at ≡ Some a → descriptor_at memory at ≡ None → ⊥
+not_none memory at a is none = let both = sym is ∙ none in absurd (cc)
+
+-- ---- the first turn: the command is fetched
+
+module _ (p : Fetched) (ring_after : RingState) (memory_after : List ℕ) (takes : Takes (record { base = 40; count = 8; place = 0 }) probe_memory p ring_after memory_after) where
   first_is : takes.first ≡ record { low = 0x0304; high = 0x8000 }
-  first_is = not_none takes.first takes.is_next
+  first_is = same_descriptor probe_memory 40 _ _ takes.is_next command_descriptor
 
-  given_back_is : between ≡ put probe_memory 42 (word_bytes 16384)
-  given_back_is = takes.written ∙ ap (λ (d : Descriptor). put probe_memory 42 (word_bytes (given_back d.high))) first_is
+  memory_is : memory_after ≡ fetched_memory
+  memory_is = takes.written ∙ ap (λ (d : Descriptor). put probe_memory 42 (word_bytes (d.high % 0x4000 + 0x4000))) first_is
 
   packet_is : IsPacketAt probe_memory 0x0304 p
   packet_is = subst (λ (d : Descriptor). IsPacketAt probe_memory (address_of d) p) first_is takes.is_packet
 
-  asks : AsksStatus p probing
-  asks = asked p (packet_is.first_word ∙ text_length) (packet_is.second_word ∙ text_grant) (packet_is.text ∙ text)
+  sequential : IsSequential p
+  sequential = let second = packet_is.second_word ∙ text_grant in record { kind = rw second refl; connection = rw second refl }
 
-  answers : (served : Bool) (memory_after : List ℕ) → AnswersFetched (Some p) 8 served between memory_after → part memory_after 0x0104 48 ≡ status_end 1
-  answers true memory_after h =
-      answered between given_back_is h.command.reference h.descriptor memory_after h.can (one_reference p h.command h.asks (packet_is.text ∙ text)) h.written
-  answers false memory_after h = absurd (h.cannot probing (record { low = 0x0104; high = 0x8000 }) asks (room between given_back_is))
+  message : message_in p ≡ Ok probing
+  message =
+      let first = packet_is.first_word ∙ text_length in
+      let is = packet_is.text ∙ text in
+      let reads : read_command (written_command probing) ≡ Ok probing = command_is_read (written_command probing) probing (written_command_text probing (record { reference_fits = lit< tt; unit_fits = lit< tt; op_fits = tt })) in
+      rw (first, is, reads) refl
 
-looked : (fetched : Option Fetched) (between : List ℕ) (served : Bool) (ring_after : RingState) (memory_after : List ℕ)
-    → FetchGoes start probe_memory (Ok fetched) ring_after between → AnswersFetched fetched 8 served between memory_after → part memory_after 0x0104 48 ≡ status_end 1
-looked None between served ring_after memory_after h answer =
-    let free : is_owned (record { low = 0x0304; high = 0x8000 }) ≡ false = ap is_owned (sym (not_none h.0.next h.0.is_next)) ∙ h.0.not_owned in
-    absurd (false≢true (sym free))
-looked (Some p) between served ring_after memory_after h answer = answers p ring_after between h served memory_after answer
+-- the port doesn't fail to fetch it
+no_fatal_fetch : (cause : Fatal) (units : List (Option UnitState)) (new : PortState) (memory_after : List ℕ) → FetchLine (port_turn_on (looking_port units)) probe_memory (Err cause) new memory_after → ⊥
+no_fatal_fetch PacketRead units new memory_after line =
+    line.0.no_packet.unreadable (subst (λ (d : Descriptor). HasPacket probe_memory (address_of d)) (same_descriptor probe_memory 40 _ _ command_descriptor line.0.no_packet.is_next) readable)
+no_fatal_fetch RingRead units new memory_after line = not_none probe_memory 40 _ command_descriptor line.0.no_descriptor
+no_fatal_fetch CreditsExceeded units new memory_after line = let none = line.no_credit in absurd (omega (arith, none))
+no_fatal_fetch WrongEnvelope units new memory_after line = line.not_sequential (sequential line.packet new.commands memory_after line.taken.takes)
+no_fatal_fetch PacketWrite units new memory_after line = line
+no_fatal_fetch RingWrite units new memory_after line = line
+no_fatal_fetch StartUpWord units new memory_after line = line
 
--- one look at the probe's memory delivers the end of its Get Unit Status
-pub probed : (result : Result Bool RingFault) (ring_after : RingState) (memory_after : List ℕ) → ServesStatus start probe_memory 8 result ring_after memory_after → part memory_after 0x0104 48 ≡ status_end 1
-probed (Ok served) ring_after memory_after h = looked h.fetched h.between served ring_after memory_after h.fetches h.answers
-probed (Err PacketLost) ring_after memory_after h =
-    absurd (h.0.unreadable (subst (λ (d : Descriptor). HasPacket probe_memory (address_of d)) (sym (not_none h.0.next h.0.is_next)) readable))
-probed (Err RingLost) ring_after memory_after h = let bad = sym h.0 ∙ command_descriptor in absurd (cc)
+pub record Leads (port : PortState) (memory : List ℕ) (new : PortState) (memory_after : List ℕ) : Type 0 where
+  pub port_is : new ≡ port
+  pub memory_is : memory_after ≡ memory
+
+no_rest : (units : List (Option UnitState)) → (true ≡ true → FindsNone (record { base = 40; count = 8; place = 0 }) probe_memory) → ⊥
+no_rest units finds = let none = finds refl in owned_not probe_memory 40 _ none.next command_descriptor none.is_next refl none.not_owned
+
+pub fetch_turn : (units : List (Option UnitState)) (turn : Turn) (new : PortState) (memory_after : List ℕ) → RunningTurn (looking_port units) probe_memory turn new memory_after → Leads (fetched_port units) fetched_memory new memory_after
+fetch_turn units TurnFetched new memory_after goes =
+    let is = message goes.packet new.commands memory_after goes.takes in
+    record {
+      port_is = goes.others
+          ∙ ap (λ (m : Result Command End). record (port_with_message (port_turn_on (looking_port units)) m) { commands = new.commands; credits = 0; fetches = 1 }) is
+          ∙ ap (λ (r : RingState). record (port_with_message (port_turn_on (looking_port units)) (Ok probing)) { commands = r; credits = 0; fetches = 1 }) goes.takes.advanced;
+      memory_is = memory_is goes.packet new.commands memory_after goes.takes;
+    }
+fetch_turn units Executed new memory_after goes = absurd (no_rest units goes.nothing_to_fetch)
+fetch_turn units Delivered new memory_after goes = absurd (no_rest units goes.nothing_to_fetch)
+fetch_turn units Idle new memory_after goes = absurd (no_rest units goes.nothing_to_fetch)
+fetch_turn units Dead new memory_after goes = absurd (no_death goes.fails)
+  where
+    no_death : Fails goes.cause (port_turn_on (looking_port units)) probe_memory goes.before memory_after → ⊥
+    no_death (InFetch line) = no_fatal_fetch goes.cause units goes.before memory_after line
+    no_death (InRest rest) = no_rest units rest.nothing_to_fetch
+
+-- ---- the second turn: the command is executed
+
+-- of one command that is pending that one is taken out
+only_one : (j : ℕ) (c : Command) → slice_get (probing ∷ []) j ≡ Some c → (j ≡ 0) × (c ≡ probing)
+only_one zero c stands = (refl, sym (same_Some _ _ stands))
+only_one (suc j) c stands = absurd (cc stands)
+
+-- its end says that unit 0 is available
+end_is : (units : List (Option UnitState)) (memory : List ℕ) (outcome : Outcome) → IsAvailable units → end_of outcome probing (verdict probing (world_of units memory)) ≡ probe_end
+end_is units memory outcome available = rw (available.are, available.mode) refl
+
+ends_as : (units units_after : List (Option UnitState)) (memory memory_after : List ℕ) (e : End) (outcome : Outcome) → IsAvailable units → EndsBy outcome probing (world_of units memory) e (world_of units_after memory_after) → e ≡ probe_end
+ends_as units units_after memory memory_after e Done available ends = ap (λ x. x.0) ends ∙ end_is units memory Done available
+ends_as units units_after memory memory_after e (Lost k left) available ends = ap (λ x. x.0) ends.effect_is ∙ end_is units memory (Lost k left) available
+
+end_of_execution : (units units_after : List (Option UnitState)) (memory memory_after : List ℕ) (e : End) → IsAvailable units → Executes probing units memory e units_after memory_after → e ≡ probe_end
+end_of_execution units units_after memory memory_after e available executes =
+    let takes = executes.takes_effect (λ calls. absurd (false≢true calls)) in
+    ends_as units units_after memory memory_after e takes.outcome available takes.ends
+
+no_fatal_again : (cause : Fatal) (units : List (Option UnitState)) (new : PortState) (memory_after : List ℕ) → FetchLine (port_turn_on (fetched_port units)) fetched_memory (Err cause) new memory_after → ⊥
+no_fatal_again PacketRead units new memory_after line = owned_not fetched_memory 44 _ _ line.0.no_packet.is_next next_kept line.0.no_packet.owned refl
+no_fatal_again RingRead units new memory_after line = not_none fetched_memory 44 _ next_kept line.0.no_descriptor
+no_fatal_again CreditsExceeded units new memory_after line = owned_not fetched_memory 44 _ _ line.taken.takes.is_next next_kept line.taken.takes.owned refl
+no_fatal_again WrongEnvelope units new memory_after line = owned_not fetched_memory 44 _ _ line.taken.takes.is_next next_kept line.taken.takes.owned refl
+no_fatal_again PacketWrite units new memory_after line = line
+no_fatal_again RingWrite units new memory_after line = line
+no_fatal_again StartUpWord units new memory_after line = line
+
+some_pending : (probing ∷ []) ≡ [] → ⊥
+some_pending is = absurd (cc)
+
+pub execute_turn : (units : List (Option UnitState)) (turn : Turn) (new : PortState) (memory_after : List ℕ) → IsAvailable units → RunningTurn (fetched_port units) fetched_memory turn new memory_after
+    → Leads (executed_port new.exec.units) fetched_memory new memory_after
+execute_turn units TurnFetched new memory_after available goes = absurd (owned_not fetched_memory 44 _ _ goes.takes.is_next next_kept goes.takes.owned refl)
+execute_turn units Executed new memory_after available goes =
+    let one = goes.rest.1 in
+    let taken = one.executes.taken in
+    let only = only_one goes.rest.0 one.executes.command taken.stands in
+    let executes : Executes probing units fetched_memory one.end new.exec.units memory_after =
+    subst (λ (c : Command). Executes c units fetched_memory one.end new.exec.units memory_after) only.1 one.executes.executes in
+    let end = end_of_execution units new.exec.units fetched_memory memory_after one.end available executes in
+    let none : new.exec.pending ≡ [] = taken.taken ∙ ap (λ j. remove (probing ∷ []) j) only.0 in
+    record {
+      port_is = one.others ∙ ap (λ (e : End). record (fetched_port units) { turns = 2; looking = false; exec = new.exec; waiting = e ∷ []; load = 1 }) end
+          ∙ ap (λ (pending : List Command). record (executed_port new.exec.units) { exec = record { units = new.exec.units; pending = pending } }) none;
+      memory_is = executes.memory_is_kept refl;
+    }
+execute_turn units Delivered new memory_after available goes = absurd (some_pending goes.rest.0)
+execute_turn units Idle new memory_after available goes = absurd (some_pending goes.rest.0)
+execute_turn units Dead new memory_after available goes = absurd (no_death goes.fails)
+  where
+    no_death : Fails goes.cause (port_turn_on (fetched_port units)) fetched_memory goes.before memory_after → ⊥
+    no_death (InFetch line) = no_fatal_again goes.cause units goes.before memory_after line
+    no_death (InRest rest) = some_pending rest.rest.0
+
+-- ---- the third turn: its end is delivered
+
+no_look : false ≡ true → ⊥
+no_look is = false≢true is
+
+abbrev no_commands : List Command
+no_commands = []
+
+none_stands : (j : ℕ) (c : Command) → slice_get no_commands j ≡ Some c → ⊥
+none_stands zero c stands = absurd (cc stands)
+none_stands (suc j) c stands = absurd (cc stands)
+
+delivered_text : (d : Descriptor) (memory_after : List ℕ) → d ≡ record { low = 0x0104; high = 0x8000 }
+    → memory_after ≡ put (put (put (put fetched_memory (address_of d) probe_text) (address_of d - 4) (word_bytes 48)) (address_of d - 2) (word_bytes 8)) 10 (word_bytes (d.high % 0x4000 + 0x4000)) → part memory_after 0x0104 48 ≡ probe_text
+delivered_text d memory_after is written =
+    let size : length probe_text ≡ 48 = length-written_end _ in
+    let m1 = put fetched_memory 0x0104 probe_text in
+    let m2 = put m1 0x0100 (word_bytes 48) in
+    let m3 = put m2 0x0102 (word_bytes 8) in
+    let whole : memory_after ≡ put m3 10 (word_bytes 0x4000) =
+    written ∙ ap (λ (d : Descriptor). put (put (put (put fetched_memory (address_of d) probe_text) (address_of d - 4) (word_bytes 48)) (address_of d - 2) (word_bytes 8)) 10 (word_bytes (d.high % 0x4000 + 0x4000))) is in
+    ap (λ (m : List ℕ). part m 0x0104 48) whole
+    ∙ part-put_apart m3 10 (word_bytes 0x4000) 0x0104 48 (λ meet. omega (arith, two))
+    ∙ part-put_apart m2 0x0102 (word_bytes 8) 0x0104 48 (λ meet. omega (arith, length-word_bytes 8))
+    ∙ part-put_apart m1 0x0100 (word_bytes 48) 0x0104 48 (λ meet. omega (arith, length-word_bytes 48))
+    ∙ part-put_at fetched_memory 0x0104 48 probe_text (omega (arith, fetched_long, size)) (sym size)
+
+no_fatal_look : (cause : Fatal) (units : List (Option UnitState)) (new : PortState) (memory_after : List ℕ) → FetchLine (port_turn_on (executed_port units)) fetched_memory (Err cause) new memory_after → ⊥
+no_fatal_look PacketRead units new memory_after line = no_look line.0.looks
+no_fatal_look RingRead units new memory_after line = no_look line.0.looks
+no_fatal_look CreditsExceeded units new memory_after line = no_look line.taken.looks
+no_fatal_look WrongEnvelope units new memory_after line = no_look line.taken.looks
+no_fatal_look PacketWrite units new memory_after line = line
+no_fatal_look RingWrite units new memory_after line = line
+no_fatal_look StartUpWord units new memory_after line = line
+
+no_fatal_delivery : (cause : Fatal) (units : List (Option UnitState)) (new : PortState) (memory_after : List ℕ) → GoesOn (port_turn_on (executed_port units)) fetched_memory (Err cause) new memory_after → ⊥
+no_fatal_delivery RingRead units new memory_after goes = not_none fetched_memory 8 _ response_kept goes.rest.1.0.no_descriptor
+no_fatal_delivery PacketWrite units new memory_after goes =
+    let lost = goes.rest.1.0.no_room in
+    lost.no_room (subst (λ (d : Descriptor). HasRoom fetched_memory (address_of d)) (same_descriptor fetched_memory 8 _ _ response_kept lost.is_next) room)
+no_fatal_delivery PacketRead units new memory_after goes = goes.rest.1
+no_fatal_delivery CreditsExceeded units new memory_after goes = goes.rest.1
+no_fatal_delivery WrongEnvelope units new memory_after goes = goes.rest.1
+no_fatal_delivery RingWrite units new memory_after goes = goes.rest.1
+no_fatal_delivery StartUpWord units new memory_after goes = goes.rest.1
+
+first_end : (e : End) (rest : List End) → (probe_end ∷ []) ≡ e ∷ rest → e ≡ probe_end
+first_end e rest is = cc
+
+pub deliver_turn : (units : List (Option UnitState)) (turn : Turn) (new : PortState) (memory_after : List ℕ) → RunningTurn (executed_port units) fetched_memory turn new memory_after → part memory_after 0x0104 48 ≡ probe_text
+deliver_turn units TurnFetched new memory_after goes = absurd (no_look goes.looks)
+deliver_turn units Executed new memory_after goes = absurd (none_stands goes.rest.0 goes.rest.1.executes.command goes.rest.1.executes.taken.stands)
+deliver_turn units Delivered new memory_after goes =
+    let delivers = goes.rest.1 in
+    let end = first_end delivers.end new.waiting delivers.first in
+    let puts : Puts (record { base = 8; count = 8; place = 0 }) fetched_memory 8 probe_text new.responses memory_after =
+    subst (λ (e : End). Puts (record { base = 8; count = 8; place = 0 }) fetched_memory 8 (written_end e) new.responses memory_after) end delivers.puts in
+    delivered_text puts.first memory_after (same_descriptor fetched_memory 8 _ _ puts.is_next response_kept) puts.written
+deliver_turn units Idle new memory_after goes =
+    let finds = goes.rest.1.0 probe_end refl in absurd (owned_not fetched_memory 8 _ _ response_kept finds.is_next refl finds.not_owned)
+deliver_turn units Dead new memory_after goes = absurd (no_death goes.fails)
+  where
+    no_death : Fails goes.cause (port_turn_on (executed_port units)) fetched_memory goes.before memory_after → ⊥
+    no_death (InFetch line) = no_fatal_look goes.cause units goes.before memory_after line
+    no_death (InRest rest) = no_fatal_delivery goes.cause units goes.before memory_after rest
+
+-- ---- the three turns
+
+pub served : (units : List (Option UnitState)) (p0 p1 p2 p3 p4 : PortState) (m0 m1 m2 m3 : List ℕ) (t1 t2 t3 : Turn) → IsAvailable units → p0 ≡ started_port units → m0 ≡ probe_memory → p1 ≡ port_asked p0.phase p0
+    → TurnGoes p1.phase p1 m0 t1 p2 m1 → TurnGoes p2.phase p2 m1 t2 p3 m2 → TurnGoes p3.phase p3 m2 t3 p4 m3 → part m3 0x0104 48 ≡ probe_text
+served units p0 p1 p2 p3 p4 m0 m1 m2 m3 t1 t2 t3 available is memory asked one two three =
+    let looking : p1 ≡ looking_port units = asked ∙ ap (λ (p : PortState). port_asked p.phase p) is in
+    let first = fetch_turn units t1 p2 m1 (subst (λ (p : PortState). TurnGoes p.phase p probe_memory t1 p2 m1) looking (subst (λ (m : List ℕ). TurnGoes p1.phase p1 m t1 p2 m1) memory one)) in
+    let second = execute_turn units t2 p3 m2 available (subst (λ (p : PortState). TurnGoes p.phase p fetched_memory t2 p3 m2) first.port_is (subst (λ (m : List ℕ). TurnGoes p2.phase p2 m t2 p3 m2) first.memory_is two)) in
+    deliver_turn p3.exec.units t3 p4 m3 (subst (λ (p : PortState). TurnGoes p.phase p fetched_memory t3 p4 m3) second.port_is (subst (λ (m : List ℕ). TurnGoes p3.phase p3 m t3 p4 m3) second.memory_is three))

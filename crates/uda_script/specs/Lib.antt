@@ -1,4 +1,3 @@
-pub mod StatusService
 pub mod Probe
 pub mod Hexadecimal
 pub mod Statuses

@@ -3,7 +3,7 @@
 ghost use Rattle.std.specs.Prelude.{◌≡◌, ◌≢◌, ◌≤◌, OnOk};
 ghost use Rattle.std.specs.Io.KnownBytes.{Appends};
 ghost use Rattle.uda_script.specs.Hexadecimal.{bytes_from};
-ghost use Rattle.uda_script.specs.StatusService.{status_end};
+ghost use Rattle.uda_script.specs.Probe.{probe_text};
 ghost use Rattle.std.specs.IoError.{error_kind};
 ghost use Rattle.uda_script.specs.Statuses.{status_of};
 
@@ -64,7 +64,7 @@ fn tell<V: Write>(fault: &Fault, report: &mut V) -> u8
 
 // Prints the end message of one Get Unit Status.
 fn print_probe<W: Write>(alloc: Global, out: &mut W) -> Result<(), Fault>
-    ensures { OnOk result (Appends (W.contents out.old) (W.contents out.new) (bytes_from 0 (status_end 1))) }
+    ensures { OnOk result (Appends (W.contents out.old) (W.contents out.new) (bytes_from 0 probe_text)) }
 {
     let text = probe(alloc)?;
     let lines = hexadecimal(alloc, &text)?;

@@ -5,12 +5,10 @@ mod entry;
 mod fault;
 mod hexadecimal;
 mod probe;
-mod status_service;
 mod words;
 
 pub use entry::{program, unreadable_words};
 pub use fault::Fault;
-pub use status_service::serve_status;
 
 #[cfg(test)]
 mod tests;

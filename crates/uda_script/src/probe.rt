@@ -1,27 +1,39 @@
-//! One Get Unit Status from ring to ring.
+//! One Get Unit Status through the rings of a port.
+//!
+//! UDA50 Programmer's Documentation Kit: initialisation, command and response rings.
 
 ghost use Rattle.std.specs.Prelude.{◌≡◌, ◌%◌, ◌^◌, ◌<◌, ◌≤◌, length, replicate, IfOk};
-ghost use Rattle.uda_script.specs.Probe.{posted_at, probe_memory};
-ghost use Rattle.uda_script.specs.StatusService.{status_end};
+ghost use Rattle.uda_mem.specs.Put.{part};
+ghost use Rattle.uda_script.specs.Probe.{IsNew, IsStarted, started_memory, posted_at};
+ghost use Rattle.uda_script.specs.Probe.{probe_memory, probe_text};
 
-use crate::fault::Fault;
-use crate::status_service::{serve_status, write_word};
 use std::alloc::Global;
+use uda_exec::Exec;
+use uda_image::{Drive, MemImage};
 use uda_mem::{HostMemory, NoMemory};
 use uda_packet::{Command, Envelope, Op, encode_command};
-use uda_port::CommandRing;
+use uda_port::Port;
 
 /// The bytes of host memory.
 const MEMORY: u32 = 135_168;
+
+/// The first word of the start-up: two rings of eight descriptors.
+const FIRST_WORD: u16 = 0x9b00;
+
+/// The second: the response ring begins at the address 8.
+const SECOND_WORD: u16 = 0x0008;
+
+/// The third: the high part of that address.
+const THIRD_WORD: u16 = 0x0000;
+
+/// The fourth: go.
+const GO: u16 = 0x0001;
 
 /// The response ring, of eight descriptors of four bytes.
 const RESPONSE_RING: u32 = 8;
 
 /// The command ring, behind it.
 const COMMAND_RING: u32 = 40;
-
-/// The descriptors of each ring.
-const DESCRIPTORS: u16 = 8;
 
 /// The text of the first response.
 const RESPONSE_TEXT: u16 = 0x0104;
@@ -40,15 +52,17 @@ const ENVELOPE: Envelope = Envelope {
     connection: 0,
 };
 
-/// Posts one Get Unit Status of unit 0 with reference 1, has it served, and answers the end
-/// message's text as it then stands in host memory.
+/// Starts a port over a unit 0 of eight zero blocks, posts one Get Unit Status of unit 0 with
+/// reference 1 as its first command, lets the port take its turns, and answers the end message's
+/// text as it then stands in host memory.
 pub fn probe(alloc: Global) -> Result<[u8; 48], NoMemory>
-    ensures { IfOk result (λ text. text ≡ status_end 1) }
+    ensures { IfOk result (λ text. text ≡ probe_text) }
 {
     let mut memory = HostMemory::new(alloc, MEMORY)?;
+    let mut port = new_port(alloc)?;
+    start_up(&mut port, &mut memory);
     set_up(&mut memory);
-    let mut ring = CommandRing::new(COMMAND_RING, DESCRIPTORS);
-    let _ = serve_status(&mut ring, RESPONSE_RING, &mut memory);
+    serve(&mut port, &mut memory);
     let mut text = [0; 48];
     if let Some(bytes) = memory.window(u32::from(RESPONSE_TEXT), 48) {
         text.copy_from_slice(bytes);
@@ -56,11 +70,38 @@ pub fn probe(alloc: Global) -> Result<[u8; 48], NoMemory>
     Ok(text)
 }
 
+// A port over unit 0 alone, which is available without protection.
+fn new_port(alloc: Global) -> Result<Port<MemImage>, NoMemory>
+    ensures { IfOk result (λ port. IsNew port) }
+{
+    let Ok(store) = MemImage::new(alloc, 8) else {
+        return Err(NoMemory);
+    };
+    let drive = Drive { store, hard: false };
+    match Port::new(alloc, Exec::new([Some(drive), None, None, None])) {
+        Ok(port) => Ok(port),
+        Err((error, _)) => Err(error),
+    }
+}
+
+// The four steps of the start-up.
+fn start_up(port: &mut Port<MemImage>, memory: &mut HostMemory)
+    requires port { IsNew port.old }
+    requires memory { memory.old ≡ replicate MEMORY 0 }
+    ensures port { IsStarted port.new }
+    ensures memory { memory.new ≡ started_memory }
+{
+    port.write_sa(FIRST_WORD, memory);
+    port.write_sa(SECOND_WORD, memory);
+    port.write_sa(THIRD_WORD, memory);
+    port.write_sa(GO, memory);
+}
+
 // Does what a host does before the port looks: posts the command, and hands over one response
 // descriptor.
 #[tactic(auto, using(crate::proofs::Writes::lengths))]
 fn set_up(memory: &mut HostMemory)
-    requires { memory.old ≡ replicate MEMORY 0 }
+    requires { memory.old ≡ started_memory }
     ensures { memory.new ≡ probe_memory }
 {
     let command = Command {
@@ -88,8 +129,20 @@ fn post(memory: &mut HostMemory, descriptor: u32, text: u16)
 {
     let (length, grant) = ENVELOPE.words();
     let address = u32::from(text);
-    write_word(memory, address - 4, length);
-    write_word(memory, address - 2, grant);
-    write_word(memory, descriptor, text);
-    write_word(memory, descriptor + 2, OWNED);
+    memory.put_word(address - 4, length);
+    memory.put_word(address - 2, grant);
+    memory.put_word(descriptor, text);
+    memory.put_word(descriptor + 2, OWNED);
+}
+
+// Makes the port look, and lets it fetch the command, execute it and deliver its end.
+fn serve(port: &mut Port<MemImage>, memory: &mut HostMemory)
+    requires port { IsStarted port.old }
+    requires memory { memory.old ≡ probe_memory }
+    ensures text { part memory.new RESPONSE_TEXT 48 ≡ probe_text }
+{
+    port.read_ip();
+    port.turn(memory);
+    port.turn(memory);
+    port.turn(memory);
 }

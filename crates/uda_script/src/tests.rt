@@ -1,10 +1,6 @@
-use crate::{program, serve_status, unreadable_words};
-use std::alloc::Global;
+use crate::{program, unreadable_words};
 use std::io;
 use std::test::Fail;
-use uda_mem::HostMemory;
-use uda_packet::{Command, Op, encode_command};
-use uda_port::{CommandRing, RingFault};
 
 /// The end of a Get Unit Status of an available unit 0.
 const PROBED: &str =
@@ -147,104 +143,5 @@ fn words_that_cannot_be_read(rt: HostRuntime) -> Result<(), Fail> {
     let no_memory = io::Error::from(io::ErrorKind::OutOfMemory);
     assert_eq!(rt; unreadable_words(&no_memory, &mut report), 1);
     assert_eq!(rt; report.as_slice(), b"uda: out of memory\n".as_slice());
-    Ok(())
-}
-
-// A memory of 256 bytes: a command descriptor at 8, its text at 0x40, a response descriptor at 12
-// and its text at 0x80.
-fn posted(alloc: Global, command: Command, length: u16, response: u16) -> Option<HostMemory> {
-    let Ok(mut memory) = HostMemory::new(alloc, 256) else {
-        return None;
-    };
-    for (at, word) in [
-        (8, 0x0040),
-        (10, 0x8000),
-        (12, 0x0080),
-        (14, 0x8000),
-        (0x3c, 48),
-        (0x7c, response),
-    ] {
-        memory.write_word(at, word);
-    }
-    memory.write_word(0x3c, length);
-    if memory.has(0x40, 48) {
-        memory
-            .within(0x40, 48)
-            .copy_from_slice(&encode_command(&command));
-    }
-    Some(memory)
-}
-
-// Whether a look at that memory delivers the end message.
-fn served(alloc: Global, command: Command, length: u16, response: u16) -> Option<bool> {
-    let mut memory = posted(alloc, command, length, response)?;
-    let mut ring = CommandRing::new(8, 1);
-    let answer = serve_status(&mut ring, 12, &mut memory).ok();
-    let delivered = memory.read_word(14) == Some(0x4000)
-        && memory.read_word(0x7c) == Some(48)
-        && memory.read_word(0x7e) == Some(8)
-        && memory.read_word(0x80) == Some(9)
-        && memory.read_word(0x88) == Some(0x83);
-    let fetched = memory.read_word(10) == Some(0x4000);
-    if fetched && answer == Some(delivered) {
-        answer
-    } else {
-        None
-    }
-}
-
-#[test]
-fn a_look_answers_get_unit_status_alone(rt: HostRuntime) -> Result<(), Fail> {
-    let status = Command {
-        reference: 9,
-        unit: 0,
-        op: Op::Status,
-    };
-    let other_unit = Command { unit: 1, ..status };
-    let available = Command {
-        op: Op::Available,
-        ..status
-    };
-    assert_eq!(rt; served(rt.alloc(), status, 48, 48), Some(true));
-    assert_eq!(rt; served(rt.alloc(), status, 48, 60), Some(true));
-    assert_eq!(rt;
-        served(rt.alloc(), status, 60, 48),
-        Some(false),
-        "length word 60"
-    );
-    assert_eq!(rt; served(rt.alloc(), status, 48, 47), Some(false), "no room");
-    assert_eq!(rt;
-        served(rt.alloc(), other_unit, 48, 48),
-        Some(false),
-        "unit 1"
-    );
-    assert_eq!(rt;
-        served(rt.alloc(), available, 48, 48),
-        Some(false),
-        "Available"
-    );
-    Ok(())
-}
-
-#[test]
-fn a_fault_of_the_ring_is_told(rt: HostRuntime) -> Result<(), Fail> {
-    let mut memory = HostMemory::new(rt.alloc(), 8)?;
-    let mut ring = CommandRing::new(8, 1);
-    assert_eq!(rt;
-        serve_status(&mut ring, 0, &mut memory),
-        Err(RingFault::Ring)
-    );
-    let mut memory = HostMemory::new(rt.alloc(), 16)?;
-    assert_eq!(rt;
-        serve_status(&mut ring, 0, &mut memory),
-        Ok(false),
-        "not owned"
-    );
-    memory.write_word(10, 0x8000);
-    assert_eq!(rt;
-        serve_status(&mut ring, 0, &mut memory),
-        Err(RingFault::Packet)
-    );
-    assert_eq!(rt; memory.read_word(10), Some(0x8000), "unchanged");
     Ok(())
 }

@@ -1,8 +1,8 @@
 //! Hosts that don't keep the rules, by the worked examples.
 
 use super::machine::{
-    COMMANDS, START_UP, bytes, end, open_response, poke, post_command, put_online, response_text,
-    running, take_turns,
+    COMMANDS, START_UP, bytes, end, open_response, poke, post_command, put_online, running,
+    take_turns,
 };
 use crate::{Fatal, Phase, Turn};
 use std::test::Fail;
@@ -156,9 +156,9 @@ fn start_up_in_mid_work(rt: HostRuntime) -> Result<(), Fail> {
     for (unit, drive) in port.into_exec().into_stores().into_iter().enumerate() {
         if let Some(drive) = drive {
             assert_eq!(rt; unit, 0);
-            assert_eq!(rt; &drive.store.bytes()[1024..1536], [0x77; 512].as_slice());
+            let written = drive.store.bytes().get(1024..1536);
+            assert_eq!(rt; written, Some([0x77; 512].as_slice()));
         }
     }
-    assert_eq!(rt; response_text(1), 0x144);
     Ok(())
 }

@@ -1,6 +1,6 @@
 //! The machine of the tests: a host's memory, laid out as a driver's, and a port over four units.
 
-ghost use Rattle.std.specs.Prelude.{◌<◌};
+ghost use Rattle.std.specs.Prelude.{◌≡◌, ◌+◌, ◌*◌, ◌<◌};
 
 use crate::{Port, Turn};
 use std::alloc::Global;
@@ -23,7 +23,7 @@ pub(crate) const COMMANDS: u32 = 0x28;
 /// Where the text of response i is.
 pub(crate) fn response_text(i: u16) -> u16
     requires { i < 8 }
-    ensures { result < 1000 }
+    ensures { result ≡ 260 + 64 * i }
 {
     0x104 + 64 * i
 }
@@ -31,7 +31,7 @@ pub(crate) fn response_text(i: u16) -> u16
 /// Where the text of command i is.
 pub(crate) fn command_text(i: u16) -> u16
     requires { i < 8 }
-    ensures { result < 2000 }
+    ensures { result ≡ 772 + 64 * i }
 {
     0x304 + 64 * i
 }

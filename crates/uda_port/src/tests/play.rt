@@ -1,8 +1,11 @@
 //! Hosts that do anything: events played to a port.
+ghost use Rattle.std.specs.Prelude.{◌<◌};
 
 use super::machine::{MEMORY, START_UP, new_port, running};
-use crate::{Fatal, HostEvent, Phase, Turn};
+use crate::{Fatal, HostEvent, Phase, Port};
+use std::process::Abort;
 use std::test::Fail;
+use uda_image::MemImage;
 use uda_mem::HostMemory;
 
 /// What SA shows after the start-up words with bit `bit` of word `step` changed.
@@ -24,23 +27,27 @@ fn sa_after(step: usize, bit: u32) -> u16 {
     }
 }
 
+/// The words of a start-up with bit `bit` of word `step` changed.
+fn start_up_with(step: usize, bit: u32) -> [HostEvent; 4] {
+    let mut words = START_UP;
+    if let Some(word) = words.get_mut(step) {
+        *word ^= 1u16.checked_shl(bit).unwrap_or(0);
+    }
+    words.map(HostEvent::WriteSa)
+}
+
 #[test]
 fn each_bit_of_the_start_up(rt: HostRuntime) -> Result<(), Fail> {
     for step in 0..4 {
         for bit in 0..16 {
-            let mut words = START_UP;
-            words[step] ^= 1 << bit;
             let mut port = new_port(rt.alloc())?;
             let mut memory = HostMemory::new(rt.alloc(), MEMORY)?;
-            let events = words.map(HostEvent::WriteSa);
-            let sa = port.play(&events, &mut memory);
+            let sa = port.play(&start_up_with(step, bit), &mut memory);
             assert_eq!(rt; sa, sa_after(step, bit), "bit {bit} of word {step}");
             assert_eq!(rt; port.read_sa(), sa);
             // a turn changes nothing of a port that hasn't anything to do
-            assert_eq!(rt;
-                port.play(&[HostEvent::ReadIp, HostEvent::Turn], &mut memory),
-                sa
-            );
+            let look = [HostEvent::ReadIp, HostEvent::Turn];
+            assert_eq!(rt; port.play(&look, &mut memory), sa);
             // and IP begins anew, whatever was
             assert_eq!(rt; port.play(&[HostEvent::WriteIp], &mut memory), 0x0800);
         }
@@ -53,7 +60,7 @@ fn each_bit_of_the_start_up(rt: HostRuntime) -> Result<(), Fail> {
 struct Host {
     // a linear congruential generator
     state: u64,
-    // how many words of a start-up are still to come
+    // which word of a start-up comes next; none from 4 on
     words: usize,
 }
 
@@ -61,102 +68,127 @@ impl Host {
     fn new() -> Host {
         Host {
             state: 0x5eed,
-            words: 0,
+            words: 4,
         }
     }
 
-    fn below(&mut self, bound: u32) -> u32 {
+    fn below(&mut self, bound: u16) -> u16
+        requires { 0 < bound }
+        ensures { result < bound }
+    {
         self.state = self
             .state
             .wrapping_mul(6_364_136_223_846_793_005)
             .wrapping_add(1_442_695_040_888_963_407);
-        ((self.state >> 33) % u64::from(bound.max(1))) as u32
+        ((self.state >> 33) % u64::from(bound)) as u16
     }
 
     fn event(&mut self) -> HostEvent {
-        if 0 < self.words && self.words <= 4 {
-            self.words -= 1;
-            return HostEvent::WriteSa(START_UP[3 - self.words]);
+        if let Some(&word) = START_UP.get(self.words) {
+            self.words += 1;
+            return HostEvent::WriteSa(word);
         }
         let i = self.below(16);
+        let at = u32::from(i);
         match self.below(100) {
             0 => {
-                self.words = 4;
+                self.words = 0;
                 HostEvent::WriteIp
             }
             1 => HostEvent::WriteIp,
-            2..=4 => HostEvent::WriteSa(self.below(65_536) as u16),
+            2..=4 => HostEvent::WriteSa(self.below(65_535)),
             5..=12 => HostEvent::ReadIp,
             13..=27 => HostEvent::Word {
-                address: 8 + 4 * i,
-                word: (0x104 + 64 * i % 0x1000) as u16,
+                address: 8 + 4 * at,
+                word: 0x104 + 64 * i,
             },
             28..=42 => HostEvent::Word {
-                address: 10 + 4 * i,
+                address: 10 + 4 * at,
                 word: 0x8000,
             },
             43..=57 => HostEvent::Word {
-                address: 0x100 + 64 * i,
+                address: 0x100 + 64 * at,
                 word: 48,
             },
             58..=62 => HostEvent::Word {
-                address: 0x10c + 64 * i,
-                word: self.below(40) as u16,
+                address: 0x10c + 64 * at,
+                word: self.below(40),
             },
             63 => HostEvent::Word {
-                address: self.below(300_000),
-                word: self.below(65_536) as u16,
+                address: 4 * u32::from(self.below(60_000)),
+                word: self.below(65_535),
             },
             _ => HostEvent::Turn,
         }
     }
 }
 
-#[test]
-fn a_trace_of_random_events(rt: HostRuntime) -> Result<(), Fail> {
-    let (mut port, mut memory) = running(rt.alloc())?;
-    let mut host = Host::new();
-    let mut deaths = 0;
-    let mut busy = 0;
-    for _ in 0..20_000 {
-        let event = host.event();
-        let before = port.phase();
-        let sa = port.play(&[event], &mut memory);
-        if event == HostEvent::Turn && port.pending() + port.waiting() > 0 {
-            busy += 1;
+/// Asserts that an event between these phases was none that the port can't die or live by.
+fn assert_lawful(rt: &impl Abort, before: Phase, event: HostEvent, after: Phase) {
+    match (before, after) {
+        (Phase::Dead { cause }, Phase::Dead { cause: still }) => {
+            assert!(rt; cause == still && event != HostEvent::WriteIp);
         }
-        match (before, port.phase()) {
-            (Phase::Dead { cause }, Phase::Dead { cause: now }) => {
-                assert!(rt; cause == now && event != HostEvent::WriteIp);
-                assert_eq!(rt; sa, 0x8000 + cause.code());
-            }
-            (Phase::Dead { .. }, after) => {
-                assert!(rt; event == HostEvent::WriteIp && after == Phase::Step1);
-            }
-            (_, Phase::Dead { cause }) => {
-                deaths += 1;
-                assert_eq!(rt; sa, 0x8000 + cause.code());
-                let by_word = cause == Fatal::StartUpWord || cause == Fatal::RingWrite;
-                let was_word = match event {
-                    HostEvent::WriteSa(_) => true,
-                    _ => false,
-                };
-                assert!(rt; by_word == was_word && (was_word || event == HostEvent::Turn));
-            }
-            (_, _) => assert!(rt; sa < 0x8000),
+        (Phase::Dead { .. }, _) => {
+            assert!(rt; event == HostEvent::WriteIp && after == Phase::Step1);
+        }
+        (
+            _,
+            Phase::Dead {
+                cause: Fatal::StartUpWord | Fatal::RingWrite,
+            },
+        ) => {
+            assert!(rt; event != HostEvent::Turn && before != Phase::Running);
+        }
+        (_, Phase::Dead { .. }) => {
+            assert!(rt; event == HostEvent::Turn && before == Phase::Running);
+        }
+        (_, _) => {}
+    }
+}
+
+/// Plays the events one by one, and answers how many deaths and how many turns with work there were.
+fn play_one_by_one(
+    rt: &impl Abort,
+    port: &mut Port<MemImage>,
+    memory: &mut HostMemory,
+    events: &[HostEvent],
+) -> (u32, u32) {
+    let mut deaths = 0u32;
+    let mut busy = 0u32;
+    for &event in events {
+        let before = port.phase();
+        let sa = port.play(&[event], memory);
+        let after = port.phase();
+        assert_lawful(rt, before, event, after);
+        assert_eq!(rt; sa, after.sa());
+        if sa >= 0x8000 && before != after {
+            deaths = deaths.saturating_add(1);
+        }
+        if event == HostEvent::Turn && port.pending().max(port.waiting()) > 0 {
+            busy = busy.saturating_add(1);
         }
     }
-    // the trace reached both
-    assert!(rt; deaths > 20 && busy > 20, "{deaths} deaths, {busy} turns");
-    // played again in one call, it ends alike
-    let (mut again, mut memory) = running(rt.alloc())?;
+    (deaths, busy)
+}
+
+#[test]
+fn a_trace_of_random_events(rt: HostRuntime) -> Result<(), Fail> {
     let mut host = Host::new();
     let mut events = Vec::new(rt.alloc());
     for _ in 0..20_000 {
         events.push(host.event())?;
     }
+    let (mut port, mut memory) = running(rt.alloc())?;
+    let (deaths, busy) = play_one_by_one(&rt, &mut port, &mut memory, &events);
+    // the trace reached both
+    assert!(rt;
+        deaths > 20 && busy > 20,
+        "{deaths} deaths, {busy} turns with work"
+    );
+    // played again in one call, it ends alike
+    let (mut again, mut memory) = running(rt.alloc())?;
     assert_eq!(rt; again.play(&events, &mut memory), port.read_sa());
     assert_eq!(rt; again.phase(), port.phase());
-    assert_eq!(rt; Turn::Idle == Turn::Dead, false);
     Ok(())
 }

@@ -3,17 +3,15 @@ use Rattle.std.proofs.lemmas.Bool.{false≢true}
 use Rattle.uda_mem.specs.Put.{part}
 use Rattle.uda_mem.proofs.PutLaws.{length-part}
 use Rattle.uda_packet.proofs.WrittenLaws.{length-written_end}
-use Rattle.uda_script.specs.StatusService.{status_end}
-use Rattle.uda_script.proofs.Probing.{probed}
+use Rattle.uda_script.specs.Probe.{probe_text}
 use Rattle.uda_script.proofs.probe.probe.Goals as goal
 use Rattle.uda_script.proofs.probe.probe.Goals.{in-Some, in_default}
 
--- what is printed is what the look delivered
+-- what is printed is what the port delivered
 pub returns : goal.returns
 returns c =
-    let after = c.serve_status.new.memory in
-    let looks = rw (c.set_up.ensures, c.new-ring.ensures.ring) at c.serve_status.ensures.looks in
-    let there : part after 0x0104 48 ≡ status_end 1 = probed c.serve_status.result c.serve_status.new.ring after looks in
+    let after = c.serve.new.memory in
+    let there : part after 0x0104 48 ≡ probe_text = c.serve.ensures.text in
     let size : length (part after 0x0104 48) ≡ 48 = ap length there ∙ length-written_end _ in
     elim c.match-window.branch [
       | in-Some w ↦ w.text-is ∙ w.copy_from_slice.ensures.after ∙ w.in-Some.ensures.value ∙ ap (λ at. part after at 48) c.from.ensures ∙ there

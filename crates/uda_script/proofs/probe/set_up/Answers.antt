@@ -1,15 +1,25 @@
-use Rattle.std.proofs.Common.{◌≡◌, ℕ, List, replicate, ap, ◌∙◌}
+use Rattle.std.proofs.Common.{◌≡◌, ℕ, List, length, ap, ◌∙◌, arith}
 use Rattle.uda_mem.specs.Put.{put}
 use Rattle.uda_packet.specs.Written.{written_command}
-use Rattle.uda_script.specs.declared.probe.TheConstants.{MEMORY, COMMAND_RING, COMMAND_TEXT, RESPONSE_RING, RESPONSE_TEXT}
-use Rattle.uda_script.specs.Probe.{probing, posted_at, probe_memory}
+use Rattle.uda_script.specs.declared.probe.TheConstants.{COMMAND_RING, COMMAND_TEXT, RESPONSE_RING, RESPONSE_TEXT}
+use Rattle.uda_script.specs.Probe.{probing, started_memory, posted_at, probe_memory}
+use Rattle.uda_script.proofs.Starting.{length-started}
 use Rattle.uda_script.proofs.probe.set_up.Goals as goal
+
+pub post-requires-clause-memory : goal.post-requires-clause-memory
+post-requires-clause-memory c = let size = ap length c.requires in omega (arith, size, length-started)
+
+pub post-requires-2-clause-memory : goal.post-requires-2-clause-memory
+post-requires-2-clause-memory c = let size = ap length c.requires in omega (arith, size, length-started, c.post.ensures.len)
+
+pub within-requires : goal.within-requires
+within-requires c = let size = ap length c.requires in record { inside = omega (arith, size, length-started, c.post.ensures.len, c.post-2.ensures.len, c.from.ensures) }
 
 -- two descriptors are posted in a memory of zeros, and then the text is written
 pub returns : goal.returns
 unfolding probe_memory
 returns c =
-    let posted = posted_at (posted_at (replicate MEMORY 0) COMMAND_RING COMMAND_TEXT) RESPONSE_RING RESPONSE_TEXT in
+    let posted = posted_at (posted_at (started_memory) COMMAND_RING COMMAND_TEXT) RESPONSE_RING RESPONSE_TEXT in
     let memory : c.post-2.new.memory ≡ posted =
     c.post-2.ensures.posted ∙ ap (λ (m : List ℕ). posted_at m RESPONSE_RING RESPONSE_TEXT) (c.post.ensures.posted ∙ ap (λ (m : List ℕ). posted_at m COMMAND_RING COMMAND_TEXT) c.requires) in
     let text : c.copy_from_slice.new.self ≡ written_command probing = c.copy_from_slice.ensures.after ∙ c.encode_command.ensures.written in

@@ -95,6 +95,18 @@ fn transferred<S: BlockStore>(
     execute_alone(exec, memory, command)
 }
 
+// Whatever is executed: memory keeps its length, and a unit whose store is faithful and never fails stays
+// so.
+fn execute_any<S: BlockStore>(exec: &mut Exec<S>, memory: &mut HostMemory) -> Option<End>
+    requires faithful { is_faithful (slice_get exec.old.units 0) ≡ true }
+    requires sure { is_sure (slice_get exec.old.units 0) ≡ true }
+    ensures length { length memory.new ≡ length memory.old }
+    ensures faithful { is_faithful (slice_get exec.new.units 0) ≡ true }
+    ensures sure { is_sure (slice_get exec.new.units 0) ≡ true }
+{
+    exec.execute_one(memory)
+}
+
 // A unit over an image in memory is faithful and never fails.
 fn executor_of(store: MemImage) -> Exec<MemImage>
     ensures idle { result.pending ≡ [] }
@@ -121,6 +133,17 @@ fn commands_alone(rt: HostRuntime) -> Result<(), Fail> {
     let read = execute_alone(&mut exec, &mut memory, command(3, read(0x0200, 1)));
     assert_eq!(rt; read.map(|end| end.status), Some(0));
     assert_eq!(rt; memory.window(0x0200, 512), Some([0x11; 512].as_slice()));
+    Ok(())
+}
+
+#[test]
+fn units_that_stay_trusted(rt: HostRuntime) -> Result<(), Fail> {
+    let mut exec = executor_of(MemImage::new(rt.alloc(), 2)?);
+    let mut memory = HostMemory::new(rt.alloc(), 512)?;
+    exec.accept(command(1, Op::Online { soft: None }));
+    let online = execute_any(&mut exec, &mut memory);
+    assert_eq!(rt; online.map(|end| end.status), Some(0));
+    assert_eq!(rt; execute_any(&mut exec, &mut memory), None);
     Ok(())
 }
 

@@ -1,11 +1,10 @@
 -- Which commands may go, one older command after the other.
-use Rattle.std.proofs.Common.{◌≡◌, ℕ, ◌+◌, ◌<◌, ◌≤◌, true, List, Some, length, get_or, take, inl, inr, sym, ap, ◌∙◌, arith, length-take}
+use Rattle.std.proofs.Common.{◌≡◌, ℕ, ◌+◌, ◌<◌, ◌≤◌, true, List, Some, length, get_or, take, inl, inr, ap, ◌∙◌, arith, length-take}
 use Rattle.std.specs.Prelude.{slice_get}
 use Rattle.std.proofs.lemmas.Bool.{cases_lt}
 use Rattle.std.proofs.lemmas.List.{get_or-take}
-use Rattle.std.proofs.lemmas.Option.{slice_get-get_or, get_or_from_slice_get}
-use Rattle.uda_packet.specs.declared.command.Command.{Command}
-use Rattle.uda_exec.specs.Order.{may_pass, MayGo}
+use Rattle.std.proofs.lemmas.Option.{get_or_from_slice_get}
+use Rattle.uda_exec.proofs.Words.{Command, may_pass, MayGo}
 
 -- a command may pass each of the first n
 abbrev pub PassesFirst : List Command → ℕ → Command → Type 0

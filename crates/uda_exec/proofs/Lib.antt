@@ -1,3 +1,4 @@
+pub mod Words
 pub mod Changes
 pub mod Blocks
 pub mod Moves

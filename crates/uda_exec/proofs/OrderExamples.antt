@@ -1,17 +1,11 @@
 -- The order law on small units: that each of its premises is needed, and what three commands do in any order.
 use Rattle.std.proofs.lemmas.Bool.{eq-eqb, both_ways}
 use Rattle.std.specs.Prelude.{nat_eq}
-use Rattle.std.proofs.Common.{◌≡◌, ℕ, Bool, true, false, List, [], ◌∷◌, ◌++◌, get_or, replicate, Some, None, refl, sym, ap, ◌∙◌}
-use Rattle.uda_mem.specs.Put.{put, part}
-use Rattle.uda_packet.specs.declared.command.Command.{Command}
-use Rattle.uda_packet.specs.declared.command.Op.{Op}
+use Rattle.std.proofs.Common.{◌≡◌, ℕ, Bool, true, false, List, [], ◌∷◌, ◌++◌, get_or, replicate, Some, None, refl, ap}
 use Rattle.uda_packet.specs.declared.command.Op.TheVariants.{Online, Access, Read, Write}
-use Rattle.uda_packet.specs.declared.end.End.{End}
 use Rattle.uda_packet.specs.declared.end.EndBody.TheVariants.{Invalid, Moved}
 use Rattle.uda_packet.specs.declared.end.Kind.TheVariants.{Read as ReadKind}
-use Rattle.uda_exec.specs.Disks.{Disks}
-use Rattle.uda_exec.specs.Effect.{World, Outcome, Done, Lost, effect}
-use Rattle.uda_exec.specs.Order.{FixedCommand, effects, effects_first}
+use Rattle.uda_exec.proofs.Words.{put, part, Command, Op, End, Disks, World, Outcome, Done, Lost, effect, FixedCommand, effects, effects_first}
 
 -- numbers that a computation tells apart
 differ : (m n : ℕ) → nat_eq m n ≡ false → m ≡ n → ⊥
@@ -41,68 +35,41 @@ status_at k r = (get_or r.0 k none).status
 abbrev clashing : List FixedCommand
 clashing = fixed 1 (Read 1024 0 0) Done ∷ fixed 2 (Write 512 1024 1) Done ∷ []
 
-clash_in_order : byte_at 512 (effects clashing (world true)) ≡ 2
-unfolding put part
-clash_in_order = refl
-
-clash_turned : byte_at 512 (effects_first 1 (fixed 2 (Write 512 1024 1) Done) clashing (world true)) ≡ 9
-unfolding put part
-clash_turned = refl
-
--- so the Write done first is not the list done in order
+-- the Write done first is not the list done in order
 pub clash_matters : effects_first 1 (fixed 2 (Write 512 1024 1) Done) clashing (world true) ≡ effects clashing (world true) → ⊥
-clash_matters same = differ 9 2 refl (sym clash_turned ∙ ap (byte_at 512) same ∙ clash_in_order)
+unfolding put part
+clash_matters same = differ 9 2 refl (ap (byte_at 512) same)
 
 -- two Reads whose buffers share two bytes: the later one's stand there
 abbrev meeting : List FixedCommand
 meeting = fixed 1 (Read 512 0 0) Done ∷ fixed 2 (Read 512 510 1) Done ∷ []
 
-meeting_in_order : byte_at 510 (effects meeting (world true)) ≡ 2
-unfolding put part
-meeting_in_order = refl
-
-meeting_turned : byte_at 510 (effects_first 1 (fixed 2 (Read 512 510 1) Done) meeting (world true)) ≡ 1
-unfolding put part
-meeting_turned = refl
-
 pub meeting_buffers_matter : effects_first 1 (fixed 2 (Read 512 510 1) Done) meeting (world true) ≡ effects meeting (world true) → ⊥
-meeting_buffers_matter same = differ 1 2 refl (sym meeting_turned ∙ ap (byte_at 510) same ∙ meeting_in_order)
+unfolding put part
+meeting_buffers_matter same = differ 1 2 refl (ap (byte_at 510) same)
 
 -- a Read behind an Online of its unit, which is available: the Read may not go, for done first it is refused
 abbrev behind_online : List FixedCommand
 behind_online = fixed 1 (Online None) Done ∷ fixed 2 (Read 512 0 0) Done ∷ []
 
-behind_in_order : status_at 1 (effects behind_online (world false)) ≡ 0
-unfolding put part
-behind_in_order = refl
-
-behind_turned : status_at 1 (effects_first 1 (fixed 2 (Read 512 0 0) Done) behind_online (world false)) ≡ 4
-unfolding put part
-behind_turned = refl
-
 pub older_online_matters : effects_first 1 (fixed 2 (Read 512 0 0) Done) behind_online (world false) ≡ effects behind_online (world false) → ⊥
-older_online_matters same = differ 4 0 refl (sym behind_turned ∙ ap (status_at 1) same ∙ behind_in_order)
+unfolding put part
+older_online_matters same = differ 4 0 refl (ap (status_at 1) same)
 
 -- a Read of block 0, a Write of block 1 that is lost there with bytes 7 left, and an Access of block 2: each of them first gives the same
 abbrev three : List FixedCommand
 three = fixed 1 (Read 512 0 0) Done ∷ fixed 2 (Write 512 1024 1) (Lost 0 (replicate 512 7)) ∷ fixed 3 (Access 512 2) Done ∷ []
 
-pub first_of_three : effects_first 0 (fixed 1 (Read 512 0 0) Done) three (world true) ≡ effects three (world true)
-unfolding put part
-first_of_three = refl
+pub record OfThree : Type 0 where
+  first : effects_first 0 (fixed 1 (Read 512 0 0) Done) three (world true) ≡ effects three (world true)
+  second : effects_first 1 (fixed 2 (Write 512 1024 1) (Lost 0 (replicate 512 7))) three (world true) ≡ effects three (world true)
+  third : effects_first 2 (fixed 3 (Access 512 2) Done) three (world true) ≡ effects three (world true)
+  -- the Write's end tells the drive error
+  second_is_lost : status_at 1 (effects three (world true)) ≡ 0x000B
 
-pub second_of_three : effects_first 1 (fixed 2 (Write 512 1024 1) (Lost 0 (replicate 512 7))) three (world true) ≡ effects three (world true)
+pub of_three : OfThree
 unfolding put part
-second_of_three = refl
-
-pub third_of_three : effects_first 2 (fixed 3 (Access 512 2) Done) three (world true) ≡ effects three (world true)
-unfolding put part
-third_of_three = refl
-
--- the Write's end tells the drive error and no whole block, and block 1 holds what was left
-pub second_is_lost : status_at 1 (effects three (world true)) ≡ 0x000B
-unfolding put part
-second_is_lost = refl
+of_three = record { first = refl; second = refl; third = refl; second_is_lost = refl }
 
 -- memory of 135,168 bytes, and a unit of eight blocks of which block 5 is bytes 55
 abbrev large : World
@@ -117,24 +84,17 @@ reads count address = record { reference = 1; unit = 0; op = Read count address 
 abbrev moved : ℕ → ℕ → End
 moved status bytes = record { reference = 1; unit = 0; status = status; body = Moved ReadKind bytes }
 
--- a Read of block 5 to address 0x1000 succeeds, and the block stands there
-pub read_one_block : (effect Done (reads 512 0x1000) large).0 ≡ moved 0 512
+-- Reads of block 5
+pub record OfLarge : Type 0 where
+  -- to address 0x1000: it succeeds, and the block stands there
+  success : (effect Done (reads 512 0x1000) large).0 ≡ moved 0 512
+  bytes : part (effect Done (reads 512 0x1000) large).1.memory 0x1000 512 ≡ replicate 512 55
+  -- refused for an odd address, an odd count, a count of no whole blocks, a buffer past the end of memory: nothing changes
+  address : effect Done (reads 512 0x1001) large ≡ (moved 0x0029 0, large)
+  odd_count : effect Done (reads 513 0x1000) large ≡ (moved 0x0049 0, large)
+  count : effect Done (reads 514 0x1000) large ≡ (moved 0x0C01 0, large)
+  memory : effect Done (reads 512 0x21000) large ≡ (moved 0x0069 0, large)
+
+pub of_large : OfLarge
 unfolding put part
-read_one_block = refl
-
-pub read_one_block-bytes : part (effect Done (reads 512 0x1000) large).1.memory 0x1000 512 ≡ replicate 512 55
-unfolding put part
-read_one_block-bytes = refl
-
--- an odd address, an odd count, a count of no whole blocks, a buffer past the end of memory: refused, and nothing changes
-pub refused_address : effect Done (reads 512 0x1001) large ≡ (moved 0x0029 0, large)
-refused_address = refl
-
-pub refused_odd_count : effect Done (reads 513 0x1000) large ≡ (moved 0x0049 0, large)
-refused_odd_count = refl
-
-pub refused_count : effect Done (reads 514 0x1000) large ≡ (moved 0x0C01 0, large)
-refused_count = refl
-
-pub refused_memory : effect Done (reads 512 0x21000) large ≡ (moved 0x0069 0, large)
-refused_memory = refl
+of_large = record { success = refl; bytes = refl; address = refl; odd_count = refl; count = refl; memory = refl }

@@ -1,24 +1,13 @@
 -- Whichever command that may go is effect_of first, nothing is different; and what else a driver needs of a list of commands.
-use Rattle.std.proofs.Common.{◌≡◌, ℕ, zero, suc, ◌+◌, ◌-◌, inl, inr, min, subst, ◌<◌, true, List, [], ◌∷◌, length, get_or, set, Option, Some, None, refl, sym, ap, ap₂, ◌∙◌, arith}
+use Rattle.std.proofs.Common.{◌≡◌, ℕ, zero, suc, ◌+◌, ◌-◌, inl, inr, min, subst, ◌<◌, true, List, [], ◌∷◌, length, get_or, set, Option, Some, refl, sym, ap, ap₂, ◌∙◌, arith}
 use Rattle.std.specs.Prelude.{slice_get, option_map, insert, remove, AllPairs}
 use Rattle.std.proofs.lemmas.List.{same_lists}
 use Rattle.std.proofs.lemmas.Bool.{cases_lt}
 use Rattle.std.proofs.lemmas.List.Elements.{All-head, All-tail}
 use Rattle.std.proofs.lemmas.Option.{slice_get-map, slice_get_within, get_or_from_slice_get}
-use Rattle.uda_mem.specs.Put.{put, part, Meet}
 use Rattle.uda_mem.proofs.PutLaws.{length-put, length-part, get_or-part, get_or-put_before, get_or-put_at, get_or-put_behind, put-put_comm}
-use Rattle.std.specs.Option.{option_map_or}
-use Rattle.uda_packet.specs.declared.command.Command.{Command}
-use Rattle.uda_packet.specs.declared.command.Op.{Op}
-use Rattle.uda_packet.specs.declared.end.End.{End}
-use Rattle.uda_packet.specs.declared.end.Kind.{Kind}
-use Rattle.uda_packet.specs.declared.end.Kind.TheVariants.{Access, Erase, Read, Write}
-use Rattle.uda_packet.specs.declared.transfer.Transfer.{Transfer}
-use Rattle.uda_packet.specs.Transfer.{transfer_of}
-use Rattle.uda_exec.specs.Disks.{Disks}
-use Rattle.uda_exec.specs.Commands.{first_block_of, address_of, room_of}
-use Rattle.uda_exec.specs.Effect.{World, Verdict, OfController, Refused, ActsOn, verdict, mode_after, end_of, world_after}
-use Rattle.uda_exec.specs.Order.{may_pass, MayGo, Apart, FixedCommand, commands_of, effect_of, effects, OrderIsFree, OneMore, with_bytes, PassesThrough, data_by, data_of, SameData, DependsOnDataAlone}
+use Rattle.uda_packet.specs.declared.command.Op.TheVariants.{Write}
+use Rattle.uda_exec.proofs.Words.{put, part, Meet, Command, Op, End, Disks, first_block_of, address_of, room_of, World, Verdict, ActsOn, verdict, mode_after, end_of, may_pass, MayGo, Apart, FixedCommand, commands_of, effect_of, effects, OrderIsFree, OneMore, with_bytes, PassesThrough, data_of, SameData, DependsOnDataAlone}
 use Rattle.uda_exec.proofs.Swap.{swaps, by, effect-by, sends, length-bytes_put, bytes_put-same, blocks_put-same, data_of-put}
 
 pairs_rest : (c : Command) (cs : List Command) → AllPairs Apart (c ∷ cs) → AllPairs Apart cs
@@ -65,8 +54,6 @@ one_more (first ∷ rest) x w =
 -- bytes beside a command's buffer pass through doing it
 passes_verdict : (x : FixedCommand) (w : World) (at : ℕ) (bytes : List ℕ) → (Meet at (length bytes) (address_of x.command.op) (room_of x.command.op) → ⊥)
     → (v : Verdict) → by x v (with_bytes w at bytes) ≡ ((by x v w).0, with_bytes (by x v w).1 at bytes)
-passes_verdict x w at bytes beside OfController = refl
-passes_verdict x w at bytes beside (Refused refusal) = refl
 passes_verdict x w at bytes beside (ActsOn d) =
     let op = x.command.op in
     let make : List ℕ → List (List ℕ) → End × World = λ m new. (
@@ -80,6 +67,7 @@ passes_verdict x w at bytes beside (ActsOn d) =
     ap (λ (b : List ℕ). put (put w.memory at bytes) (address_of op) b) (bytes_put-same x.outcome op d.blocks d.blocks _ w.memory refl)
     ∙ put-put_comm w.memory at bytes (address_of op) (sends x d w.memory) (λ meet. let less = length-bytes_put x.outcome op d.blocks w.memory in beside (omega arith)) in
     ap₂ make memories (blocks_put-same x.outcome op d.blocks d.blocks _ w.memory (data_of-put op w.memory at bytes beside))
+passes_verdict x w at bytes beside _ = refl
 
 passes_one : (x : FixedCommand) (w : World) (at : ℕ) (bytes : List ℕ) → (Meet at (length bytes) (address_of x.command.op) (room_of x.command.op) → ⊥)
     → effect_of x (with_bytes w at bytes) ≡ ((effect_of x w).0, with_bytes (effect_of x w).1 at bytes)
@@ -113,19 +101,9 @@ part-put_both xs ys at new a n same h =
       ]
     ] ∙ sym (get_or-part (put ys at new) a n k d inside))
 
-data_by-put_both : (t : Transfer) (kind : Kind) (memory other : List ℕ) (at : ℕ) (bytes : List ℕ) → length memory ≡ length other → data_by kind t memory ≡ data_by kind t other → data_by kind t (put memory at bytes) ≡ data_by kind t (put other at bytes)
-data_by-put_both t Access memory other at bytes same h = refl
-data_by-put_both t Erase memory other at bytes same h = refl
-data_by-put_both t Read memory other at bytes same h = refl
-data_by-put_both t Write memory other at bytes same h = part-put_both memory other at bytes t.buffer t.count same h
-
-data_for-put_both : (t : Option Transfer) (memory other : List ℕ) (at : ℕ) (bytes : List ℕ) → length memory ≡ length other → option_map_or (λ t. data_by t.kind t memory) t [] ≡ option_map_or (λ t. data_by t.kind t other) t []
-    → option_map_or (λ t. data_by t.kind t (put memory at bytes)) t [] ≡ option_map_or (λ t. data_by t.kind t (put other at bytes)) t []
-data_for-put_both None memory other at bytes same h = refl
-data_for-put_both (Some t) memory other at bytes same h = data_by-put_both t t.kind memory other at bytes same h
-
 data_of-put_both : (op : Op) (memory other : List ℕ) (at : ℕ) (bytes : List ℕ) → length memory ≡ length other → data_of op memory ≡ data_of op other → data_of op (put memory at bytes) ≡ data_of op (put other at bytes)
-data_of-put_both op memory other at bytes same h = data_for-put_both (transfer_of op) memory other at bytes same h
+data_of-put_both (Write count address block) memory other at bytes same h = part-put_both memory other at bytes address count same h
+data_of-put_both _ memory other at bytes same h = refl
 
 -- one command in two memories that agree on its data: one end, the same units, and memories that agree as before
 record Agrees (x : FixedCommand) (memory other : List ℕ) (disks : Disks) (now then : End × World) : Type 0 where
@@ -136,8 +114,6 @@ record Agrees (x : FixedCommand) (memory other : List ℕ) (disks : Disks) (now 
 
 agrees_verdict : (x : FixedCommand) (memory other : List ℕ) (disks : Disks) → length memory ≡ length other → data_of x.command.op memory ≡ data_of x.command.op other
     → (v : Verdict) → Agrees x memory other disks (by x v (record { memory = memory; disks = disks })) (by x v (record { memory = other; disks = disks }))
-agrees_verdict x memory other disks same h OfController = record { ends = refl; units = refl; same_length = same; same_data = λ op g. g }
-agrees_verdict x memory other disks same h (Refused refusal) = record { ends = refl; units = refl; same_length = same; same_data = λ op g. g }
 agrees_verdict x memory other disks same h (ActsOn d) =
     let op = x.command.op in let bytes = sends x d memory in
     let make : List (List ℕ) → Disks = λ new. set disks x.command.unit (Some (record { blocks = put d.blocks (first_block_of op) new; size = d.size; mode = mode_after op d.mode })) in
@@ -148,6 +124,7 @@ agrees_verdict x memory other disks same h (ActsOn d) =
       same_length = length-put memory (address_of op) bytes ∙ same ∙ sym (length-put other (address_of op) (sends x d other));
       same_data = λ o g. data_of-put_both o memory other (address_of op) bytes same g ∙ sym (ap (λ (b : List ℕ). data_of o (put other (address_of op) b)) sent);
     }
+agrees_verdict x memory other disks same h _ = record { ends = refl; units = refl; same_length = same; same_data = λ op g. g }
 
 agrees_one : (x : FixedCommand) (memory other : List ℕ) (disks : Disks) → length memory ≡ length other → data_of x.command.op memory ≡ data_of x.command.op other
     → Agrees x memory other disks (effect_of x (record { memory = memory; disks = disks })) (effect_of x (record { memory = other; disks = disks }))

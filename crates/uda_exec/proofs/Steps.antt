@@ -1,91 +1,68 @@
 -- A transfer block by block: what the first k blocks leave, one block more, and the end.
-use Rattle.std.proofs.Common.{◌≡◌, ℕ, zero, suc, ◌+◌, ◌*◌, ◌<◌, ◌≤◌, min, Bool, true, false, List, [], ◌∷◌, ◌++◌, length, get_or, take, replicate, refl, sym, ap, ◌∙◌, arith, add-one, Result}
-use Rattle.std.specs.Prelude.{if◌then◌else◌, IsOk, MatchResult}
+use Rattle.std.proofs.Common.{◌≡◌, ℕ, suc, ◌+◌, ◌*◌, ◌<◌, ◌≤◌, Bool, true, false, List, [], ◌∷◌, ◌++◌, length, get_or, take, replicate, refl, sym, ap, ◌∙◌, arith, add-one}
+use Rattle.std.specs.Prelude.{if◌then◌else◌}
 use Rattle.std.specs.List.{concat}
 use Rattle.std.proofs.lemmas.List.{take_more, length-take-le, length-replicate}
 use Rattle.std.proofs.lemmas.List.Folds.{concat-append}
 use Rattle.std.proofs.lemmas.List.Elements.{All-replicate}
-use Rattle.uda_mem.specs.Put.{put, part}
 use Rattle.uda_mem.proofs.PutLaws.{put-nil, put-put_next, length-part, length-part-le}
-use Rattle.uda_packet.specs.declared.end.Kind.{Kind}
-use Rattle.uda_packet.specs.declared.end.Kind.TheVariants.{Access, Erase, Read, Write}
-use Rattle.uda_packet.specs.declared.transfer.Transfer.{Transfer}
-use Rattle.uda_packet.specs.Transfer.{changes_blocks}
-use Rattle.uda_image.specs.Store.{StoreState, KeepsNature}
+use Rattle.uda_packet.specs.declared.end.Kind.TheVariants.{Erase, Write}
 use Rattle.uda_image.specs.StoreLaws.{length-first_chunks, All-first_chunks}
-use Rattle.uda_exec.specs.Commands.{block_count, room_in, changes_memory}
-use Rattle.uda_exec.specs.Transfers.{ChangesAt, due_by, blocks_due, bytes_landing, blocks_stored, Stands, MovesBlock, LosesBlock, Progress, StopsAt}
+use Rattle.uda_exec.proofs.Words.{put, part, Kind, Transfer, changes_blocks, StoreState, KeepsNature, IsImage, block_count, room_in, changes_memory, ChangesAt, due_by, blocks_due, bytes_landing, blocks_stored, Stands, MovesBlock, LosesBlock, Progress, StopsAt}
 use Rattle.uda_exec.proofs.Blocks.{AreBlocks, AreBlocks-part, AreBlocks-take, length-concat_blocks}
 
 module _ (t : Transfer) (blocks : List (List ℕ)) (memory : List ℕ) where
   pub length-due_by : t.block + block_count t ≤ length blocks → (kind : Kind) → length (due_by kind t blocks memory) ≡ block_count t
-  length-due_by on_unit Access = length-part-le blocks t.block (block_count t) on_unit
   length-due_by on_unit Erase = length-replicate (block_count t) (replicate 512 0)
-  length-due_by on_unit Read = length-part-le blocks t.block (block_count t) on_unit
   length-due_by on_unit Write = length-first_chunks (block_count t) (part memory t.buffer t.count)
+  length-due_by on_unit _ = length-part-le blocks t.block (block_count t) on_unit
 
   pub length-due_le : (kind : Kind) → length (due_by kind t blocks memory) ≤ block_count t
-  length-due_le Access = omega (arith, length-part blocks t.block (block_count t))
-  length-due_le Erase = omega (arith, length-due_by_erase)
-    where
-      length-due_by_erase : length (due_by Erase t blocks memory) ≡ block_count t
-      length-due_by_erase = length-replicate (block_count t) (replicate 512 0)
-  length-due_le Read = omega (arith, length-part blocks t.block (block_count t))
+  length-due_le Erase = let all : length (due_by Erase t blocks memory) ≡ block_count t = length-replicate (block_count t) (replicate 512 0) in omega arith
   length-due_le Write = omega (arith, length-first_chunks (block_count t) (part memory t.buffer t.count))
+  length-due_le _ = omega (arith, length-part blocks t.block (block_count t))
 
   -- where the unit's blocks are whole, if there are any to move, and the buffer lies in memory
   AreBlocks-due_by : (0 < block_count t → AreBlocks blocks) → (kind : Kind) → t.kind ≡ kind → t.buffer + room_in t ≤ length memory → AreBlocks (due_by kind t blocks memory)
-  AreBlocks-due_by are Access is room = AreBlocks-part blocks t.block (block_count t) are
   AreBlocks-due_by are Erase is room = All-replicate (λ b. length b ≡ 512) (block_count t) (replicate 512 0) refl
-  AreBlocks-due_by are Read is room = AreBlocks-part blocks t.block (block_count t) are
   AreBlocks-due_by are Write is room =
       let within : t.buffer + t.count ≤ length memory = rw is at room in
-      let size : length (part memory t.buffer t.count) ≡ t.count = length-part-le memory t.buffer t.count within in
-      All-first_chunks (block_count t) (part memory t.buffer t.count) (omega arith)
+      All-first_chunks (block_count t) (part memory t.buffer t.count) (omega (arith, length-part-le memory t.buffer t.count within))
+  AreBlocks-due_by are _ is room = AreBlocks-part blocks t.block (block_count t) are
 
   pub AreBlocks-due : (0 < block_count t → AreBlocks blocks) → t.buffer + room_in t ≤ length memory → AreBlocks (blocks_due t blocks memory)
   AreBlocks-due are room = AreBlocks-due_by are t.kind refl room
 
--- a transfer's range and buffer lie on the unit and in memory
-pub record InBounds (t : Transfer) (blocks : List (List ℕ)) (memory : List ℕ) : Type 0 where
-  pub are_blocks : AreBlocks blocks
-  pub on_unit : t.block + block_count t ≤ length blocks
-  pub in_memory : t.buffer + room_in t ≤ length memory
-
 -- what is due does not change on the way: a Read leaves the blocks, a Write memory
 due_by-stays : (kind : Kind) (t : Transfer) (blocks : List (List ℕ)) (memory bytes : List ℕ) (stored : List (List ℕ)) (at place : ℕ)
     → due_by kind t (put blocks place (if changes_blocks kind then stored else [])) (put memory at (if changes_memory kind then bytes else [])) ≡ due_by kind t blocks memory
-due_by-stays Access t blocks memory bytes stored at place = ap (λ (b : List (List ℕ)). part b t.block (block_count t)) (put-nil blocks place)
 due_by-stays Erase t blocks memory bytes stored at place = refl
-due_by-stays Read t blocks memory bytes stored at place = ap (λ (b : List (List ℕ)). part b t.block (block_count t)) (put-nil blocks place)
 due_by-stays Write t blocks memory bytes stored at place = rw put-nil refl
+due_by-stays _ t blocks memory bytes stored at place = ap (λ (b : List (List ℕ)). part b t.block (block_count t)) (put-nil blocks place)
 
--- one block more behind those that are there
-land_next : (b : Bool) (memory : List ℕ) (at k : ℕ) (front : List (List ℕ)) (x : List ℕ) → length (concat front) ≡ 512 * k
-    → put (put memory at (if b then concat front else [])) (at + 512 * k) (if b then concat (x ∷ []) else []) ≡ put memory at (if b then concat (front ++ x ∷ []) else [])
-land_next true memory at k front x size =
-    put-put_next memory at (concat front) (concat (x ∷ [])) (at + 512 * k) (omega arith) ∙ ap (λ (b : List ℕ). put memory at b) (sym (concat-append front (x ∷ [])))
-land_next false memory at k front x size = put-nil _ _
-
-store_next : (b : Bool) (blocks : List (List ℕ)) (at k : ℕ) (front : List (List ℕ)) (x : List ℕ) → length front ≡ k
-    → put (put blocks at (if b then front else [])) (at + k) (if b then x ∷ [] else []) ≡ put blocks at (if b then front ++ x ∷ [] else [])
-store_next true blocks at k front x size = put-put_next blocks at front (x ∷ []) (at + k) (omega arith)
-store_next false blocks at k front x size = put-nil _ _
+-- more behind what is there, if there is to be any
+more_behind : {A : Type 0} (b : Bool) (xs : List A) (at n : ℕ) (front more : List A) → length front ≡ n
+    → put (put xs at (if b then front else [])) (at + n) (if b then more else []) ≡ put xs at (if b then front ++ more else [])
+more_behind true xs at n front more size = put-put_next xs at front more (at + n) (omega arith)
+more_behind false xs at n front more size = put-nil _ _
 
 module _ (t : Transfer) (k : ℕ) (old : StoreState) (memory : List ℕ) (now : StoreState) (memory_now : List ℕ)
-    (bounds : InBounds t old.blocks memory) (inside : k < block_count t) (h : Progress t k old memory now memory_now) where
+    (image : IsImage old.size old.blocks) (on_unit : t.block + block_count t ≤ old.size) (in_memory : t.buffer + room_in t ≤ length memory) (inside : k < block_count t) (h : Progress t k old memory now memory_now) where
   abbrev front : List (List ℕ)
   front = take k (blocks_due t old.blocks memory)
+
+  all_due : length (blocks_due t old.blocks memory) ≡ block_count t
+  all_due = length-due_by t old.blocks memory (rw image.counted on_unit) t.kind
 
   -- the next block of any content stands behind the first k
   joins : (x : List ℕ) (new : StoreState) (memory_after : List ℕ) → Stands t k x now memory_now new memory_after
       → (memory_after ≡ put memory t.buffer (bytes_landing t (front ++ x ∷ []))) × (new.blocks ≡ put old.blocks t.block (blocks_stored t (front ++ x ∷ [])))
   joins x new memory_after s =
-      let size : length front ≡ k = length-take-le k (blocks_due t old.blocks memory) (omega (arith, length-due_by t old.blocks memory bounds.on_unit t.kind)) in
-      let bytes = length-concat_blocks front (AreBlocks-take (blocks_due t old.blocks memory) k (AreBlocks-due t old.blocks memory (λ some. bounds.are_blocks) bounds.in_memory)) in
+      let size : length front ≡ k = length-take-le k (blocks_due t old.blocks memory) (omega (arith, all_due)) in
+      let bytes = length-concat_blocks front (AreBlocks-take (blocks_due t old.blocks memory) k (AreBlocks-due t old.blocks memory (λ some. image.whole) in_memory)) in
       let bytes_are : length (concat front) ≡ 512 * k = bytes ∙ ap (λ i. 512 * i) size in (
-        s.in_memory ∙ ap (λ (m : List ℕ). put m (t.buffer + 512 * k) (bytes_landing t (x ∷ []))) h.stand.in_memory ∙ land_next (changes_memory t.kind) memory t.buffer k front x bytes_are,
-        s.in_store ∙ ap (λ (b : List (List ℕ)). put b (t.block + k) (blocks_stored t (x ∷ []))) h.stand.in_store ∙ store_next (changes_blocks t.kind) old.blocks t.block k front x size,
+        s.in_memory ∙ ap (λ (m : List ℕ). put m (t.buffer + 512 * k) (bytes_landing t (x ∷ []))) h.stand.in_memory ∙ rw (concat-append front (x ∷ [])) (more_behind (changes_memory t.kind) memory t.buffer (512 * k) (concat front) (concat (x ∷ [])) bytes_are),
+        s.in_store ∙ ap (λ (b : List (List ℕ)). put b (t.block + k) (blocks_stored t (x ∷ []))) h.stand.in_store ∙ more_behind (changes_blocks t.kind) old.blocks t.block k front (x ∷ []) size,
       )
 
   pub progress_next : (new : StoreState) (memory_after : List ℕ) → MovesBlock t k now memory_now new memory_after → Progress t (suc k) old memory new memory_after
@@ -95,7 +72,7 @@ module _ (t : Transfer) (k : ℕ) (old : StoreState) (memory : List ℕ) (now : 
       rw (h.stand.in_store, h.stand.in_memory) (due_by-stays t.kind t old.blocks memory (concat front) front t.buffer t.block) in
       let stands : Stands t k piece now memory_now new memory_after = rw same at m.stands in
       let both = joins piece new memory_after stands in
-      let below : k < length (blocks_due t old.blocks memory) = omega (arith, length-due_by t old.blocks memory bounds.on_unit t.kind) in
+      let below : k < length (blocks_due t old.blocks memory) = omega (arith, all_due) in
       let more : take (suc k) (blocks_due t old.blocks memory) ≡ front ++ piece ∷ [] = rw (← add-one) (take_more (blocks_due t old.blocks memory) k [] below) in
       record { stand = rw more (record { in_memory = both.0; in_store = both.1 }); failures_stay = m.failures_stay ∙ h.failures_stay }
 
@@ -111,7 +88,7 @@ module _ (t : Transfer) (k : ℕ) (old : StoreState) (memory : List ℕ) (now : 
 
 nothing_put : {A : Type 0} (b : Bool) (xs : List A) (at : ℕ) → xs ≡ put xs at (if b then [] else [])
 nothing_put true xs at = sym (put-nil xs at)
-nothing_put false xs at = sym (put-nil xs at)
+nothing_put _ xs at = sym (put-nil xs at)
 
 pub progress_none : (t : Transfer) (old : StoreState) (memory : List ℕ) → Progress t 0 old memory old memory
 progress_none t old memory = record {

@@ -1,29 +1,16 @@
 -- Two commands that may pass and are apart: done in either order, each has the same end, and the world is the same.
-use Rattle.std.proofs.Common.{◌≡◌, ◌≢◌, ℕ, suc, ◌*◌, ◌≤◌, Bool, true, false, List, [], length, set, take, replicate, Option, Some, None, refl, sym, ap, ap₂, ◌∙◌, arith, length-set, length-take}
+use Rattle.std.proofs.Common.{◌≡◌, ◌≢◌, ℕ, suc, ◌/◌, ◌≤◌, Bool, true, false, List, [], length, set, take, replicate, Option, Some, None, refl, sym, ap, ap₂, ◌∙◌, arith, length-set, length-take, zero-le}
 use Rattle.std.specs.Prelude.{slice_get, nat_eq, ◌&&◌, ◌||◌, not, if◌then◌else◌, is_some}
-use Rattle.std.specs.List.{concat}
-use Rattle.std.specs.Option.{option_map_or}
-use Rattle.std.proofs.lemmas.List.{set_comm, set-set}
+use Rattle.std.specs.Simd.{first_chunks}
+use Rattle.std.proofs.lemmas.List.{set_comm, set-set, length-replicate}
+use Rattle.std.proofs.Math.Bool.{or-true}
 use Rattle.std.proofs.lemmas.Bool.{eq-eqb, eqb-true, both_ways, false≢true}
 use Rattle.std.proofs.lemmas.Option.{slice_get_within}
-use Rattle.uda_mem.specs.Put.{put, part, Meet}
 use Rattle.uda_mem.proofs.PutLaws.{length-put, part-put_apart, put-put_comm}
-use Rattle.uda_packet.specs.declared.command.Command.{Command}
-use Rattle.uda_packet.specs.declared.command.Op.{Op}
-use Rattle.uda_packet.specs.declared.end.End.{End}
-use Rattle.uda_packet.specs.declared.end.Kind.{Kind}
-use Rattle.uda_packet.specs.declared.end.Kind.TheVariants.{Access, Erase, Read, Write}
-use Rattle.uda_packet.specs.declared.transfer.Transfer.{Transfer}
-use Rattle.uda_packet.specs.Transfer.{transfer_of, changes_blocks, has_buffer}
-use Rattle.uda_exec.specs.declared.mode.Mode.{Mode}
-use Rattle.uda_exec.specs.declared.refusal.Refusal.{Refusal}
+use Rattle.uda_packet.specs.declared.command.Op.TheVariants.{Status, Erase, Read, Write}
 use Rattle.uda_exec.specs.declared.refusal.Refusal.TheVariants.{UnitUnknown, NoVolume}
-use Rattle.uda_exec.specs.Disks.{Disk, Disks}
-use Rattle.uda_exec.specs.Commands.{block_count, room_in, is_controller, is_transfer, is_changing, changes_memory, first_block_of, blocks_of, address_of, room_of}
-use Rattle.uda_exec.specs.Transfers.{due_by, blocks_due}
-use Rattle.uda_exec.specs.Effect.{World, Outcome, Done, Lost, blocks_moved, bytes_put, blocks_put, refusal_of, Verdict, OfController, Refused, ActsOn, is_acting, verdict_of, verdict, mode_after, end_of, disk_after, world_after}
-use Rattle.uda_exec.specs.Order.{may_pass, Apart, FixedCommand, effect_of, data_by, data_of}
-use Rattle.uda_exec.proofs.Steps.{length-due_le}
+use Rattle.uda_image.specs.StoreLaws.{length-first_chunks}
+use Rattle.uda_exec.proofs.Words.{put, part, Meet, Command, Op, End, Transfer, transfer_of, Mode, Refusal, Disk, Disks, is_controller, is_transfer, is_changing, first_block_of, blocks_of, address_of, room_of, World, Outcome, Done, Lost, blocks_moved, bytes_put, blocks_put, refusal_of, Verdict, OfController, Refused, ActsOn, is_acting, verdict_of, verdict_at, verdict, mode_after, end_of, disk_after, world_after, may_pass, Apart, FixedCommand, effect_of, data_of}
 use Rattle.uda_exec.proofs.Transferred.{mode_after-transfer, speaks}
 use Rattle.uda_exec.proofs.Units.{slice_get-set_same, slice_get-set_other, world_after-idle}
 
@@ -32,107 +19,37 @@ pub length-blocks_moved : (o : Outcome) (blocks : List (List ℕ)) → length (b
 length-blocks_moved Done blocks = omega arith
 length-blocks_moved (Lost k left) blocks = omega (arith, length-set (take (suc k) blocks) k left, length-take (suc k) blocks)
 
-length-landing : (kind : Kind) (n : ℕ) (bytes : List ℕ) → length (take n (if changes_memory kind then bytes else [])) ≤ (if has_buffer kind then n else 0)
-length-landing Access n bytes = omega (arith, length-take {A = ℕ} n [])
-length-landing Erase n bytes = omega (arith, length-take {A = ℕ} n [])
-length-landing Read n bytes = omega (arith, length-take n bytes)
-length-landing Write n bytes = omega (arith, length-take {A = ℕ} n [])
-
-length-if : {A : Type 0} (b : Bool) (xs : List A) (n : ℕ) → length xs ≤ n → length (if b then xs else []) ≤ n
-length-if true xs n h = h
-length-if false xs n h = omega arith
-
 module _ (o : Outcome) where
-  length-bytes_by : (t : Option Transfer) (blocks : List (List ℕ)) (memory : List ℕ) → length (bytes_put o t blocks memory) ≤ option_map_or room_in t 0
-  length-bytes_by None blocks memory = omega arith
-  length-bytes_by (Some t) blocks memory = length-landing t.kind t.count (concat (blocks_moved o (blocks_due t blocks memory)))
-
   pub length-bytes_put : (op : Op) (blocks : List (List ℕ)) (memory : List ℕ) → length (bytes_put o (transfer_of op) blocks memory) ≤ room_of op
-  length-bytes_put op blocks memory = length-bytes_by (transfer_of op) blocks memory
-
-  length-blocks_by : (t : Option Transfer) (blocks : List (List ℕ)) (memory : List ℕ) → length (blocks_put o t blocks memory) ≤ option_map_or block_count t 0
-  length-blocks_by None blocks memory = omega arith
-  length-blocks_by (Some t) blocks memory =
-      length-if (changes_blocks t.kind) (blocks_moved o (blocks_due t blocks memory)) (block_count t) (omega (arith, length-blocks_moved o (blocks_due t blocks memory), length-due_le t blocks memory t.kind))
+  length-bytes_put Status blocks memory = omega arith
+  length-bytes_put _ blocks memory = omega (arith, length-take {A = ℕ})
 
   pub length-blocks_put : (op : Op) (blocks : List (List ℕ)) (memory : List ℕ) → length (blocks_put o (transfer_of op) blocks memory) ≤ blocks_of op
-  length-blocks_put op blocks memory = length-blocks_by (transfer_of op) blocks memory
+  length-blocks_put (Erase count block) blocks memory = let zeros : List ℕ = replicate 512 0 in omega (arith, length-blocks_moved o (replicate (count / 512) zeros), length-replicate (count / 512) zeros)
+  length-blocks_put (Write count address block) blocks memory = omega (arith, length-blocks_moved o (first_chunks 512 (count / 512) (part memory address count)), length-first_chunks (count / 512) (part memory address count))
+  length-blocks_put _ blocks memory = zero-le
 
   -- a command that changes no block puts none
-  blocks_by-none : (t : Option Transfer) (blocks : List (List ℕ)) (memory : List ℕ) → option_map_or (λ t. changes_blocks t.kind) t false ≡ false → blocks_put o t blocks memory ≡ []
-  blocks_by-none None blocks memory h = refl
-  blocks_by-none (Some t) blocks memory h = rw h refl
-
   blocks_put-none : (op : Op) (blocks : List (List ℕ)) (memory : List ℕ) → is_changing op ≡ false → blocks_put o (transfer_of op) blocks memory ≡ []
-  blocks_put-none op blocks memory h = blocks_by-none (transfer_of op) blocks memory h
+  blocks_put-none (Erase count block) blocks memory h = absurd (cc)
+  blocks_put-none (Write count address block) blocks memory h = absurd (cc)
+  blocks_put-none _ blocks memory h = refl
 
   -- the blocks that are put depend on the command's data alone
-  stored-same : (t : Transfer) (kind : Kind) (blocks others : List (List ℕ)) (memory other : List ℕ) → data_by kind t memory ≡ data_by kind t other
-      → (if changes_blocks kind then blocks_moved o (due_by kind t blocks memory) else []) ≡ (if changes_blocks kind then blocks_moved o (due_by kind t others other) else [])
-  stored-same t Access blocks others memory other h = refl
-  stored-same t Erase blocks others memory other h = refl
-  stored-same t Read blocks others memory other h = refl
-  stored-same t Write blocks others memory other h = rw h refl
-
-  blocks_by-same : (t : Option Transfer) (blocks others : List (List ℕ)) (memory other : List ℕ) → option_map_or (λ t. data_by t.kind t memory) t [] ≡ option_map_or (λ t. data_by t.kind t other) t []
-      → blocks_put o t blocks memory ≡ blocks_put o t others other
-  blocks_by-same None blocks others memory other h = refl
-  blocks_by-same (Some t) blocks others memory other h = stored-same t t.kind blocks others memory other h
-
   pub blocks_put-same : (op : Op) (blocks others : List (List ℕ)) (memory other : List ℕ) → data_of op memory ≡ data_of op other → blocks_put o (transfer_of op) blocks memory ≡ blocks_put o (transfer_of op) others other
-  blocks_put-same op blocks others memory other h = blocks_by-same (transfer_of op) blocks others memory other h
+  blocks_put-same (Write count address block) blocks others memory other h = rw h refl
+  blocks_put-same _ blocks others memory other h = refl
 
   -- the bytes that are put depend on the blocks of the command's range alone
-  landing-same : (t : Transfer) (kind : Kind) (blocks others : List (List ℕ)) (memory other : List ℕ) → part blocks t.block (block_count t) ≡ part others t.block (block_count t)
-      → (if changes_memory kind then concat (blocks_moved o (due_by kind t blocks memory)) else []) ≡ (if changes_memory kind then concat (blocks_moved o (due_by kind t others other)) else [])
-  landing-same t Access blocks others memory other h = refl
-  landing-same t Erase blocks others memory other h = refl
-  landing-same t Read blocks others memory other h = rw h refl
-  landing-same t Write blocks others memory other h = refl
-
-  bytes_by-same : (t : Option Transfer) (blocks others : List (List ℕ)) (memory other : List ℕ)
-      → part blocks (option_map_or (λ t. t.block) t 0) (option_map_or block_count t 0) ≡ part others (option_map_or (λ t. t.block) t 0) (option_map_or block_count t 0)
-      → bytes_put o t blocks memory ≡ bytes_put o t others other
-  bytes_by-same None blocks others memory other h = refl
-  bytes_by-same (Some t) blocks others memory other h = ap (λ (b : List ℕ). take t.count b) (landing-same t t.kind blocks others memory other h)
-
   pub bytes_put-same : (op : Op) (blocks others : List (List ℕ)) (memory other : List ℕ) → part blocks (first_block_of op) (blocks_of op) ≡ part others (first_block_of op) (blocks_of op)
       → bytes_put o (transfer_of op) blocks memory ≡ bytes_put o (transfer_of op) others other
-  bytes_put-same op blocks others memory other h = bytes_by-same (transfer_of op) blocks others memory other h
+  bytes_put-same (Read count address block) blocks others memory other h = rw h refl
+  bytes_put-same _ blocks others memory other h = refl
 
 -- a command's data stay where a write is beside its buffer
-data_by-put : (t : Transfer) (kind : Kind) (memory : List ℕ) (at : ℕ) (bytes : List ℕ) → (Meet at (length bytes) t.buffer (if has_buffer kind then t.count else 0) → ⊥) → data_by kind t (put memory at bytes) ≡ data_by kind t memory
-data_by-put t Access memory at bytes h = refl
-data_by-put t Erase memory at bytes h = refl
-data_by-put t Read memory at bytes h = refl
-data_by-put t Write memory at bytes h = part-put_apart memory at bytes t.buffer t.count h
-
-data_for-put : (t : Option Transfer) (memory : List ℕ) (at : ℕ) (bytes : List ℕ) → (Meet at (length bytes) (option_map_or (λ t. t.buffer) t 0) (option_map_or room_in t 0) → ⊥)
-    → option_map_or (λ t. data_by t.kind t (put memory at bytes)) t [] ≡ option_map_or (λ t. data_by t.kind t memory) t []
-data_for-put None memory at bytes h = refl
-data_for-put (Some t) memory at bytes h = data_by-put t t.kind memory at bytes h
-
 pub data_of-put : (op : Op) (memory : List ℕ) (at : ℕ) (bytes : List ℕ) → (Meet at (length bytes) (address_of op) (room_of op) → ⊥) → data_of op (put memory at bytes) ≡ data_of op memory
-data_of-put op memory at bytes h = data_for-put (transfer_of op) memory at bytes h
-
--- how two commands that may pass each other stand to one another
-data Way (b a : Command) : Type 0 where
-  older_controller : is_controller b.op ≡ true → Way b a
-  younger_controller : is_controller a.op ≡ true → Way b a
-  other_units : b.unit ≢ a.unit → Way b a
-  both_transfers : b.unit ≡ a.unit → is_transfer b.op ≡ true → is_transfer a.op ≡ true → Way b a
-
-way_of : (b a : Command) (kb ka same tb ta : Bool) → is_controller b.op ≡ kb → is_controller a.op ≡ ka → nat_eq b.unit a.unit ≡ same → is_transfer b.op ≡ tb → is_transfer a.op ≡ ta
-    → (not (if kb then ka else not ka && same) || (tb && ta)) ≡ true → Way b a
-way_of b a true ka same tb ta hb ha hs htb hta h = older_controller hb
-way_of b a false true same tb ta hb ha hs htb hta h = younger_controller ha
-way_of b a false false false tb ta hb ha hs htb hta h = other_units (λ e. let is = eq-eqb b.unit a.unit e in both_ways (nat_eq b.unit a.unit) hs is)
-way_of b a false false true true true hb ha hs htb hta h = both_transfers (eqb-true b.unit a.unit hs) htb hta
-way_of b a false false true true false hb ha hs htb hta h = absurd (false≢true h)
-way_of b a false false true false ta hb ha hs htb hta h = absurd (false≢true h)
-
-way : (b a : Command) → may_pass b a ≡ true → Way b a
-way b a h = way_of b a (is_controller b.op) (is_controller a.op) (nat_eq b.unit a.unit) (is_transfer b.op) (is_transfer a.op) refl refl refl refl refl h
+data_of-put (Write count address block) memory at bytes h = part-put_apart memory at bytes address count h
+data_of-put _ memory at bytes h = refl
 
 -- a verdict reads the length of memory and the command's unit
 verdict_same : (c : Command) (w other : World) → length other.memory ≡ length w.memory → slice_get other.disks c.unit ≡ slice_get w.disks c.unit → verdict c other ≡ verdict c w
@@ -146,15 +63,13 @@ abbrev pub stores : FixedCommand → Disk → List ℕ → List (List ℕ)
 stores x d memory = blocks_put x.outcome (transfer_of x.command.op) d.blocks memory
 
 pub length-world_after : (o : Outcome) (c : Command) (v : Verdict) (w : World) → length (world_after o c v w).memory ≡ length w.memory
-length-world_after o c OfController w = refl
-length-world_after o c (Refused refusal) w = refl
 length-world_after o c (ActsOn d) w = length-put w.memory (address_of c.op) (bytes_put o (transfer_of c.op) d.blocks w.memory)
+length-world_after o c _ w = refl
 
 -- the other units stay as they were
 slice_get-world_after : (o : Outcome) (c : Command) (v : Verdict) (w : World) (u : ℕ) → u ≢ c.unit → slice_get (world_after o c v w).disks u ≡ slice_get w.disks u
-slice_get-world_after o c OfController w u h = refl
-slice_get-world_after o c (Refused refusal) w u h = refl
 slice_get-world_after o c (ActsOn d) w u h = slice_get-set_other w.disks c.unit u (Some (disk_after o c.op w.memory d)) h
+slice_get-world_after o c _ w u h = refl
 
 -- both orders of two commands agree
 pub record Swaps (a b : FixedCommand) (w : World) : Type 0 where
@@ -235,10 +150,6 @@ module _ (a b : FixedCommand) (apart : Apart b.command a.command) where
   -- on different units
   module _ (differ : b.command.unit ≢ a.command.unit) (w : World) where
     worlds_other : (va vb : Verdict) → (by b vb (by a va w).1).1 ≡ (by a va (by b vb w).1).1
-    worlds_other OfController vb = refl
-    worlds_other (Refused refusal) vb = refl
-    worlds_other (ActsOn da) OfController = refl
-    worlds_other (ActsOn da) (Refused refusal) = refl
     worlds_other (ActsOn da) (ActsOn db) =
         let make_world : List ℕ → Disks → World = λ m d. record { memory = m; disks = d } in
         let place : Disks → ℕ → Op → Disk → List (List ℕ) → Disks = λ disks u op d new. set disks u (Some (record { blocks = put d.blocks (first_block_of op) new; size = d.size; mode = mode_after op d.mode })) in
@@ -249,6 +160,7 @@ module _ (a b : FixedCommand) (apart : Apart b.command a.command) where
         let crossed : set Da b.command.unit (Some (disk_after b.outcome B w.memory db)) ≡ set Db a.command.unit (Some (disk_after a.outcome A w.memory da)) =
         set_comm w.disks a.command.unit b.command.unit _ _ (λ e. differ (sym e)) in
         ap₂ make_world (sends_apart w.memory da db da db _ _ (sends_later a da da w.memory _ refl) (sends_later b db db w.memory _ refl)) (left ∙ crossed ∙ sym right)
+    worlds_other _ _ = refl
 
     swaps_other : Swaps a b w
     swaps_other =
@@ -286,10 +198,6 @@ module _ (x y : FixedCommand) (w : World) (d : Disk) (tx ty : Transfer) (same : 
   end_later = ap (λ (m : Mode). end_of x.outcome x.command (ActsOn (record { blocks = left_by.blocks; size = d.size; mode = m }))) mode_stays
 
 -- what a command stores lies apart from the range of another of the unit, if it changes blocks
-or_true : (b : Bool) → (b || true) ≡ true
-or_true true = refl
-or_true false = refl
-
 stores_apart : (x y : FixedCommand) → (is_changing x.command.op ≡ true → Meet (first_block_of x.command.op) (blocks_of x.command.op) (first_block_of y.command.op) (blocks_of y.command.op) → ⊥)
     → (d : Disk) (memory : List ℕ) (change : Bool) → is_changing x.command.op ≡ change → Meet (first_block_of x.command.op) (length (stores x d memory)) (first_block_of y.command.op) (blocks_of y.command.op) → ⊥
 stores_apart x y ranges d memory true h meet = let less = length-blocks_put x.outcome x.command.op d.blocks memory in ranges h (omega arith)
@@ -307,7 +215,7 @@ module _ (a b : FixedCommand) (apart : Apart b.command a.command) (same : b.comm
   ranges_apart changes meet = apart.no_clash (record { transfers = rw (is_b, is_a) refl; one_unit = same; changes = changes; meet = meet })
 
   a_apart : (d : Disk) (memory : List ℕ) → Meet (first_block_of opA) (length (stores a d memory)) (first_block_of opB) (blocks_of opB) → ⊥
-  a_apart d memory = stores_apart a b (λ changes. turned _ _ _ _ (ranges_apart (rw changes (or_true (is_changing opB))))) d memory (is_changing opA) refl
+  a_apart d memory = stores_apart a b (λ changes. turned _ _ _ _ (ranges_apart (rw changes (or-true (is_changing opB))))) d memory (is_changing opA) refl
 
   b_apart : (d : Disk) (memory : List ℕ) → Meet (first_block_of opB) (length (stores b d memory)) (first_block_of opA) (blocks_of opA) → ⊥
   b_apart d memory = stores_apart b a (λ changes. ranges_apart (rw changes refl)) d memory (is_changing opB) refl
@@ -361,15 +269,15 @@ module _ (a b : FixedCommand) (apart : Apart b.command a.command) (same : b.comm
         swaps_idle a b w (Refused ra) (Refused rb) refl (verdict_now a a w d ta ta refl is_a is_a here (Some ra) ha) refused refused
 
   -- by what the unit is
+  both_refused : (slot : Option (Option Disk)) (r : Refusal) → ((op : Op) (n : ℕ) → verdict_at op n slot ≡ Refused r) → slice_get w.disks a.command.unit ≡ slot → Swaps a b w
+  both_refused slot r judges here =
+      let there : slice_get w.disks b.command.unit ≡ slot = ap (λ u. slice_get w.disks u) same ∙ here in
+      let refused : verdict b.command w ≡ Refused r = rw (speaks opB tb is_b, there) (judges opB (length w.memory)) in
+      swaps_idle a b w (Refused r) (Refused r) refl (rw (speaks opA ta is_a, here) (judges opA (length w.memory))) refused refused
+
   swaps_transfers : (slot : Option (Option Disk)) → slice_get w.disks a.command.unit ≡ slot → Swaps a b w
-  swaps_transfers None here =
-      let there : slice_get w.disks b.command.unit ≡ None = ap (λ u. slice_get w.disks u) same ∙ here in
-      let refused : verdict b.command w ≡ Refused UnitUnknown = rw (speaks opB tb is_b, there) refl in
-      swaps_idle a b w (Refused UnitUnknown) (Refused UnitUnknown) refl (rw (speaks opA ta is_a, here) refl) refused refused
-  swaps_transfers (Some None) here =
-      let there : slice_get w.disks b.command.unit ≡ Some None = ap (λ u. slice_get w.disks u) same ∙ here in
-      let refused : verdict b.command w ≡ Refused NoVolume = rw (speaks opB tb is_b, there) refl in
-      swaps_idle a b w (Refused NoVolume) (Refused NoVolume) refl (rw (speaks opA ta is_a, here) refl) refused refused
+  swaps_transfers None here = both_refused None UnitUnknown (λ op n. refl) here
+  swaps_transfers (Some None) here = both_refused (Some None) NoVolume (λ op n. refl) here
   swaps_transfers (Some (Some d)) here = by_refusals d here _ _ refl refl
 
 -- one of the two is Set Controller Characteristics
@@ -380,15 +288,19 @@ swaps_controller a b w h =
 
 by_transfers : (a b : FixedCommand) (w : World) → Apart b.command a.command → b.command.unit ≡ a.command.unit → (ta tb : Option Transfer) → transfer_of a.command.op ≡ ta → transfer_of b.command.op ≡ tb
     → is_some ta ≡ true → is_some tb ≡ true → Swaps a b w
-by_transfers a b w apart same None tb is_a is_b some_a some_b = absurd (false≢true some_a)
-by_transfers a b w apart same (Some ta) None is_a is_b some_a some_b = absurd (false≢true some_b)
 by_transfers a b w apart same (Some ta) (Some tb) is_a is_b some_a some_b = swaps_transfers a b apart same ta tb is_a is_b w _ refl
+by_transfers a b w apart same _ _ is_a is_b some_a some_b = absurd (cc)
+
+-- by how the two stand to one another
+swaps_by : (a b : FixedCommand) (w : World) → Apart b.command a.command → (kb ka same tb ta : Bool) → is_controller b.command.op ≡ kb → is_controller a.command.op ≡ ka
+    → nat_eq b.command.unit a.command.unit ≡ same → is_transfer b.command.op ≡ tb → is_transfer a.command.op ≡ ta → (not (if kb then ka else not ka && same) || (tb && ta)) ≡ true → Swaps a b w
+swaps_by a b w apart true ka same tb ta hb ha hs htb hta may = swaps_sym a b w (swaps_controller b a w hb)
+swaps_by a b w apart false true same tb ta hb ha hs htb hta may = swaps_controller a b w ha
+swaps_by a b w apart false false false tb ta hb ha hs htb hta may =
+    swaps_other a b apart (λ e. let is = eq-eqb b.command.unit a.command.unit e in both_ways (nat_eq b.command.unit a.command.unit) hs is) w
+swaps_by a b w apart false false true true true hb ha hs htb hta may = by_transfers a b w apart (eqb-true b.command.unit a.command.unit hs) _ _ refl refl hta htb
+swaps_by a b w apart false false true _ _ hb ha hs htb hta may = absurd (false≢true may)
 
 -- b is the older of the two
 pub swaps : (a b : FixedCommand) (w : World) → may_pass b.command a.command ≡ true → Apart b.command a.command → Swaps a b w
-swaps a b w may apart = elim (way b.command a.command may) [
-  | older_controller h ↦ swaps_sym a b w (swaps_controller b a w h)
-  | younger_controller h ↦ swaps_controller a b w h
-  | other_units differ ↦ swaps_other a b apart differ w
-  | both_transfers same tb ta ↦ by_transfers a b w apart same _ _ refl refl ta tb
-]
+swaps a b w may apart = swaps_by a b w apart _ _ _ _ _ refl refl refl refl refl may

@@ -1,31 +1,16 @@
 -- A transfer takes effect, done, lost or refused; and so does a command that moves no blocks.
-use Rattle.std.proofs.Common.{◌≡◌, ℕ, suc, ◌+◌, ◌*◌, ◌%◌, ◌<◌, ◌≤◌, zero-le, Bool, true, false, List, [], ◌∷◌, ◌++◌, length, get_or, take, set, refl, sym, ap, ap₂, ◌∙◌, arith, add-one, add-zero, length-append, length-take, Option, Some, None}
-use Rattle.std.specs.Prelude.{if◌then◌else◌, nat_lt}
+use Rattle.std.proofs.Common.{◌≡◌, ℕ, suc, ◌+◌, ◌*◌, ◌%◌, ◌<◌, ◌≤◌, zero-le, Bool, true, false, List, [], ◌∷◌, ◌++◌, length, get_or, take, set, refl, sym, ap, ap₂, ◌∙◌, arith, add-one, add-zero, length-append, length-take, Some, None}
+use Rattle.std.specs.Prelude.{if◌then◌else◌, nat_lt, unwrap_or}
 use Rattle.std.specs.List.{concat}
 use Rattle.std.proofs.lemmas.List.{take_all, take_more, set_at, length-take-le}
 use Rattle.std.proofs.lemmas.List.Elements.{All-push}
 use Rattle.std.proofs.lemmas.Bool.Decides.{nat_tests}
-use Rattle.uda_mem.specs.Put.{put}
 use Rattle.uda_mem.proofs.PutLaws.{put-nil}
-use Rattle.uda_packet.specs.declared.command.Command.{Command}
-use Rattle.uda_packet.specs.declared.command.Op.{Op}
-use Rattle.uda_packet.specs.declared.command.Op.TheVariants.{Status, Controller, Available, Online, Access, Erase, Read, Write}
-use Rattle.uda_packet.specs.declared.end.End.{End}
-use Rattle.uda_packet.specs.declared.end.EndBody.{EndBody}
+use Rattle.uda_packet.specs.declared.command.Op.TheVariants.{Status, Controller, Available, Online}
 use Rattle.uda_packet.specs.declared.end.EndBody.TheVariants as body
-use Rattle.uda_packet.specs.declared.transfer.Transfer.{Transfer}
 use Rattle.uda_packet.specs.Opcode.{answered_opcode, blank_body}
-use Rattle.uda_packet.specs.Transfer.{transfer_of}
-use Rattle.uda_image.specs.Store.{StoreState, KeepsNature, IsImage}
-use Rattle.uda_exec.specs.declared.mode.Mode.{Mode}
-use Rattle.uda_exec.specs.declared.refusal.Refusal.{Refusal}
-use Rattle.uda_exec.specs.Disks.{Disk, UnitState, disk_of}
 use Rattle.uda_exec.specs.Status.{SUCCESS, DRIVE_ERROR}
-use Rattle.uda_exec.specs.Commands.{is_controller, block_count, room_in, count_of, changes_memory}
-use Rattle.uda_exec.specs.Refusal.{refusal_status, transfer_refusal}
-use Rattle.uda_exec.specs.Transfers.{ChangesAt, blocks_due, bytes_landing, blocks_stored, Progress, StopsAt}
-use Rattle.uda_exec.specs.Effect.{Outcome, Done, Lost, blocks_moved, Refused, ActsOn, verdict_on, mode_after, mode_body, reply, plain_body, with_bytes_moved, transfer_status, transfer_bytes, is_lost, Fits, end_of}
-use Rattle.uda_exec.specs.Execution.{bytes_of, IsBodyOf, Answers, TakesEffectOn, calls_store, ServesUnit}
+use Rattle.uda_exec.proofs.Words.{put, Command, Op, EndBody, Transfer, transfer_of, StoreState, KeepsNature, IsImage, Mode, Refusal, Disk, UnitState, disk_of, is_controller, block_count, room_in, count_of, changes_memory, refusal_status, transfer_refusal, ChangesAt, blocks_due, bytes_landing, blocks_stored, Progress, StopsAt, Outcome, Done, Lost, blocks_moved, ActsOn, verdict_on, mode_after, mode_body, reply, plain_body, with_bytes_moved, transfer_status, transfer_bytes, is_lost, Fits, end_of, bytes_of, IsBodyOf, Answers, TakesEffectOn, calls_store, ServesUnit}
 use Rattle.uda_exec.proofs.Changes.{changes_nothing}
 use Rattle.uda_exec.proofs.Blocks.{AreBlocks, AreBlocks-take, length-concat_blocks}
 use Rattle.uda_exec.proofs.Steps.{length-due_by, length-due_le, AreBlocks-due}
@@ -33,20 +18,12 @@ use Rattle.uda_exec.proofs.Steps.{length-due_by, length-due_le, AreBlocks-due}
 -- ---- the ends
 
 opcode-with_bytes : (b : EndBody) (bytes : ℕ) → answered_opcode (with_bytes_moved b bytes) ≡ answered_opcode b
-opcode-with_bytes body.Invalid bytes = refl
-opcode-with_bytes (body.Status flags) bytes = refl
-opcode-with_bytes body.Controller bytes = refl
-opcode-with_bytes body.Available bytes = refl
-opcode-with_bytes (body.Online flags size) bytes = refl
 opcode-with_bytes (body.Moved kind old) bytes = refl
+opcode-with_bytes _ bytes = refl
 
 bytes_of-with_bytes : (b : EndBody) (bytes : ℕ) → bytes_of (with_bytes_moved b bytes) ≤ bytes
-bytes_of-with_bytes body.Invalid bytes = zero-le
-bytes_of-with_bytes (body.Status flags) bytes = zero-le
-bytes_of-with_bytes body.Controller bytes = zero-le
-bytes_of-with_bytes body.Available bytes = zero-le
-bytes_of-with_bytes (body.Online flags size) bytes = zero-le
 bytes_of-with_bytes (body.Moved kind old) bytes = omega arith
+bytes_of-with_bytes _ bytes = zero-le
 
 -- the plain body is the command's, with a byte count of at most its own
 pub IsBodyOf-plain : (op : Op) (bytes : ℕ) → bytes ≤ count_of op → IsBodyOf op (plain_body op bytes)
@@ -57,49 +34,21 @@ Answers-plain c status bytes h = record { reference = refl; unit = refl; body = 
 
 IsBodyOf-mode : (op : Op) (size : ℕ) (mode : Mode) → IsBodyOf op (mode_body op size mode)
 IsBodyOf-mode Status size mode = record { opcode = refl; within = zero-le }
-IsBodyOf-mode Controller size mode = IsBodyOf-plain Controller 0 zero-le
-IsBodyOf-mode Available size mode = IsBodyOf-plain Available 0 zero-le
 IsBodyOf-mode (Online soft) size mode = record { opcode = refl; within = zero-le }
-IsBodyOf-mode (Access count block) size mode = IsBodyOf-plain (Access count block) 0 zero-le
-IsBodyOf-mode (Erase count block) size mode = IsBodyOf-plain (Erase count block) 0 zero-le
-IsBodyOf-mode (Read count address block) size mode = IsBodyOf-plain (Read count address block) 0 zero-le
-IsBodyOf-mode (Write count address block) size mode = IsBodyOf-plain (Write count address block) 0 zero-le
+IsBodyOf-mode op size mode = IsBodyOf-plain op 0 zero-le
 
 pub Answers-mode : (c : Command) (disk : Disk) → transfer_of c.op ≡ None → Answers c (end_of Done c (ActsOn disk))
 Answers-mode c disk is = rw is (record { reference = refl; unit = refl; body = IsBodyOf-mode c.op disk.size disk.mode })
 
 -- ---- a command that moves no blocks
 
--- the unit's mode is what the command leaves, and nothing else changed
-pub takes_mode : (c : Command) (unit : UnitState) (memory : List ℕ) → transfer_of c.op ≡ None
-    → TakesEffectOn c unit memory (end_of Done c (ActsOn (disk_of unit))) (record unit { mode = mode_after c.op unit.mode }) memory
-takes_mode c unit memory is =
-    let none = put-nil memory 0 in
-    record {
-      outcome = Done;
-      fits = tt;
-      end_is = rw (is, is) refl;
-      memory_is = rw (is, is) (sym (put-nil memory 0));
-      disk_is = rw (is, is) (ap (λ (b : List (List ℕ)). record { blocks = b; size = unit.store.size; mode = mode_after c.op unit.mode }) (sym (put-nil unit.store.blocks 0)));
-      failures_are = sym (add-zero unit.store.failures);
-      sure = λ never. refl;
-    }
-
 -- no command changes a unit's own protection
-hard-online : (online : Bool) (mode other : Mode) → other.hard ≡ mode.hard → (if online then mode else other).hard ≡ mode.hard
-hard-online true mode other h = refl
-hard-online false mode other h = h
-
 hard-mode_after : (op : Op) (mode : Mode) → (mode_after op mode).hard ≡ mode.hard
-hard-mode_after Status mode = refl
-hard-mode_after Controller mode = refl
+hard-mode_after (Online soft) mode = elim mode.online as (λ b. (if b then mode else record mode { online = true; soft = unwrap_or soft false }).hard ≡ mode.hard) [ true ↦ refl | _ ↦ refl ]
 hard-mode_after Available mode = refl
-hard-mode_after (Online soft) mode = hard-online mode.online mode _ refl
-hard-mode_after (Access count block) mode = refl
-hard-mode_after (Erase count block) mode = refl
-hard-mode_after (Read count address block) mode = refl
-hard-mode_after (Write count address block) mode = refl
+hard-mode_after _ mode = refl
 
+-- the unit's mode is what the command leaves, and nothing else changed
 pub serves_mode : (c : Command) (unit : UnitState) (memory : List ℕ) → transfer_of c.op ≡ None
     → ServesUnit c unit memory (end_of Done c (ActsOn (disk_of unit))) (record unit { mode = mode_after c.op unit.mode }) memory
 serves_mode c unit memory is = record {
@@ -108,7 +57,15 @@ serves_mode c unit memory is = record {
   nature_stays = ap (λ (hard : Bool). record { size = unit.store.size; hard = hard; faithful = unit.store.faithful; never_fails = unit.store.never_fails }) (hard-mode_after c.op unit.mode);
   mode_stays = λ transfers. let none = rw is at transfers in absurd (cc);
   unit_stays = λ idle. let none = rw is at idle in absurd (cc);
-  takes_effect = λ trusted. takes_mode c unit memory is;
+  takes_effect = λ trusted. record {
+    outcome = Done;
+    fits = tt;
+    end_is = rw (is, is) refl;
+    memory_is = rw (is, is) (sym (put-nil memory 0));
+    disk_is = rw (is, is) (ap (λ (b : List (List ℕ)). record { blocks = b; size = unit.store.size; mode = mode_after c.op unit.mode }) (sym (put-nil unit.store.blocks 0)));
+    failures_are = sym (add-zero unit.store.failures);
+    sure = λ never. refl;
+  };
 }
 
 -- ---- a transfer
@@ -120,32 +77,17 @@ pub record Passes (t : Transfer) (memory size : ℕ) : Type 0 where
   pub in_memory : t.buffer + room_in t ≤ memory
 
 pub passes_if : (t : Transfer) (memory size : ℕ) (mode : Mode) → transfer_refusal t memory size mode ≡ None → Passes t memory size
-passes_if t memory size mode h = record {
-  whole = grind (arith, nat_tests);
-  on_unit = grind (arith, nat_tests);
-  in_memory = grind (arith, nat_tests);
-}
+passes_if t memory size mode h = record { whole = grind (arith, nat_tests); on_unit = grind (arith, nat_tests); in_memory = grind (arith, nat_tests) }
 
 -- a transfer speaks of a unit, and leaves its mode
-pub record OfTransfer (op : Op) : Type 0 where
-  pub speaks : is_controller op ≡ false
-  pub leaves_mode : (mode : Mode) → mode_after op mode ≡ mode
-
-of_transfer : (op : Op) (t : Transfer) → transfer_of op ≡ Some t → OfTransfer op
-of_transfer Status t h = absurd (cc)
-of_transfer Controller t h = absurd (cc)
-of_transfer Available t h = absurd (cc)
-of_transfer (Online soft) t h = absurd (cc)
-of_transfer (Access count block) t h = record { speaks = refl; leaves_mode = λ mode. refl }
-of_transfer (Erase count block) t h = record { speaks = refl; leaves_mode = λ mode. refl }
-of_transfer (Read count address block) t h = record { speaks = refl; leaves_mode = λ mode. refl }
-of_transfer (Write count address block) t h = record { speaks = refl; leaves_mode = λ mode. refl }
-
 pub speaks : (op : Op) (t : Transfer) → transfer_of op ≡ Some t → is_controller op ≡ false
-speaks op t h = (of_transfer op t h).speaks
+speaks Controller t h = absurd (cc)
+speaks _ t h = refl
 
 pub mode_after-transfer : (op : Op) (t : Transfer) (mode : Mode) → transfer_of op ≡ Some t → mode_after op mode ≡ mode
-mode_after-transfer op t mode h = (of_transfer op t h).leaves_mode mode
+mode_after-transfer Available t mode h = absurd (cc)
+mode_after-transfer (Online soft) t mode h = absurd (cc)
+mode_after-transfer _ t mode h = refl
 
 -- the first k blocks and what is left at block k
 blocks_moved-lost : (k : ℕ) (left : List ℕ) (blocks : List (List ℕ)) → k < length blocks → blocks_moved (Lost k left) blocks ≡ take k blocks ++ left ∷ []
@@ -159,18 +101,6 @@ length-landing false blocks n are h = zero-le
 
 module _ (c : Command) (t : Transfer) (unit : UnitState) (memory : List ℕ) (is : transfer_of c.op ≡ Some t) where
   -- a transfer that fails a check is refused, and changes nothing
-  pub takes_refused : (refusal : Refusal) → transfer_refusal t (length memory) unit.store.size unit.mode ≡ Some refusal
-      → TakesEffectOn c unit memory (reply c (refusal_status refusal) (plain_body c.op 0)) unit memory
-  takes_refused refusal h = record {
-    outcome = Done;
-    fits = tt;
-    end_is = rw (is, h) refl;
-    memory_is = rw (is, h) refl;
-    disk_is = rw (is, h) refl;
-    failures_are = sym (add-zero unit.store.failures);
-    sure = λ never. refl;
-  }
-
   pub serves_refused : (refusal : Refusal) → transfer_refusal t (length memory) unit.store.size unit.mode ≡ Some refusal
       → ServesUnit c unit memory (reply c (refusal_status refusal) (plain_body c.op 0)) unit memory
   serves_refused refusal h = record {
@@ -179,7 +109,15 @@ module _ (c : Command) (t : Transfer) (unit : UnitState) (memory : List ℕ) (is
     nature_stays = refl;
     mode_stays = λ transfers. refl;
     unit_stays = λ idle. refl;
-    takes_effect = λ trusted. takes_refused refusal h;
+    takes_effect = λ trusted. record {
+      outcome = Done;
+      fits = tt;
+      end_is = rw (is, h) refl;
+      memory_is = rw (is, h) refl;
+      disk_is = rw (is, h) refl;
+      failures_are = sym (add-zero unit.store.failures);
+      sure = λ never. refl;
+    };
   }
 
   module _ (passed : transfer_refusal t (length memory) unit.store.size unit.mode ≡ None) where

@@ -24,6 +24,10 @@ pub record UnitState : Type 0 where
   pub store : StoreState
   pub mode : Mode
 
+-- the most commands that may be pending at a time: as many as a host may have out
+abbrev pub PENDING_LIMIT : ℕ
+PENDING_LIMIT = 8
+
 -- an executor: its units, and the commands that it has accepted and not done, oldest first
 pub record ExecState : Type 0 where
   pub units : List (Option UnitState)

@@ -7,7 +7,6 @@ use Rattle.uda_packet.specs.declared.end.End.{End}
 use Rattle.uda_packet.specs.declared.end.EndBody.{EndBody}
 use Rattle.uda_packet.specs.declared.end.EndBody.TheVariants.{Moved}
 use Rattle.uda_packet.specs.Opcode.{opcode_of, answered_opcode}
-use Rattle.uda_packet.specs.Transfer.{transfer_of}
 use Rattle.uda_exec.specs.declared.mode.Mode.{Mode}
 use Rattle.uda_exec.specs.Disks.{Disk, UnitState, ExecState, disk_of, disks_of}
 use Rattle.uda_exec.specs.Commands.{is_transfer, blocks_of, count_of, address_of, landing_of}

@@ -1,11 +1,11 @@
 //! The executor: four units, and the commands that it has accepted.
 //!
 //! MSCP Basic Disk Functions Manual: unit states, command ordering.
-ghost use Rattle.std.specs.Prelude.{◌≡◌, ℕ, ◌+◌, ◌<◌, ◌≤◌, [], ◌∷◌, ◌++◌, length, map, option_map, IsNone, IfNone, IfSome, ◌↔◌};
-ghost use Rattle.uda_exec.specs.Disks.{HoldsImage, AreImages};
+ghost use Rattle.std.specs.Prelude.{◌≡◌, ℕ, ◌+◌, ◌<◌, ◌≤◌, [], ◌∷◌, ◌++◌, length, map, option_map, IsNone, IfNone, IfSome, ◌↔◌, slice_get};
+ghost use Rattle.uda_exec.specs.Disks.{HoldsImage, AreImages, PENDING_LIMIT};
 ghost use Rattle.uda_exec.specs.Commands.{is_controller};
 ghost use Rattle.uda_exec.specs.Drives.{drive_state, drive_states, drive_in, fresh_unit, fresh_units, drives_in, reset_unit};
-ghost use Rattle.uda_exec.specs.Execution.{Executes, ExecutesAt};
+ghost use Rattle.uda_exec.specs.Execution.{Executes, ExecutesAt, is_faithful, is_sure};
 
 use crate::choice::{Position, next_place};
 use crate::drive_unit::DriveUnit;
@@ -93,7 +93,7 @@ impl<S: BlockStore> Exec<S> {
     ///
     /// There must be room: fewer than [`PENDING`] commands are pending ([`pending`](Exec::pending)).
     pub fn accept(&mut self, command: Command)
-        requires room { length self.old.pending < PENDING }
+        requires room { length self.old.pending < PENDING_LIMIT }
         ensures last { self.new ≡ record self.old { pending = self.old.pending ++ command ∷ [] } }
     {
         self.pending.push(command);
@@ -103,7 +103,7 @@ impl<S: BlockStore> Exec<S> {
     /// [`PENDING`].
     pub fn pending(&self) -> usize
         ensures count { result ≡ length self.now.pending }
-        ensures within { result ≤ PENDING }
+        ensures within { result ≤ PENDING_LIMIT }
     {
         self.pending.len()
     }
@@ -139,6 +139,11 @@ impl<S: BlockStore> Exec<S> {
         ensures fewer { IfSome result (λ _. length self.new.pending + 1 ≡ length self.old.pending) }
         ensures four { length self.new.units ≡ 4 }
         ensures images { AreImages self.new.units }
+        ensures length { length memory.new ≡ length memory.old }
+        ensures faithful { (u : ℕ) → is_faithful (slice_get self.new.units u)
+            ≡ is_faithful (slice_get self.old.units u) }
+        ensures sure { (u : ℕ) → is_sure (slice_get self.new.units u)
+            ≡ is_sure (slice_get self.old.units u) }
         ensures executes { IfSome result (λ end. (j : ℕ) × ExecutesAt j self.old memory.old end self.new memory.new) }
     {
         let place = next_place(self.pending.as_slice(), self.position)?;
@@ -151,6 +156,7 @@ impl<S: BlockStore> Exec<S> {
     /// available, without software protection. Hardware protection and all blocks stay.
     ///
     /// UDA50 Programmer's Documentation Kit: initialisation.
+    #[tactic(auto, using(crate::proofs::Units::images_reset))]
     pub fn reset(&mut self)
         ensures units { self.new.units ≡ map reset_unit self.old.units }
         ensures pending { self.new.pending ≡ [] }

@@ -22,6 +22,7 @@ pub struct Lost {
 
 // Moves block `k` of a transfer's range, counted from 0: its store reads into memory itself, and writes
 // from it. An Access has a block of its own to read into, and an Erase one of zeros to write.
+#[tactic(auto, using(crate::proofs::Changes::changes_nothing))]
 fn move_block<S: BlockStore>(
     t: Transfer,
     k: u32,
@@ -68,9 +69,9 @@ pub fn move_blocks<S: BlockStore>(
         (λ lost. StopsAt t lost.block (S.state store.old) memory.old (S.state store.new) memory.new) }
 {
     for k in 0..t.count / BLOCK {
-        if move_block(t, k, store, memory).is_err() {
+        let Ok(()) = move_block(t, k, store, memory) else {
             return Err(Lost { block: k });
-        }
+        };
     }
     Ok(())
 }

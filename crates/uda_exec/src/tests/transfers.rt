@@ -1,4 +1,6 @@
 //! The checks of transfers, what transfers move, and which calls a store gets.
+ghost use Rattle.std.specs.Prelude.{◌≡◌, length};
+
 use super::*;
 use arrayvec::ArrayVec;
 use std::test::Fail;
@@ -254,6 +256,14 @@ fn store_calls(rt: HostRuntime) -> Result<(), Fail> {
     Ok(())
 }
 
+/// Writes over the first half of a block.
+fn spoil(block: &mut [u8; 512])
+    ensures { length block.new ≡ 512 }
+{
+    let (half, _) = block.split_at_mut(256);
+    half.fill(0xee);
+}
+
 /// A store of eight blocks of 0x11 that writes over the first half of the block that it was handed and
 /// then errs, at its second read.
 #[derive(Drop)]
@@ -285,7 +295,7 @@ impl BlockStore for DirtyReader {
     fn read(&mut self, _: u32, to: &mut [u8; 512]) -> Result<(), StoreError> {
         self.reads = self.reads.saturating_add(1);
         if self.reads == 2 {
-            to[..256].fill(0xee);
+            spoil(to);
             return Err(StoreError::Read);
         }
         to.fill(0x11);

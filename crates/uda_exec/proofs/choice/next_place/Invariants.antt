@@ -1,4 +1,4 @@
-use Rattle.std.proofs.Common.{ℕ, ◌<◌, Option}
+use Rattle.std.proofs.Common.{◌<◌}
 use Rattle.std.specs.Prelude.{IsSome, IfSome}
 use Rattle.uda_exec.specs.Order.{MayGo}
 use Rattle.uda_exec.proofs.choice.next_place.Given as goal

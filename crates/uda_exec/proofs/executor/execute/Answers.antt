@@ -1,22 +1,22 @@
 use Rattle.std.proofs.Common.{◌≡◌, ◌≤◌, false, true, Some, None, length, refl, sym, ◌∙◌, zero-le}
 use Rattle.std.specs.Prelude.{slice_get}
-use Rattle.std.proofs.lemmas.Option.{slice_get-get_or}
-use Rattle.uda_exec.specs.Commands.{is_controller}
-use Rattle.uda_exec.specs.Execution.{world_of}
+use Rattle.std.proofs.lemmas.Option.{slice_get-get_or, slice_get_past}
+use Rattle.uda_exec.proofs.Words.{is_controller, world_of, verdict, OfController}
 use Rattle.uda_exec.proofs.Transferred.{Answers-plain}
-use Rattle.uda_exec.proofs.Units.{executes_idle, executes_on, verdict-controller, verdict-unknown, verdict-empty, set-itself}
+use Rattle.uda_exec.proofs.Units.{executes_idle, executes_on, verdict-slot, set-itself}
 use Rattle.uda_exec.proofs.executor.execute.Goals as goal
 
 pub returns-then-is_controller-clause-executes : goal.returns-then-is_controller-clause-executes
 returns-then-is_controller-clause-executes g c =
     let is : is_controller c.args.command.op ≡ true = sym c.is_controller.ensures ∙ c.if-is_controller.true in
-    rw (c.reply.ensures, c.plain_body.ensures) (executes_idle c.args.command c.args.units.now c.args.memory.now _ _ (verdict-controller c.args.command (world_of c.args.units.now c.args.memory.now) is) refl refl (Answers-plain c.args.command 0 0 zero-le))
+    let judged : verdict c.args.command (world_of c.args.units.now c.args.memory.now) ≡ OfController = rw is refl in
+    rw (c.reply.ensures, c.plain_body.ensures) (executes_idle c.args.command c.args.units.now c.args.memory.now _ _ judged refl refl (Answers-plain c.args.command 0 0 zero-le))
 
 pub returns-then-unit-units-clause-executes : goal.returns-then-unit-units-clause-executes
 returns-then-unit-units-clause-executes g c =
     let speaks : is_controller c.args.command.op ≡ false = sym c.is_controller.ensures ∙ c.if-is_controller.false in
     let past : length c.args.units.now ≤ c.args.command.unit = rw c.from-unit.ensures at c.if-unit-units.true in
-    rw c.refuse.ensures (executes_idle c.args.command c.args.units.now c.args.memory.now _ _ (verdict-unknown c.args.command c.args.units.now c.args.memory.now speaks past) refl refl (Answers-plain c.args.command _ 0 zero-le))
+    rw c.refuse.ensures (executes_idle c.args.command c.args.units.now c.args.memory.now _ _ (verdict-slot c.args.command c.args.units.now c.args.memory.now None speaks (slice_get_past _ _ past)) refl refl (Answers-plain c.args.command _ 0 zero-le))
 
 pub returns-in-None-clause-executes : goal.returns-in-None-clause-executes
 returns-in-None-clause-executes g c =
@@ -24,7 +24,7 @@ returns-in-None-clause-executes g c =
     let here = slice_get-get_or c.args.units.now c.from-unit.result c.index-units-unit.result c.if-unit-units.false in
     let empty : slice_get c.args.units.now c.args.command.unit ≡ Some None = rw (c.in-None.is, c.from-unit.ensures) at here in
     rw (c.refuse-in-None.ensures, set-itself _ _ _ here)
-    (executes_idle c.args.command c.args.units.now c.args.memory.now _ _ (verdict-empty c.args.command c.args.units.now c.args.memory.now speaks empty) refl refl (Answers-plain c.args.command _ 0 zero-le))
+    (executes_idle c.args.command c.args.units.now c.args.memory.now _ _ (verdict-slot c.args.command c.args.units.now c.args.memory.now (Some None) speaks empty) refl refl (Answers-plain c.args.command _ 0 zero-le))
 
 pub returns-in-Some-clause-executes : goal.returns-in-Some-clause-executes
 returns-in-Some-clause-executes g c =

@@ -1,19 +1,19 @@
-use Rattle.std.proofs.Common.{◌≡◌, length, refl, arith}
-use Rattle.uda_exec.proofs.Changes.{changes_nothing, changes_by_put}
-use Rattle.uda_exec.proofs.Moves.{access_moves, read_moves, write_moves, erase_moves}
+use Rattle.std.proofs.Common.{◌≡◌, length, refl, arith, sym}
+use Rattle.std.proofs.lemmas.List.{append-nil, get_or-replicate}
+use Rattle.uda_mem.proofs.PutLaws.{get_or-part, put-nil}
+use Rattle.uda_exec.proofs.Changes.{changes_by_put}
+use Rattle.uda_exec.proofs.Moves.{reads_block, writes_block, due-Write}
 use Rattle.uda_exec.proofs.movement.move_block.Goals as goal
 
-pub returns-in-Access-clause-changes : goal.returns-in-Access-clause-changes
-returns-in-Access-clause-changes g c = changes_nothing _ _ _
-
 pub returns-in-Access-clause-moves : goal.returns-in-Access-clause-moves
-returns-in-Access-clause-moves g c faithful = access_moves _ _ _ _ _ c.requires.in_range c.in-Access.is _ _ (c.read.ensures.reads faithful)
-
-pub returns-in-Erase-clause-changes : goal.returns-in-Erase-clause-changes
-returns-in-Erase-clause-changes g c = changes_nothing _ _ _
+returns-in-Access-clause-moves g c faithful =
+    let inside = c.requires.in_range in
+    reads_block _ _ _ _ _ (rw c.in-Access.is refl) _ _ _ c.read.ensures.long (rw c.in-Access.is (get_or-part _ _ _ _ _ inside)) (rw c.in-Access.is (sym (put-nil _ _))) (c.read.ensures.reads faithful)
 
 pub returns-in-Erase-clause-moves : goal.returns-in-Erase-clause-moves
-returns-in-Erase-clause-moves g c faithful = erase_moves _ _ _ _ _ c.requires.in_range c.in-Erase.is _ (c.write.ensures.writes faithful)
+returns-in-Erase-clause-moves g c faithful =
+    let inside = c.requires.in_range in
+    writes_block _ _ _ _ _ (rw c.in-Erase.is refl) (rw c.in-Erase.is refl) _ _ (rw c.in-Erase.is (get_or-replicate _ _ _ _ inside)) (c.write.ensures.writes faithful)
 
 pub returns-in-Read-clause-changes : goal.returns-in-Read-clause-changes
 returns-in-Read-clause-changes g c =
@@ -23,11 +23,9 @@ returns-in-Read-clause-changes g c =
 
 pub returns-in-Read-clause-moves : goal.returns-in-Read-clause-moves
 returns-in-Read-clause-moves g c faithful =
-    let long : length c.read-in-Read.new.to ≡ 512 = c.read-in-Read.ensures.long in
-    read_moves _ _ _ _ _ c.requires.in_range c.in-Read.is _ _ _ long refl (c.read-in-Read.ensures.reads faithful)
-
-pub returns-in-Write-clause-changes : goal.returns-in-Write-clause-changes
-returns-in-Write-clause-changes g c = changes_nothing _ _ _
+    let inside = c.requires.in_range in
+    reads_block _ _ _ _ _ (rw c.in-Read.is refl) _ _ _ c.read-in-Read.ensures.long (rw c.in-Read.is (get_or-part _ _ _ _ _ inside)) (rw (c.in-Read.is, append-nil) refl) (c.read-in-Read.ensures.reads faithful)
 
 pub returns-in-Write-clause-moves : goal.returns-in-Write-clause-moves
-returns-in-Write-clause-moves g c faithful = write_moves _ _ _ _ _ c.requires.in_range c.in-Write.is _ _ c.block_at.ensures.value (c.write-in-Write.ensures.writes faithful)
+returns-in-Write-clause-moves g c faithful =
+    writes_block _ _ _ _ _ (rw c.in-Write.is refl) (rw c.in-Write.is refl) _ _ (rw c.in-Write.is (due-Write c.args.t _ _ _ c.requires.in_range c.block_at.ensures.value)) (c.write-in-Write.ensures.writes faithful)

@@ -1,7 +1,6 @@
-use Rattle.std.proofs.Common.{◌≡◌, true, length, Some, None, sym, ap, ◌∙◌, arith, refl}
+use Rattle.std.proofs.Common.{◌≡◌, true, length, Some, None, sym, ◌∙◌, arith}
 use Rattle.std.proofs.lemmas.Bool.{false≢true}
-use Rattle.uda_exec.specs.Disks.{UnitState}
-use Rattle.uda_exec.specs.Refusal.{transfer_refusal}
+use Rattle.uda_exec.proofs.Words.{UnitState, transfer_refusal}
 use Rattle.uda_exec.proofs.Transferred.{serves_refused, serves_moved, takes_done, takes_lost}
 use Rattle.uda_exec.proofs.drive_unit.DriveUnit.transfer.Goals as goal
 use Rattle.uda_exec.proofs.drive_unit.DriveUnit.transfer.Goals.{in-Ok, in-Err}

@@ -1,0 +1,118 @@
+//! The works: 64 MB moved through an executor by transfers of one length.
+use anyhow::{Result, bail};
+use uda_exec::{Exec, PENDING};
+use uda_image::BlockStore;
+use uda_mem::HostMemory;
+use uda_packet::{Command, Op, status};
+
+/// Which way the blocks move.
+#[derive(Clone, Copy, Debug, PartialEq, Eq)]
+pub enum Direction {
+    /// From the store to memory.
+    Read,
+    /// From memory to the store.
+    Write,
+}
+
+/// 64 MB, moved by transfers of one length.
+#[derive(Clone, Copy, Debug, PartialEq, Eq)]
+pub struct Work {
+    /// Which way the blocks move.
+    pub direction: Direction,
+    /// The blocks of a transfer.
+    pub blocks: u32,
+    /// The bytes of a transfer.
+    pub count: u32,
+    /// How many transfers there are.
+    pub transfers: u32,
+}
+
+impl Work {
+    /// The work of these words: `read` or `write`, and `32` or `1`.
+    pub fn named(direction: &str, blocks: &str) -> Option<Work> {
+        let direction = match direction {
+            "read" => Direction::Read,
+            "write" => Direction::Write,
+            _ => return None,
+        };
+        match blocks {
+            "32" => Some(Work {
+                direction,
+                blocks: 32,
+                count: 16_384,
+                transfers: 4096,
+            }),
+            "1" => Some(Work {
+                direction,
+                blocks: 1,
+                count: 512,
+                transfers: 131_072,
+            }),
+            _ => None,
+        }
+    }
+
+    /// Where the transfer behind the one at `block` begins, on a unit of `size` blocks: behind it, or at
+    /// block 0 where there is no room.
+    pub fn next(self, block: u32, size: u32) -> u32 {
+        let next = block.saturating_add(self.blocks);
+        if next.saturating_add(self.blocks) > size {
+            0
+        } else {
+            next
+        }
+    }
+
+    // The operation of the transfer at `block`.
+    fn op(self, block: u32) -> Op {
+        let (count, address) = (self.count, 0);
+        match self.direction {
+            Direction::Read => Op::Read {
+                count,
+                address,
+                block,
+            },
+            Direction::Write => Op::Write {
+                count,
+                address,
+                block,
+            },
+        }
+    }
+}
+
+/// Brings unit 0 online.
+pub fn bring_online<S: BlockStore>(exec: &mut Exec<S>, memory: &mut HostMemory) -> Result<()> {
+    execute(exec, memory, Op::Online { soft: None })
+}
+
+/// Does a work on unit 0, which has `size` blocks.
+pub fn execute_all<S: BlockStore>(
+    exec: &mut Exec<S>,
+    memory: &mut HostMemory,
+    work: Work,
+    size: u32,
+) -> Result<()> {
+    let mut block: u32 = 0;
+    for _ in 0..work.transfers {
+        execute(exec, memory, work.op(block))?;
+        block = work.next(block, size);
+    }
+    Ok(())
+}
+
+// Executes one command of unit 0, which must succeed.
+fn execute<S: BlockStore>(exec: &mut Exec<S>, memory: &mut HostMemory, op: Op) -> Result<()> {
+    if exec.pending() < PENDING {
+        exec.accept(Command {
+            reference: 0,
+            unit: 0,
+            op,
+        });
+    }
+    match exec.execute_one(memory) {
+        Some(end) if end.status == status::SUCCESS => Ok(()),
+        Some(end) => bail!("{end}"),
+        None => bail!("nothing was pending"),
+    }
+}

@@ -2,6 +2,9 @@
 //! written and read, and asked for a block that it doesn't have.
 #![tactic(auto)]
 
+#[cfg(test)]
+mod tests;
+
 use anyhow::Result;
 use uda_exec::{Exec, PENDING};
 use uda_image::{Drive, MemImage};

@@ -32,8 +32,12 @@ command_packet i = 0x300 + 64 * i
 abbrev pub buffers_start : ℕ
 buffers_start = 0x1000
 
+-- room for 32 blocks
+abbrev pub buffer_size : ℕ
+buffer_size = 0x4000
+
 abbrev pub buffer_address : ℕ → ℕ
-buffer_address n = 0x1000 + 0x4000 * n
+buffer_address n = buffers_start + buffer_size * n
 
 abbrev pub memory_size : ℕ
 memory_size = 135168

@@ -9,4 +9,7 @@
 
 mod ring;
 
-pub use ring::{credits_at, end_at, reopen, write_command};
+pub use ring::{
+    BUFFER_SIZE, MEMORY_SIZE, OWNER, PACKET_STEP, RESPONSE_PACKETS, RESPONSE_RING, SLOTS,
+};
+pub use ring::{buffer_address, credits_at, end_at, reopen, write_command};

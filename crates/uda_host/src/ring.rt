@@ -4,7 +4,7 @@ ghost use Rattle.uda_mem.specs.Put.{put, part};
 ghost use Rattle.uda_mem.specs.Words.{word_at, word_bytes};
 ghost use Rattle.uda_packet.specs.Written.{written_command};
 ghost use Rattle.uda_packet.specs.Reading.{read_command, read_end};
-ghost use Rattle.uda_host.specs.Layout.{slots, memory_size, response_packet, with_command, memory_reopened};
+ghost use Rattle.uda_host.specs.Layout.{slots, buffer_address, memory_size, response_packet, with_command, memory_reopened};
 
 use uda_mem::HostMemory;
 use uda_packet::{Command, End, decode_end, encode_command};
@@ -15,12 +15,31 @@ pub const MEMORY_SIZE: u32 = 135_168;
 /// How many descriptors each ring has, and so how many buffers there are.
 pub const SLOTS: u32 = 8;
 
+/// The address of the response ring, which is the ring base.
+pub const RESPONSE_RING: u32 = 8;
+
+/// The address of the packet of the first response descriptor.
+pub const RESPONSE_PACKETS: u32 = 0x100;
+
+/// How many bytes lie between two packets.
+pub const PACKET_STEP: u32 = 64;
+
+/// The second word of a descriptor that the port owns.
+pub const OWNER: u16 = 0x8000;
+
+/// The address of a buffer, by its number.
+pub fn buffer_address(number: u8) -> u32
+    ensures address { result ≡ buffer_address number }
+{
+    BUFFERS + BUFFER_SIZE * u32::from(number)
+}
+
+/// How many bytes each buffer has: room for 32 blocks.
+pub const BUFFER_SIZE: u32 = 0x4000;
+
 const COMMAND_RING: u32 = 40;
-const RESPONSE_RING: u32 = 8;
 const COMMAND_PACKETS: u32 = 0x300;
-const RESPONSE_PACKETS: u32 = 0x100;
-const PACKET_STEP: u32 = 64;
-const OWNER: u16 = 0x8000;
+const BUFFERS: u32 = 0x1000;
 
 // Writes a text of 48 bytes where there is room for it.
 fn put_text(memory: &mut HostMemory, at: u32, text: &[u8; 48])

@@ -42,21 +42,21 @@ block-same (Access unit f n) a = refl
 block-same (Write unit f blocks) a = refl
 block-same (Erase unit f n) a = refl
 
--- a command's buffer_of, where it has one, is at the address, and is of 32 blocks at most
+-- a command's buffer, where it has one, is at the address, and is of 32 blocks at most
 pub record BufferAt (r : Request) (a : ℕ) : Type 0 where
   pub small : room_of (op_of r a) ≤ 16384
   pub here : 0 < room_of (op_of r a) → address_of (op_of r a) ≡ a
   pub even : a % 2 ≡ 0 → address_of (op_of r a) % 2 ≡ 0
   pub low : address_of (op_of r a) ≤ a
 
-pub buffer_of-at : (r : Request) (a : ℕ) → too_long r ≡ false → BufferAt r a
-buffer_of-at (Online unit protect) a h = record { small = omega arith; here = λ l. absurd (omega arith); even = λ e. refl; low = zero-le }
-buffer_of-at (Available unit) a h = record { small = omega arith; here = λ l. absurd (omega arith); even = λ e. refl; low = zero-le }
-buffer_of-at (Status unit) a h = record { small = omega arith; here = λ l. absurd (omega arith); even = λ e. refl; low = zero-le }
-buffer_of-at (Read unit f n) a h = record { small = grind (arith, nat_tests); here = λ l. refl; even = λ e. e; low = omega arith }
-buffer_of-at (Access unit f n) a h = record { small = omega arith; here = λ l. absurd (omega arith); even = λ e. refl; low = zero-le }
-buffer_of-at (Write unit f blocks) a h = record { small = grind (arith, nat_tests); here = λ l. refl; even = λ e. e; low = omega arith }
-buffer_of-at (Erase unit f n) a h = record { small = omega arith; here = λ l. absurd (omega arith); even = λ e. refl; low = zero-le }
+pub buffer-at : (r : Request) (a : ℕ) → too_long r ≡ false → BufferAt r a
+buffer-at (Online unit protect) a h = record { small = omega arith; here = λ l. absurd (omega arith); even = λ e. refl; low = zero-le }
+buffer-at (Available unit) a h = record { small = omega arith; here = λ l. absurd (omega arith); even = λ e. refl; low = zero-le }
+buffer-at (Status unit) a h = record { small = omega arith; here = λ l. absurd (omega arith); even = λ e. refl; low = zero-le }
+buffer-at (Read unit f n) a h = record { small = grind (arith, nat_tests); here = λ l. refl; even = λ e. e; low = omega arith }
+buffer-at (Access unit f n) a h = record { small = omega arith; here = λ l. absurd (omega arith); even = λ e. refl; low = zero-le }
+buffer-at (Write unit f blocks) a h = record { small = grind (arith, nat_tests); here = λ l. refl; even = λ e. e; low = omega arith }
+buffer-at (Erase unit f n) a h = record { small = omega arith; here = λ l. absurd (omega arith); even = λ e. refl; low = zero-le }
 
 pub length-bytes_brought : (r : Request) (a : ℕ) → IsWhole r → length (bytes_brought r) ≤ room_of (op_of r a)
 length-bytes_brought (Online unit protect) a g = omega arith
@@ -76,10 +76,10 @@ held-put (Access unit f n) a memory g h = refl
 held-put (Write unit f blocks) a memory g h = let size = length-concat_blocks blocks g in part-put_at memory a (512 * length blocks) (concat blocks) (omega arith) (omega arith)
 held-put (Erase unit f n) a memory g h = refl
 
--- once its data were put into its buffer_of a command is ready
+-- once its data were put into its buffer a command is ready
 pub ready-put : (p : Posted) (memory : List ℕ) → too_long p.request ≡ false → IsWhole p.request → p.address % 2 ≡ 0 → p.address + 16384 ≤ length memory → Ready p (put memory p.address (bytes_brought p.request))
 ready-put p memory short g even room =
-    let b = buffer_of-at p.request p.address short in
+    let b = buffer-at p.request p.address short in
     let size = length-put memory p.address (bytes_brought p.request) in
     record {
       short = short;

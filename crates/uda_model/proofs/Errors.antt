@@ -7,7 +7,7 @@ use Rattle.uda_exec.specs.Status.{DRIVE_ERROR}
 use Rattle.uda_exec.specs.Effect.{Outcome, Done, Lost}
 use Rattle.uda_model.specs.Request.{Request, Online, Available, Status, Read, Access, Write, Erase, unit_of, too_long}
 use Rattle.uda_model.specs.Answer.{Answer, TooLong, status_of}
-use Rattle.uda_model.specs.Plain.{Bar, Barred, Free, bar, answer_by, step_by, step_as, step, plain, FixedRequest, step_of, plain_as, requests_of, PlainFaulty, tells_error, drive_errors}
+use Rattle.uda_model.specs.Plain.{Bar, Barred, Free, bar, answer_by, step_by, step_as, step, plain, FixedRequest, step_of, plain_as, requests_of, PlainWithLosses, tells_error, drive_errors}
 
 abbrev pub is_error : Answer → Bool
 is_error a = nat_eq (status_of a) DRIVE_ERROR
@@ -60,7 +60,7 @@ plain_as-clean (d ∷ ds) disks h =
     let behind : Answer × Disks → List Answer × Disks → List Answer × Disks = λ a x. (a.0 ∷ x.0, x.1) in
     ap₂ behind same (induction ∙ ap (λ (x : Answer × Disks). plain x.1 (requests_of ds)) same)
 
-pub plain_from_faulty : (start : Disks) (requests : List Request) (answers : List Answer) (left : Disks) → PlainFaulty start requests answers left
+pub plain_from_faulty : (start : Disks) (requests : List Request) (answers : List Answer) (left : Disks) → PlainWithLosses start requests answers left
     → ((u : ℕ) → drive_errors u requests answers ≡ 0) → (answers, left) ≡ plain start requests
 plain_from_faulty start requests answers left h none =
     let at : List Answer → List Request → Type 0 = λ as' rs. (u : ℕ) → drive_errors u rs as' ≡ 0 in

@@ -10,7 +10,7 @@ use Rattle.uda_exec.specs.Effect.{World, Outcome, Done}
 use Rattle.uda_exec.specs.Order.{Apart, MayGo, OrderIsFree}
 use Rattle.uda_model.specs.Request.{Request, count_of, too_long}
 use Rattle.uda_model.specs.Answer.{Answer, TooLong}
-use Rattle.uda_model.specs.Plain.{step_as, FixedRequest, step_of, plain_as, FitsCount, FitsRequest, PlainFaulty, HaveImages}
+use Rattle.uda_model.specs.Plain.{step_as, FixedRequest, step_of, plain_as, FitsCount, FitsRequest, PlainWithLosses, HaveImages}
 use Rattle.uda_model.specs.Posting.{Posted, commands_in, Ready}
 use Rattle.uda_model.specs.Ledger.{FixedPosted, posted_of, fixed_request, with_answers, Ledger}
 use Rattle.uda_model.specs.Keeping.{IsEarlier}
@@ -28,8 +28,8 @@ plain_as-push disks (x ∷ xs) d =
     let behind : List Answer × Disks → List Answer × Disks = λ r. ((step_of x disks).0 ∷ r.0, r.1) in
     ap behind (plain_as-push (step_of x disks).1 xs d)
 
-faulty-push : (start : Disks) (requests : List Request) (answers : List Answer) (left : Disks) (r : Request) (o : Outcome) → FitsCount (count_of r) o → PlainFaulty start requests answers left
-    → PlainFaulty start (requests ++ r ∷ []) (answers ++ (step_as o left r).0 ∷ []) (step_as o left r).1
+faulty-push : (start : Disks) (requests : List Request) (answers : List Answer) (left : Disks) (r : Request) (o : Outcome) → FitsCount (count_of r) o → PlainWithLosses start requests answers left
+    → PlainWithLosses start (requests ++ r ∷ []) (answers ++ (step_as o left r).0 ∷ []) (step_as o left r).1
 faulty-push start requests answers left r o f h =
     let d : FixedRequest = record { request = r; outcome = o } in
     let more : List Answer × Disks → List Answer × Disks = λ x. (x.0 ++ (step_of d x.1).0 ∷ [], (step_of d x.1).1) in
@@ -92,7 +92,7 @@ ledger_skip start requests due told disks r long below h fixed e fit =
     let later = plain_as disks (map fixed_request fixed) in
     let is : step_as Done later.1 r ≡ (TooLong, later.1) = step-long Done later.1 r long in
     let more = faulty-push start requests (with_answers told due later.0) later.1 r Done tt (h fixed e fit) in
-    let P : List Answer → Disks → Type 0 = λ answers left. PlainFaulty start (requests ++ r ∷ []) answers left in
+    let P : List Answer → Disks → Type 0 = λ answers left. PlainWithLosses start (requests ++ r ∷ []) answers left in
     subst₂ P (ap (λ (x : Answer × Disks). with_answers told due later.0 ++ x.0 ∷ []) is ∙ sym (with_answers-behind told TooLong due later.0 below)) (ap (λ (x : Answer × Disks). x.1) is) more
 
 -- a list that ends with y when it is mapped ends with some z
@@ -138,7 +138,7 @@ ledger_post start requests due told disks p below at h fixed e fit =
     let all : plain_as disks (map fixed_request fixed) ≡ (later.0 ++ now.0 ∷ [], now.1) = ap (plain_as disks) requests' ∙ plain_as-push disks (map fixed_request split.front) d in
     let size : length later.0 ≡ length due =
     length-plain_as disks (map fixed_request split.front) ∙ length-map split.front fixed_request ∙ sym (length-map split.front (λ (x : FixedPosted). x.posted)) ∙ ap length split.front_is in
-    let P : List Answer → Disks → Type 0 = λ answers left. PlainFaulty start (requests ++ p.request ∷ []) answers left in
+    let P : List Answer → Disks → Type 0 = λ answers left. PlainWithLosses start (requests ++ p.request ∷ []) answers left in
     subst₂ P
     (sym (ap (λ (x : List Answer × Disks). with_answers (told ++ TooLong ∷ []) (due ++ p ∷ []) x.0) all ∙ with_answers-push told TooLong due p later.0 now.0 below at size))
     (sym (ap (λ (x : List Answer × Disks). x.1) all)) more
@@ -164,12 +164,12 @@ ledger_execute order_is_free start requests due told w j p o ready apart rising 
     let first : (insert later.0 j now.0, later.1) ≡ plain_as w.disks (map fixed_request fixed') =
     ap (λ (xs : List FixedPosted). let l = plain_as now.1 (map fixed_request xs) in (insert l.0 j now.0, l.1)) (sym (remove-insert fixed j it room)) ∙ law in
     let n : length later.0 ≡ length (remove due j) = length-plain_as now.1 (map fixed_request fixed) ∙ length-map fixed fixed_request ∙ size in
-    let P : List Answer → Disks → Type 0 = λ answers left. PlainFaulty start requests answers left in
+    let P : List Answer → Disks → Type 0 = λ answers left. PlainWithLosses start requests answers left in
     subst₂ P
     (sym (ap (λ (x : List Answer × Disks). with_answers told due x.0) first) ∙ with_answers-insert told due j p later.0 now.0 rising at n)
     (sym (ap (λ (x : List Answer × Disks). x.1) first))
     (h fixed' posted' fit')
 
 -- nothing is due
-pub ledger_end : (start : Disks) (requests : List Request) (told : List Answer) (disks : Disks) → Ledger start requests [] told disks → PlainFaulty start requests told disks
+pub ledger_end : (start : Disks) (requests : List Request) (told : List Answer) (disks : Disks) → Ledger start requests [] told disks → PlainWithLosses start requests told disks
 ledger_end start requests told disks h = h [] refl (All-nil FitsRequest)

@@ -25,7 +25,7 @@ use Rattle.uda_exec.proofs.Units.{slice_get-set_same, slice_get-set_other}
 use Rattle.uda_model.specs.Request as ask
 use Rattle.uda_model.specs.Request.{Request, unit_of, count_of, too_long}
 use Rattle.uda_model.specs.Answer.{Answer, TooLong, status_of, SameForm, blank_answer, IsAnswerOf}
-use Rattle.uda_model.specs.Plain.{bar, step_as, plain, PlainFaulty, HasImage, HaveImages, tells_error}
+use Rattle.uda_model.specs.Plain.{bar, step_as, plain, PlainWithLosses, HasImage, HaveImages, tells_error}
 use Rattle.uda_model.specs.Posting.{answer_of, Posted, posted_command, commands_in, buffer_of, Ready}
 use Rattle.uda_model.specs.Ledger.{Ledger}
 use Rattle.uda_model.specs.Keeping.{AllFaithful, Beside, IsEarlier, Sound, Owes}
@@ -329,7 +329,7 @@ owes_execute {start} {requests} {due} {told} {j} {old} {memory} {e} {new} {memor
 -- ---- all is it
 
 pub owes_end : {start : List (Option UnitState)} {requests : List Request} {told : List Answer} {units : List (Option UnitState)} {memory : List ℕ}
-    → AllFaithful start → AreImages start → Owes start requests [] told units memory → PlainFaulty (disks_of start) requests told (disks_of units)
+    → AllFaithful start → AreImages start → Owes start requests [] told units memory → PlainWithLosses (disks_of start) requests told (disks_of units)
 owes_end {start} {requests} {told} {units} {memory} faithful images h = let s = h.sound faithful images in ledger_end (disks_of start) requests told (disks_of units) s.ledger
 
 -- where no store failed, it is the plain effects

@@ -1,6 +1,6 @@
 -- Which requests may be out together. MSCP Basic Disk Functions Manual: command ordering.
-use Rattle.std.specs.Prelude.{ℕ, zero, suc, ◌+◌, min, max, Bool, ◌&&◌, ◌||◌, nat_lt, nat_eq, List, [], ◌∷◌, if◌then◌else◌}
-use Rattle.std.specs.List.{list_any}
+use Rattle.std.specs.Prelude.{ℕ, zero, suc, ◌+◌, min, max, Bool, ◌&&◌, ◌||◌, not, nat_lt, nat_eq, List, [], ◌∷◌, if◌then◌else◌}
+use Rattle.std.specs.List.{list_any, count_by}
 use Rattle.uda_model.specs.Request.{Request, unit_of, is_moving, is_writing, first_of, count_of, too_long}
 
 -- the most commands that a driver has out at a time
@@ -25,7 +25,9 @@ lead_from (suc free) out (r ∷ rest) =
 abbrev pub lead : List Request → ℕ
 lead requests = lead_from room [] requests
 
--- how many requests are posted: all that aren't too long
+-- a request is posted, unless it is too long
+abbrev pub is_short : Request → Bool
+is_short r = not (too_long r)
+
 abbrev pub posted_count : List Request → ℕ
-posted_count [] = 0
-posted_count (r ∷ rest) = (if too_long r then 0 else 1) + posted_count rest
+posted_count requests = count_by is_short requests

@@ -5,7 +5,7 @@ use Rattle.uda_exec.specs.Effect.{Outcome}
 use Rattle.uda_exec.specs.Order.{FixedCommand}
 use Rattle.uda_model.specs.Request.{Request}
 use Rattle.uda_model.specs.Answer.{Answer}
-use Rattle.uda_model.specs.Plain.{FixedRequest, FitsRequest, plain_as, PlainFaulty}
+use Rattle.uda_model.specs.Plain.{FixedRequest, FitsRequest, plain_as, PlainWithLosses}
 use Rattle.uda_model.specs.Posting.{Posted, posted_command}
 
 -- a request that was posted, its outcome fixed
@@ -33,4 +33,4 @@ with_answers told (p ∷ rest) (answer ∷ later) = with_answers (slice_set told
 abbrev pub Ledger : Disks → List Request → List Posted → List Answer → Disks → Type 0
 Ledger start requests due told disks =
     (fixed : List FixedPosted) → posted_of fixed ≡ due → All FitsRequest (map fixed_request fixed)
-    → PlainFaulty start requests (with_answers told due (plain_as disks (map fixed_request fixed)).0) (plain_as disks (map fixed_request fixed)).1
+    → PlainWithLosses start requests (with_answers told due (plain_as disks (map fixed_request fixed)).0) (plain_as disks (map fixed_request fixed)).1

@@ -5,3 +5,4 @@ pub mod Clash
 pub mod Posting
 pub mod Ledger
 pub mod Keeping
+pub mod Values

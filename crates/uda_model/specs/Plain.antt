@@ -13,7 +13,8 @@ use Rattle.uda_exec.specs.Status.{SUCCESS, ALREADY_ONLINE, AVAILABLE, DRIVE_ERRO
 use Rattle.uda_exec.specs.Refusal.{refusal_status}
 use Rattle.uda_exec.specs.Effect.{Outcome, Done, Lost, blocks_moved, transfer_status}
 use Rattle.uda_model.specs.Request as ask
-use Rattle.uda_model.specs.Request.{Request, Extent, unit_of, extent_of, first_of, count_of, too_long}
+use Rattle.uda_model.specs.Request.{Request, unit_of, extent_of, first_of, count_of, too_long}
+use Rattle.uda_model.specs.declared.extent.Extent.{Extent}
 use Rattle.uda_model.specs.Answer.{Answer, TooLong, Plain, Online, Status, Moved, Data, blank_answer, status_of}
 
 -- ---- what bars a request
@@ -136,7 +137,7 @@ abbrev pub FitsRequest : FixedRequest → Type 0
 FitsRequest x = FitsCount (count_of x.request) x.outcome
 
 -- a plain run in which transfers may be lost: some outcomes that fit give these answers and leave these disks
-pub record PlainFaulty (disks : Disks) (requests : List Request) (answers : List Answer) (left : Disks) : Type 0 where
+pub record PlainWithLosses (disks : Disks) (requests : List Request) (answers : List Answer) (left : Disks) : Type 0 where
   pub fixed : List FixedRequest
   pub are_requests : requests_of fixed ≡ requests
   pub fit : All FitsRequest fixed

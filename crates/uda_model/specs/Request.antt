@@ -4,6 +4,7 @@ use Rattle.std.specs.Option.{option_map_or}
 use Rattle.uda_packet.specs.declared.end.Kind.{Kind}
 use Rattle.uda_packet.specs.declared.end.Kind.TheVariants as kind
 use Rattle.uda_packet.specs.Transfer.{changes_blocks}
+use Rattle.uda_model.specs.declared.extent.Extent.{Extent}
 
 -- a request for one unit: the last four are transfers, of so many blocks from the first on, or of these blocks
 pub data Request : Type 0 where
@@ -24,12 +25,7 @@ unit_of (Access unit first count) = unit
 unit_of (Write unit first blocks) = unit
 unit_of (Erase unit first count) = unit
 
--- what a transfer names: its kind, its first block and how many there are
-pub record Extent : Type 0 where
-  pub kind : Kind
-  pub first : ℕ
-  pub count : ℕ
-
+-- what a transfer names; the others name nothing
 abbrev pub extent_of : Request → Option Extent
 extent_of (Read unit first count) = Some (record { kind = kind.Read; first = first; count = count })
 extent_of (Access unit first count) = Some (record { kind = kind.Access; first = first; count = count })

@@ -3,7 +3,7 @@
 /// What a driver answers a request. Each kind of request has one form of answer, refused or not.
 ///
 /// MSCP Basic Disk Functions Manual: end messages, status and event codes.
-#[derive(Debug, Drop)]
+#[derive(Debug, Drop, PartialEq, Eq)]
 pub enum Answer {
     /// The request names more blocks than one command of the driver may have. It was never posted.
     TooLong,

@@ -10,7 +10,9 @@
 #![tactic(auto)]
 
 mod answer;
+mod extent;
 mod request;
 
 pub use answer::Answer;
+pub use extent::Extent;
 pub use request::Request;

@@ -1,4 +1,12 @@
 //! What a driver is asked.
+ghost use Rattle.std.specs.Prelude.{◌≡◌, false};
+ghost use Rattle.uda_model.specs.Request.{unit_of, extent_of, too_long};
+ghost use Rattle.uda_model.specs.Clash.{clash};
+ghost use Rattle.uda_model.specs.Posting.{command_of};
+ghost use Rattle.uda_model.specs.Values.{request_value};
+
+use crate::extent::Extent;
+use uda_packet::{Command, Kind, Op};
 
 /// What a driver is asked to do with one unit.
 ///
@@ -61,4 +69,99 @@ pub enum Request {
         /// How many blocks.
         count: u32,
     },
+}
+
+impl Request {
+    /// The unit's number.
+    pub fn unit(&self) -> u16
+        ensures unit { result ≡ unit_of (request_value self.now) }
+    {
+        match self {
+            Request::Online { unit, .. }
+            | Request::Available { unit }
+            | Request::Status { unit }
+            | Request::Read { unit, .. }
+            | Request::Access { unit, .. }
+            | Request::Write { unit, .. }
+            | Request::Erase { unit, .. } => *unit,
+        }
+    }
+
+    /// What a transfer names; `None` of any other request.
+    pub fn extent(&self) -> Option<Extent>
+        ensures extent { result ≡ extent_of (request_value self.now) }
+    {
+        let (kind, first, count) = match self {
+            Request::Read { lbn, count, .. } => (Kind::Read, *lbn, u64::from(*count)),
+            Request::Access { lbn, count, .. } => (Kind::Access, *lbn, u64::from(*count)),
+            Request::Write { lbn, blocks, .. } => (Kind::Write, *lbn, blocks.len() as u64),
+            Request::Erase { lbn, count, .. } => (Kind::Erase, *lbn, u64::from(*count)),
+            _ => return None,
+        };
+        Some(Extent { kind, first, count })
+    }
+
+    /// Whether the request names more blocks than one command of a driver may have.
+    pub fn is_too_long(&self) -> bool
+        ensures long { result ≡ too_long (request_value self.now) }
+    {
+        match self.extent() {
+            Some(extent) => extent.is_too_long(),
+            None => false,
+        }
+    }
+
+    /// Whether the two may not be out together: transfers of one unit that have a block in common, of which
+    /// one is a Write or an Erase.
+    ///
+    /// MSCP Basic Disk Functions Manual: command ordering.
+    pub fn clashes(&self, other: &Request) -> bool
+        ensures clash { result ≡ clash (request_value self.now) (request_value other.now) }
+    {
+        match (self.extent(), other.extent()) {
+            (Some(a), Some(b)) => {
+                self.unit() == other.unit()
+                    && (a.kind.changes_blocks() || b.kind.changes_blocks())
+                    && a.meets(b)
+            }
+            _ => false,
+        }
+    }
+
+    /// The command that does the request, with this reference and its buffer at this address.
+    pub fn command(&self, reference: u32, address: u32) -> Command
+        requires short { too_long (request_value self.now) ≡ false }
+        ensures command { result ≡ command_of (request_value self.now) reference address }
+    {
+        let op = match self {
+            Request::Online { protect, .. } => Op::Online {
+                soft: Some(*protect),
+            },
+            Request::Available { .. } => Op::Available,
+            Request::Status { .. } => Op::Status,
+            Request::Read { lbn, count, .. } => Op::Read {
+                count: 512 * *count,
+                address,
+                block: *lbn,
+            },
+            Request::Access { lbn, count, .. } => Op::Access {
+                count: 512 * *count,
+                block: *lbn,
+            },
+            Request::Write { lbn, blocks, .. } => Op::Write {
+                count: 512 * blocks.len() as u32,
+                address,
+                block: *lbn,
+            },
+            Request::Erase { lbn, count, .. } => Op::Erase {
+                count: 512 * *count,
+                block: *lbn,
+            },
+        };
+        Command {
+            reference,
+            unit: self.unit(),
+            op,
+        }
+    }
 }

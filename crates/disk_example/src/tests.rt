@@ -1,0 +1,136 @@
+//! What a caller from another crate can say of images and of the executor, each as the contract of a
+//! function of its own.
+ghost use Rattle.std.specs.Prelude.{◌≡◌, ◌/◌, true, false, [], length, slice_get, IfSome, IfOk, IsSome};
+ghost use Rattle.std.specs.List.{concat};
+ghost use Rattle.std.specs.Simd.{first_chunks};
+ghost use Rattle.uda_image.specs.Image.{blocks_of};
+ghost use Rattle.uda_exec.specs.Disks.{AreImages};
+ghost use Rattle.uda_exec.specs.Commands.{is_transfer, landing_of};
+ghost use Rattle.uda_exec.specs.Effect.{is_acting, verdict};
+ghost use Rattle.uda_exec.specs.Execution.{Executes, world_of, is_faithful, is_sure};
+
+use super::read;
+use std::alloc::Global;
+use std::test::Fail;
+use uda_exec::Exec;
+use uda_image::{BlockStore, Drive, ImageError, MemImage};
+use uda_mem::HostMemory;
+use uda_packet::{Command, End, Op};
+
+// The bytes of an image are its blocks, one after the other.
+fn bytes_of(image: &MemImage) -> &[u8]
+    ensures { result.now ≡ concat (blocks_of image.now) }
+{
+    image.bytes()
+}
+
+// An image that is made of bytes has them as its blocks.
+fn image_of(alloc: Global, bytes: &[u8]) -> Result<MemImage, ImageError>
+    ensures { IfOk result (λ image.
+        blocks_of image ≡ first_chunks 512 (length bytes.now / 512) bytes.now) }
+{
+    MemImage::from_bytes(alloc, bytes)
+}
+
+// A command that is pending alone is the one that is executed.
+fn execute_alone<S: BlockStore>(
+    exec: &mut Exec<S>,
+    memory: &mut HostMemory,
+    command: Command,
+) -> Option<End>
+    requires { exec.old.pending ≡ [] }
+    ensures some { IsSome result }
+    ensures idle { exec.new.pending ≡ [] }
+    ensures four { length exec.new.units ≡ 4 }
+    ensures images { AreImages exec.new.units }
+    ensures executes { IfSome result (λ end.
+        Executes command exec.old.units memory.old end exec.new.units memory.new) }
+{
+    exec.accept(command);
+    exec.execute_one(memory)
+}
+
+// Memory is as it was after a command that is no Read, or a Read of nothing.
+fn memory_kept<S: BlockStore>(
+    exec: &mut Exec<S>,
+    memory: &mut HostMemory,
+    command: Command,
+) -> Option<End>
+    requires alone { exec.old.pending ≡ [] }
+    requires no_read { landing_of command.op ≡ 0 }
+    ensures kept { memory.new ≡ memory.old }
+    ensures idle { exec.new.pending ≡ [] }
+{
+    execute_alone(exec, memory, command)
+}
+
+// The units are as they were after a command that is refused.
+fn units_kept<S: BlockStore>(
+    exec: &mut Exec<S>,
+    memory: &mut HostMemory,
+    command: Command,
+) -> Option<End>
+    requires alone { exec.old.pending ≡ [] }
+    requires refused { is_acting (verdict command (world_of exec.old.units memory.old)) ≡ false }
+    ensures kept { exec.new.units ≡ exec.old.units }
+    ensures idle { exec.new.pending ≡ [] }
+{
+    execute_alone(exec, memory, command)
+}
+
+// A transfer that passes its checks ends well where its unit's store is faithful and never fails.
+fn transferred<S: BlockStore>(
+    exec: &mut Exec<S>,
+    memory: &mut HostMemory,
+    command: Command,
+) -> Option<End>
+    requires alone { exec.old.pending ≡ [] }
+    requires transfer { is_transfer command.op ≡ true }
+    requires faithful { is_faithful (slice_get exec.old.units command.unit) ≡ true }
+    requires sure { is_sure (slice_get exec.old.units command.unit) ≡ true }
+    requires passes { is_acting (verdict command (world_of exec.old.units memory.old)) ≡ true }
+    ensures success { IfSome result (λ end. end.status ≡ 0) }
+    ensures idle { exec.new.pending ≡ [] }
+{
+    execute_alone(exec, memory, command)
+}
+
+// A unit over an image in memory is faithful and never fails.
+fn executor_of(store: MemImage) -> Exec<MemImage>
+    ensures idle { result.pending ≡ [] }
+    ensures faithful { is_faithful (slice_get result.units 0) ≡ true }
+    ensures sure { is_sure (slice_get result.units 0) ≡ true }
+{
+    Exec::new([Some(Drive { store, hard: false }), None, None, None])
+}
+
+#[test]
+fn commands_alone(rt: HostRuntime) -> Result<(), Fail> {
+    let image = image_of(rt.alloc(), &[0x11; 1024])?;
+    assert_eq!(rt; bytes_of(&image), [0x11; 1024].as_slice());
+    let mut exec = executor_of(image);
+    let mut memory = HostMemory::new(rt.alloc(), 4096)?;
+    let controller = units_kept(&mut exec, &mut memory, command(1, Op::Controller));
+    assert_eq!(rt; controller.map(|end| end.status), Some(0));
+    let online = memory_kept(
+        &mut exec,
+        &mut memory,
+        command(2, Op::Online { soft: None }),
+    );
+    assert_eq!(rt; online.map(|end| end.status), Some(0));
+    let read = execute_alone(&mut exec, &mut memory, command(3, read(0x0200, 1)));
+    assert_eq!(rt; read.map(|end| end.status), Some(0));
+    assert_eq!(rt; memory.window(0x0200, 512), Some([0x11; 512].as_slice()));
+    Ok(())
+}
+
+// A command of unit 0.
+fn command(reference: u32, op: Op) -> Command
+    ensures { result.op ≡ op }
+{
+    Command {
+        reference,
+        unit: 0,
+        op,
+    }
+}

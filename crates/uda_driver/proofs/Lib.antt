@@ -1,0 +1,6 @@
+pub mod Buffers
+pub mod Posts
+pub mod Drives
+pub mod Drivings
+pub mod Underways
+pub mod Startings

@@ -1,0 +1,261 @@
+-- How a driver comes to run.
+use Rattle.std.proofs.Common.{◌≡◌, ◌≢◌, ℕ, zero, suc, ◌^◌, ◌+◌, ◌-◌, ◌*◌, ◌%◌, ◌<◌, ◌≤◌, min, ◌⊎◌, inl, inr, Bool, true, false, List, [], ◌∷◌, ◌++◌, length, map, get_or, Option, Some, None, refl, sym, ap, ap₂, ◌∙◌, arith, subst, subst₂, replicate}
+use Rattle.std.specs.Prelude.{slice_get, remove, option_map, All, Ok, not, ◌&&◌, if◌then◌else◌}
+use Rattle.std.proofs.lemmas.Bool.{cases_lt, cases_eq}
+use Rattle.std.proofs.lemmas.List.{nil_from_length, length-replicate, get_or-replicate, same_lists}
+use Rattle.std.proofs.lemmas.List.Edits.{length-remove}
+use Rattle.std.proofs.lemmas.List.Elements.{All-nil, All-cons}
+use Rattle.std.proofs.lemmas.Option.{slice_get_within}
+use Rattle.byteorder.specs.Endian.{little_number}
+use Rattle.uda_mem.specs.Put.{put, part, Meet}
+use Rattle.uda_mem.specs.Words.{word_at, word_bytes}
+use Rattle.uda_mem.proofs.PutLaws.{length-put, length-part-le, get_or-part}
+use Rattle.uda_mem.proofs.WordLaws.{length-word_bytes, word_at-put_apart, word_at-put_at, word_at-put_inside, put-put_words}
+use Rattle.uda_packet.specs.declared.command.Command.{Command}
+use Rattle.uda_packet.specs.declared.command.Op.TheVariants.{Controller}
+use Rattle.uda_packet.specs.declared.end.End.{End}
+use Rattle.uda_packet.specs.Written.{written_command, written_end}
+use Rattle.uda_packet.specs.Reading.{read_command}
+use Rattle.uda_exec.specs.Disks.{Disk, UnitState, ExecState, disks_of}
+use Rattle.uda_exec.specs.Effect.{World, Outcome, Done, Lost, Fits, effect, is_lost}
+use Rattle.uda_exec.specs.Execution.{natures_of, failures_at, nature_of, Executes, ExecutesAt, TakesEffect, world_of}
+use Rattle.uda_port.specs.declared.descriptor.Descriptor.{Descriptor}
+use Rattle.uda_port.specs.declared.phase.Phase.{Phase}
+use Rattle.uda_port.specs.declared.phase.Phase.TheVariants.{Step1, Step2, Step3, Step4, Running}
+use Rattle.uda_port.specs.declared.phase.Fatal.TheVariants.{RingWrite}
+use Rattle.uda_port.specs.declared.turn.Turn.{Turn}
+use Rattle.uda_port.specs.declared.turn.Turn.TheVariants.{Fetched as TurnFetched, Executed, Delivered, Idle, Dead}
+use Rattle.uda_port.specs.Ring.{descriptor_at}
+use Rattle.uda_port.specs.Startup.{by_word, dead_port, has_area}
+use Rattle.uda_port.specs.Port.{PortState, CreditsAgree, next_grant, port_asked}
+use Rattle.uda_port.specs.Turn.{TurnGoes}
+use Rattle.uda_host.specs.Layout.{slots, memory_size, owner_word, response_descriptor, command_descriptor, command_ring_at, response_ring_at, response_packet, HoldsPacket, with_command, IsFree, CommandSide, open_descriptor, IsOpen, ResponseSide, memory_reopened}
+use Rattle.uda_host.specs.InStep.{IsSound, InStep, turns_left, FetchesFirst, DoesOne, HandsOver, StepGoes}
+use Rattle.uda_driver.specs.Starting.{IsNew, port_running}
+use Rattle.uda_driver.specs.Underway.{AtRest}
+use Rattle.uda_driver.specs.declared.desk.Desk.{Desk}
+use Rattle.uda_host.proofs.Frames.{length-two, descriptor-put, descriptor-put_at, descriptor-in}
+use Rattle.uda_host.proofs.ResponseSides.{open-put}
+use Rattle.uda_host.proofs.Steps.{step_goes, step_post}
+
+-- ---- the four words
+
+pub record Initialised (port port_after : PortState) (memory memory_after : List ℕ) : Type 0 where
+  pub port_is : port_after ≡ port_running port
+  pub memory_is : memory_after ≡ put memory 4 (replicate 68 0)
+
+pub words_are : (p p1 p2 p3 p4 : PortState) (m m1 m2 m3 m4 : List ℕ) → p.phase ≡ Step1 → length m ≡ memory_size
+    → (p1, m1) ≡ by_word p.phase p m 39680 → (p2, m2) ≡ by_word p1.phase p1 m1 8 → (p3, m3) ≡ by_word p2.phase p2 m2 0 → (p4, m4) ≡ by_word p3.phase p3 m3 1 → Initialised p p4 m m4
+words_are p p1 p2 p3 p4 m m1 m2 m3 m4 is size h1 h2 h3 h4 =
+    let W : Type 0 = PortState × List ℕ in
+    let q1 : W = (record p { phase = Step2 39680 }, m) in
+    let q2 : W = (record p { phase = Step3 39680 8 }, m) in
+    let q3 : W = (record p { phase = Step4; responses = response_ring_at 0; commands = command_ring_at 0 }, put m 4 (replicate 68 0)) in
+    let q4 : W = (record p { phase = Running; responses = response_ring_at 0; commands = command_ring_at 0 }, put m 4 (replicate 68 0)) in
+    let e1 : (p1, m1) ≡ q1 = h1 ∙ ap (λ (ph : Phase). by_word ph p m 39680) is in
+    let e2 : (p2, m2) ≡ q2 = h2 ∙ ap (λ (x : W). by_word x.0.phase x.0 x.1 8) e1 in
+    let G : ℕ → W = λ n. if has_area 39680 8 0 n then q3 else (dead_port q2.0 RingWrite, m) in
+    let e3 : (p3, m3) ≡ q3 = h3 ∙ ap (λ (x : W). by_word x.0.phase x.0 x.1 0) e2 ∙ ap G size in
+    let e4 : (p4, m4) ≡ q4 = h4 ∙ ap (λ (x : W). by_word x.0.phase x.0 x.1 1) e3 in
+    record { port_is = ap (λ (x : W). x.0) e4; memory_is = ap (λ (x : W). x.1) e4 }
+
+-- ---- nothing is posted in a ring of zeros
+
+word-zeros : (n k : ℕ) → k + 2 ≤ n → word_at (replicate n 0) k ≡ 0
+unfolding word_at
+word-zeros n k h =
+    let zeros : List ℕ = replicate n 0 in
+    let long : length {A = ℕ} (replicate n 0) ≡ n = length-replicate {A = ℕ} n 0 in
+    let size : length {A = ℕ} (part (replicate n 0) k 2) ≡ 2 = length-part-le {A = ℕ} (replicate n 0) k 2 (omega arith) in
+    let two : List ℕ = 0 ∷ 0 ∷ [] in
+    let each : (i d : ℕ) → i < length {A = ℕ} (part (replicate n 0) k 2) → get_or (part (replicate n 0) k 2) i d ≡ get_or two i d = λ i d lt.
+    get_or-part {A = ℕ} (replicate n 0) k 2 i d (omega (arith, size)) ∙ get_or-replicate n (k + i) 0 d (omega (arith, size)) ∙ sym (get_or-replicate 2 i 0 d (omega (arith, size))) in
+    let is : part (replicate n 0) k 2 ≡ two = same_lists (part (replicate n 0) k 2) two size each in
+    ap (little_number 2) is
+
+pub free-zeros : (memory : List ℕ) (k : ℕ) → length memory ≡ memory_size → k < slots → IsFree (put memory 4 (replicate 68 0)) k
+free-zeros memory k size lt =
+    let long : length {A = ℕ} (replicate 68 0) ≡ 68 = length-replicate {A = ℕ} 68 0 in
+    let same = length-put memory 4 (replicate 68 0) in
+    let low : word_at (put memory 4 (replicate 68 0)) (command_descriptor k) ≡ 0 = word_at-put_inside memory 4 (replicate 68 0) (command_descriptor k) (omega arith) (omega arith) (omega arith) ∙ word-zeros 68 (40 + 4 * k - 4) (omega arith) in
+    let high : word_at (put memory 4 (replicate 68 0)) (40 + 4 * k + 2) ≡ 0 = word_at-put_inside memory 4 (replicate 68 0) (40 + 4 * k + 2) (omega arith) (omega arith) (omega arith) ∙ word-zeros 68 (40 + 4 * k + 2 - 4) (omega arith) in
+    record { descriptor = record { low = 0; high = 0 }; is = descriptor-in (put memory 4 (replicate 68 0)) (command_descriptor k) 0 0 (omega arith) low high; not_owned = refl }
+
+-- ---- the responses are opened
+
+pub record Opening (start memory : List ℕ) (i : ℕ) : Type 0 where
+  pub size : length memory ≡ memory_size
+  pub within : i ≤ slots
+  pub opens : (k : ℕ) → k < i → IsOpen memory k
+  pub free : (k : ℕ) → k < slots → IsFree start k → IsFree memory k
+
+pub opening_more : (start m m1 m2 m3 : List ℕ) (i : ℕ) → i < slots → m1 ≡ put m (response_packet i) (word_bytes 48) → m2 ≡ put m1 (response_descriptor i) (word_bytes (response_packet i + 4)) → m3 ≡ put m2 (response_descriptor i + 2) (word_bytes owner_word)
+    → Opening start m i → Opening start m3 (i + 1)
+opening_more start m m1 m2 m3 i lt e1 e2 e3 o =
+    let text : response_packet i + 4 ≡ response_packet i + 4 = omega arith in
+    let one = put m (response_packet i) (word_bytes 48) in
+    let pair = word_bytes (response_packet i + 4) ++ word_bytes owner_word in
+    let is : m3 ≡ put one (response_descriptor i) pair = e3 ∙ ap (λ (l : List ℕ). put l (response_descriptor i + 2) (word_bytes owner_word)) (e2 ∙ ap₂ (λ (l : List ℕ) (w : ℕ). put l (response_descriptor i) (word_bytes w)) e1 text) ∙ put-put_words one (response_descriptor i) (response_packet i + 4) owner_word in
+    let two = length-word_bytes 48 in
+    let four = length-two (response_packet i + 4) owner_word in
+    let size : length one ≡ memory_size = length-put m (response_packet i) (word_bytes 48) ∙ o.size in
+    let w : word_at (put one (response_descriptor i) pair) (response_packet i) ≡ 48 = word_at-put_apart one (response_descriptor i) pair (response_packet i) (λ h. omega arith) ∙ word_at-put_at m (response_packet i) 48 (omega (arith, o.size)) (omega arith) in
+    let own : IsOpen (put one (response_descriptor i) pair) i = record {
+      descriptor = descriptor-put_at one (response_descriptor i) (response_packet i + 4) owner_word (omega arith) (omega arith) (omega arith);
+      room = omega (arith, w);
+    } in
+    let old : (k : ℕ) → k < i → IsOpen (put one (response_descriptor i) pair) k = λ k less.
+    open-put one (response_descriptor i) pair k (λ h. omega arith) (λ h. omega arith) (open-put m (response_packet i) (word_bytes 48) k (λ h. omega arith) (λ h. omega arith) (o.opens k less)) in
+    let now : Opening start (put one (response_descriptor i) pair) (i + 1) = record {
+      size = length-put one (response_descriptor i) pair ∙ size;
+      within = omega arith;
+      opens = λ k le. elim (cases_lt k i) [
+        | inl less ↦ old k less
+        | inr ge ↦ let e : i ≡ k = omega arith in subst (λ (j : ℕ). IsOpen (put one (response_descriptor i) pair) j) e own
+      ];
+      free = λ k lt_k was. let f = o.free k lt_k was in record {
+        descriptor = f.descriptor;
+        is = descriptor-put one (response_descriptor i) pair (command_descriptor k) (λ h. omega arith) ∙ descriptor-put m (response_packet i) (word_bytes 48) (command_descriptor k) (λ h. omega arith) ∙ f.is;
+        not_owned = f.not_owned;
+      };
+    } in
+    subst (λ (l : List ℕ). Opening start l (i + 1)) (sym is) now
+
+-- ---- the driver's own command
+
+abbrev pub characteristics : Command
+characteristics = record { reference = 1; unit = 0; op = Controller }
+
+-- Set Controller Characteristics leaves the units as they are
+pub controller_leaves : {units units_after : List (Option UnitState)} {memory memory_after : List ℕ} {e : End} → Executes characteristics units memory e units_after memory_after → units_after ≡ units
+controller_leaves x = x.units_stay refl
+
+-- ---- the three turns
+
+fetches_it : {memory : List ℕ} {port : PortState} {c : Command} {held : ℕ} {port_after : PortState} {memory_after : List ℕ} (turn : Turn) → StepGoes memory port (c ∷ []) held turn port_after memory_after → FetchesFirst memory port (c ∷ []) held port_after memory_after
+fetches_it TurnFetched g = g
+fetches_it Executed g = let no = g.all_fetched in absurd (cc)
+fetches_it Delivered g = let no = g.all_fetched in absurd (cc)
+fetches_it Idle g = absurd g
+fetches_it Dead g = absurd g
+
+does_it : {memory : List ℕ} {port : PortState} {c : Command} {held : ℕ} {port_after : PortState} {memory_after : List ℕ} (turn : Turn) → port.exec.pending ≡ c ∷ [] → StepGoes memory port [] held turn port_after memory_after → DoesOne memory port [] held port_after memory_after
+does_it TurnFetched e g = let no = g.were in absurd (cc)
+does_it Executed e g = g
+does_it Delivered e g = let no = g.all_done in absurd (cc)
+does_it Idle e g = absurd g
+does_it Dead e g = absurd g
+
+hands_it : {memory : List ℕ} {port : PortState} {held : ℕ} {port_after : PortState} {memory_after : List ℕ} (turn : Turn) → port.exec.pending ≡ [] → StepGoes memory port [] held turn port_after memory_after → HandsOver memory port [] held port_after memory_after
+hands_it TurnFetched e g = let no = g.were in absurd (cc)
+hands_it Executed e g = let s = g.executes.taken.stands in let none : None ≡ Some g.executes.command = sym (ap (λ (cs : List Command). slice_get cs g.place) e) ∙ s in absurd (cc)
+hands_it Delivered e g = g
+hands_it Idle e g = absurd g
+hands_it Dead e g = absurd g
+
+goes_running : (phase : Phase) (port : PortState) (memory : List ℕ) (turn : Turn) (port_after : PortState) (memory_after : List ℕ) → phase ≡ Running → TurnGoes phase port memory turn port_after memory_after → TurnGoes Running port memory turn port_after memory_after
+goes_running phase port memory turn port_after memory_after is goes = subst (λ (p : Phase). TurnGoes p port memory turn port_after memory_after) is goes
+
+same_head : {A : Type 0} (x y : A) (xs ys : List A) → x ∷ xs ≡ y ∷ ys → x ≡ y
+same_head x y xs ys e = cc
+
+same_tail : {A : Type 0} (x y : A) (xs ys : List A) → x ∷ xs ≡ y ∷ ys → xs ≡ ys
+same_tail x y xs ys e = cc
+
+same_some : {A : Type 0} (x y : A) → Some x ≡ Some y → x ≡ y
+same_some x y e = cc
+
+in_step_new : (old started : PortState) (memory : List ℕ) → IsNew old → started ≡ port_running old
+    → ResponseSide memory → ((k : ℕ) → k < slots → IsFree memory k) → InStep memory started [] 1
+in_step_new old started memory new is responses free =
+    let n_p = ap length new.nothing_pending in
+    let n_w = ap length new.nothing_waits in
+    subst (λ (p : PortState). InStep memory p [] 1) (sym is) (record {
+      running = refl;
+      command_ring = refl;
+      response_ring = refl;
+      within = omega arith;
+      commands = record {
+        size = responses.size;
+        within = omega arith;
+        few = omega arith;
+        posted = λ k d lt. absurd (omega arith);
+        free = λ k le lt. free ((0 + k) % slots) (omega arith);
+      };
+      responses = responses;
+      looks = λ some. absurd (omega arith);
+      agree = record { credits = omega (arith, new.credits, new.fetches, ap (λ (d : ℕ). 1 + 8 * min d 1 + (d - 1)) new.deliveries); conserved = omega (arith, new.fetches, new.deliveries, n_p, n_w); within = omega (arith, n_p, n_w) };
+      credits = omega (arith, new.credits);
+      sound_unfetched = All-nil IsSound;
+      sound_pending = subst (All IsSound) (sym new.nothing_pending) (All-nil IsSound);
+    })
+
+pub record Begun (old port : PortState) (held : ℕ) (memory : List ℕ) : Type 0 where
+  pub rest : AtRest (record { command_place = 1; response_place = 1; held = held }) port memory
+  pub units : port.exec.units ≡ old.exec.units
+
+pub begun : (old started looking p1 p2 p3 : PortState) (m0 zeroed opened posted m1 m2 m3 left : List ℕ) (t1 t2 t3 : Turn) (held : ℕ)
+    → IsNew old → length m0 ≡ memory_size
+    → started ≡ port_running old
+    → zeroed ≡ put m0 4 (replicate 68 0) → ResponseSide opened → ((k : ℕ) → k < slots → IsFree zeroed k → IsFree opened k)
+    → posted ≡ with_command opened 0 characteristics → read_command (written_command characteristics) ≡ Ok characteristics
+    → looking ≡ port_asked started.phase started
+    → TurnGoes looking.phase looking posted t1 p1 m1 → CreditsAgree p1 → TurnGoes p1.phase p1 m1 t2 p2 m2 → CreditsAgree p2 → TurnGoes p2.phase p2 m2 t3 p3 m3 → CreditsAgree p3
+    → (length m3 ≡ memory_size → held ≡ word_at m3 (response_packet 0 + 2)) → (length m3 ≡ memory_size → left ≡ memory_reopened m3 0)
+    → Begun old p3 held left
+begun old started looking p1 p2 p3 m0 zeroed opened posted m1 m2 m3 left t1 t2 t3 held new size started_is zeroed_is responses kept posted_is legible looking_is g1 a1 g2 a2 g3 a3 held_is left_is =
+    let c = characteristics in
+    let free : (k : ℕ) → k < slots → IsFree opened k = λ k lt. kept k lt (subst (λ (m : List ℕ). IsFree m k) (sym zeroed_is) (free-zeros m0 k size lt)) in
+    let s0 = in_step_new old started opened new started_is responses free in
+    let place0 : started.commands.place ≡ 0 = ap (λ (p : PortState). p.commands.place) started_is in
+    let slot0 : started.responses.place ≡ 0 = ap (λ (p : PortState). p.responses.place) started_is in
+    let pending0 : started.exec.pending ≡ [] = ap (λ (p : PortState). p.exec.pending) started_is ∙ new.nothing_pending in
+    let waiting0 : started.waiting ≡ [] = ap (λ (p : PortState). p.waiting) started_is ∙ new.nothing_waits in
+    let deliveries0 : started.deliveries ≡ 0 = ap (λ (p : PortState). p.deliveries) started_is ∙ new.deliveries in
+    let units0 : started.exec.units ≡ old.exec.units = ap (λ (p : PortState). p.exec.units) started_is in
+    let sound : IsSound c = record { legible = legible; above = λ m. omega arith } in
+    let s1 : InStep (with_command opened 0 c) (record started { looking = true }) (c ∷ []) 0 = step_post opened started [] 0 c s0 (omega arith) (omega (arith, place0)) sound in
+    let look = looking_is ∙ ap (λ (ph : Phase). port_asked ph started) s0.running in
+    let s1' : InStep posted looking (c ∷ []) 0 = subst₂ (λ (m : List ℕ) (p : PortState). InStep m p (c ∷ []) 0) (sym posted_is) (sym look) s1 in
+    let f = fetches_it t1 (step_goes posted looking (c ∷ []) t1 p1 m1 s1' (omega arith) a1 (goes_running looking.phase looking posted t1 p1 m1 s1'.running g1)) in
+    let command_is : f.command ≡ c = same_head f.command c f.rest [] (sym f.were) in
+    let rest_is : f.rest ≡ [] = same_tail f.command c f.rest [] (sym f.were) in
+    let pending1 : p1.exec.pending ≡ c ∷ [] = ap (λ (p : PortState). p.exec.pending) f.port_is ∙ ap₂ (λ (cs : List Command) (d : Command). cs ++ d ∷ []) (ap (λ (p : PortState). p.exec.pending) look ∙ pending0) command_is in
+    let waiting1 : p1.waiting ≡ [] = ap (λ (p : PortState). p.waiting) f.port_is ∙ ap (λ (p : PortState). p.waiting) look ∙ waiting0 in
+    let units1 : p1.exec.units ≡ old.exec.units = ap (λ (p : PortState). p.exec.units) f.port_is ∙ ap (λ (p : PortState). p.exec.units) look ∙ units0 in
+    let place1 : p1.commands.place ≡ 1 = ap (λ (p : PortState). p.commands.place) f.port_is ∙ ap (λ (p : PortState). (p.commands.place + 1) % slots) look ∙ ap (λ (k : ℕ). (k + 1) % slots) place0 in
+    let slot1 : p1.responses.place ≡ 0 = ap (λ (p : PortState). p.responses.place) f.port_is ∙ ap (λ (p : PortState). p.responses.place) look ∙ slot0 in
+    let deliveries1 : p1.deliveries ≡ 0 = ap (λ (p : PortState). p.deliveries) f.port_is ∙ ap (λ (p : PortState). p.deliveries) look ∙ deliveries0 in
+    let s2 : InStep m1 p1 [] 0 = subst (λ (cs : List Command). InStep m1 p1 cs 0) rest_is f.in_step in
+    let x = does_it t2 pending1 (step_goes m1 p1 [] t2 p2 m2 s2 (omega (arith, ap length pending1)) a2 (goes_running p1.phase p1 m1 t2 p2 m2 s2.running g2)) in
+    let one = x.executes.taken in
+    let pending2 : p2.exec.pending ≡ [] = nil_from_length p2.exec.pending (ap length one.taken ∙ omega (arith, length-remove p1.exec.pending x.place one.may.stands, ap length pending1)) in
+    let waiting2 : p2.waiting ≡ x.end ∷ [] = ap (λ (p : PortState). p.waiting) x.port_is ∙ ap (λ (w : List End). w ++ x.end ∷ []) waiting1 in
+    let at0 : x.place ≡ 0 = omega (arith, one.may.stands, ap length pending1) in
+    let both : Some c ≡ Some x.executes.command = sym (ap₂ (λ (cs : List Command) (k : ℕ). slice_get cs k) pending1 at0) ∙ one.stands in
+    let is_c : x.executes.command ≡ c = same_some x.executes.command c (sym both) in
+    let done : Executes c p1.exec.units m1 x.end p2.exec.units m2 = subst (λ (d : Command). Executes d p1.exec.units m1 x.end p2.exec.units m2) is_c x.executes.executes in
+    let units2 : p2.exec.units ≡ old.exec.units = controller_leaves done ∙ units1 in
+    let place2 : p2.commands.place ≡ 1 = ap (λ (p : PortState). p.commands.place) x.port_is ∙ place1 in
+    let slot2 : p2.responses.place ≡ 0 = ap (λ (p : PortState). p.responses.place) x.port_is ∙ slot1 in
+    let deliveries2 : p2.deliveries ≡ 0 = ap (λ (p : PortState). p.deliveries) x.port_is ∙ deliveries1 in
+    let h = hands_it t3 pending2 (step_goes m2 p2 [] t3 p3 m3 x.in_step (omega (arith, ap length waiting2)) a3 (goes_running p2.phase p2 m2 t3 p3 m3 x.in_step.running g3)) in
+    let answer_value : next_grant p2.deliveries ≡ slots = ap next_grant deliveries2 in
+    let before = h.in_step in
+    let size3 : length m3 ≡ memory_size = sym (length-put m3 (response_descriptor p2.responses.place + 2) (word_bytes owner_word)) ∙ before.commands.size in
+    let there : HoldsPacket m3 256 (next_grant p2.deliveries) (written_end h.end) = subst (λ (k : ℕ). HoldsPacket m3 (response_packet k) (next_grant p2.deliveries) (written_end h.end)) slot2 h.there in
+    let held8 : held ≡ slots = held_is size3 ∙ there.second_word ∙ answer_value in
+    let left' : left ≡ memory_reopened m3 p2.responses.place = left_is size3 ∙ ap (memory_reopened m3) (sym slot2) in
+    let credit : 0 + next_grant p2.deliveries ≡ held = omega (arith, answer_value, held8) in
+    let waiting3 : p3.waiting ≡ [] = same_tail h.end x.end p3.waiting [] (sym h.first ∙ waiting2) in
+    record {
+      rest = record {
+        step = subst₂ (λ (m : List ℕ) (k : ℕ). InStep m p3 [] k) (sym left') credit before;
+        next = sym (ap (λ (p : PortState). p.commands.place) h.port_is ∙ place2);
+        slot = sym (ap (λ (p : PortState). p.responses.place) h.port_is ∙ ap (λ (k : ℕ). (k + 1) % slots) slot2);
+        nothing_pending = ap (λ (p : PortState). p.exec.pending) h.port_is ∙ pending2;
+        nothing_waits = waiting3;
+        begun = omega (arith, ap (λ (p : PortState). p.deliveries) h.port_is);
+      };
+      units = ap (λ (p : PortState). p.exec.units) h.port_is ∙ units2;
+    }

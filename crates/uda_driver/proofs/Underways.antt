@@ -1,0 +1,760 @@
+-- The steps of a run of requests.
+use Rattle.std.proofs.Common.{◌≡◌, ◌≢◌, ℕ, zero, suc, ◌+◌, ◌-◌, ◌*◌, ◌/◌, ◌%◌, ◌<◌, ◌≤◌, ◌⊎◌, inl, inr, Bool, true, false, List, [], ◌∷◌, ◌++◌, length, map, take, drop, get_or, set, slice_index_or, nat_eq, Option, Some, None, refl, sym, ap, ap₂, ◌∙◌, arith, subst, subst₂, add-one}
+use Rattle.std.specs.Prelude.{slice_get, slice_set, remove, option_map, All, AllPairs, Ok, ◌&&◌, ◌||◌, not}
+use Rattle.std.specs.List.{list_any, count_by}
+use Rattle.std.proofs.lemmas.List.{length-map, length-take, map-set, map_push, append-nil, take_more, take_all, drop_more, drop_all, get_or_default, length_push, nil_from_length, length-set}
+use Rattle.std.proofs.lemmas.List.Edits.{length-remove}
+use Rattle.std.proofs.lemmas.List.Sums.{count_by_more_no, count_by_more_yes}
+use Rattle.std.proofs.lemmas.List.Folds.{list_any-append}
+use Rattle.std.proofs.lemmas.List.Elements.{All-nil, All-cons, All-push, All-map}
+use Rattle.std.proofs.lemmas.Bool.{eqb-true, eqb-false, cases_eq}
+use Rattle.std.proofs.lemmas.Option.{slice_get_within, slice_get-map, slice_get-get_or, get_or_from_slice_get}
+use Rattle.uda_mem.specs.Put.{put, part}
+use Rattle.uda_mem.specs.Words.{word_at, word_bytes}
+use Rattle.uda_mem.proofs.PutLaws.{length-put}
+use Rattle.uda_packet.specs.declared.command.Command.{Command}
+use Rattle.uda_packet.specs.declared.end.End.{End}
+use Rattle.uda_packet.specs.Written.{written_end, written_command}
+use Rattle.uda_packet.specs.Reading.{read_end, read_command}
+use Rattle.uda_exec.specs.Disks.{UnitState, AreImages}
+use Rattle.uda_exec.specs.Commands.{address_of, room_of}
+use Rattle.uda_exec.specs.Order.{OrderIsFree}
+use Rattle.uda_exec.proofs.Units.{slice_get-set_same, slice_get-set_other}
+use Rattle.uda_port.specs.declared.phase.Phase.{Phase}
+use Rattle.uda_port.specs.declared.phase.Phase.TheVariants.{Running}
+use Rattle.uda_port.specs.declared.turn.Turn.{Turn}
+use Rattle.uda_port.specs.declared.turn.Turn.TheVariants.{Fetched as TurnFetched, Executed, Delivered, Idle, Dead}
+use Rattle.uda_port.specs.Port.{PortState, CreditsAgree, next_grant}
+use Rattle.uda_port.specs.Turn.{TurnGoes}
+use Rattle.uda_model.specs.Request as ask
+use Rattle.uda_model.specs.Request.{Request, too_long, IsWhole}
+use Rattle.uda_model.specs.Answer.{Answer, TooLong}
+use Rattle.uda_model.specs.Clash.{clash, lead_from, lead, is_short, posted_count}
+use Rattle.uda_model.specs.Posting.{Posted, posted_command, commands_in, op_of, command_of, answer_of, buffer_of, bytes_brought}
+use Rattle.uda_model.specs.Keeping.{Ended, Tells, Beside, Has, Keeps, Owes, Outs}
+use Rattle.uda_host.specs.InStep.{InStep}
+use Rattle.uda_host.specs.Layout.{slots, memory_size, buffer_address, owner_word, response_descriptor, response_packet, HoldsPacket, with_command, memory_reopened}
+use Rattle.uda_driver.specs.Driving.{IsOut, Driving, posted_desk, taken_desk, Fetches, Does, IsOneOf, Brings}
+use Rattle.uda_model.specs.Values.{request_value, answer_value}
+use Rattle.uda_driver.specs.Underway.{AtRest, posted_of, outs_of, triangle, Prepared, IsBlank, AreBlank, IsPrepared, turns_due, Underway, Leading, Ahead, Leads, Led, Sailing, Onward, IsReady, Settles, Ran}
+use Rattle.uda_model.specs.declared.request.Request.{Request as CodeRequest}
+use Rattle.uda_model.specs.declared.answer.Answer.{Answer as CodeAnswer}
+use Rattle.uda_driver.specs.declared.desk.Desk.{Desk}
+use Rattle.uda_driver.specs.declared.desk.Out.{Out}
+use Rattle.uda_model.proofs.Lists.{map-remove, All-remove, All-at, pairs_others}
+use Rattle.uda_model.proofs.Owing.{slice_get-last, front_same, owes_start}
+use Rattle.uda_driver.proofs.Drivings.{driving_turn, many_out, driving_skip, driving_post, driving_end}
+
+-- a request of the code as pure data
+value_at : (requests : List CodeRequest) (k : ℕ) (r : Request) (d : CodeRequest) → k < length requests → get_or (map request_value requests) k r ≡ request_value (get_or requests k d)
+value_at [] k r d h = absurd (omega arith)
+value_at (x ∷ xs) zero r d h = refl
+value_at (x ∷ xs) (suc k) r d h = value_at xs k r d (omega arith)
+
+triangle-more : (n : ℕ) → triangle (n + 1) ≡ n + 1 + triangle n
+triangle-more n = rw add-one refl
+
+-- as many credits are held as are not out
+pub under_held : {start : PortState} {requests : List CodeRequest} {n bound : ℕ} {out : List Out} {answers : List CodeAnswer} {desk : Desk} {port : PortState} {memory : List ℕ}
+    → Underway start requests n bound out answers desk port memory → desk.held + length out ≡ slots
+under_held {requests = requests} {out = out} U =
+    let D = U.driving in
+    let many = many_out D in
+    let size = length-map out (posted_of (map request_value requests)) in
+    omega (arith, D.step.credits, D.step.agree.credits, D.step.agree.conserved, U.begun)
+
+-- ---- a turn that delivers nothing
+
+pub record Turned (start : PortState) (requests : List CodeRequest) (n bound : ℕ) (out : List Out) (answers : List CodeAnswer) (desk : Desk) (port port_after : PortState) (memory_after : List ℕ) : Type 0 where
+  pub now : Underway start requests n bound out answers desk port_after memory_after
+  pub less : turns_due port_after out < turns_due port out
+
+under_fetched : {start : PortState} {requests : List CodeRequest} {n bound : ℕ} {out : List Out} {answers : List CodeAnswer} {desk : Desk} {port : PortState} {memory : List ℕ} (port_after : PortState) (memory_after : List ℕ)
+    → AreImages port_after.exec.units → Fetches start.exec.units (take n (map request_value requests)) (outs_of requests out) (map answer_value answers) desk port port_after memory_after → Underway start requests n bound out answers desk port memory
+    → Turned start requests n bound out answers desk port port_after memory_after
+under_fetched {requests = requests} {out = out} {port = port} port_after memory_after kept F U =
+    let same : length out - length port_after.waiting ≡ length out - length port.waiting = ap (λ (w : ℕ). length out - w) F.waiting in
+    let t = ap triangle same in
+    let many = many_out F.now in let before = many_out U.driving in
+    let size = length-map out (posted_of (map request_value requests)) in
+    record {
+      now = record {
+        driving = F.now;
+        prepared = U.prepared;
+        blank = U.blank;
+        sized = U.sized;
+        within = U.within;
+        images = kept;
+        begun = omega (arith, U.begun, F.deliveries);
+        turns = omega (arith, U.turns, F.turns, F.pending, F.waiting);
+        deliveries = omega (arith, U.deliveries, F.deliveries);
+        load = omega (arith, U.load, F.load, t);
+      };
+      less = omega (arith, F.pending, F.waiting, many, before, size);
+    }
+
+under_executed : {start : PortState} {requests : List CodeRequest} {n bound : ℕ} {out : List Out} {answers : List CodeAnswer} {desk : Desk} {port : PortState} {memory : List ℕ} (port_after : PortState) (memory_after : List ℕ)
+    → AreImages port_after.exec.units → Does start.exec.units (take n (map request_value requests)) (outs_of requests out) (map answer_value answers) desk port port_after memory_after → Underway start requests n bound out answers desk port memory
+    → Turned start requests n bound out answers desk port port_after memory_after
+under_executed {requests = requests} {out = out} {port = port} port_after memory_after kept F U =
+    let size = length-map out (posted_of (map request_value requests)) in
+    let all = F.all in
+    let q = length port_after.exec.pending in
+    let before : length out - length port.waiting ≡ q + 1 = omega (arith, F.pending) in
+    let after : length out - length port_after.waiting ≡ q = omega (arith, F.pending, F.waiting) in
+    let t = ap triangle before ∙ triangle-more q in
+    let t' = ap triangle after in
+    record {
+      now = record {
+        driving = F.now;
+        prepared = U.prepared;
+        blank = U.blank;
+        sized = U.sized;
+        within = U.within;
+        images = kept;
+        begun = omega (arith, U.begun, F.deliveries);
+        turns = omega (arith, U.turns, F.turns, F.pending, F.waiting);
+        deliveries = omega (arith, U.deliveries, F.deliveries);
+        load = omega (arith, U.load, F.load, F.pending, t, t');
+      };
+      less = omega (arith, F.pending, F.waiting, all, size);
+    }
+
+running_turn : (phase : Phase) (port : PortState) (memory : List ℕ) (turn : Turn) (port_after : PortState) (memory_after : List ℕ) → phase ≡ Running → TurnGoes phase port memory turn port_after memory_after → TurnGoes Running port memory turn port_after memory_after
+running_turn phase port memory turn port_after memory_after is goes = subst (λ (p : Phase). TurnGoes p port memory turn port_after memory_after) is goes
+
+room_of_answers : {start : PortState} {requests : List CodeRequest} {n bound : ℕ} {out : List Out} {answers : List CodeAnswer} {desk : Desk} {port : PortState} {memory : List ℕ}
+    → Underway start requests n bound out answers desk port memory → length (take n (map request_value requests)) ≤ length (map answer_value answers)
+room_of_answers {requests = requests} {n = n} {answers = answers} U = omega (arith, length-take n (map request_value requests), length-map requests request_value, length-map answers answer_value, U.sized)
+
+pub under_other : {start : PortState} {requests : List CodeRequest} {n bound : ℕ} {out : List Out} {answers : List CodeAnswer} {desk : Desk} {port : PortState} {memory : List ℕ} (turn : Turn) (port_after : PortState) (memory_after : List ℕ)
+    → OrderIsFree → AreImages port_after.exec.units → 0 < length out → CreditsAgree port_after → TurnGoes port.phase port memory turn port_after memory_after → (turn ≡ Delivered → ⊥) → Underway start requests n bound out answers desk port memory
+    → Turned start requests n bound out answers desk port port_after memory_after
+under_other {requests = requests} {out = out} {port = port} {memory = memory} TurnFetched port_after memory_after law kept some agree goes not U =
+    under_fetched port_after memory_after kept (driving_turn TurnFetched port_after memory_after law (room_of_answers U) (omega (arith, length-map out (posted_of (map request_value requests)))) agree (running_turn port.phase port memory TurnFetched port_after memory_after U.driving.step.running goes) U.driving) U
+under_other {requests = requests} {out = out} {port = port} {memory = memory} Executed port_after memory_after law kept some agree goes not U =
+    under_executed port_after memory_after kept (driving_turn Executed port_after memory_after law (room_of_answers U) (omega (arith, length-map out (posted_of (map request_value requests)))) agree (running_turn port.phase port memory Executed port_after memory_after U.driving.step.running goes) U.driving) U
+under_other {requests = requests} {out = out} {port = port} {memory = memory} Delivered port_after memory_after law kept some agree goes not U = absurd (not refl)
+under_other {requests = requests} {out = out} {port = port} {memory = memory} Idle port_after memory_after law kept some agree goes not U =
+    absurd (driving_turn Idle port_after memory_after law (room_of_answers U) (omega (arith, length-map out (posted_of (map request_value requests)))) agree (running_turn port.phase port memory Idle port_after memory_after U.driving.step.running goes) U.driving)
+under_other {requests = requests} {out = out} {port = port} {memory = memory} Dead port_after memory_after law kept some agree goes not U =
+    absurd (driving_turn Dead port_after memory_after law (room_of_answers U) (omega (arith, length-map out (posted_of (map request_value requests)))) agree (running_turn port.phase port memory Dead port_after memory_after U.driving.step.running goes) U.driving)
+
+-- ---- an answer is told
+
+pub answer_told : (requests : List CodeRequest) (answers : List CodeAnswer) (done : Out) (e : End) (memory : List ℕ) (request : CodeRequest) (blank now told d : CodeAnswer)
+    → IsReady requests answers done memory → request ≡ get_or requests done.place request → blank ≡ get_or answers done.place d
+    → (Prepared (request_value request) (answer_value blank) → answer_value told ≡ answer_of (request_value request) e (part memory (address_of (op_of (request_value request) (buffer_address done.buffer))) (room_of (op_of (request_value request) (buffer_address done.buffer)))))
+    → map answer_value (slice_set (slice_set answers done.place now) done.place told)
+    ≡ slice_set (map answer_value answers) done.place (answer_of (posted_of (map request_value requests) done).request e (buffer_of (posted_of (map request_value requests) done) memory))
+answer_told requests answers done e memory request blank now told d ready is was tells =
+    let p = posted_of (map request_value requests) done in
+    let ask_is : p.request ≡ request_value request = value_at requests done.place (ask.Status 0) request ready.there ∙ ap request_value (sym is) in
+    let stands : slice_get (map answer_value answers) done.place ≡ Some (answer_value blank) =
+    slice_get-map answer_value answers done.place ∙ ap (option_map answer_value) (slice_get-get_or answers done.place d (omega (arith, ready.there, ready.sized)) ∙ ap (λ (a : CodeAnswer). Some a) (sym was)) in
+    let prepared : Prepared (request_value request) (answer_value blank) = subst (λ (r : Request). Prepared r (answer_value blank)) ask_is (ready.prepared (answer_value blank) stands) in
+    let F : Request → Answer = λ r. answer_of r e (buffer_of (record { place = done.place; address = buffer_address done.buffer; request = r }) memory) in
+    let answer : answer_value told ≡ F p.request = tells prepared ∙ ap F (sym ask_is) in
+    ap (map answer_value) (set-set answers done.place now told) ∙ map-set answer_value answers done.place told ∙ ap (λ (a : Answer). set (map answer_value answers) done.place a) answer
+  where
+    set-set : (xs : List CodeAnswer) (i : ℕ) (a b : CodeAnswer) → set (set xs i a) i b ≡ set xs i b
+    set-set [] i a b = refl
+    set-set (x ∷ xs) zero a b = refl
+    set-set (x ∷ xs) (suc i) a b = ap (λ (l : List CodeAnswer). x ∷ l) (set-set xs i a b)
+
+-- ---- a turn that delivers an end
+
+default_out : Out
+default_out = record { place = 0; buffer = 0 }
+
+brings_one : {start : PortState} {requests : List CodeRequest} {n bound : ℕ} {out : List Out} {answers : List CodeAnswer} {desk : Desk} {port : PortState} {memory : List ℕ} (port_after : PortState) (memory_after : List ℕ)
+    → OrderIsFree → 0 < length out → CreditsAgree port_after → TurnGoes port.phase port memory Delivered port_after memory_after → Underway start requests n bound out answers desk port memory
+    → Brings start.exec.units (take n (map request_value requests)) (outs_of requests out) (map answer_value answers) desk port port_after memory_after
+brings_one {requests = requests} {out = out} {port = port} {memory = memory} port_after memory_after law some agree goes U =
+    driving_turn Delivered port_after memory_after law (room_of_answers U) (omega (arith, length-map out (posted_of (map request_value requests)))) agree (running_turn port.phase port memory Delivered port_after memory_after U.driving.step.running goes) U.driving
+
+-- what is there to be read
+record IsRead (memory_after : List ℕ) (slot : ℕ) (e : End) (credits : ℕ) : Type 0 where
+  size : length memory_after ≡ memory_size
+  end_is : read_end (part memory_after (response_packet slot + 4) 48) ≡ Some e
+  credits_are : word_at memory_after (response_packet slot + 2) ≡ credits
+
+is_read : {start : List (Option UnitState)} {requests : List Request} {out : List Posted} {answers : List Answer} {desk : Desk} {port port_after : PortState} {memory_after : List ℕ}
+    → (B : Brings start requests out answers desk port port_after memory_after) → IsRead memory_after desk.response_place B.end (next_grant port.deliveries)
+is_read {desk = desk} {memory_after = memory_after} B =
+    let slot = desk.response_place in
+    let one = B.taken B.some.number B.some.posted B.some.stands B.some.referred in
+    let text : response_packet slot + 4 ≡ response_packet slot + 4 = refl in
+    let word : response_packet slot + 2 ≡ response_packet slot + 2 = refl in
+    record {
+      size = sym (length-put memory_after (response_descriptor slot + 2) (word_bytes owner_word)) ∙ one.step.commands.size;
+      end_is = ap read_end (ap (λ (a : ℕ). part memory_after a 48) (sym text) ∙ B.there.text_is) ∙ B.legible;
+      credits_are = ap (word_at memory_after) (sym word) ∙ B.there.second_word;
+    }
+
+pub never_no_end : {start : PortState} {requests : List CodeRequest} {n bound : ℕ} {out : List Out} {answers : List CodeAnswer} {desk : Desk} {port : PortState} {memory : List ℕ} (port_after : PortState) (memory_after : List ℕ)
+    → OrderIsFree → 0 < length out → CreditsAgree port_after → TurnGoes port.phase port memory Delivered port_after memory_after
+    → (length memory_after ≡ memory_size → None ≡ read_end (part memory_after (response_packet desk.response_place + 4) 48)) → Underway start requests n bound out answers desk port memory → ⊥
+never_no_end port_after memory_after law some agree goes read U =
+    let B = brings_one port_after memory_after law some agree goes U in
+    let r = is_read B in
+    let a = read r.size in let b = r.end_is in
+    absurd (cc)
+
+pub never_unknown : {start : PortState} {requests : List CodeRequest} {n bound : ℕ} {out : List Out} {answers : List CodeAnswer} {desk : Desk} {port : PortState} {memory : List ℕ} (port_after : PortState) (memory_after : List ℕ)
+    → OrderIsFree → 0 < length out → CreditsAgree port_after → TurnGoes port.phase port memory Delivered port_after memory_after
+    → (e : End) → (length memory_after ≡ memory_size → Some e ≡ read_end (part memory_after (response_packet desk.response_place + 4) 48))
+    → ((k : ℕ) (o : Out) → k < length out → (get_or out k o).place + 1 ≢ e.reference) → Underway start requests n bound out answers desk port memory → ⊥
+never_unknown {requests = requests} {out = out} port_after memory_after law some agree goes e read none U =
+    let B = brings_one port_after memory_after law some agree goes U in
+    let r = is_read B in
+    let both : Some e ≡ Some B.end = read r.size ∙ r.end_is in
+    let same : e ≡ B.end = cc in
+    let s = B.some in
+    let f = posted_of (map request_value requests) in
+    let lt : s.number < length out = omega (arith, slice_get_within (outs_of requests out) s.number s.posted s.stands, length-map out f) in
+    let o = get_or out s.number default_out in
+    let there : Some (f o) ≡ Some s.posted = sym (slice_get-map f out s.number ∙ ap (option_map f) (slice_get-get_or out s.number default_out lt)) ∙ s.stands in
+    let is : f o ≡ s.posted = cc in
+    none s.number default_out lt (ap (λ (p : Posted). p.place + 1) is ∙ s.referred ∙ sym (ap (λ (x : End). x.reference) same))
+
+pub record Landed (start : PortState) (requests : List CodeRequest) (n bound : ℕ) (out items : List Out) (noted : List CodeAnswer) (desk : Desk) (port port_after : PortState) (memory_left : List ℕ) : Type 0 where
+  pub now : Underway start requests n bound items noted desk port_after memory_left
+  pub less : turns_due port_after items < turns_due port out
+
+pub under_taken : {start : PortState} {requests : List CodeRequest} {n bound : ℕ} {out : List Out} {answers : List CodeAnswer} {desk : Desk} {port : PortState} {memory : List ℕ} (port_after : PortState) (memory_after : List ℕ)
+    → OrderIsFree → AreImages port_after.exec.units → 0 < length out → CreditsAgree port_after → TurnGoes port.phase port memory Delivered port_after memory_after
+    → (e : End) (i : ℕ) (o : Out) (items : List Out) (credits : ℕ) (memory_left : List ℕ) (noted : List CodeAnswer)
+    → (length memory_after ≡ memory_size → Some e ≡ read_end (part memory_after (response_packet desk.response_place + 4) 48))
+    → i < length out → o ≡ get_or out i o → o.place + 1 ≡ e.reference → items ≡ remove out i
+    → (length memory_after ≡ memory_size → credits ≡ word_at memory_after (response_packet desk.response_place + 2))
+    → (length memory_after ≡ memory_size → memory_left ≡ memory_reopened memory_after desk.response_place)
+    → Settles requests answers o e memory_left noted
+    → Underway start requests n bound out answers desk port memory
+    → Landed start requests n bound out items noted (taken_desk desk credits) port port_after memory_left
+under_taken {start} {requests} {n} {bound} {out} {answers} {desk} {port} {memory} port_after memory_after law images some agree goes e i o items credits memory_left noted read lt is referred items_are credits_are left_is settles U =
+    let rs = map request_value requests in
+    let f = posted_of rs in
+    let p = f o in
+    let B = brings_one port_after memory_after law some agree goes U in
+    let r = is_read B in
+    let slot = desk.response_place in
+    let both : Some e ≡ Some B.end = read r.size ∙ r.end_is in
+    let same : e ≡ B.end = cc in
+    let granted : credits ≡ next_grant port.deliveries = credits_are r.size ∙ r.credits_are in
+    let left : memory_left ≡ memory_reopened memory_after slot = left_is r.size in
+    let stands_code : slice_get out i ≡ Some o = slice_get-get_or out i o lt ∙ ap (λ (x : Out). Some x) (sym is) in
+    let stands : slice_get (outs_of requests out) i ≡ Some p = slice_get-map f out i ∙ ap (option_map f) stands_code in
+    let took = B.taken i p stands (referred ∙ ap (λ (x : End). x.reference) same) in
+    let D = U.driving in
+    let own : IsOut p = All-at IsOut (outs_of requests out) i p D.are_out stands in
+    let low : o.place < length (take n rs) = All-at (λ (q : Posted). q.place < length (take n rs)) (outs_of requests out) i p D.placed stands in
+    let short_n = length-take n rs in
+    let size_rs = length-map requests request_value in
+    let left_size : length memory_left ≡ memory_size = ap length left ∙ length-put memory_after (response_descriptor slot + 2) (word_bytes owner_word) ∙ r.size in
+    let ready : IsReady requests answers o memory_left = record {
+      there = omega arith;
+      sized = U.sized;
+      short = own.short;
+      inside = omega (arith, own.few, own.at, left_size);
+      prepared = All-at (IsPrepared (map answer_value answers)) (outs_of requests out) i p U.prepared stands;
+    } in
+    let final = memory_reopened memory_after slot in
+    let answer = answer_of p.request B.end (buffer_of p final) in
+    let noted_is : map answer_value noted ≡ slice_set (map answer_value answers) o.place answer =
+    settles ready ∙ ap₂ (λ (x : End) (m : List ℕ). slice_set (map answer_value answers) o.place (answer_of p.request x (buffer_of p m))) same left in
+    let outs_are : outs_of requests items ≡ remove (outs_of requests out) i = ap (map f) items_are ∙ map-remove f out i in
+    let Base : List Posted → List Answer → Type 0 = λ ps as'. Driving start.exec.units (take n rs) ps as' (taken_desk desk (next_grant port.deliveries)) port_after final in
+    let base : Base (outs_of requests items) (map answer_value noted) = subst₂ Base (sym outs_are) (sym noted_is) took in
+    let driving : Driving start.exec.units (take n rs) (outs_of requests items) (map answer_value noted) (taken_desk desk credits) port_after memory_left =
+    subst₂ (λ (k : ℕ) (m : List ℕ). Driving start.exec.units (take n rs) (outs_of requests items) (map answer_value noted) (taken_desk desk k) port_after m) (sym granted) (sym left) base in
+    let others : All (λ (q : Posted). q.place ≢ o.place) (remove (outs_of requests out) i) =
+    pairs_others (λ a b. a.place ≢ b.place) (λ a b. b.place ≢ a.place) (λ x y ne e. ne (sym e)) (λ x y ne. ne) (outs_of requests out) i p D.outs.distinct stands in
+    let kept = All-remove (IsPrepared (map answer_value answers)) (outs_of requests out) i U.prepared in
+    let prepared_set : All (IsPrepared (slice_set (map answer_value answers) o.place answer)) (remove (outs_of requests out) i) =
+    λ k d l a at. kept k d l a (sym (slice_get-set_other (map answer_value answers) o.place _ answer (others k d l)) ∙ at) in
+    let blank_set : AreBlank rs n (slice_set (map answer_value answers) o.place answer) =
+    λ k q a le at_k told. U.blank k q a le at_k (sym (slice_get-set_other (map answer_value answers) o.place k answer (λ same. omega arith)) ∙ told) in
+    let fewer : length items + 1 ≡ length out = ap (λ (k : ℕ). k + 1) (ap length items_are) ∙ omega (arith, length-remove out i lt) in
+    let many = many_out D in
+    let size_out = length-map out f in
+    let q : length items - length port_after.waiting ≡ length out - length port.waiting = omega (arith, B.waiting) in
+    let t = ap triangle q in
+    record {
+      now = record {
+        driving = driving;
+        prepared = subst₂ (λ (as' : List Answer) (ps : List Posted). All (IsPrepared as') ps) (sym noted_is) (sym outs_are) prepared_set;
+        blank = subst (AreBlank rs n) (sym noted_is) blank_set;
+        sized = sym (length-map noted answer_value) ∙ ap length noted_is ∙ length-set (map answer_value answers) o.place answer ∙ length-map answers answer_value ∙ U.sized;
+        within = U.within;
+        images = images;
+        begun = omega (arith, B.deliveries);
+        turns = omega (arith, U.turns, B.turns, B.pending, B.waiting, fewer);
+        deliveries = omega (arith, U.deliveries, B.deliveries, fewer);
+        load = omega (arith, U.load, B.load, t);
+      };
+      less = omega (arith, B.pending, B.waiting, fewer, many, size_out);
+    }
+
+-- the request of an end stands there
+abbrev pub IsFoundAt : List Out → ℕ → End → Type 0
+IsFoundAt seen i e = (i < length seen) × ((o : Out) → (get_or seen i o).place + 1 ≡ e.reference)
+
+-- ---- the answers before anything is posted
+
+pub blank_more : (requests : List CodeRequest) (i : ℕ) (answers : List CodeAnswer) (request : CodeRequest) (a : CodeAnswer) → length answers ≡ i → i < length requests → request ≡ get_or requests i request
+    → (too_long (request_value request) ≡ true → answer_value a ≡ TooLong) → (too_long (request_value request) ≡ false → Prepared (request_value request) (answer_value a))
+    → AreBlank (map request_value requests) 0 (map answer_value answers) → AreBlank (map request_value requests) 0 (map answer_value (answers ++ a ∷ []))
+blank_more requests i answers request a size lt is long room all k r b le at told =
+    let pushed : slice_get (map answer_value answers ++ answer_value a ∷ []) k ≡ Some b = ap (λ (l : List Answer). slice_get l k) (sym (map_push answer_value answers a)) ∙ told in
+    let count = length-map answers answer_value in
+    elim (cases_eq k i) [
+      | inl same ↦
+          let last : Some (answer_value a) ≡ Some b = sym (slice_get-last (map answer_value answers) k (answer_value a) (same ∙ sym size ∙ sym count)) ∙ pushed in
+          let b_is : answer_value a ≡ b = cc in
+          let descriptor_address : slice_get (map request_value requests) k ≡ Some (request_value request) =
+          ap (slice_get (map request_value requests)) same ∙ slice_get-map request_value requests i ∙ ap (option_map request_value) (slice_get-get_or requests i request lt ∙ ap (λ (x : CodeRequest). Some x) (sym is)) in
+          let both : Some r ≡ Some (request_value request) = sym at ∙ descriptor_address in
+          let r_is : request_value request ≡ r = cc in
+          subst₂ IsBlank r_is b_is (record { long = long; room = room })
+      | inr other ↦
+          let low : k < length (map answer_value answers) = omega (arith, slice_get_within (map answer_value answers ++ answer_value a ∷ []) k b pushed, length_push (map answer_value answers) (answer_value a), count) in
+          all k r b le at (sym (front_same (map answer_value answers) (answer_value a) k low) ∙ pushed)
+    ]
+
+-- ---- the lead
+
+lead-post : (room : ℕ) (seen : List Request) (r : Request) (rest : List Request) → 0 < room → too_long r ≡ false → list_any (clash r) seen ≡ false → lead_from room seen (r ∷ rest) ≡ lead_from (room - 1) (r ∷ seen) rest + 1
+lead-post zero seen r rest some short clear = absurd (omega arith)
+lead-post (suc room) seen r rest some short clear = let e : suc room - 1 ≡ room = omega arith in rw (e, short, clear) (omega arith)
+
+lead-skip : (room : ℕ) (seen : List Request) (r : Request) (rest : List Request) → too_long r ≡ true → lead_from room seen (r ∷ rest) ≡ lead_from room seen rest
+lead-skip zero seen r [] long = refl
+lead-skip zero seen r (s ∷ rest) long = refl
+lead-skip (suc room) seen r rest long = rw long refl
+
+lead-full : (room : ℕ) (seen : List Request) (r : Request) (rest : List Request) → room ≡ 0 → lead_from room seen (r ∷ rest) ≡ 0
+lead-full zero seen r rest e = refl
+lead-full (suc room) seen r rest e = absurd (omega arith)
+
+lead-clash : (room : ℕ) (seen : List Request) (r : Request) (rest : List Request) → too_long r ≡ false → list_any (clash r) seen ≡ true → lead_from room seen (r ∷ rest) ≡ 0
+lead-clash zero seen r rest short clash = refl
+lead-clash (suc room) seen r rest short clash = rw (short, clash) refl
+
+lead-none : (room : ℕ) (seen : List Request) → lead_from room seen [] ≡ 0
+lead-none zero seen = refl
+lead-none (suc room) seen = refl
+
+-- ---- the requests so far
+
+next_of : (requests : List CodeRequest) (n : ℕ) (request : CodeRequest) → n < length requests → request ≡ get_or requests n request → get_or (map request_value requests) n (ask.Status 0) ≡ request_value request
+next_of requests n request lt is = value_at requests n (ask.Status 0) request lt ∙ ap request_value (sym is)
+
+record Next (requests : List CodeRequest) (n : ℕ) (request : CodeRequest) : Type 0 where
+  within : n < length (map request_value requests)
+  more : take n (map request_value requests) ++ request_value request ∷ [] ≡ take (n + 1) (map request_value requests)
+  rest : drop n (map request_value requests) ≡ request_value request ∷ drop (n + 1) (map request_value requests)
+  at : slice_get (map request_value requests) n ≡ Some (request_value request)
+  counted : length (take n (map request_value requests)) ≡ n
+
+next : (requests : List CodeRequest) (n : ℕ) (request : CodeRequest) → n < length requests → request ≡ get_or requests n request → Next requests n request
+next requests n request lt is =
+    let rs = map request_value requests in
+    let within : n < length rs = omega (arith, length-map requests request_value) in
+    let descriptor_address = next_of requests n request lt is in
+    record {
+      within = within;
+      more = ap (λ (r : Request). take n rs ++ r ∷ []) (sym descriptor_address) ∙ sym (take_more rs n (ask.Status 0) within);
+      rest = drop_more rs n (ask.Status 0) within ∙ ap (λ (r : Request). r ∷ drop (n + 1) rs) descriptor_address;
+      at = slice_get-get_or rs n (ask.Status 0) within ∙ ap (λ (r : Request). Some r) descriptor_address;
+      counted = omega (arith, length-take n rs);
+    }
+
+posted-skip : (requests : List CodeRequest) (n : ℕ) (request : CodeRequest) → n < length requests → request ≡ get_or requests n request → too_long (request_value request) ≡ true → posted_count (take (n + 1) (map request_value requests)) ≡ posted_count (take n (map request_value requests))
+posted-skip requests n request lt is long =
+    let w = next requests n request lt is in
+    count_by_more_no is_short (map request_value requests) n (ask.Status 0) w.within (ap is_short (next_of requests n request lt is) ∙ ap not long)
+
+posted-more : (requests : List CodeRequest) (n : ℕ) (request : CodeRequest) → n < length requests → request ≡ get_or requests n request → too_long (request_value request) ≡ false → posted_count (take (n + 1) (map request_value requests)) ≡ posted_count (take n (map request_value requests)) + 1
+posted-more requests n request lt is short =
+    let w = next requests n request lt is in
+    count_by_more_yes is_short (map request_value requests) n (ask.Status 0) w.within (ap is_short (next_of requests n request lt is) ∙ ap not short)
+
+-- ---- a request is answered at once
+
+pub sailing_skip : {start : PortState} {requests : List CodeRequest} {n : ℕ} {out : List Out} {answers : List CodeAnswer} {desk : Desk} {port : PortState} {memory : List ℕ}
+    (request : CodeRequest) → n < length requests → request ≡ get_or requests n request → too_long (request_value request) ≡ true → Sailing start requests n out answers desk port memory → Sailing start requests (n + 1) out answers desk port memory
+sailing_skip {start} {requests} {n} {out} {answers} {desk} {port} {memory} request lt is long S =
+    let rs = map request_value requests in
+    let w = next requests n request lt is in
+    let U = S.under in
+    let r = request_value request in
+    let same = posted-skip requests n request lt is long in
+    let size : n < length (map answer_value answers) = omega (arith, length-map answers answer_value, U.sized) in
+    let stands = slice_get-get_or (map answer_value answers) n TooLong size in
+    let own = U.blank n r (get_or (map answer_value answers) n TooLong) (omega arith) w.at stands in
+    let blank : slice_get (map answer_value answers) (length (take n rs)) ≡ Some TooLong = ap (slice_get (map answer_value answers)) w.counted ∙ stands ∙ ap (λ (a : Answer). Some a) (own.long long) in
+    let driving = subst (λ (qs : List Request). Driving start.exec.units qs (outs_of requests out) (map answer_value answers) desk port memory) w.more (driving_skip r long blank U.driving) in
+    record {
+      bound = S.bound;
+      under = record {
+        driving = driving;
+        prepared = U.prepared;
+        blank = λ k q a le. U.blank k q a (omega arith);
+        sized = U.sized;
+        within = omega arith;
+        images = U.images;
+        begun = U.begun;
+        turns = omega (arith, U.turns, same);
+        deliveries = omega (arith, U.deliveries, same);
+        load = U.load;
+      };
+      ahead = go S.ahead;
+    }
+  where
+    go : Ahead start requests n S.bound out desk port → Ahead start requests (n + 1) S.bound out desk port
+    go (Leads is_bound l) =
+        let same = posted-skip requests n request lt is long in
+        let w = next requests n request lt is in
+        Leads (is_bound ∙ ap triangle (sym same)) (record {
+          seen = l.seen;
+          same = l.same;
+          ahead = l.ahead ∙ ap (λ (rest : List Request). length out + lead_from desk.held l.seen rest) w.rest ∙ ap (λ (k : ℕ). length out + k) (lead-skip desk.held l.seen (request_value request) (drop (n + 1) (map request_value requests)) long);
+          all_out = l.all_out ∙ sym same;
+          none_done = l.none_done;
+          load_is = l.load_is;
+        })
+    go (Led le is_bound) =
+        let same = posted-skip requests n request lt is long in
+        Led (omega arith) (is_bound ∙ ap (λ (k : ℕ). triangle (lead (map request_value requests)) + (k - lead (map request_value requests))) (sym same))
+
+-- ---- a request has to wait
+
+abbrev pub WaitsFor : List CodeRequest → List Out → Desk → CodeRequest → Bool
+WaitsFor requests out desk request = nat_eq desk.held 0 || list_any (λ o. clash (request_value request) (slice_index_or (map request_value requests) o.place (ask.Status 0))) out
+
+any-outs : (requests : List CodeRequest) (out : List Out) (r : Request) → list_any (λ p. clash r p.request) (outs_of requests out) ≡ list_any (λ o. clash r (slice_index_or (map request_value requests) o.place (ask.Status 0))) out
+any-outs requests [] r = refl
+any-outs requests (o ∷ os) r = ap (λ (b : Bool). clash r (slice_index_or (map request_value requests) o.place (ask.Status 0)) || b) (any-outs requests os r)
+
+some_out : (p : Out → Bool) (out : List Out) → list_any p out ≡ true → 0 < length out
+some_out p [] h = absurd (cc)
+some_out p (o ∷ os) h = omega arith
+
+or_cases : (a b : Bool) → a || b ≡ true → (a ≡ true) ⊎ (b ≡ true)
+or_cases true b h = inl refl
+or_cases false b h = inr h
+
+or_none : (a b : Bool) → a || b ≡ false → (a ≡ false) × (b ≡ false)
+or_none true b h = absurd (cc)
+or_none false b h = (refl, h)
+
+none_any : {X : Type 0} (p : X → Bool) (xs : List X) → list_any p xs ≡ false → All (λ x. p x ≡ false) xs
+none_any p [] h = All-nil (λ x. p x ≡ false)
+none_any p (x ∷ xs) h = let two = or_none (p x) (list_any p xs) h in All-cons (λ x. p x ≡ false) x xs two.0 (none_any p xs two.1)
+
+pub wait_some : {start : PortState} {requests : List CodeRequest} {n : ℕ} {out : List Out} {answers : List CodeAnswer} {desk : Desk} {port : PortState} {memory : List ℕ}
+    (request : CodeRequest) (seen : List Out) → seen ≡ out → WaitsFor requests seen desk request ≡ true → Sailing start requests n out answers desk port memory → 0 < length out
+wait_some {requests = requests} {out = out} {desk = desk} request seen same waits S =
+    elim (or_cases (nat_eq desk.held 0) _ waits) [
+      | inl full ↦ omega (arith, under_held S.under, eqb-true desk.held 0 full)
+      | inr met ↦ omega (arith, some_out (λ o. clash (request_value request) (slice_index_or (map request_value requests) o.place (ask.Status 0))) seen met, ap length same)
+    ]
+
+-- the lead is over once a request has to wait, or no more come
+record Over (requests : List CodeRequest) (n bound : ℕ) : Type 0 where
+  le : lead (map request_value requests) ≤ posted_count (take n (map request_value requests))
+  bound_is : bound ≡ triangle (lead (map request_value requests)) + (posted_count (take n (map request_value requests)) - lead (map request_value requests))
+
+over_from : {start : PortState} {requests : List CodeRequest} {n bound : ℕ} {out : List Out} {desk : Desk} {port : PortState} → ((l : Leading start requests n out desk port) → lead_from desk.held l.seen (drop n (map request_value requests)) ≡ 0)
+    → Ahead start requests n bound out desk port → Over requests n bound
+over_from {requests = requests} {n = n} {out = out} ends (Leads is_bound l) =
+    let k : lead (map request_value requests) ≡ posted_count (take n (map request_value requests)) = l.ahead ∙ ap (λ (m : ℕ). length out + m) (ends l) ∙ omega (arith, l.all_out) in
+    record { le = omega arith; bound_is = is_bound ∙ ap triangle (sym k) ∙ omega arith }
+over_from ends (Led le is_bound) = record { le = le; bound_is = is_bound }
+
+waits_over : {start : PortState} {requests : List CodeRequest} {n : ℕ} {out : List Out} {answers : List CodeAnswer} {desk : Desk} {port : PortState} {memory : List ℕ}
+    (request : CodeRequest) → n < length requests → request ≡ get_or requests n request → too_long (request_value request) ≡ false → WaitsFor requests out desk request ≡ true → (S : Sailing start requests n out answers desk port memory) → Over requests n S.bound
+waits_over {start} {requests} {n} {out} {answers} {desk} {port} {memory} request lt is short waits S =
+    let rs = map request_value requests in
+    let r = request_value request in
+    let w = next requests n request lt is in
+    over_from (λ l. ap (lead_from desk.held l.seen) w.rest ∙ elim (or_cases (nat_eq desk.held 0) _ waits) [
+      | inl full ↦ lead-full desk.held l.seen r (drop (n + 1) rs) (eqb-true desk.held 0 full)
+      | inr met ↦ lead-clash desk.held l.seen r (drop (n + 1) rs) short (l.same r ∙ any-outs requests out r ∙ met)
+    ]) S.ahead
+
+pub sailing_step : {start : PortState} {requests : List CodeRequest} {n : ℕ} {out : List Out} {answers : List CodeAnswer} {desk : Desk} {port : PortState} {memory : List ℕ}
+    (request : CodeRequest) (seen : List Out) (out_after : List Out) (answers_after : List CodeAnswer) (desk_after : Desk) (port_after : PortState) (memory_after : List ℕ)
+    → n < length requests → request ≡ get_or requests n request → too_long (request_value request) ≡ false → seen ≡ out → WaitsFor requests seen desk request ≡ true
+    → Onward requests out answers desk port memory out_after answers_after desk_after port_after memory_after
+    → Sailing start requests n out answers desk port memory → Sailing start requests n out_after answers_after desk_after port_after memory_after
+sailing_step {start} {requests} {n} {out} {answers} {desk} {port} {memory} request seen out_after answers_after desk_after port_after memory_after lt is short same waits on S =
+    let over = waits_over request lt is short (subst (λ (os : List Out). WaitsFor requests os desk request ≡ true) same waits) S in
+    record { bound = S.bound; under = on.kept start n S.bound S.under; ahead = Led over.le over.bound_is }
+
+-- ---- all are posted: what is out is done
+
+-- no more requests come
+pub record Draining (start : PortState) (requests : List CodeRequest) (out : List Out) (answers : List CodeAnswer) (desk : Desk) (port : PortState) (memory : List ℕ) : Type 0 where
+  pub bound : ℕ
+  pub under : Underway start requests (length requests) bound out answers desk port memory
+  pub le : lead (map request_value requests) ≤ posted_count (map request_value requests)
+  pub bound_is : bound ≡ triangle (lead (map request_value requests)) + (posted_count (map request_value requests) - lead (map request_value requests))
+
+pub draining : {start : PortState} {requests : List CodeRequest} {n : ℕ} {out : List Out} {answers : List CodeAnswer} {desk : Desk} {port : PortState} {memory : List ℕ}
+    → n ≡ length requests → Sailing start requests n out answers desk port memory → Draining start requests out answers desk port memory
+draining {start} {requests} {n} {out} {answers} {desk} {port} {memory} all S =
+    let rs = map request_value requests in
+    let whole : take n rs ≡ rs = take_all n rs (omega (arith, length-map requests request_value)) in
+    let none : drop n rs ≡ [] = drop_all n rs (omega (arith, length-map requests request_value)) in
+    let over = over_from (λ l. ap (lead_from desk.held l.seen) none ∙ lead-none desk.held l.seen) S.ahead in
+    let p = ap posted_count whole in
+    record {
+      bound = S.bound;
+      under = subst (λ (k : ℕ). Underway start requests k S.bound out answers desk port memory) all S.under;
+      le = omega (arith, over.le, p);
+      bound_is = over.bound_is ∙ ap (λ (k : ℕ). triangle (lead rs) + (k - lead rs)) p;
+    }
+
+pub draining_step : {start : PortState} {requests : List CodeRequest} {out : List Out} {answers : List CodeAnswer} {desk : Desk} {port : PortState} {memory : List ℕ} (out_after : List Out) (answers_after : List CodeAnswer) (desk_after : Desk) (port_after : PortState) (memory_after : List ℕ)
+    → Onward requests out answers desk port memory out_after answers_after desk_after port_after memory_after
+    → Draining start requests out answers desk port memory → Draining start requests out_after answers_after desk_after port_after memory_after
+draining_step {start} {requests} out_after answers_after desk_after port_after memory_after on S =
+    record { bound = S.bound; under = on.kept start (length requests) S.bound S.under; le = S.le; bound_is = S.bound_is }
+
+-- ---- a request is posted
+
+or-swap : (a b : Bool) → a || b ≡ b || a
+or-swap true true = refl
+or-swap true false = refl
+or-swap false true = refl
+or-swap false false = refl
+
+or-nothing : (a : Bool) → a || false ≡ a
+or-nothing true = refl
+or-nothing false = refl
+
+any-push : (requests : List CodeRequest) (out : List Out) (o : Out) (r : Request) → list_any (λ p. clash r p.request) (outs_of requests (out ++ o ∷ [])) ≡ clash r (posted_of (map request_value requests) o).request || list_any (λ p. clash r p.request) (outs_of requests out)
+any-push requests out o r =
+    let f = posted_of (map request_value requests) in
+    let test : Posted → Bool = λ p. clash r p.request in
+    ap (list_any test) (map_push f out o) ∙ list_any-append test (map f out) (f o ∷ []) ∙ ap (λ (b : Bool). list_any test (map f out) || b) (or-nothing (test (f o))) ∙ or-swap (list_any test (map f out)) (test (f o))
+
+abbrev pub command_for : CodeRequest → Out → Command
+command_for request o = command_of (request_value request) (o.place + 1) (buffer_address o.buffer)
+
+pub sailing_post : {start : PortState} {requests : List CodeRequest} {n : ℕ} {out : List Out} {answers : List CodeAnswer} {desk : Desk} {port : PortState} {memory : List ℕ}
+    (request : CodeRequest) (seen : List Out) (new : Out) (items : List Out) (desk_after : Desk) (port_after : PortState) (memory_after : List ℕ)
+    → n < length requests → request ≡ get_or requests n request → too_long (request_value request) ≡ false → seen ≡ out → WaitsFor requests seen desk request ≡ false
+    → new.place ≡ n → new.buffer < slots → (buffers : List Out) → buffers ≡ out → list_any (λ o. nat_eq o.buffer new.buffer) buffers ≡ false
+    → items ≡ out ++ new ∷ [] → desk_after ≡ posted_desk desk → IsWhole (request_value request) → read_command (written_command (command_for request new)) ≡ Ok (command_for request new)
+    → memory_after ≡ with_command (put memory (buffer_address new.buffer) (bytes_brought (request_value request))) desk.command_place (command_for request new)
+    → (port.phase ≡ Running → port_after ≡ record port { looking = true })
+    → Sailing start requests n out answers desk port memory → Sailing start requests (n + 1) items answers desk_after port_after memory_after
+sailing_post {start} {requests} {n} {out} {answers} {desk} {port} {memory} request seen new items desk_after port_after memory_after lt is short same waits place few buffers same_buffers free items_are desk_is whole legible memory_is port_is S =
+    let rs = map request_value requests in
+    let f = posted_of rs in
+    let r = request_value request in
+    let w = next requests n request lt is in
+    let U = S.under in
+    let D = U.driving in
+    let more = posted-more requests n request lt is short in
+    let request_is : (f new).request ≡ r = ap (λ (k : ℕ). get_or rs k (ask.Status 0)) place ∙ next_of requests n request lt is in
+    let P : Request → Posted = λ x. record { place = new.place; address = buffer_address new.buffer; request = x } in
+    let q : Posted = P r in
+    let q_is : f new ≡ q = ap P request_is in
+    let clear2 = or_none (nat_eq desk.held 0) _ (subst (λ (os : List Out). WaitsFor requests os desk request ≡ false) same waits) in
+    let credit : 0 < desk.held = omega (arith, eqb-false desk.held 0 clear2.0) in
+    let no_clash = none_any (λ (o : Out). clash r (slice_index_or rs o.place (ask.Status 0))) out clear2.1 in
+    let clear : All (λ (x : Posted). clash r x.request ≡ false) (outs_of requests out) = All-map (λ (x : Posted). clash r x.request ≡ false) f out no_clash in
+    let unused = none_any (λ (o : Out). nat_eq o.buffer new.buffer) out (subst (λ (os : List Out). list_any (λ o. nat_eq o.buffer new.buffer) os ≡ false) same_buffers free) in
+    let apart : All (λ (x : Posted). x.address ≢ q.address) (outs_of requests out) = All-map (λ (x : Posted). x.address ≢ q.address) f out (λ k d l e. let ne = eqb-false (get_or out k d).buffer new.buffer (unused k d l) in ne (omega arith)) in
+    let own : IsOut q = record { number = new.buffer; few = few; at = refl; short = short } in
+    let port' : PortState = record port { looking = true } in
+    let memory' = with_command (put memory (buffer_address new.buffer) (bytes_brought r)) desk.command_place (command_for request new) in
+    let posted = driving_post q credit (place ∙ sym w.counted) own whole legible apart clear D in
+    let outs_are : outs_of requests out ++ q ∷ [] ≡ outs_of requests (out ++ new ∷ []) = ap (λ (x : Posted). outs_of requests out ++ x ∷ []) (sym q_is) ∙ sym (map_push f out new) in
+    let driving = subst₂ (λ (qs : List Request) (ps : List Posted). Driving start.exec.units qs ps (map answer_value answers) (posted_desk desk) port' memory') w.more outs_are posted in
+    let Fit : Posted → Type 0 = IsPrepared (map answer_value answers) in
+    let fit : Fit q = λ a at. let b = U.blank n r a (omega arith) w.at (ap (slice_get (map answer_value answers)) (sym place) ∙ at) in b.room short in
+    let prepared = subst (All Fit) outs_are (All-push Fit (outs_of requests out) q U.prepared fit) in
+    let longer = length_push out new in
+    let many = many_out D in
+    let size_out = length-map out f in
+    let room : length (out ++ new ∷ []) - length port.waiting ≡ (length out - length port.waiting) + 1 = omega arith in
+    let t = ap triangle room ∙ triangle-more (length out - length port.waiting) in
+    let F : List Out → Desk → PortState → List ℕ → Type 0 = λ os d p m. Sailing start requests (n + 1) os answers d p m in
+    let under : (bound : ℕ) → start.load + bound ≤ port.load + triangle (length (out ++ new ∷ []) - length port.waiting) → Underway start requests (n + 1) bound (out ++ new ∷ []) answers (posted_desk desk) port' memory' = λ bound load. record {
+      driving = driving;
+      prepared = prepared;
+      blank = λ k x a le. U.blank k x a (omega arith);
+      sized = U.sized;
+      within = omega arith;
+      images = U.images;
+      begun = U.begun;
+      turns = omega (arith, U.turns, more, longer);
+      deliveries = omega (arith, U.deliveries, more, longer);
+      load = load;
+    } in
+    let sailed : F (out ++ new ∷ []) (posted_desk desk) port' memory' = elim S.ahead [
+      | Leads is_bound l ↦
+          let count : length (out ++ new ∷ []) ≡ posted_count (take (n + 1) rs) = omega (arith, longer, l.all_out, more) in
+          let all : length (out ++ new ∷ []) - length port.waiting ≡ posted_count (take (n + 1) rs) = omega (arith, l.none_done, count) in
+          record {
+            bound = triangle (posted_count (take (n + 1) rs));
+            under = under (triangle (posted_count (take (n + 1) rs))) (omega (arith, l.load_is, ap triangle all));
+            ahead = Leads refl (record {
+              seen = r ∷ l.seen;
+              same = λ x. ap₂ (λ (a b : Bool). a || b) (ap (clash x) (sym request_is)) (l.same x) ∙ sym (any-push requests out new x);
+              ahead = l.ahead ∙ ap (λ (rest : List Request). length out + lead_from desk.held l.seen rest) w.rest
+                  ∙ ap (λ (k : ℕ). length out + k) (lead-post desk.held l.seen r (drop (n + 1) rs) credit short (l.same r ∙ any-outs requests out r ∙ clear2.1)) ∙ omega (arith, longer);
+              all_out = count;
+              none_done = l.none_done;
+              load_is = l.load_is;
+            });
+          }
+      | Led le is_bound ↦ record {
+        bound = S.bound + 1;
+        under = under (S.bound + 1) (omega (arith, U.load, t));
+        ahead = Led (omega (arith, le, more)) (omega (arith, is_bound, le, more));
+      }
+    ] in
+    subst₂ (λ (os : List Out) (d : Desk). F os d port_after memory_after) (sym items_are) (sym desk_is)
+    (subst₂ (λ (p : PortState) (m : List ℕ). F (out ++ new ∷ []) (posted_desk desk) p m) (sym (port_is D.step.running)) (sym memory_is) sailed)
+
+-- ---- the beginning
+
+pub sailing_start : (requests : List CodeRequest) (answers : List CodeAnswer) (out : List Out) (desk : Desk) (port : PortState) (memory : List ℕ) → AtRest desk port memory → AreImages port.exec.units → out ≡ [] → length answers ≡ length requests → AreBlank (map request_value requests) 0 (map answer_value answers)
+    → Sailing port requests 0 out answers desk port memory
+sailing_start requests answers out desk port memory rest images empty sized blank =
+    let n_p = ap length rest.nothing_pending in
+    let n_w = ap length rest.nothing_waits in
+    let within = rest.step.commands.within in
+    let owes = owes_start port.exec.units memory in
+    let outs : Outs [] [] [] port.waiting = record {
+      counted = refl;
+      due_out = All-nil (Has []);
+      ended_out = All-nil (λ (d : Ended). Has [] d.posted);
+      waiting_is = rest.nothing_waits;
+      referred = All-nil (λ (d : Ended). d.end.reference ≡ d.posted.place + 1);
+      distinct = λ i j d below within. absurd (omega arith);
+      ended_apart = λ i j d below within. absurd (omega arith);
+      due_apart = All-nil (λ (d : Ended). All (λ (p : Posted). p.place ≢ d.posted.place) []);
+    } in
+    let keeps : Keeps port.exec.units [] [] [] (map answer_value answers) port.exec.units memory = record {
+      told = [];
+      owes = owes;
+      tell = All-nil (Tells [] memory);
+      beside = All-nil (λ (d : Ended). All (Beside (posted_command d.posted)) (commands_in []));
+      shown = λ k lt nd ne. absurd (omega arith);
+    } in
+    let driving : Driving port.exec.units [] [] (map answer_value answers) desk port memory = record {
+      unfetched = [];
+      due = [];
+      ended = [];
+      step = rest.step;
+      next = omega (arith, rest.next);
+      slot = rest.slot;
+      waits = ap (λ (cs : List Command). cs ++ []) rest.nothing_pending;
+      keeps = keeps;
+      outs = outs;
+      are_out = All-nil IsOut;
+      placed = All-nil (λ (p : Posted). p.place < 0);
+    } in
+    let under : Underway port requests 0 0 [] answers desk port memory = record {
+      driving = driving;
+      prepared = All-nil (IsPrepared (map answer_value answers));
+      blank = blank;
+      sized = sized;
+      within = omega arith;
+      images = images;
+      begun = rest.begun;
+      turns = omega (arith, n_p, n_w);
+      deliveries = omega arith;
+      load = omega arith;
+    } in
+    let held : desk.held ≡ slots = omega (arith, under_held under) in
+    subst (λ (os : List Out). Sailing port requests 0 os answers desk port memory) (sym empty) (record {
+      bound = 0;
+      under = under;
+      ahead = Leads refl (record {
+        seen = [];
+        same = λ r. refl;
+        ahead = ap (λ (k : ℕ). lead_from k [] (map request_value requests)) (sym held) ∙ omega arith;
+        all_out = refl;
+        none_done = n_w;
+        load_is = refl;
+      });
+    })
+
+-- ---- the end
+
+double : (n : ℕ) → 2 * triangle n ≡ n * (n + 1)
+double zero = refl
+double (suc n) = let h = double n in grind (arith, h)
+
+triangle-is : (n : ℕ) → triangle n ≡ n * (n + 1) / 2
+triangle-is n = let h = double n in omega arith
+
+pub drained : {start : PortState} {requests : List CodeRequest} {out : List Out} {answers : List CodeAnswer} {desk desk' : Desk} {port : PortState} {memory memory' : List ℕ}
+    → AtRest desk' start memory' → out ≡ [] → Draining start requests out answers desk port memory → Ran start requests answers desk port memory
+drained {start} {requests} {out} {answers} {desk} {desk'} {port} {memory} {memory'} was empty S =
+    let rs = map request_value requests in
+    let U = subst (λ (os : List Out). Underway start requests (length requests) S.bound os answers desk port memory) empty S.under in
+    let whole : take (length requests) rs ≡ rs = take_all (length requests) rs (omega (arith, length-map requests request_value)) in
+    let p = ap posted_count whole in
+    let D = subst (λ (qs : List Request). Driving start.exec.units qs [] (map answer_value answers) desk port memory) whole U.driving in
+    let many = many_out D in
+    let none : D.unfetched ≡ [] = nil_from_length D.unfetched (omega arith) in
+    let none_pending : port.exec.pending ≡ [] = nil_from_length port.exec.pending (omega arith) in
+    let none_waits : port.waiting ≡ [] = nil_from_length port.waiting (omega arith) in
+    let n_p = ap length none_pending in
+    let n_w = ap length none_waits in
+    let were_p = ap length was.nothing_pending in
+    let were_w = ap length was.nothing_waits in
+    let now = D.step.agree.conserved in
+    let before = was.step.agree.conserved in
+    let size = length-map answers answer_value in
+    let t = triangle-is (lead rs) in
+    let place = D.next in
+    let within = D.step.commands.within in
+    record {
+      rest = record {
+        step = subst (λ (cs : List Command). InStep memory port cs desk.held) none D.step;
+        next = omega (arith, ap length none);
+        slot = D.slot;
+        nothing_pending = none_pending;
+        nothing_waits = none_waits;
+        begun = U.begun;
+      };
+      counted = U.sized;
+      images = U.images;
+      owes = driving_end (omega (arith, size, length-map requests request_value, U.sized)) D;
+      counts = record {
+        turns = omega (arith, U.turns, p, n_p, n_w);
+        fetches = omega (arith, U.deliveries, p, n_p, n_w, were_p, were_w, now, before);
+        deliveries = omega (arith, U.deliveries, p);
+        load = let z : triangle (length {A = Out} [] - length port.waiting) ≡ 0 = ap (λ (w : ℕ). triangle (0 - w)) n_w in omega (arith, U.load, S.bound_is, t, z);
+      };
+    }
+
+-- what the code needs of its numbers
+pub record InRange (out : List Out) (desk : Desk) (memory : List ℕ) : Type 0 where
+  pub command : desk.command_place < slots
+  pub response : desk.response_place < slots
+  pub held : desk.held ≤ slots
+  pub size : length memory ≡ memory_size
+  pub together : desk.held + length out ≡ slots
+
+pub in_range : {start : PortState} {requests : List CodeRequest} {n bound : ℕ} {out : List Out} {answers : List CodeAnswer} {desk : Desk} {port : PortState} {memory : List ℕ}
+    → Underway start requests n bound out answers desk port memory → InRange out desk memory
+in_range U =
+    let D = U.driving in
+    let h = under_held U in
+    let next = D.next in let slot = D.slot in let within = D.step.within in
+    record { command = omega arith; response = omega arith; held = omega arith; size = D.step.commands.size; together = h }
+
+-- a request that need not wait has a credit, and there is a buffer for it
+pub credit_left : (requests : List CodeRequest) (seen : List Out) (desk : Desk) (request : CodeRequest) → WaitsFor requests seen desk request ≡ false → 0 < desk.held
+credit_left requests seen desk request waits = let two = or_none (nat_eq desk.held 0) _ waits in omega (arith, eqb-false desk.held 0 two.0)

@@ -1,0 +1,5 @@
+pub mod Run
+pub mod Driving
+pub mod Underway
+pub mod Starting
+pub mod Driver

@@ -1,0 +1,133 @@
+//! The driver.
+ghost use Rattle.std.specs.Prelude.{◌≡◌, ◌<◌, ◌↔◌, length, Err, IfOk, IfErr};
+ghost use Rattle.uda_exec.specs.Drives.{drive_states, fresh_units, drives_in};
+ghost use Rattle.uda_exec.specs.Execution.{natures_of};
+ghost use Rattle.uda_model.specs.Keeping.{AllFaithful};
+ghost use Rattle.uda_model.specs.Values.{request_values, answer_values};
+ghost use Rattle.uda_driver.specs.Run.{request_limit, AreAnswersOf, NoneFailed, IsPlainRun, TellsLosses, CountsOn};
+ghost use Rattle.uda_driver.specs.Driver.{units_of, IsAtRest};
+
+use crate::desk::Desk;
+use crate::serve::run;
+use crate::start::{begin, host_memory, new_port, stores_of};
+use std::alloc::Global;
+use std::marker::Model;
+use uda_image::{BlockStore, Drive};
+use uda_mem::{HostMemory, NoMemory};
+use uda_model::{Answer, Request};
+use uda_port::Port;
+
+/// The most requests of one run.
+pub const REQUEST_LIMIT: usize = 4096;
+
+/// Why nothing was done.
+#[derive(Clone, Copy, Debug, PartialEq, Eq)]
+pub enum RunError {
+    /// No memory was left for the answers.
+    NoMemory,
+    /// More than [`REQUEST_LIMIT`] requests.
+    TooMany,
+}
+
+/// A class driver: host memory, a port over the units' executor, and what it keeps of that.
+///
+/// It reaches its units through the port alone, and keeps nothing of their blocks.
+#[derive(Drop)]
+pub struct Driver<S: BlockStore> {
+    alloc: Global,
+    memory: HostMemory,
+    desk: Desk,
+    port: Port<S>,
+}
+
+impl<S: BlockStore> Model for Driver<S> {
+    ghost use Rattle.uda_driver.specs.Driver.{DriverState, IsDriver};
+
+    ghost Value = { DriverState };
+
+    ghost view = { λ d. record { memory = d.memory; port = d.port; desk = d.desk } };
+
+    ghost invariant = { IsDriver };
+}
+
+impl<S: BlockStore> Driver<S> {
+    /// A driver over the drives of units 0 to 3: it makes memory and port, starts the port up, and has
+    /// one Set Controller Characteristics done.
+    ///
+    /// No store is called. Every unit with a drive is then available, without software protection, with
+    /// its blocks and hardware protection as given; nothing is out, and the driver holds eight credits.
+    /// Where `alloc` has no memory the answer is [`NoMemory`] with the drives as they were.
+    ///
+    /// UDA50 Programmer's Documentation Kit: initialisation, credits.
+    pub fn start(
+        alloc: Global,
+        drives: [Option<Drive<S>>; 4],
+    ) -> Result<Driver<S>, (NoMemory, [Option<Drive<S>>; 4])>
+        ensures rest { IfOk result (λ driver. IsAtRest driver) }
+        ensures units { IfOk result (λ driver.
+            units_of driver ≡ fresh_units (drive_states S.state drives)) }
+        ensures refused { IfErr result (λ refusal.
+            drive_states S.state refusal.1 ≡ drive_states S.state drives) }
+    {
+        let Ok(mut memory) = host_memory(alloc) else {
+            return Err((NoMemory, drives));
+        };
+        match new_port(alloc, drives) {
+            Err(refusal) => Err(refusal),
+            Ok(mut port) => {
+                let desk = begin(&mut port, &mut memory);
+                Ok(Driver {
+                    alloc,
+                    memory,
+                    port,
+                    desk,
+                })
+            }
+        }
+    }
+
+    /// Has the requests done, and answers each.
+    ///
+    /// Up to eight commands are out at once, and the controller does them in any order it chooses. Yet
+    /// answers and disks are those of one plain array of blocks for each unit, served in order, where
+    /// every store is faithful and none fails (`headline`); where stores fail, those of such a run with
+    /// transfers lost, each loss told once (`losses`). Whatever the stores, each request has an answer of
+    /// its own form (`shape`), and the port's turns are counted (`counts`).
+    ///
+    /// More than 4096 requests are `TooMany`, and where no memory is left for the answers the error is
+    /// `NoMemory`: then nothing was done. All memory is taken before the first command.
+    pub fn run(&mut self, requests: &[Request]) -> Result<Vec<Answer>, RunError>
+        ensures too_many { (result ≡ Err RunError.TooMany) ↔ (request_limit < length requests.now) }
+        ensures unchanged { IfErr result (λ _. self.new ≡ self.old) }
+        ensures rest { IsAtRest self.new }
+        ensures natures { natures_of (units_of self.new) ≡ natures_of (units_of self.old) }
+        ensures shape { IfOk result (λ answers.
+            AreAnswersOf (request_values requests.now) (answer_values answers.items)) }
+        ensures headline { IfOk result (λ answers.
+            AllFaithful (units_of self.old) → NoneFailed (units_of self.old) (units_of self.new)
+            → IsPlainRun (units_of self.old) (request_values requests.now)
+            (answer_values answers.items) (units_of self.new)) }
+        ensures losses { IfOk result (λ answers.
+            AllFaithful (units_of self.old)
+            → TellsLosses (units_of self.old) (request_values requests.now)
+            (answer_values answers.items) (units_of self.new)) }
+        ensures counts { IfOk result (λ _.
+            CountsOn (request_values requests.now) self.old.port self.new.port) }
+    {
+        run(
+            self.alloc,
+            &mut self.port,
+            &mut self.memory,
+            &mut self.desk,
+            requests,
+        )
+    }
+
+    /// The drives as the last run left them, hardware protection too. No store is called.
+    pub fn into_stores(self) -> [Option<Drive<S>>; 4]
+        ensures drives { drive_states S.state result ≡ drives_in (units_of self) }
+    {
+        let Driver { port, .. } = self;
+        stores_of(port)
+    }
+}

@@ -10,9 +10,9 @@ use uda_packet::{Command, Op, decode_end, encode_command};
 use uda_port::Port;
 
 fn main(rt: HostRuntime) -> Result<()> {
-    let store = MemImage::new(rt.alloc(), 1000)?;
+    let store = MemImage::new(rt.alloc(), 8)?;
     let drive = Drive { store, hard: true };
-    let mut memory = HostMemory::new(rt.alloc(), 65_536)?;
+    let mut memory = HostMemory::new(rt.alloc(), 4096)?;
     let mut port = match Port::new(rt.alloc(), Exec::new([Some(drive), None, None, None])) {
         Ok(port) => port,
         Err((error, _)) => return Err(error.into()),
@@ -33,7 +33,14 @@ fn main(rt: HostRuntime) -> Result<()> {
     if let Some(text) = memory.window_mut(0x200, 48) {
         text.copy_from_slice(&encode_command(&command));
     }
-    let words = [(0xfc, 48), (0x1fc, 48), (8, 0x100), (10, 0x8000), (12, 0x200), (14, 0x8000)];
+    let words = [
+        (0xfc, 48),
+        (0x1fc, 48),
+        (8, 0x100),
+        (10, 0x8000),
+        (12, 0x200),
+        (14, 0x8000),
+    ];
     for (address, word) in words {
         memory.write_word(address, word);
     }
@@ -43,7 +50,10 @@ fn main(rt: HostRuntime) -> Result<()> {
     for _ in 0..4 {
         println!(rt; "{:?}", port.turn(&mut memory))?;
     }
-    if let Some(end) = memory.window(0x100, 48).and_then(|text| decode_end(text.as_array()?)) {
+    if let Some(end) = memory
+        .window(0x100, 48)
+        .and_then(|text| decode_end(text.as_array()?))
+    {
         println!(rt; "{end}")?;
     }
     println!(rt; "{port:?}")?;

@@ -64,13 +64,6 @@ fn alone<S>(store: S, hard: bool) -> [Option<Drive<S>>; 4] {
     [Some(Drive { store, hard }), None, None, None]
 }
 
-fn start<S: BlockStore + Drop>(alloc: Global, store: S, hard: bool) -> Result<Driver<S>, Fail> {
-    match Driver::start(alloc, alone(store, hard)) {
-        Ok(driver) => Ok(driver),
-        Err(_) => Err("no memory for a driver".into()),
-    }
-}
-
 fn run<S: BlockStore>(driver: &mut Driver<S>, requests: &[Request]) -> Result<Vec<Answer>, Fail> {
     match driver.run(requests) {
         Ok(answers) => Ok(answers),
@@ -79,12 +72,9 @@ fn run<S: BlockStore>(driver: &mut Driver<S>, requests: &[Request]) -> Result<Ve
 }
 
 /// The store of unit 0.
-fn store_of<S: BlockStore + Drop>(driver: Driver<S>) -> Result<S, Fail> {
-    let [first, _, _, _] = driver.into_stores();
-    match first {
-        Some(drive) => Ok(drive.store),
-        None => Err("no drive".into()),
-    }
+fn first_of<S: Drop>(drives: [Option<Drive<S>>; 4]) -> Option<S> {
+    let [first, _, _, _] = drives;
+    first.map(|drive| drive.store)
 }
 
 /// What a driver over one image answers, and the image afterwards.
@@ -93,16 +83,19 @@ fn serve(
     image: MemImage,
     requests: &[Request],
 ) -> Result<(Vec<Answer>, MemImage), Fail> {
-    let mut driver = start(alloc, image, false)?;
+    let mut driver = Driver::start(alloc, alone(image, false)).map_err(|_| "no memory")?;
     let answers = run(&mut driver, requests)?;
-    Ok((answers, store_of(driver)?))
+    let image = first_of(driver.into_stores()).ok_or("no drive")?;
+    Ok((answers, image))
 }
 
-/// An image of which block k has this byte in k-th place.
+/// An image of eight blocks at least, of which block k is all of the k-th byte.
 fn image_of(alloc: Global, bytes: &[u8]) -> Result<MemImage, Fail> {
-    let mut image = MemImage::new(alloc, bytes.len() as u32)?;
-    for (k, byte) in bytes.iter().enumerate() {
-        let _ = image.write(k as u32, &[*byte; 512]);
+    let mut image = MemImage::new(alloc, if bytes.len() > 8 { 10 } else { 8 })?;
+    for (k, byte) in (0..16).zip(bytes) {
+        if k < image.size() {
+            let _ = image.write(k, &[*byte; 512]);
+        }
     }
     Ok(image)
 }

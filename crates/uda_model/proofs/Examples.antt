@@ -63,8 +63,10 @@ unfolding put part
 more_than_eight = refl
 
 overlapping_writes : plain eight (ask.Online 0 false ∷ ask.Write 0 3 (of 0x11 ∷ of 0x11 ∷ of 0x11 ∷ []) ∷ ask.Read 0 5 1 ∷ ask.Write 0 5 (of 0x22 ∷ []) ∷ ask.Read 0 5 1 ∷ [])
-    ≡ (Online 0 0 8 ∷ Moved 0 1536 ∷ Data 0 (of 0x11) ∷ Moved 0 512 ∷ Data 0 (of 0x22) ∷ [],
-    Some (record { blocks = zeros 3 ++ (of 0x11 ∷ of 0x11 ∷ of 0x22 ∷ zeros 2); size = 8; mode = record { online = true; hard = false; soft = false } }) ∷ None ∷ None ∷ None ∷ [])
+    ≡ (
+      Online 0 0 8 ∷ Moved 0 1536 ∷ Data 0 (of 0x11) ∷ Moved 0 512 ∷ Data 0 (of 0x22) ∷ [],
+      Some (record { blocks = zeros 3 ++ (of 0x11 ∷ of 0x11 ∷ of 0x22 ∷ zeros 2); size = 8; mode = record { online = true; hard = false; soft = false } }) ∷ None ∷ None ∷ None ∷ [],
+    )
 unfolding put part
 overlapping_writes = refl
 
@@ -97,8 +99,10 @@ half = replicate 256 0x44 ++ replicate 256 0
 failing_store : plain_as eight (
     record { request = ask.Online 0 false; outcome = Done } ∷ record { request = ask.Write 0 0 (of 0x44 ∷ of 0x44 ∷ of 0x44 ∷ []); outcome = Lost 1 half }
     ∷ record { request = ask.Read 0 0 1; outcome = Done } ∷ [])
-    ≡ (Online 0 0 8 ∷ Moved 0x000B 512 ∷ Data 0 (of 0x44) ∷ [],
-    Some (record { blocks = of 0x44 ∷ half ∷ zeros 6; size = 8; mode = record { online = true; hard = false; soft = false } }) ∷ None ∷ None ∷ None ∷ [])
+    ≡ (
+      Online 0 0 8 ∷ Moved 0x000B 512 ∷ Data 0 (of 0x44) ∷ [],
+      Some (record { blocks = of 0x44 ∷ half ∷ zeros 6; size = 8; mode = record { online = true; hard = false; soft = false } }) ∷ None ∷ None ∷ None ∷ [],
+    )
 unfolding put part
 failing_store = refl
 

@@ -6,3 +6,4 @@ pub mod Posting
 pub mod Ledger
 pub mod Keeping
 pub mod Values
+pub mod Display

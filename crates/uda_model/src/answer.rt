@@ -1,4 +1,8 @@
 //! What a driver answers.
+ghost use Rattle.std.specs.Prelude.{Some};
+ghost use Rattle.uda_model.specs.Display.{answer_display};
+
+use std::fmt;
 
 /// What a driver answers a request. Each kind of request has one form of answer, refused or not.
 ///
@@ -42,4 +46,25 @@ pub enum Answer {
         /// The bytes of the whole blocks that were read.
         bytes: Vec<u8>,
     },
+}
+
+/// As `0000 1000 891072`: the status, and then flags, a size or the number of bytes; `long` of an answer
+/// that is `TooLong`.
+impl fmt::Display for Answer {
+    ghost output = { λ answer. Some (answer_display answer) };
+
+    fn fmt<W: fmt::Write>(&self, f: &mut fmt::Formatter<W>) -> fmt::Result {
+        match self {
+            Answer::TooLong => f.write_str("long"),
+            Answer::Plain { status } => write!(f, "{status:04x}"),
+            Answer::Online {
+                status,
+                flags,
+                size,
+            } => write!(f, "{status:04x} {flags:04x} {size}"),
+            Answer::Status { status, flags } => write!(f, "{status:04x} {flags:04x}"),
+            Answer::Moved { status, bytes } => write!(f, "{status:04x} {bytes}"),
+            Answer::Data { status, bytes } => write!(f, "{status:04x} {}", bytes.len()),
+        }
+    }
 }

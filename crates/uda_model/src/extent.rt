@@ -36,7 +36,11 @@ impl Extent {
     pub fn is_too_long(self) -> bool
         ensures long { result ≡ nat_lt (limit_of self.kind) self.count }
     {
-        let limit = if self.kind.has_buffer() { 32 } else { 8_388_607 };
+        let limit = if self.kind.has_buffer() {
+            32
+        } else {
+            8_388_607
+        };
         self.count > limit
     }
 }

@@ -105,11 +105,17 @@ fn kept_out_and_out_of_order(rt: HostRuntime) -> Result<(), Fail> {
             image,
             calls: ArrayVec::new(),
         };
-        let mut driver = start(alloc, store, false)?;
+        let mut driver = Driver::start(alloc, alone(store, false)).map_err(|_| "no memory")?;
         let answers = run(&mut driver, &requests)?;
         let (plain, _) = serve(alloc, image_of(alloc, blocks)?, &requests)?;
         assert_eq!(rt; answers.as_slice(), plain.as_slice());
-        assert_eq!(rt; store_of(driver)?.calls.as_slice(), calls);
+        assert_eq!(rt;
+            first_of(driver.into_stores())
+                .ok_or("no drive")?
+                .calls
+                .as_slice(),
+            calls
+        );
     }
     Ok(())
 }

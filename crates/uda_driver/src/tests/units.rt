@@ -14,7 +14,9 @@ fn empty_run(rt: HostRuntime) -> Result<(), Fail> {
 fn unit_states(rt: HostRuntime) -> Result<(), Fail> {
     let alloc = rt.alloc();
     let available = Request::Available { unit: 0 };
-    let mut driver = start(alloc, MemImage::new(alloc, 8)?, false)?;
+    let mut driver = Driver::start(alloc, alone(MemImage::new(alloc, 8)?, false)).map_err(
+        |_| "no memory",
+    )?;
     for (request, answer) in [
         (read(0, 1), no_data(alloc, 4)),
         (
@@ -89,7 +91,9 @@ fn protected_units(rt: HostRuntime) -> Result<(), Fail> {
         assert_eq!(rt; image.bytes(), [0; 4096].as_slice());
     }
     // by the drive
-    let mut driver = start(alloc, image_of(alloc, &[1; 8])?, true)?;
+    let mut driver = Driver::start(alloc, alone(image_of(alloc, &[1; 8])?, true)).map_err(
+        |_| "no memory",
+    )?;
     let erase = Request::Erase {
         unit: 0,
         lbn: 0,
@@ -102,7 +106,10 @@ fn protected_units(rt: HostRuntime) -> Result<(), Fail> {
         size: 8,
     };
     assert_eq!(rt; answers.as_slice(), [online, moved(0x2006, 0)].as_slice());
-    assert_eq!(rt; store_of(driver)?.bytes(), [1; 4096].as_slice());
+    assert_eq!(rt;
+        first_of(driver.into_stores()).ok_or("no drive")?.bytes(),
+        [1; 4096].as_slice()
+    );
     Ok(())
 }
 
@@ -149,7 +156,9 @@ fn too_many_requests(rt: HostRuntime) -> Result<(), Fail> {
     for _ in 0..4097 {
         requests.push(Request::Status { unit: 0 })?;
     }
-    let mut driver = start(alloc, MemImage::new(alloc, 8)?, false)?;
+    let mut driver = Driver::start(alloc, alone(MemImage::new(alloc, 8)?, false)).map_err(
+        |_| "no memory",
+    )?;
     assert!(rt; matches!(driver.run(&requests), Err(RunError::TooMany)));
     requests.truncate(4096);
     let answers = run(&mut driver, &requests)?;
@@ -160,7 +169,9 @@ fn too_many_requests(rt: HostRuntime) -> Result<(), Fail> {
 #[test]
 fn two_runs_of_one_driver(rt: HostRuntime) -> Result<(), Fail> {
     let alloc = rt.alloc();
-    let mut driver = start(alloc, MemImage::new(alloc, 8)?, false)?;
+    let mut driver = Driver::start(alloc, alone(MemImage::new(alloc, 8)?, false)).map_err(
+        |_| "no memory",
+    )?;
     let answers = run(&mut driver, &[ONLINE, write(alloc, 2, 0x21, 1)?])?;
     assert_eq!(rt; answers.as_slice(), [online(8), moved(0, 512)].as_slice());
     let available = Request::Available { unit: 0 };

@@ -10,7 +10,8 @@ use uda_packet::{Command, End, Envelope, decode_command};
 /// The command of a packet, or the end of what is none. None where the envelope is of another
 /// connection or message type.
 pub(crate) fn message_in(packet: &Fetched) -> Option<Result<Command, End>>
-    ensures { MatchOption result (IsSequential packet.now → ⊥) (λ message. IsSequential packet.now × (message ≡ message_in packet.now)) }
+    ensures { MatchOption result (IsSequential packet.now → ⊥)
+        (λ message. IsSequential packet.now × (message ≡ message_in packet.now)) }
 {
     let envelope = Envelope::of_words(packet.words.0, packet.words.1);
     if envelope.kind != 0 || envelope.connection != 0 {

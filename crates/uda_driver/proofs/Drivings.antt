@@ -1,20 +1,18 @@
 -- The steps of a driver: the ring protocol and the ledger together.
-use Rattle.std.proofs.Common.{◌≡◌, ◌≢◌, ℕ, zero, suc, ◌+◌, ◌-◌, ◌*◌, ◌%◌, ◌<◌, ◌≤◌, min, max, Bool, true, false, List, [], ◌∷◌, ◌++◌, length, map, get_or, Option, Some, None, refl, sym, ap, ap₂, ◌∙◌, arith, subst, subst₂, length-append}
-use Rattle.std.specs.Prelude.{slice_get, slice_set, remove, option_map, All, AllPairs, Ok, ◌&&◌, ◌||◌}
+use Rattle.std.proofs.Common.{◌≡◌, ◌≢◌, ℕ, ◌+◌, ◌*◌, ◌%◌, ◌<◌, ◌≤◌, Bool, true, false, List, [], ◌∷◌, ◌++◌, length, map, get_or, Option, Some, refl, sym, ap, ap₂, ◌∙◌, arith, subst, subst₂, length-append}
+use Rattle.std.specs.Prelude.{slice_get, slice_set, remove, All, AllPairs, Ok, ◌&&◌, ◌||◌}
 use Rattle.std.proofs.lemmas.List.{length-map, map_push, append-nil, append_assoc, length_push, nil_from_length}
 use Rattle.std.proofs.lemmas.List.Edits.{length-remove}
-use Rattle.std.proofs.lemmas.List.Elements.{All-nil, All-head, All-tail, All-push, All-append, All-weaker, All-map}
-use Rattle.std.proofs.lemmas.Option.{slice_get_within, slice_get-map}
-use Rattle.uda_mem.specs.Put.{put, part, Meet}
+use Rattle.std.proofs.lemmas.List.Elements.{All-head, All-push, All-weaker, All-map}
+use Rattle.uda_mem.specs.Put.{put, Meet}
 use Rattle.uda_mem.specs.Words.{word_bytes}
-use Rattle.uda_mem.proofs.PutLaws.{length-put}
 use Rattle.uda_mem.proofs.WordLaws.{length-word_bytes}
 use Rattle.uda_packet.specs.declared.command.Command.{Command}
 use Rattle.uda_packet.specs.declared.end.End.{End}
 use Rattle.uda_packet.specs.Written.{written_command, written_end}
 use Rattle.uda_packet.specs.Reading.{read_command}
 use Rattle.uda_packet.proofs.WrittenLaws.{length-written_command, length-written_end}
-use Rattle.uda_exec.specs.Disks.{UnitState, ExecState}
+use Rattle.uda_exec.specs.Disks.{UnitState}
 use Rattle.uda_exec.specs.Commands.{address_of, room_of, is_transfer, is_changing}
 use Rattle.uda_exec.specs.Order.{Apart, Clash, OrderIsFree}
 use Rattle.uda_port.specs.declared.phase.Phase.TheVariants.{Running}
@@ -27,14 +25,14 @@ use Rattle.uda_model.specs.Answer.{Answer, TooLong}
 use Rattle.uda_model.specs.Clash.{clash}
 use Rattle.uda_model.specs.Posting.{Posted, posted_command, commands_in, answer_of, buffer_of, bytes_brought, Ready}
 use Rattle.uda_model.specs.Keeping.{Ended, Beside, Has, Keeps, Owes, Outs}
-use Rattle.uda_host.specs.Layout.{slots, buffers_start, flag_word, response_descriptor, response_packet, command_packet, command_descriptor, owner_word, packet, HoldsPacket, with_command, with_packet, with_response, memory_reopened}
-use Rattle.uda_host.specs.InStep.{IsAbove, IsSound, InStep, turns_left, FetchesFirst, DoesOne, HandsOver}
-use Rattle.uda_driver.specs.Driving.{IsOut, Driving, posted_desk, taken_desk, Fetches, Does, IsOneOf, Brings, DrivesOn}
+use Rattle.uda_host.specs.Layout.{slots, buffers_start, flag_word, response_descriptor, response_packet, command_packet, command_descriptor, owner_word, packet, HoldsPacket, with_command, memory_reopened}
+use Rattle.uda_host.specs.InStep.{IsAbove, IsSound, FetchesFirst, DoesOne, HandsOver}
+use Rattle.uda_driver.specs.Driving.{IsOut, Driving, posted_desk, taken_desk, Fetches, Does, Brings, DrivesOn}
 use Rattle.uda_driver.specs.declared.desk.Desk.{Desk}
 use Rattle.uda_model.proofs.Lists.{All-remove, All-at}
 use Rattle.uda_model.proofs.Apartness.{buffer-at, length-bytes_brought, ready-put, no_clash}
 use Rattle.uda_model.proofs.Ending.{keeps_put, keeps_skip, keeps_post, Ends, keeps_execute, keeps_deliver, keeps_end}
-use Rattle.uda_model.proofs.Outs.{outs_post, outs_execute, Delivers, outs_deliver}
+use Rattle.uda_model.proofs.Outs.{outs_post, outs_execute, outs_deliver}
 use Rattle.uda_host.proofs.Frames.{length-packet, length-two}
 use Rattle.uda_host.proofs.Steps.{step_goes, step_post, step_poke}
 

@@ -1,13 +1,12 @@
 -- How a driver comes to run.
-use Rattle.std.proofs.Common.{◌≡◌, ◌≢◌, ℕ, zero, suc, ◌^◌, ◌+◌, ◌-◌, ◌*◌, ◌%◌, ◌<◌, ◌≤◌, min, ◌⊎◌, inl, inr, Bool, true, false, List, [], ◌∷◌, ◌++◌, length, map, get_or, Option, Some, None, refl, sym, ap, ap₂, ◌∙◌, arith, subst, subst₂, replicate}
-use Rattle.std.specs.Prelude.{slice_get, remove, option_map, All, Ok, not, ◌&&◌, if◌then◌else◌}
-use Rattle.std.proofs.lemmas.Bool.{cases_lt, cases_eq}
+use Rattle.std.proofs.Common.{◌≡◌, ℕ, ◌+◌, ◌-◌, ◌*◌, ◌%◌, ◌<◌, ◌≤◌, min, inl, inr, true, List, [], ◌∷◌, ◌++◌, length, get_or, Option, Some, None, refl, sym, ap, ap₂, ◌∙◌, arith, subst, subst₂, replicate}
+use Rattle.std.specs.Prelude.{slice_get, All, Ok, if◌then◌else◌}
+use Rattle.std.proofs.lemmas.Bool.{cases_lt}
 use Rattle.std.proofs.lemmas.List.{nil_from_length, length-replicate, get_or-replicate, same_lists}
 use Rattle.std.proofs.lemmas.List.Edits.{length-remove}
-use Rattle.std.proofs.lemmas.List.Elements.{All-nil, All-cons}
-use Rattle.std.proofs.lemmas.Option.{slice_get_within}
+use Rattle.std.proofs.lemmas.List.Elements.{All-nil}
 use Rattle.byteorder.specs.Endian.{little_number}
-use Rattle.uda_mem.specs.Put.{put, part, Meet}
+use Rattle.uda_mem.specs.Put.{put, part}
 use Rattle.uda_mem.specs.Words.{word_at, word_bytes}
 use Rattle.uda_mem.proofs.PutLaws.{length-put, length-part-le, get_or-part}
 use Rattle.uda_mem.proofs.WordLaws.{length-word_bytes, word_at-put_apart, word_at-put_at, word_at-put_inside, put-put_words}
@@ -16,24 +15,20 @@ use Rattle.uda_packet.specs.declared.command.Op.TheVariants.{Controller}
 use Rattle.uda_packet.specs.declared.end.End.{End}
 use Rattle.uda_packet.specs.Written.{written_command, written_end}
 use Rattle.uda_packet.specs.Reading.{read_command}
-use Rattle.uda_exec.specs.Disks.{Disk, UnitState, ExecState, disks_of}
-use Rattle.uda_exec.specs.Effect.{World, Outcome, Done, Lost, Fits, effect, is_lost}
-use Rattle.uda_exec.specs.Execution.{natures_of, failures_at, nature_of, Executes, ExecutesAt, TakesEffect, world_of}
-use Rattle.uda_port.specs.declared.descriptor.Descriptor.{Descriptor}
+use Rattle.uda_exec.specs.Disks.{UnitState}
+use Rattle.uda_exec.specs.Execution.{Executes}
 use Rattle.uda_port.specs.declared.phase.Phase.{Phase}
 use Rattle.uda_port.specs.declared.phase.Phase.TheVariants.{Step1, Step2, Step3, Step4, Running}
 use Rattle.uda_port.specs.declared.phase.Fatal.TheVariants.{RingWrite}
 use Rattle.uda_port.specs.declared.turn.Turn.{Turn}
 use Rattle.uda_port.specs.declared.turn.Turn.TheVariants.{Fetched as TurnFetched, Executed, Delivered, Idle, Dead}
-use Rattle.uda_port.specs.Ring.{descriptor_at}
 use Rattle.uda_port.specs.Startup.{by_word, dead_port, has_area}
 use Rattle.uda_port.specs.Port.{PortState, CreditsAgree, next_grant, port_asked}
 use Rattle.uda_port.specs.Turn.{TurnGoes}
-use Rattle.uda_host.specs.Layout.{slots, memory_size, owner_word, response_descriptor, command_descriptor, command_ring_at, response_ring_at, response_packet, HoldsPacket, with_command, IsFree, CommandSide, open_descriptor, IsOpen, ResponseSide, memory_reopened}
-use Rattle.uda_host.specs.InStep.{IsSound, InStep, turns_left, FetchesFirst, DoesOne, HandsOver, StepGoes}
+use Rattle.uda_host.specs.Layout.{slots, memory_size, owner_word, response_descriptor, command_descriptor, command_ring_at, response_ring_at, response_packet, HoldsPacket, with_command, IsFree, IsOpen, ResponseSide, memory_reopened}
+use Rattle.uda_host.specs.InStep.{IsSound, InStep, FetchesFirst, DoesOne, HandsOver, StepGoes}
 use Rattle.uda_driver.specs.Starting.{IsNew, port_running}
 use Rattle.uda_driver.specs.Underway.{AtRest}
-use Rattle.uda_driver.specs.declared.desk.Desk.{Desk}
 use Rattle.uda_host.proofs.Frames.{length-two, descriptor-put, descriptor-put_at, descriptor-in}
 use Rattle.uda_host.proofs.ResponseSides.{open-put}
 use Rattle.uda_host.proofs.Steps.{step_goes, step_post}

@@ -1,25 +1,25 @@
 -- The steps of a run of requests.
-use Rattle.std.proofs.Common.{◌≡◌, ◌≢◌, ℕ, zero, suc, ◌+◌, ◌-◌, ◌*◌, ◌/◌, ◌%◌, ◌<◌, ◌≤◌, ◌⊎◌, inl, inr, Bool, true, false, List, [], ◌∷◌, ◌++◌, length, map, take, drop, get_or, set, slice_index_or, nat_eq, Option, Some, None, refl, sym, ap, ap₂, ◌∙◌, arith, subst, subst₂, add-one}
-use Rattle.std.specs.Prelude.{slice_get, slice_set, remove, option_map, All, AllPairs, Ok, ◌&&◌, ◌||◌, not}
-use Rattle.std.specs.List.{list_any, count_by}
-use Rattle.std.proofs.lemmas.List.{length-map, length-take, map-set, map_push, append-nil, take_more, take_all, drop_more, drop_all, get_or_default, length_push, nil_from_length, length-set}
+use Rattle.std.proofs.Common.{◌≡◌, ◌≢◌, ℕ, zero, suc, ◌+◌, ◌-◌, ◌*◌, ◌/◌, ◌<◌, ◌≤◌, ◌⊎◌, inl, inr, Bool, true, false, List, [], ◌∷◌, ◌++◌, length, map, take, drop, get_or, set, slice_index_or, nat_eq, Option, Some, None, refl, sym, ap, ap₂, ◌∙◌, arith, subst, subst₂, add-one}
+use Rattle.std.specs.Prelude.{slice_get, slice_set, remove, option_map, All, Ok, ◌||◌, not}
+use Rattle.std.specs.List.{list_any}
+use Rattle.std.proofs.lemmas.List.{length-map, length-take, map-set, map_push, take_more, take_all, drop_more, drop_all, length_push, nil_from_length, length-set}
 use Rattle.std.proofs.lemmas.List.Edits.{length-remove}
 use Rattle.std.proofs.lemmas.List.Sums.{count_by_more_no, count_by_more_yes}
 use Rattle.std.proofs.lemmas.List.Folds.{list_any-append}
 use Rattle.std.proofs.lemmas.List.Elements.{All-nil, All-cons, All-push, All-map}
 use Rattle.std.proofs.lemmas.Bool.{eqb-true, eqb-false, cases_eq}
-use Rattle.std.proofs.lemmas.Option.{slice_get_within, slice_get-map, slice_get-get_or, get_or_from_slice_get}
+use Rattle.std.proofs.lemmas.Option.{slice_get_within, slice_get-map, slice_get-get_or}
 use Rattle.uda_mem.specs.Put.{put, part}
 use Rattle.uda_mem.specs.Words.{word_at, word_bytes}
 use Rattle.uda_mem.proofs.PutLaws.{length-put}
 use Rattle.uda_packet.specs.declared.command.Command.{Command}
 use Rattle.uda_packet.specs.declared.end.End.{End}
-use Rattle.uda_packet.specs.Written.{written_end, written_command}
+use Rattle.uda_packet.specs.Written.{written_command}
 use Rattle.uda_packet.specs.Reading.{read_end, read_command}
 use Rattle.uda_exec.specs.Disks.{UnitState, AreImages}
 use Rattle.uda_exec.specs.Commands.{address_of, room_of}
 use Rattle.uda_exec.specs.Order.{OrderIsFree}
-use Rattle.uda_exec.proofs.Units.{slice_get-set_same, slice_get-set_other}
+use Rattle.uda_exec.proofs.Units.{slice_get-set_other}
 use Rattle.uda_port.specs.declared.phase.Phase.{Phase}
 use Rattle.uda_port.specs.declared.phase.Phase.TheVariants.{Running}
 use Rattle.uda_port.specs.declared.turn.Turn.{Turn}
@@ -31,10 +31,10 @@ use Rattle.uda_model.specs.Request.{Request, too_long, IsWhole}
 use Rattle.uda_model.specs.Answer.{Answer, TooLong}
 use Rattle.uda_model.specs.Clash.{clash, lead_from, lead, is_short, posted_count}
 use Rattle.uda_model.specs.Posting.{Posted, posted_command, commands_in, op_of, command_of, answer_of, buffer_of, bytes_brought}
-use Rattle.uda_model.specs.Keeping.{Ended, Tells, Beside, Has, Keeps, Owes, Outs}
+use Rattle.uda_model.specs.Keeping.{Ended, Tells, Beside, Has, Keeps, Outs}
 use Rattle.uda_host.specs.InStep.{InStep}
-use Rattle.uda_host.specs.Layout.{slots, memory_size, buffer_address, owner_word, response_descriptor, response_packet, HoldsPacket, with_command, memory_reopened}
-use Rattle.uda_driver.specs.Driving.{IsOut, Driving, posted_desk, taken_desk, Fetches, Does, IsOneOf, Brings}
+use Rattle.uda_host.specs.Layout.{slots, memory_size, buffer_address, owner_word, response_descriptor, response_packet, with_command, memory_reopened}
+use Rattle.uda_driver.specs.Driving.{IsOut, Driving, posted_desk, taken_desk, Fetches, Does, Brings}
 use Rattle.uda_model.specs.Values.{request_value, answer_value}
 use Rattle.uda_driver.specs.Underway.{AtRest, posted_of, outs_of, triangle, Prepared, IsBlank, AreBlank, IsPrepared, turns_due, Underway, Leading, Ahead, Leads, Led, Sailing, Onward, IsReady, Settles, Ran}
 use Rattle.uda_model.specs.declared.request.Request.{Request as CodeRequest}

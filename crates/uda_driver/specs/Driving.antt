@@ -1,5 +1,5 @@
 -- What a driver keeps between two turns of its port.
-use Rattle.std.specs.Prelude.{◌≡◌, ◌≢◌, ℕ, ◌+◌, ◌-◌, ◌*◌, ◌%◌, ◌<◌, true, false, List, [], ◌∷◌, ◌++◌, length, All, AllPairs, Option, Some, slice_get, slice_set, remove}
+use Rattle.std.specs.Prelude.{◌≡◌, ℕ, ◌+◌, ◌-◌, ◌%◌, ◌<◌, false, List, ◌++◌, length, All, Option, Some, slice_get, slice_set, remove}
 use Rattle.uda_packet.specs.declared.command.Command.{Command}
 use Rattle.uda_packet.specs.declared.end.End.{End}
 use Rattle.uda_packet.specs.Written.{written_end}
@@ -10,7 +10,7 @@ use Rattle.uda_port.specs.declared.turn.Turn.TheVariants.{Fetched as TurnFetched
 use Rattle.uda_port.specs.Port.{PortState, next_grant}
 use Rattle.uda_model.specs.Request.{Request, too_long}
 use Rattle.uda_model.specs.Answer.{Answer}
-use Rattle.uda_model.specs.Posting.{Posted, posted_command, commands_in, answer_of, buffer_of}
+use Rattle.uda_model.specs.Posting.{Posted, commands_in, answer_of, buffer_of}
 use Rattle.uda_model.specs.Keeping.{Ended, Keeps, Outs}
 use Rattle.uda_host.specs.Layout.{slots, buffer_address, response_packet, HoldsPacket, memory_reopened}
 use Rattle.uda_host.specs.InStep.{InStep}

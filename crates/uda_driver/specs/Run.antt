@@ -1,5 +1,5 @@
 -- What a driver promises of a run of requests.
-use Rattle.std.specs.Prelude.{◌≡◌, ℕ, ◌+◌, ◌-◌, ◌*◌, ◌/◌, ◌≤◌, List, length, map, Some, slice_get, Option}
+use Rattle.std.specs.Prelude.{◌≡◌, ℕ, ◌+◌, ◌-◌, ◌*◌, ◌/◌, ◌≤◌, List, length, Some, slice_get, Option}
 use Rattle.uda_exec.specs.Disks.{UnitState, disks_of}
 use Rattle.uda_exec.specs.Execution.{failures_at}
 use Rattle.uda_port.specs.Port.{PortState}

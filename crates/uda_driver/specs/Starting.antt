@@ -1,6 +1,6 @@
 -- How a driver starts its port up.
 -- UDA50 Programmer's Documentation Kit: initialisation, communication area.
-use Rattle.std.specs.Prelude.{◌≡◌, ℕ, []}
+use Rattle.std.specs.Prelude.{◌≡◌, []}
 use Rattle.uda_port.specs.declared.phase.Phase.TheVariants.{Step1, Running}
 use Rattle.uda_port.specs.Port.{PortState}
 use Rattle.uda_host.specs.Layout.{command_ring_at, response_ring_at}

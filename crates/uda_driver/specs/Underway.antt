@@ -1,5 +1,5 @@
 -- What a driver keeps while it has requests done.
-use Rattle.std.specs.Prelude.{◌≡◌, ℕ, zero, suc, ◌+◌, ◌-◌, ◌*◌, ◌/◌, ◌<◌, ◌≤◌, Bool, true, false, not, List, [], length, map, take, drop, slice_index_or, slice_get, slice_set, All, Some}
+use Rattle.std.specs.Prelude.{◌≡◌, ℕ, zero, suc, ◌+◌, ◌-◌, ◌*◌, ◌<◌, ◌≤◌, true, false, List, [], length, map, take, drop, slice_index_or, slice_get, slice_set, All, Some}
 use Rattle.std.specs.List.{list_any}
 use Rattle.uda_packet.specs.declared.end.End.{End}
 use Rattle.uda_exec.specs.Disks.{AreImages}
@@ -8,7 +8,7 @@ use Rattle.uda_model.specs.Request as ask
 use Rattle.uda_model.specs.Request.{Request, too_long}
 use Rattle.uda_model.specs.Answer as tell
 use Rattle.uda_model.specs.Answer.{Answer}
-use Rattle.uda_model.specs.Clash.{clash, lead_from, lead, is_short, posted_count}
+use Rattle.uda_model.specs.Clash.{clash, lead_from, lead, posted_count}
 use Rattle.uda_model.specs.Posting.{Posted, answer_of, buffer_of}
 use Rattle.uda_model.specs.Keeping.{Owes}
 use Rattle.uda_host.specs.InStep.{InStep}

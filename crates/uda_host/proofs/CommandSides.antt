@@ -1,16 +1,15 @@
 -- The command ring as the driver knows it.
-use Rattle.std.proofs.Common.{◌≡◌, ◌≢◌, ℕ, suc, ◌^◌, ◌+◌, ◌-◌, ◌*◌, ◌%◌, ◌<◌, ◌≤◌, ◌⊎◌, inl, inr, false, List, [], ◌∷◌, ◌++◌, length, get_or, Some, refl, sym, ap, ◌∙◌, arith, subst}
+use Rattle.std.proofs.Common.{◌≡◌, ◌≢◌, ℕ, suc, ◌+◌, ◌%◌, ◌<◌, ◌≤◌, ◌⊎◌, inl, inr, List, [], ◌∷◌, ◌++◌, length, get_or, sym, ap, ◌∙◌, arith, subst}
 use Rattle.std.proofs.lemmas.Bool.{cases_lt, lt-leb}
 use Rattle.std.proofs.lemmas.List.{get_or_append_left, get_or_push, length_push}
-use Rattle.uda_mem.specs.Put.{put, part, Meet}
+use Rattle.uda_mem.specs.Put.{put, Meet}
 use Rattle.uda_mem.specs.Words.{word_bytes}
-use Rattle.uda_mem.proofs.PutLaws.{length-put, put-put_next}
+use Rattle.uda_mem.proofs.PutLaws.{length-put}
 use Rattle.uda_mem.proofs.WordLaws.{length-word_bytes, put-put_words}
 use Rattle.uda_packet.specs.declared.command.Command.{Command}
 use Rattle.uda_packet.specs.Written.{written_command}
 use Rattle.uda_packet.proofs.WrittenLaws.{length-written_command}
-use Rattle.uda_port.specs.Ring.{descriptor_at}
-use Rattle.uda_host.specs.Layout.{slots, command_descriptor, command_packet, memory_size, owner_word, packet, HoldsPacket, posted_descriptor, with_command, IsPosted, IsFree, CommandSide}
+use Rattle.uda_host.specs.Layout.{slots, command_descriptor, command_packet, memory_size, owner_word, packet, posted_descriptor, with_command, IsPosted, IsFree, CommandSide}
 use Rattle.uda_host.proofs.Frames.{length-packet, length-two, descriptor-put, descriptor-put_at, descriptor-put_high, packet-put, packet-put_at, packet_written}
 
 -- a range apart from the command ring and the command texts
@@ -115,9 +114,9 @@ command_side-fetch memory place c queue high side low =
       within = omega arith;
       few = omega (arith, side.few);
       posted = λ k d lt.
-        let at : (place + suc k) % slots ≡ ((place + 1) % slots + k) % slots = omega arith in
-        subst (λ (j : ℕ). IsPosted new j (get_or queue k d)) at
-        (posted-put memory (command_descriptor place + 2) (word_bytes high) ((place + suc k) % slots) (get_or queue k d) (λ h. omega (arith, side.few, side.within)) (λ h. omega (arith, side.within)) (side.posted (suc k) d (omega arith)));
+          let at : (place + suc k) % slots ≡ ((place + 1) % slots + k) % slots = omega arith in
+          subst (λ (j : ℕ). IsPosted new j (get_or queue k d)) at
+          (posted-put memory (command_descriptor place + 2) (word_bytes high) ((place + suc k) % slots) (get_or queue k d) (λ h. omega (arith, side.few, side.within)) (λ h. omega (arith, side.within)) (side.posted (suc k) d (omega arith)));
       free = λ k le lt. free k le lt (cases_lt k 7);
     }
   where
@@ -144,6 +143,6 @@ pub post_written : (m m1 m2 m3 m4 m5 : List ℕ) (i : ℕ) (c : Command)
 post_written m m1 m2 m3 m4 m5 i c e1 e2 e3 e4 e5 =
     let text = written_command c in
     let e : m3 ≡ put m (command_packet i) (packet 0 text)
-        = e3 ∙ ap (λ l. put l (command_packet i + 4) text) (e2 ∙ ap (λ l. put l (command_packet i + 2) (word_bytes 0)) e1) ∙ packet_written m (command_packet i) 0 text in
+    = e3 ∙ ap (λ l. put l (command_packet i + 4) text) (e2 ∙ ap (λ l. put l (command_packet i + 2) (word_bytes 0)) e1) ∙ packet_written m (command_packet i) 0 text in
     e5 ∙ ap (λ l. put l (command_descriptor i + 2) (word_bytes owner_word)) (e4 ∙ ap (λ l. put l (command_descriptor i) (word_bytes (command_packet i + 4))) e)
     ∙ put-put_words (put m (command_packet i) (packet 0 text)) (command_descriptor i) (command_packet i + 4) owner_word

@@ -1,8 +1,8 @@
 -- Descriptors and packets beside a write, and as they are written.
-use Rattle.std.proofs.Common.{◌≡◌, ℕ, ◌^◌, ◌+◌, ◌-◌, ◌*◌, ◌<◌, ◌≤◌, Bool, true, false, List, [], ◌∷◌, ◌++◌, length, Option, Some, None, refl, sym, ap, ap₂, ◌∙◌, arith, subst, length-append}
+use Rattle.std.proofs.Common.{◌≡◌, ℕ, ◌^◌, ◌+◌, ◌-◌, ◌<◌, ◌≤◌, Bool, true, false, List, ◌++◌, length, Option, Some, None, refl, sym, ap, ap₂, ◌∙◌, arith, subst, length-append}
 use Rattle.std.specs.Prelude.{nat_le, if◌then◌else◌}
 use Rattle.std.proofs.lemmas.Bool.{leb-true, le-leb}
-use Rattle.uda_mem.specs.Put.{put, part, Meet}
+use Rattle.uda_mem.specs.Put.{put, Meet}
 use Rattle.uda_mem.specs.Words.{word_at, word_bytes}
 use Rattle.uda_mem.proofs.PutLaws.{length-put, part-put_apart, part-put_at, put-put_next, put-put_before}
 use Rattle.uda_mem.proofs.WordLaws.{length-word_bytes, word_at-put_apart, word_at-put_at, put-put_words}

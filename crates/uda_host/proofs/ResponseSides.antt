@@ -1,7 +1,7 @@
 -- The response ring as the driver knows it.
-use Rattle.std.proofs.Common.{◌≡◌, ◌≢◌, ℕ, ◌^◌, ◌+◌, ◌-◌, ◌*◌, ◌<◌, ◌≤◌, ◌⊎◌, inl, inr, List, [], ◌∷◌, ◌++◌, length, Some, refl, sym, ap, ◌∙◌, arith, subst}
+use Rattle.std.proofs.Common.{◌≡◌, ◌≢◌, ℕ, ◌^◌, ◌+◌, ◌<◌, ◌≤◌, ◌⊎◌, inl, inr, List, length, Some, sym, ◌∙◌, arith, subst}
 use Rattle.std.proofs.lemmas.Bool.{cases_eq}
-use Rattle.uda_mem.specs.Put.{put, part, Meet}
+use Rattle.uda_mem.specs.Put.{put, Meet}
 use Rattle.uda_mem.specs.Words.{word_at, word_bytes}
 use Rattle.uda_mem.proofs.PutLaws.{length-put}
 use Rattle.uda_mem.proofs.WordLaws.{length-word_bytes, word_at-put_apart}
@@ -58,7 +58,7 @@ response_side-reopened memory i credits e side lt fits = record {
         let d1 : descriptor_at (with_packet memory i credits e) (response_descriptor i) ≡ Some (open_descriptor i) = descriptor-put memory (response_packet i) (packet credits (written_end e)) (response_descriptor i) (λ h. omega arith) ∙ (side.opens i lt).descriptor in
         let there = response_there memory i credits e side lt fits in
         let w : word_at (memory_reopened (with_response memory i credits e) i) (response_packet i) ≡ 48
-            = word_at-put_apart (with_response memory i credits e) (response_descriptor i + 2) (word_bytes owner_word) (response_packet i) (λ h. omega arith) ∙ there.first_word in
+        = word_at-put_apart (with_response memory i credits e) (response_descriptor i + 2) (word_bytes owner_word) (response_packet i) (λ h. omega arith) ∙ there.first_word in
         subst (λ (j : ℕ). IsOpen (memory_reopened (with_response memory i credits e) i) j) (sym same) (record {
           descriptor = descriptor-put_high (with_response memory i credits e) (response_descriptor i) owner_word (record (open_descriptor i) { high = flag_word }) (omega arith)
               (descriptor-put_high (with_packet memory i credits e) (response_descriptor i) flag_word (open_descriptor i) (omega arith) d1);

@@ -1,9 +1,9 @@
 -- A turn of a port in step with its driver.
-use Rattle.std.proofs.Common.{◌≡◌, ◌≢◌, ℕ, zero, suc, ◌^◌, ◌+◌, ◌-◌, ◌*◌, ◌/◌, ◌%◌, ◌<◌, ◌≤◌, min, Bool, true, false, List, [], ◌∷◌, ◌++◌, length, Option, Some, None, refl, sym, ap, ap₂, ◌∙◌, arith, subst}
-use Rattle.std.specs.Prelude.{Result, Ok, Err, slice_get, remove, nat_eq, All, if◌then◌else◌}
+use Rattle.std.proofs.Common.{◌≡◌, ℕ, ◌^◌, ◌+◌, ◌-◌, ◌/◌, ◌%◌, ◌<◌, ◌≤◌, true, false, List, [], ◌∷◌, ◌++◌, length, Some, refl, sym, ap, ap₂, ◌∙◌, arith, subst}
+use Rattle.std.specs.Prelude.{Result, Ok, Err, slice_get, nat_eq, All, if◌then◌else◌}
 use Rattle.std.proofs.lemmas.List.{length_push}
 use Rattle.std.proofs.lemmas.List.Elements.{All-nil, All-head, All-tail, All-push}
-use Rattle.uda_mem.specs.Put.{put, part, Meet}
+use Rattle.uda_mem.specs.Put.{put, part}
 use Rattle.uda_mem.specs.Words.{word_at, word_bytes}
 use Rattle.uda_mem.proofs.PutLaws.{length-part}
 use Rattle.uda_mem.proofs.WordLaws.{length-word_bytes}
@@ -12,7 +12,7 @@ use Rattle.uda_packet.specs.declared.end.End.{End}
 use Rattle.uda_packet.specs.Written.{written_command, written_end}
 use Rattle.uda_packet.specs.Reading.{read_command}
 use Rattle.uda_packet.proofs.WrittenLaws.{length-written_command, length-written_end}
-use Rattle.uda_exec.specs.Commands.{address_of as buffer_of, room_of, landing_of}
+use Rattle.uda_exec.specs.Commands.{address_of as buffer_of, landing_of}
 use Rattle.uda_port.specs.declared.descriptor.Descriptor.{Descriptor}
 use Rattle.uda_port.specs.declared.packet.Fetched.{Fetched}
 use Rattle.uda_port.specs.declared.phase.Phase.TheVariants.{Running}
@@ -27,9 +27,9 @@ use Rattle.uda_port.specs.Delivery.{Puts}
 use Rattle.uda_port.specs.Message.{message_of_text, message_in}
 use Rattle.uda_packet.specs.Bad.{other_length_end}
 use Rattle.uda_port.specs.Port.{PortState, CreditsAgree, next_grant}
-use Rattle.uda_port.specs.Turn.{port_turn_on, port_not_looking, port_with_message, FetchesOne, NothingToFetch, FetchLine, ExecutesOne, DeliversOne, GoesOn, Fails, InFetch, InRest, TurnGoes}
+use Rattle.uda_port.specs.Turn.{port_turn_on, port_with_message, FetchesOne, NothingToFetch, FetchLine, GoesOn, Fails, InFetch, InRest, TurnGoes}
 use Rattle.uda_host.proofs.Frames.{packet_put-one}
-use Rattle.uda_host.specs.Layout.{slots, response_descriptor, command_descriptor, response_packet, command_packet, owner_word, flag_word, command_ring_at, response_ring_at, packet, HoldsPacket, posted_descriptor, with_command, IsPosted, IsFree, CommandSide, open_descriptor, ResponseSide, with_packet, with_response, memory_reopened}
+use Rattle.uda_host.specs.Layout.{slots, response_descriptor, command_descriptor, response_packet, command_packet, owner_word, flag_word, command_ring_at, response_ring_at, packet, HoldsPacket, posted_descriptor, with_command, IsFree, CommandSide, open_descriptor, ResponseSide, with_packet, with_response, memory_reopened}
 use Rattle.uda_host.specs.InStep.{IsSound, InStep, turns_left, FetchesFirst, DoesOne, HandsOver, StepGoes}
 use Rattle.uda_host.proofs.Lists.{All-remove, All-at}
 use Rattle.uda_exec.proofs.Changes.{landing-le}
@@ -241,9 +241,9 @@ step_delivered {held} memory port [] port_after memory_after step agree goes =
       response_ring = refl;
       within = omega arith;
       commands =
-        command_side-put sent (response_descriptor place + 2) (word_bytes owner_word) port.commands.place [] (clear_responses_high place owner_word step.within)
-        (command_side-put (with_packet memory place credits e) (response_descriptor place + 2) (word_bytes flag_word) port.commands.place [] (clear_responses_high place flag_word step.within)
-        (command_side-put memory (response_packet place) (packet credits (written_end e)) port.commands.place [] (clear_responses_packet place credits e step.within) step.commands));
+          command_side-put sent (response_descriptor place + 2) (word_bytes owner_word) port.commands.place [] (clear_responses_high place owner_word step.within)
+          (command_side-put (with_packet memory place credits e) (response_descriptor place + 2) (word_bytes flag_word) port.commands.place [] (clear_responses_high place flag_word step.within)
+          (command_side-put memory (response_packet place) (packet credits (written_end e)) port.commands.place [] (clear_responses_packet place credits e step.within) step.commands));
       responses = response_side-reopened memory place credits e step.responses step.within fits;
       looks = λ some. absurd (omega arith);
       agree = subst CreditsAgree is agree;
@@ -350,8 +350,8 @@ step_post {held} memory port unfetched i c step some at sound =
       within = step.within;
       commands = command_side-post memory port.commands.place unfetched i c step.commands room at;
       responses =
-        response_side-put (put memory (command_packet i) (packet 0 (written_command c))) (command_descriptor i) (word_bytes (command_packet i + 4) ++ word_bytes owner_word) (record { ring = λ h. omega arith; texts = λ h. omega arith })
-        (response_side-put memory (command_packet i) (packet 0 (written_command c)) (record { ring = λ h. omega arith; texts = λ h. omega arith }) step.responses);
+          response_side-put (put memory (command_packet i) (packet 0 (written_command c))) (command_descriptor i) (word_bytes (command_packet i + 4) ++ word_bytes owner_word) (record { ring = λ h. omega arith; texts = λ h. omega arith })
+          (response_side-put memory (command_packet i) (packet 0 (written_command c)) (record { ring = λ h. omega arith; texts = λ h. omega arith }) step.responses);
       looks = λ _. refl;
       agree = record { credits = step.agree.credits; conserved = step.agree.conserved; within = step.agree.within };
       credits = omega (arith, step.credits, some, length_push unfetched c);

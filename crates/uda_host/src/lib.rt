@@ -11,5 +11,5 @@ mod ring;
 
 pub use ring::{
     BUFFER_SIZE, MEMORY_SIZE, OWNER, PACKET_STEP, RESPONSE_PACKETS, RESPONSE_RING, SLOTS,
+    buffer_address, credits_at, end_at, reopen, write_command,
 };
-pub use ring::{buffer_address, credits_at, end_at, reopen, write_command};

@@ -38,7 +38,9 @@ pub fn buffer_address(number: u8) -> u32
 pub const BUFFER_SIZE: u32 = 0x4000;
 
 const COMMAND_RING: u32 = 40;
+
 const COMMAND_PACKETS: u32 = 0x300;
+
 const BUFFERS: u32 = 0x1000;
 
 // Writes a text of 48 bytes where there is room for it.

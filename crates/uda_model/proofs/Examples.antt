@@ -1,7 +1,7 @@
 -- The worked examples, computed from the definitions.
 use Rattle.std.proofs.Common.{◌≡◌, ℕ, Bool, true, false, List, [], ◌∷◌, ◌++◌, replicate, map, Some, None, refl}
 use Rattle.uda_mem.specs.Put.{part, put}
-use Rattle.uda_exec.specs.Disks.{Disk, Disks}
+use Rattle.uda_exec.specs.Disks.{Disks}
 use Rattle.uda_exec.specs.Effect.{Done, Lost}
 use Rattle.uda_model.specs.Request as ask
 use Rattle.uda_model.specs.Request.{Request}

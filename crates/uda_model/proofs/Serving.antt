@@ -17,9 +17,9 @@ use Rattle.uda_exec.specs.Commands.{is_controller, address_of, room_of}
 use Rattle.uda_exec.specs.Effect.{World, Outcome, blocks_moved, transfer_status, refusal_of, Verdict, OfController, Refused, ActsOn, verdict_of, verdict_at, verdict, end_of, disk_after, world_after, effect}
 use Rattle.uda_exec.specs.Order.{data_of}
 use Rattle.uda_exec.proofs.Blocks.{AreBlocks-part}
-use Rattle.uda_model.specs.Request.{Request, Online, Available, Status, Read, Access, Write, Erase, unit_of, extent_of, first_of, count_of, is_moving, too_long, IsWhole}
+use Rattle.uda_model.specs.Request.{Request, Online, Available, Status, Read, Access, Write, Erase, unit_of, extent_of, count_of, too_long, IsWhole}
 use Rattle.uda_model.specs.declared.extent.Extent.{Extent}
-use Rattle.uda_model.specs.Answer.{Answer, TooLong, Moved, Data, blank_answer}
+use Rattle.uda_model.specs.Answer.{Answer, TooLong, Moved, Data}
 use Rattle.uda_model.specs.Plain.{extent_refusal, Bar, Barred, Free, bar_of, bar_on, bar_at, bar, disk_left, disks_by, whole_count, answer_on, answer_by, step_as, FitsCount, HasImage, HaveImages}
 use Rattle.uda_model.specs.Posting.{op_of, command_of, answer_of, bytes_brought, Posted, posted_command, buffer_of, Ready}
 use Rattle.uda_model.proofs.Bytes.{first_chunks-concat, transfer_bytes-whole, read_back}

@@ -1,5 +1,5 @@
 -- What a driver is asked to do. MSCP Basic Disk Functions Manual: the commands.
-use Rattle.std.specs.Prelude.{◌≡◌, ℕ, Bool, true, false, List, length, All, Option, Some, None, nat_lt, is_some}
+use Rattle.std.specs.Prelude.{◌≡◌, ℕ, Bool, false, List, length, All, Option, Some, None, nat_lt, is_some}
 use Rattle.std.specs.Option.{option_map_or}
 use Rattle.uda_packet.specs.declared.end.Kind.{Kind}
 use Rattle.uda_packet.specs.declared.end.Kind.TheVariants as kind

@@ -1,6 +1,5 @@
-use Rattle.std.proofs.Common.{◌≡◌, ◌+◌, length, ap, ◌∙◌, arith, rules}
+use Rattle.std.proofs.Common.{◌+◌, ap, ◌∙◌}
 use Rattle.std.proofs.lemmas.List.{length_push}
-use Rattle.uda_model.specs.declared.answer.Answer.TheVariants as answer
 use Rattle.uda_model.specs.Values.{answer_value}
 use Rattle.uda_driver.proofs.Underways.{blank_more}
 use Rattle.uda_driver.proofs.serve.blanks.Goals as goal

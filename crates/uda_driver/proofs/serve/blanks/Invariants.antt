@@ -1,4 +1,4 @@
-use Rattle.std.proofs.Common.{◌≡◌, length, map, take}
+use Rattle.std.proofs.Common.{◌≡◌, length, map}
 use Rattle.uda_model.specs.Values.{request_value, answer_value}
 use Rattle.uda_driver.specs.Underway.{AreBlank}
 use Rattle.uda_driver.proofs.serve.blanks.Given as goal

@@ -1,9 +1,8 @@
-use Rattle.std.proofs.Common.{◌≡◌, ◌∷◌, ◌++◌, ◌∙◌, ◌<◌, List, [], length, refl, ap, sym, subst, arith, rules}
+use Rattle.std.proofs.Common.{◌≡◌, ◌∙◌, ◌<◌, [], length, refl, ap, sym, arith, rules}
 use Rattle.std.proofs.lemmas.List.{nil_from_length}
 use Rattle.std.proofs.lemmas.Bool.{eqb-true, eqb-false}
 use Rattle.arrayvec.specs.ArrayVec.{array_vec_len}
-use Rattle.uda_driver.specs.declared.desk.Out.{Out}
-use Rattle.uda_driver.proofs.Underways.{WaitsFor, in_range, credit_left, wait_some, sailing_start, sailing_step, sailing_skip, sailing_post, draining, draining_step, drained}
+use Rattle.uda_driver.proofs.Underways.{in_range, credit_left, wait_some, sailing_start, sailing_step, sailing_skip, sailing_post, draining, draining_step, drained}
 use Rattle.uda_driver.proofs.serve.drive.Goals as goal
 use Rattle.uda_driver.proofs.serve.drive.Goals.{then-not-is_too_long+else-loop-port-test, else-not-is_too_long}
 

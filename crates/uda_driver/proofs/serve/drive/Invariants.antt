@@ -1,4 +1,3 @@
-use Rattle.std.proofs.Common.{length}
 use Rattle.uda_driver.specs.Underway.{Sailing, turns_due}
 use Rattle.uda_driver.proofs.Underways.{Draining}
 use Rattle.uda_driver.proofs.serve.drive.Given as goal

@@ -1,4 +1,4 @@
-use Rattle.std.proofs.Common.{◌≡◌, ◌∙◌, arith}
+use Rattle.std.proofs.Common.{◌∙◌}
 use Rattle.uda_driver.proofs.Underways.{answer_told}
 use Rattle.uda_driver.proofs.serve.settle.Goals as goal
 

@@ -1,4 +1,4 @@
-use Rattle.std.proofs.Common.{◌≡◌, ◌≢◌, ℕ, ◌+◌, ◌<◌, List, length, get_or, ap, sym, subst, ◌∙◌, arith, rules}
+use Rattle.std.proofs.Common.{◌≢◌, ℕ, ◌+◌, ◌<◌, List, length, get_or, ap, subst, ◌∙◌}
 use Rattle.uda_port.specs.Port.{PortState}
 use Rattle.uda_driver.specs.Underway.{Underway}
 use Rattle.uda_driver.specs.declared.desk.Out.{Out}

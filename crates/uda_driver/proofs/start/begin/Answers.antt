@@ -1,4 +1,4 @@
-use Rattle.std.proofs.Common.{◌≡◌, length, ap, ◌∙◌}
+use Rattle.std.proofs.Common.{length, ap, ◌∙◌}
 use Rattle.uda_mem.proofs.PutLaws.{length-put}
 use Rattle.uda_driver.proofs.Startings.{begun}
 use Rattle.uda_driver.proofs.start.begin.Goals as goal

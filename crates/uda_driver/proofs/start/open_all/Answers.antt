@@ -1,6 +1,6 @@
-use Rattle.std.proofs.Common.{◌≡◌, ◌+◌, ◌*◌, length, ap, ◌∙◌, arith}
+use Rattle.std.proofs.Common.{length, ap, ◌∙◌, arith}
 use Rattle.uda_mem.proofs.PutLaws.{length-put}
-use Rattle.uda_driver.proofs.Startings.{Opening, opening_more}
+use Rattle.uda_driver.proofs.Startings.{opening_more}
 use Rattle.uda_driver.proofs.start.open_all.Goals as goal
 
 pub loop-i-init : goal.loop-i-init

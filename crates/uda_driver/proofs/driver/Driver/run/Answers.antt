@@ -1,5 +1,5 @@
-use Rattle.std.specs.Prelude.{Result, Ok, Err, IfErr, IfOk, ◌≡◌}
-use Rattle.std.proofs.Common.{◌∙◌, rules}
+use Rattle.std.specs.Prelude.{Result, Ok, Err, IfErr, ◌≡◌}
+use Rattle.std.proofs.Common.{◌∙◌}
 use Rattle.uda_driver.specs.Driver.{DriverState}
 use Rattle.uda_driver.proofs.driver.Driver.run.Goals as goal
 

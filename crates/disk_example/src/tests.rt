@@ -110,10 +110,20 @@ fn execute_any<S: BlockStore>(exec: &mut Exec<S>, memory: &mut HostMemory) -> Op
 // A unit over an image in memory is faithful and never fails.
 fn executor_of(store: MemImage) -> Exec<MemImage>
     ensures idle { result.pending ≡ [] }
+    ensures four { length result.units ≡ 4 }
+    ensures images { AreImages result.units }
     ensures faithful { is_faithful (slice_get result.units 0) ≡ true }
     ensures sure { is_sure (slice_get result.units 0) ≡ true }
 {
     Exec::new([Some(Drive { store, hard: false }), None, None, None])
+}
+
+// An executor that was reset has four units, and images where their stores are faithful.
+fn reset_any<S: BlockStore>(exec: &mut Exec<S>)
+    ensures four { length exec.new.units ≡ 4 }
+    ensures images { AreImages exec.new.units }
+{
+    exec.reset();
 }
 
 #[test]

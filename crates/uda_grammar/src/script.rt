@@ -1,0 +1,44 @@
+//! A script that was read.
+ghost use Rattle.std.specs.Prelude.{◌≡◌};
+
+use crate::statement::Statement;
+use std::marker::Model;
+
+/// The most requests of one script.
+pub const SCRIPT_LIMIT: usize = 4096;
+
+/// A line that makes a request: its number among the script's lines, from 1, and what it asks for.
+#[derive(Clone, Copy, Debug, PartialEq, Eq)]
+pub struct Line {
+    /// The line's number among all lines of the script, from 1.
+    pub number: u32,
+    /// What it asks for.
+    pub statement: Statement,
+}
+
+/// The lines of a script that make requests, in order; at most [`SCRIPT_LIMIT`].
+#[derive(Debug, Drop)]
+pub struct Script {
+    lines: Vec<Line>,
+}
+
+impl Model for Script {
+    ghost use Rattle.std.specs.Prelude.{List};
+    ghost use Rattle.uda_grammar.specs.declared.script.Line.{Line};
+    ghost use Rattle.uda_grammar.specs.Limit.{IsScript};
+
+    ghost Value = { List Line };
+
+    ghost view = { λ script. script.lines.items };
+
+    ghost invariant = { IsScript };
+}
+
+impl Script {
+    /// The lines that make requests, in order.
+    pub fn lines(&self) -> &[Line]
+        ensures lines { result.now ≡ self.now }
+    {
+        self.lines.as_slice()
+    }
+}

@@ -1,0 +1,109 @@
+//! Four units, and lists of requests done on them.
+ghost use Rattle.std.specs.Prelude.{◌≡◌, false, Some, IfOk, IfErr, option_map};
+ghost use Rattle.uda_exec.specs.Effect.{Done};
+ghost use Rattle.uda_model.specs.Request.{too_long};
+ghost use Rattle.uda_plain.specs.Steps.{disk_by};
+ghost use Rattle.uda_model.specs.Plain.{plain, step, answer_by, bar_at};
+ghost use Rattle.uda_model.specs.Values.{request_value, request_values, answer_value, answer_values};
+
+use crate::disk::{PlainDisk, refused};
+use std::alloc::Global;
+use std::marker::Model;
+use uda_exec::Refusal;
+use uda_mem::NoMemory;
+use uda_model::{Answer, Request};
+
+/// Four units, numbered from 0; `None` is one without a drive.
+#[derive(Debug, Drop)]
+pub struct PlainUnits {
+    units: [Option<PlainDisk>; 4],
+}
+
+impl Model for PlainUnits {
+    ghost use Rattle.uda_exec.specs.Disks.{Disks};
+
+    ghost Value = { Disks };
+
+    ghost view = { λ u. u.units };
+}
+
+// Does one request, that isn't too long, on the unit that it names.
+fn step_unit(
+    unit: &mut Option<PlainDisk>,
+    alloc: Global,
+    request: &Request,
+) -> Result<Answer, NoMemory>
+    requires short { too_long (request_value request.now) ≡ false }
+    ensures answer { IfOk result (λ answer. answer_value answer ≡ answer_by Done (request_value request.now) (bar_at (request_value request.now) (Some unit.old))) }
+    ensures unit { IfOk result (λ _. unit.new ≡ option_map (disk_by (request_value request.now) (bar_at (request_value request.now) (Some unit.old))) unit.old) }
+    ensures unchanged { IfErr result (λ _. unit.new ≡ unit.old) }
+{
+    match unit {
+        None => Ok(refused(alloc, request, Refusal::NoVolume)),
+        Some(disk) => disk.step(alloc, request),
+    }
+}
+
+fn step(
+    units: &mut [Option<PlainDisk>],
+    alloc: Global,
+    request: &Request,
+) -> Result<Answer, NoMemory>
+    ensures step { IfOk result (λ answer. (answer_value answer, units.new) ≡ step units.old (request_value request.now)) }
+    ensures unchanged { IfErr result (λ _. units.new ≡ units.old) }
+{
+    if request.is_too_long() {
+        return Ok(Answer::TooLong);
+    }
+    let unit = usize::from(request.unit());
+    if unit >= units.len() {
+        return Ok(refused(alloc, request, Refusal::UnitUnknown));
+    }
+    step_unit(&mut units[unit], alloc, request)
+}
+
+impl PlainUnits {
+    /// These disks as units 0 to 3.
+    pub fn new(units: [Option<PlainDisk>; 4]) -> PlainUnits
+        ensures disks { result ≡ units }
+    {
+        PlainUnits { units }
+    }
+
+    /// The disks of units 0 to 3.
+    pub fn disks(&self) -> &[Option<PlainDisk>]
+        ensures disks { result.now ≡ self.now }
+    {
+        self.units.as_slice()
+    }
+
+    /// Does one request.
+    ///
+    /// # Errors
+    ///
+    /// [`NoMemory`] where no memory is left for a Read's bytes: then nothing was done.
+    pub fn step(&mut self, alloc: Global, request: &Request) -> Result<Answer, NoMemory>
+        ensures step { IfOk result (λ answer. (answer_value answer, self.new) ≡ step self.old (request_value request.now)) }
+        ensures unchanged { IfErr result (λ _. self.new ≡ self.old) }
+    {
+        step(&mut self.units, alloc, request)
+    }
+
+    /// Does the requests from the first to the last, and answers each.
+    ///
+    /// # Errors
+    ///
+    /// [`NoMemory`] where no memory is left for the answers: those before were done.
+    pub fn run(&mut self, alloc: Global, requests: &[Request]) -> Result<Vec<Answer>, NoMemory>
+        ensures plain { IfOk result (λ answers. (answer_values answers.items, self.new) ≡ plain self.old (request_values requests.now)) }
+    {
+        let mut answers = Vec::new(alloc);
+        for request in requests {
+            let answer = self.step(alloc, request)?;
+            let Ok(()) = answers.push(answer) else {
+                return Err(NoMemory);
+            };
+        }
+        Ok(answers)
+    }
+}

@@ -1,0 +1,109 @@
+//! Units and requests drawn at random.
+
+use rand_core::{Rng, SeedableRng};
+use rand_pcg::Pcg32;
+use std::alloc::Global;
+use uda_mem::NoMemory;
+use uda_model::Request;
+
+/// Draws units and requests at random: the same for the same seed.
+#[derive(Drop)]
+pub struct Draw {
+    rng: Pcg32,
+}
+
+impl Draw {
+    /// A drawing from this seed.
+    pub fn new(seed: u64) -> Draw {
+        Draw {
+            rng: Pcg32::seed_from_u64(seed),
+        }
+    }
+
+    /// Whether something that comes once in so many times comes now.
+    pub fn once_in(&mut self, times: u32) -> bool {
+        self.rng.next_u32() % times.max(1) == 0
+    }
+
+    /// Up to a dozen blocks, each of one byte.
+    pub fn blocks(&mut self, alloc: Global) -> Result<Vec<[u8; 512]>, NoMemory> {
+        let count = self.rng.next_u32() % 13;
+        self.filled(alloc, count)
+    }
+
+    /// So many requests.
+    pub fn requests(&mut self, alloc: Global, count: u32) -> Result<Vec<Request>, NoMemory> {
+        let mut requests = Vec::new(alloc);
+        for _ in 0..count {
+            let request = self.request(alloc)?;
+            let Ok(()) = requests.push(request) else {
+                return Err(NoMemory);
+            };
+        }
+        Ok(requests)
+    }
+
+    /// A request, as a rule of a unit that is there and of blocks near its end.
+    pub fn request(&mut self, alloc: Global) -> Result<Request, NoMemory> {
+        let unit = self.unit();
+        let lbn = self.rng.next_u32() % 13;
+        Ok(match self.rng.next_u32() % 16 {
+            0..3 => Request::Online {
+                unit,
+                protect: self.once_in(4),
+            },
+            3 => Request::Available { unit },
+            4 => Request::Status { unit },
+            5..9 => {
+                let count = self.count(32);
+                Request::Read { unit, lbn, count }
+            }
+            9 => {
+                let count = self.count(8_388_607);
+                Request::Access { unit, lbn, count }
+            }
+            10..15 => {
+                let count = self.count(32);
+                let blocks = self.filled(alloc, count)?;
+                Request::Write { unit, lbn, blocks }
+            }
+            _ => {
+                let count = self.count(8_388_607);
+                Request::Erase { unit, lbn, count }
+            }
+        })
+    }
+
+    // Unit 0 half of the time, and now and then one that no controller has.
+    fn unit(&mut self) -> u16 {
+        match self.rng.next_u32() % 32 {
+            0..20 => 0,
+            20..28 => 1,
+            28 => 2,
+            29 => 3,
+            30 => 4,
+            _ => u16::MAX,
+        }
+    }
+
+    // A few blocks, and now and then as many as a request may have, or one more.
+    fn count(&mut self, most: u32) -> u32 {
+        match self.rng.next_u32() % 32 {
+            0 => most.saturating_add(1),
+            1 => most,
+            few => few % 6,
+        }
+    }
+
+    // So many blocks, each of a byte of its own.
+    fn filled(&mut self, alloc: Global, count: u32) -> Result<Vec<[u8; 512]>, NoMemory> {
+        let mut blocks = Vec::new(alloc);
+        for _ in 0..count {
+            let [byte, ..] = self.rng.next_u32().to_le_bytes();
+            let Ok(()) = blocks.push([byte; 512]) else {
+                return Err(NoMemory);
+            };
+        }
+        Ok(blocks)
+    }
+}

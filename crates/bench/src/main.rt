@@ -2,16 +2,21 @@
 //! two by turns in one process. Without words it does nothing. `run`, in this crate's folder, makes a
 //! table of all works.
 //!
-//! The words are a store, `memory` (an image of 1,000 blocks) or the path of an image file of 131,072
+//! With the word `port` or `driver` in place of a store, 4,096 commands go through a port's rings or by a
+//! driver, beside the executor alone: `read` of `32` or `1`, or `status` of `0`.
+//!
+//! Otherwise the words are a store, `memory` (an image of 1,000 blocks) or the path of an image file of 131,072
 //! blocks; a work, `read` or `write`; the blocks of each transfer, `32` or `1`; and how many rounds. Each
 //! round prints a line: the nanoseconds of processor time of the executor, and those of the bare loop.
 #![tactic(auto)]
 
 mod bare;
+mod layers;
 mod work;
 
 use anyhow::{Result, bail};
 use bare::{copy_blocks, move_file_blocks};
+use layers::Errand;
 use std::env;
 use std::fs::{File, OpenFile, OpenOptions};
 use std::time::{CpuClock, Duration};
@@ -31,6 +36,17 @@ fn main(rt: HostRuntime) -> Result<()> {
     let words: Vec<&str> = owned.iter().map(|word| word.as_str()).collect(rt.alloc())?;
     match words.as_slice() {
         [] => Ok(()),
+        [layer @ ("port" | "driver"), work, blocks, rounds] => {
+            let Some(errand) = Errand::named(work, blocks) else {
+                bail!("the work is read of 32 blocks or 1, or status of 0");
+            };
+            let rounds: u32 = rounds.parse()?;
+            if *layer == "port" {
+                through_port(&rt, errand, rounds)
+            } else {
+                through_driver(&rt, errand, rounds)
+            }
+        }
         [store, work, blocks, rounds] => {
             let Some(work) = Work::named(work, blocks) else {
                 bail!("the work is read or write, of 32 blocks or 1");
@@ -42,7 +58,7 @@ fn main(rt: HostRuntime) -> Result<()> {
                 over_file(&rt, store, work, rounds)
             }
         }
-        _ => bail!("words: memory or a file, read or write, 32 or 1, rounds"),
+        _ => bail!("words: memory, a file, port or driver; a work; its blocks; rounds"),
     }
 }
 
@@ -76,6 +92,38 @@ fn over_file(rt: &HostRuntime, path: &str, work: Work, rounds: u32) -> Result<()
         execute_all(&mut exec, &mut memory, work, size)?;
         let middle = rt.process_cpu_time()?;
         move_file_blocks(&mut file, work, size)?;
+        report(rt, start, middle, rt.process_cpu_time()?)?;
+    }
+    Ok(())
+}
+
+// The rounds through a port's rings.
+fn through_port(rt: &HostRuntime, errand: Errand, rounds: u32) -> Result<()> {
+    let mut host = layers::memory(rt.alloc())?;
+    let mut port = layers::port(rt.alloc(), &mut host)?;
+    let mut memory = layers::memory(rt.alloc())?;
+    let mut exec = layers::executor(rt.alloc(), &mut memory)?;
+    for _ in 0..rounds {
+        let start = rt.process_cpu_time()?;
+        layers::by_port(&mut port, &mut host, errand)?;
+        let middle = rt.process_cpu_time()?;
+        layers::by_executor(&mut exec, &mut memory, errand)?;
+        report(rt, start, middle, rt.process_cpu_time()?)?;
+    }
+    Ok(())
+}
+
+// The rounds by a driver.
+fn through_driver(rt: &HostRuntime, errand: Errand, rounds: u32) -> Result<()> {
+    let requests = errand.requests(rt.alloc())?;
+    let mut driver = layers::driver(rt.alloc())?;
+    let mut memory = layers::memory(rt.alloc())?;
+    let mut exec = layers::executor(rt.alloc(), &mut memory)?;
+    for _ in 0..rounds {
+        let start = rt.process_cpu_time()?;
+        layers::by_driver(&mut driver, &requests)?;
+        let middle = rt.process_cpu_time()?;
+        layers::by_executor(&mut exec, &mut memory, errand)?;
         report(rt, start, middle, rt.process_cpu_time()?)?;
     }
     Ok(())

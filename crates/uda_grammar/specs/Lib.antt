@@ -1,1 +1,5 @@
 pub mod Limit
+pub mod Parts
+pub mod Words
+pub mod Forms
+pub mod Reading

@@ -1,10 +1,17 @@
 //! Scripts of block requests: their lines, and what each asks for.
 #![tactic(auto)]
 
+mod cut;
 mod error;
+mod forms;
+mod number;
+mod parsing;
 mod script;
 mod statement;
+mod transfer;
+mod verb;
 
 pub use error::ScriptError;
+pub use parsing::parse;
 pub use script::{Line, SCRIPT_LIMIT, Script};
 pub use statement::Statement;

@@ -1,0 +1,4 @@
+pub mod Cutting
+pub mod Numbers
+pub mod Fields
+pub mod Scripts

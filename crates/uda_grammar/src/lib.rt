@@ -8,6 +8,8 @@ mod number;
 mod parsing;
 mod script;
 mod statement;
+#[cfg(test)]
+mod tests;
 mod transfer;
 mod verb;
 

@@ -2,3 +2,5 @@ pub mod Cutting
 pub mod Numbers
 pub mod Fields
 pub mod Scripts
+pub mod WordLaws
+pub mod FormLaws

@@ -1,5 +1,5 @@
 -- What the lines of a script ask for.
-use Rattle.std.specs.Prelude.{ℕ, ◌+◌, Bool, true, not, ◌&&◌, ◌==◌, is_none, List, [], ◌∷◌, Option, Some, None, if◌then◌else◌}
+use Rattle.std.specs.Prelude.{ℕ, ◌+◌, Bool, true, not, ◌&&◌, ◌==◌, is_none, List, [], ◌∷◌, ◌++◌, Option, Some, None, if◌then◌else◌}
 use Rattle.uda_grammar.specs.declared.script.Line.{Line}
 use Rattle.uda_grammar.specs.declared.error.ScriptError.{ScriptError}
 use Rattle.uda_grammar.specs.declared.error.ScriptError.TheVariants as error
@@ -21,17 +21,19 @@ abbrev pub fault_from : ℕ → List (List ℕ) → Option ℕ
 fault_from number [] = None
 fault_from number (line ∷ rest) = if is_fault line then Some number else fault_from (number + 1) rest
 
--- a statement, the first of these requests; a line of no form ends them
-abbrev pub with_request : ℕ → Option Statement → List Line → List Line
-with_request number None later = []
-with_request number (Some statement) later = record { number = number; statement = statement } ∷ later
+-- the request of a line of this number, if it makes one
+abbrev pub request_of : ℕ → Option Statement → List Line
+request_of number None = []
+request_of number (Some statement) = record { number = number; statement = statement } ∷ []
+
+abbrev pub request_in : ℕ → List ℕ → List Line
+request_in number line = if is_silent line then [] else request_of number (statement_of (words_of line))
 
 -- the requests of lines that are numbered from this on, before the first line of no form
 abbrev pub requests_from : ℕ → List (List ℕ) → List Line
 requests_from number [] = []
 requests_from number (line ∷ rest) =
-    if is_silent line then requests_from (number + 1) rest
-    else with_request number (statement_of (words_of line)) (requests_from (number + 1) rest)
+    if is_fault line then [] else request_in number line ++ requests_from (number + 1) rest
 
 -- the number of a text's first line of no form, from 1
 abbrev pub fault_in : List ℕ → Option ℕ

@@ -72,6 +72,7 @@ fn unit_alone(words: &[u8]) -> Option<u16>
 }
 
 // `U L N`, of at most so many blocks
+#[tactic(auto, using(crate::proofs::Fields::transfer_of_more, crate::proofs::Cutting::parts_behind_nonempty))]
 fn transfer_alone(words: &[u8], most: u32) -> Option<Transfer>
     ensures transfer { result ≡ transfer_of most (words_of words.now) }
 {

@@ -4,6 +4,7 @@
 mod cut;
 mod error;
 mod forms;
+mod law;
 mod number;
 mod parsing;
 mod script;
@@ -14,6 +15,7 @@ mod transfer;
 mod verb;
 
 pub use error::ScriptError;
+pub use law::one_text;
 pub use parsing::parse;
 pub use script::{Line, SCRIPT_LIMIT, Script};
 pub use statement::Statement;

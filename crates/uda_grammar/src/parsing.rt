@@ -1,7 +1,7 @@
 //! How a script is read.
-ghost use Rattle.std.specs.Prelude.{◌≡◌, ℕ, ◌<◌, ◌≤◌, [], ◌∷◌, ◌++◌, length, OnOk, IfOk, IfErr};
+ghost use Rattle.std.specs.Prelude.{◌≡◌, ℕ, true, false, ◌<◌, ◌≤◌, ◌++◌, length, OnOk, IfOk, IfErr};
 ghost use Rattle.uda_grammar.specs.Limit.{script_limit};
-ghost use Rattle.uda_grammar.specs.Reading.{is_silent, fault_in, requests_in, IsReadingError};
+ghost use Rattle.uda_grammar.specs.Reading.{is_silent, is_fault, fault_in, request_in, requests_in, IsReadingError};
 
 use crate::cut::cut;
 use crate::error::ScriptError;
@@ -19,19 +19,29 @@ fn is_silent_line(line: &[u8]) -> bool
     matches!(line, [] | [b'#', ..])
 }
 
-// Puts a request behind the others, if there is room for it.
-fn add(lines: &mut Vec<Line>, line: Line) -> Result<(), ScriptError>
+// Reads one line, of this number: the request that it makes, if any, goes behind the others.
+fn read_line(lines: &mut Vec<Line>, number: u64, line: &[u8]) -> Result<(), ScriptError>
     requires short { length lines.old.items ≤ script_limit }
-    ensures added { OnOk result (lines.new.items ≡ lines.old.items ++ line ∷ []) }
-    ensures room { OnOk result (length lines.old.items < script_limit) }
+    ensures read { OnOk result (lines.new.items ≡ lines.old.items ++ request_in number line.now) }
+    ensures room { OnOk result (length lines.new.items ≤ script_limit) }
+    ensures formed { OnOk result (is_fault line.now ≡ false) }
+
+    ensures syntax { (n : ℕ) → result ≡ Err (ScriptError.Syntax n) → (n ≡ number) × (is_fault line.now ≡ true) }
     ensures full { result ≡ Err ScriptError.TooManyLines → length lines.old.items ≡ script_limit }
-    ensures no_syntax { (line : ℕ) → result ≡ Err (ScriptError.Syntax line) → ⊥ }
+    ensures full_request { result ≡ Err ScriptError.TooManyLines → length (request_in number line.now) ≡ 1 }
+    ensures full_formed { result ≡ Err ScriptError.TooManyLines → is_fault line.now ≡ false }
     ensures kinds { IfErr result IsReadingError }
 {
+    if is_silent_line(line) {
+        return Ok(());
+    }
+    let Some(statement) = statement_in(line) else {
+        return Err(ScriptError::Syntax { line: number });
+    };
     if lines.len() == SCRIPT_LIMIT {
         return Err(ScriptError::TooManyLines);
     }
-    match lines.push(line) {
+    match lines.push(Line { number, statement }) {
         Ok(()) => Ok(()),
         Err(_) => Err(ScriptError::NoMemory),
     }
@@ -63,7 +73,7 @@ pub fn parse(alloc: Global, text: &[u8]) -> Result<Script, ScriptError>
     ensures short { OnOk result (length (requests_in text.now) ≤ script_limit) }
 
     ensures syntax { (line : ℕ) → result ≡ Err (ScriptError.Syntax line) → fault_in text.now ≡ Some line }
-    ensures syntax_first { (line : ℕ) → result ≡ Err (ScriptError.Syntax line) → length (requests_in text.now) ≤ script_limit }
+    ensures syntax_short { (line : ℕ) → result ≡ Err (ScriptError.Syntax line) → length (requests_in text.now) ≤ script_limit }
     ensures too_many { result ≡ Err ScriptError.TooManyLines → script_limit < length (requests_in text.now) }
     ensures kinds { IfErr result IsReadingError }
 {
@@ -73,12 +83,7 @@ pub fn parse(alloc: Global, text: &[u8]) -> Result<Script, ScriptError>
     while let Some(text) = rest {
         let (line, later) = cut(text, LINE_FEED);
         number += 1;
-        if !is_silent_line(line) {
-            let Some(statement) = statement_in(line) else {
-                return Err(ScriptError::Syntax { line: number });
-            };
-            add(&mut lines, Line { number, statement })?;
-        }
+        read_line(&mut lines, number, line)?;
         rest = later;
     }
     Ok(Script { lines })

@@ -35,5 +35,5 @@ pub parts_nonempty : (separator : ℕ) (text : List ℕ) → 0 < length (parts s
 parts_nonempty separator text = omega (arith, length-slice_split (λ byte. byte == separator) text)
 
 -- and at least two where a separator stands in it
-pub parts_behind_nonempty : (separator : ℕ) (behind : Option (List ℕ)) (rest : List ℕ) → behind ≡ Some rest → 0 < length (parts_behind separator behind)
-parts_behind_nonempty separator behind rest e = rw e (parts_nonempty separator rest)
+pub behind_nonempty : (separator : ℕ) (behind : Option (List ℕ)) (rest : List ℕ) → behind ≡ Some rest → 0 < length (parts_behind separator behind)
+behind_nonempty separator behind rest e = rw e (parts_nonempty separator rest)

@@ -1,4 +1,4 @@
--- Lines with too many or too few words.
+-- A line with too many words.
 use Rattle.std.proofs.Common.{◌≡◌, ◌<◌, ℕ, List, [], ◌∷◌, length, None, refl, arith}
 use Rattle.uda_grammar.specs.Forms.{transfer_of}
 

@@ -11,13 +11,11 @@ use Rattle.std.proofs.lemmas.Fmt.{decimal-digits_value, digits_decimal, digits_v
 use Rattle.std.proofs.lemmas.Str.Parse.{IsNumeralModel, numerals_by_fold}
 use Rattle.std.proofs.lemmas.Grind.{common_steps}
 use Rattle.uda_grammar.specs.Words.{is_decimal, value_behind, number_of, nibble_of, byte_of}
-use Rattle.uda_grammar.specs.Laws.{hexadecimal}
+use Rattle.uda_grammar.specs.Texts.{hexadecimal}
 use Rattle.uda_grammar.proofs.Numbers.{is_decimal-digits, number_of-some}
 
-AreDigits : List ℕ → Type 0
-AreDigits word = list_all is_ascii_digit word ≡ true
-
-own : IsNumeralModel (λ ds. list_all is_ascii_digit ds ≡ true) (value_behind 0)
+-- digits and their value, in the words of the forms
+pub own : IsNumeralModel (λ ds. list_all is_ascii_digit ds ≡ true) (value_behind 0)
 own = numerals_by_fold _ (search rules) value_behind (search rules)
 
 -- a word that is a number is what is printed of it

@@ -3,4 +3,4 @@ pub mod Parts
 pub mod Words
 pub mod Forms
 pub mod Reading
-pub mod Laws
+pub mod Texts

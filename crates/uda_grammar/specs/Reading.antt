@@ -1,5 +1,6 @@
 -- What the lines of a script ask for.
-use Rattle.std.specs.Prelude.{ℕ, ◌+◌, Bool, true, not, ◌&&◌, ◌==◌, is_none, List, [], ◌∷◌, ◌++◌, Option, Some, None, if◌then◌else◌}
+use Rattle.std.specs.Prelude.{ℕ, ◌+◌, Bool, true, not, ◌&&◌, ◌==◌, if◌then◌else◌}
+use Rattle.std.specs.Prelude.{List, [], ◌∷◌, ◌++◌, Option, Some, None, is_none}
 use Rattle.uda_grammar.specs.declared.script.Line.{Line}
 use Rattle.uda_grammar.specs.declared.error.ScriptError.{ScriptError}
 use Rattle.uda_grammar.specs.declared.error.ScriptError.TheVariants as error
@@ -19,7 +20,8 @@ is_fault line = not (is_silent line) && is_none (statement_of (words_of line))
 -- the number of the first line of no form, where the lines are numbered from this on
 abbrev pub fault_from : ℕ → List (List ℕ) → Option ℕ
 fault_from number [] = None
-fault_from number (line ∷ rest) = if is_fault line then Some number else fault_from (number + 1) rest
+fault_from number (line ∷ rest) =
+    if is_fault line then Some number else fault_from (number + 1) rest
 
 -- the request of a line of this number, if it makes one
 abbrev pub request_of : ℕ → Option Statement → List Line
@@ -27,7 +29,8 @@ request_of number None = []
 request_of number (Some statement) = record { number = number; statement = statement } ∷ []
 
 abbrev pub request_in : ℕ → List ℕ → List Line
-request_in number line = if is_silent line then [] else request_of number (statement_of (words_of line))
+request_in number line =
+    if is_silent line then [] else request_of number (statement_of (words_of line))
 
 -- the requests of lines that are numbered from this on, before the first line of no form
 abbrev pub requests_from : ℕ → List (List ℕ) → List Line

@@ -1,5 +1,6 @@
 -- What one word of a line may say.
-use Rattle.std.specs.Prelude.{ℕ, ◌+◌, ◌-◌, ◌*◌, Bool, false, not, ◌&&◌, ◌==◌, nat_le, List, [], ◌∷◌, codes, Option, Some, None, if◌then◌else◌}
+use Rattle.std.specs.Prelude.{ℕ, ◌+◌, ◌-◌, ◌*◌, Bool, false, not, ◌&&◌, ◌==◌, nat_le}
+use Rattle.std.specs.Prelude.{List, [], ◌∷◌, codes, Option, Some, None, if◌then◌else◌}
 use Rattle.std.specs.Char.{is_ascii_digit}
 use Rattle.std.specs.List.{fold, list_all, position}
 use Rattle.std.specs.Option.{option_map, option_and_then}
@@ -23,7 +24,8 @@ verb_of word =
 abbrev pub is_decimal : List ℕ → Bool
 is_decimal [] = false
 is_decimal (digit ∷ []) = is_ascii_digit digit
-is_decimal (digit ∷ next ∷ rest) = not (digit == 48) && list_all is_ascii_digit (digit ∷ next ∷ rest)
+is_decimal (digit ∷ next ∷ rest) =
+    not (digit == 48) && list_all is_ascii_digit (digit ∷ next ∷ rest)
 
 -- the number that digits tell, behind those of this number
 abbrev pub value_behind : ℕ → List ℕ → ℕ
@@ -31,7 +33,13 @@ value_behind value digits = fold (λ before digit. 10 * before + (digit - 48)) v
 
 -- the number that a word is, where that is at most this
 abbrev pub number_of : ℕ → List ℕ → Option ℕ
-number_of most word = if is_decimal word && nat_le (value_behind 0 word) most then Some (value_behind 0 word) else None
+number_of most word =
+    if is_decimal word && nat_le (value_behind 0 word) most then Some (value_behind 0 word)
+    else None
+
+-- the greatest number of 32 bits
+abbrev pub most_number : ℕ
+most_number = 4294967295
 
 -- a unit's number, of 16 bits
 abbrev pub unit_of : List ℕ → Option ℕ
@@ -43,5 +51,6 @@ nibble_of digit = position (λ d. d == digit) (codes "0123456789abcdef")
 
 -- two hexadecimal digits
 abbrev pub byte_of : List ℕ → Option ℕ
-byte_of (high ∷ low ∷ []) = option_and_then (λ h. option_map (λ l. 16 * h + l) (nibble_of low)) (nibble_of high)
+byte_of (high ∷ low ∷ []) =
+    option_and_then (λ h. option_map (λ l. 16 * h + l) (nibble_of low)) (nibble_of high)
 byte_of _ = None

@@ -11,9 +11,10 @@ fn place(text: &[u8], separator: u8) -> Option<usize>
     text.iter().position(|byte| *byte == separator)
 }
 
-/// What stands before the first such byte, and what stands behind it; `None` where there is no such byte.
+/// What stands before the first such byte, and what stands behind it, if there is one.
 pub(crate) fn cut(text: &[u8], separator: u8) -> (&[u8], Option<&[u8]>)
-    ensures parts { parts separator text.now ≡ result.0.now ∷ parts_behind separator (option_copied result.1) }
+    ensures parts { parts separator text.now
+        ≡ result.0.now ∷ parts_behind separator (option_copied result.1) }
     ensures shorter { IfSome result.1 (λ rest. length rest.now < length text.now) }
 {
     match place(text, separator) {

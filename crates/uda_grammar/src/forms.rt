@@ -38,7 +38,8 @@ struct Fields<'a> {
 impl<'a> Fields<'a> {
     // The first three words, and what stands behind them.
     fn of_words(words: &'a [u8]) -> Option<Fields<'a>>
-        ensures words { IfSome result (λ f. words_of words.now ≡ f.unit.now ∷ f.lbn.now ∷ f.count.now ∷ parts_behind 32 (option_copied f.rest)) }
+        ensures words { IfSome result (λ f. words_of words.now
+            ≡ f.unit.now ∷ f.lbn.now ∷ f.count.now ∷ parts_behind 32 (option_copied f.rest)) }
         ensures fewer { IfNone result (length (words_of words.now) < 3) }
     {
         let (unit, rest) = cut(words, SPACE);
@@ -54,7 +55,8 @@ impl<'a> Fields<'a> {
 
     // The numbers that the three words are, of at most so many blocks.
     fn transfer(&self, most: u32) -> Option<Transfer>
-        ensures transfer { result ≡ transfer_of most (self.now.unit.now ∷ self.now.lbn.now ∷ self.now.count.now ∷ []) }
+        ensures transfer { result
+            ≡ transfer_of most (self.now.unit.now ∷ self.now.lbn.now ∷ self.now.count.now ∷ []) }
     {
         Some(Transfer {
             unit: unit(self.unit)?,
@@ -72,7 +74,7 @@ fn unit_alone(words: &[u8]) -> Option<u16>
 }
 
 // `U L N`, of at most so many blocks
-#[tactic(auto, using(crate::proofs::Fields::transfer_of_more, crate::proofs::Cutting::parts_behind_nonempty))]
+#[tactic(auto, using(crate::proofs::Fields::transfer_of_more, crate::proofs::Cutting::behind_nonempty))]
 fn transfer_alone(words: &[u8], most: u32) -> Option<Transfer>
     ensures transfer { result ≡ transfer_of most (words_of words.now) }
 {

@@ -1,1 +1,6 @@
 pub mod Limit
+pub mod Parts
+pub mod Words
+pub mod Forms
+pub mod Reading
+pub mod Texts

@@ -8,14 +8,14 @@ pub enum ScriptError {
     /// A line is none of the forms.
     Syntax {
         /// The line's number, from 1.
-        line: u32,
+        line: u64,
     },
     /// More than [`SCRIPT_LIMIT`](crate::SCRIPT_LIMIT) requests.
     TooManyLines,
     /// The data ended inside what a line takes.
     ShortData {
         /// The line's number, from 1.
-        line: u32,
+        line: u64,
     },
     /// A read of data failed.
     Read,

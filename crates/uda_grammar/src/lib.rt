@@ -1,10 +1,21 @@
 //! Scripts of block requests: their lines, and what each asks for.
 #![tactic(auto)]
 
+mod cut;
 mod error;
+mod forms;
+mod law;
+mod number;
+mod parsing;
 mod script;
 mod statement;
+#[cfg(test)]
+mod tests;
+mod transfer;
+mod verb;
 
 pub use error::ScriptError;
+pub use law::one_text;
+pub use parsing::parse;
 pub use script::{Line, SCRIPT_LIMIT, Script};
 pub use statement::Statement;

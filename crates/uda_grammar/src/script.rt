@@ -11,7 +11,7 @@ pub const SCRIPT_LIMIT: usize = 4096;
 #[derive(Clone, Copy, Debug, PartialEq, Eq)]
 pub struct Line {
     /// The line's number among all lines of the script, from 1.
-    pub number: u32,
+    pub number: u64,
     /// What it asks for.
     pub statement: Statement,
 }
@@ -19,7 +19,7 @@ pub struct Line {
 /// The lines of a script that make requests, in order; at most [`SCRIPT_LIMIT`].
 #[derive(Debug, Drop)]
 pub struct Script {
-    lines: Vec<Line>,
+    pub(crate) lines: Vec<Line>,
 }
 
 impl Model for Script {

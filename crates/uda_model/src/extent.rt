@@ -2,6 +2,9 @@
 
 use uda_packet::Kind;
 
+/// How many blocks one buffer of a driver takes: the most that a Read or a Write may have.
+pub const BUFFER_BLOCKS: u32 = 32;
+
 /// What a transfer names: its kind, its first block and how many there are.
 #[derive(Clone, Copy, Debug, PartialEq, Eq)]
 pub struct Extent {
@@ -31,13 +34,14 @@ impl Extent {
         u128::from(self.first.max(other.first)) < self.end().min(other.end())
     }
 
-    /// Whether these are more blocks than one command of a driver may have: 32 where there is a buffer, and
+    /// Whether these are more blocks than one command of a driver may have: [`BUFFER_BLOCKS`] where there is a
+    /// buffer, and
     /// 8,388,607 elsewhere.
     pub fn is_too_long(self) -> bool
         ensures long { result ≡ nat_lt (limit_of self.kind) self.count }
     {
         let limit = if self.kind.has_buffer() {
-            32
+            u64::from(BUFFER_BLOCKS)
         } else {
             8_388_607
         };

@@ -1,0 +1,6 @@
+pub mod Cutting
+pub mod Numbers
+pub mod Fields
+pub mod Scripts
+pub mod WordLaws
+pub mod FormLaws

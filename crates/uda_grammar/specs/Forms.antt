@@ -1,0 +1,71 @@
+-- The forms of a line that makes a request, by cases on its words.
+use Rattle.std.specs.Prelude.{ℕ, true, false, List, [], ◌∷◌, codes, Option, Some, None}
+use Rattle.std.specs.Prelude.{if◌then◌else◌}
+use Rattle.std.specs.Option.{option_map, option_and_then}
+use Rattle.std.specs.Str.{bytes_eq}
+use Rattle.uda_packet.specs.declared.end.Kind.TheVariants as kind
+use Rattle.uda_model.specs.Request.{limit_of}
+use Rattle.uda_grammar.specs.declared.verb.Verb.{Verb}
+use Rattle.uda_grammar.specs.declared.verb.Verb.TheVariants as verb
+use Rattle.uda_grammar.specs.declared.transfer.Transfer.{Transfer}
+use Rattle.uda_grammar.specs.declared.statement.Statement.{Statement}
+use Rattle.uda_grammar.specs.declared.statement.Statement.TheVariants as form
+use Rattle.uda_grammar.specs.Words.{verb_of, most_number, number_of, unit_of, byte_of}
+
+-- one word: a unit
+abbrev pub only_unit : List (List ℕ) → Option ℕ
+only_unit (u ∷ []) = unit_of u
+only_unit _ = None
+
+-- a transfer, where its three numbers are there
+abbrev pub with_numbers : Option ℕ → Option ℕ → Option ℕ → Option Transfer
+with_numbers (Some unit) (Some lbn) (Some count) =
+    Some (record { unit = unit; lbn = lbn; count = count })
+with_numbers _ _ _ = None
+
+-- three words: a unit, a first block, and how many blocks, at most so many
+abbrev pub transfer_of : ℕ → List (List ℕ) → Option Transfer
+transfer_of most (u ∷ l ∷ n ∷ []) =
+    with_numbers (unit_of u) (number_of most_number l) (number_of most n)
+transfer_of most _ = None
+
+-- the most blocks that a line can have written: those of one command
+abbrev pub most_written : ℕ
+most_written = limit_of kind.Write
+
+-- a unit, and whether to protect it
+abbrev pub online_of : List (List ℕ) → Option Statement
+online_of (u ∷ []) = option_map (λ unit. form.Online unit false) (unit_of u)
+online_of (u ∷ word ∷ []) =
+    if bytes_eq word (codes "protect") then option_map (λ unit. form.Online unit true) (unit_of u)
+    else None
+online_of _ = None
+
+-- a transfer and the byte that fills its blocks, where both are there
+abbrev pub with_byte : Option Transfer → Option ℕ → Option Statement
+with_byte (Some t) (Some byte) = Some (form.Fill t.unit t.lbn t.count byte)
+with_byte _ _ = None
+
+abbrev pub fill_of : List (List ℕ) → Option Statement
+fill_of (u ∷ l ∷ n ∷ x ∷ []) = with_byte (transfer_of most_written (u ∷ l ∷ n ∷ [])) (byte_of x)
+fill_of _ = None
+
+-- what a line asks for by the words behind its first
+abbrev pub statement_behind : Verb → List (List ℕ) → Option Statement
+statement_behind verb.Online words = online_of words
+statement_behind verb.Available words = option_map (λ unit. form.Available unit) (only_unit words)
+statement_behind verb.Status words = option_map (λ unit. form.Status unit) (only_unit words)
+statement_behind verb.Read words =
+    option_map (λ t. form.Read t.unit t.lbn t.count) (transfer_of most_number words)
+statement_behind verb.Access words =
+    option_map (λ t. form.Access t.unit t.lbn t.count) (transfer_of most_number words)
+statement_behind verb.Erase words =
+    option_map (λ t. form.Erase t.unit t.lbn t.count) (transfer_of most_number words)
+statement_behind verb.Write words =
+    option_map (λ t. form.Write t.unit t.lbn t.count) (transfer_of most_written words)
+statement_behind verb.Fill words = fill_of words
+
+-- what a line asks for by its words, where they are of one of the forms
+abbrev pub statement_of : List (List ℕ) → Option Statement
+statement_of [] = None
+statement_of (word ∷ words) = option_and_then (λ v. statement_behind v words) (verb_of word)

@@ -1,0 +1,56 @@
+-- The forms told the other way round: each statement has one text.
+use Rattle.std.specs.Prelude.{◌≡◌, ℕ, ◌/◌, ◌%◌, ◌≤◌, true, false, List, [], ◌∷◌, ◌++◌, codes, Some, ◌↔◌}
+use Rattle.std.specs.Fmt.{decimal, digit_glyph}
+use Rattle.std.specs.List.{join_with_byte}
+use Rattle.uda_grammar.specs.declared.statement.Statement.{Statement}
+use Rattle.uda_grammar.specs.declared.statement.Statement.TheVariants as form
+use Rattle.uda_grammar.specs.Parts.{words_of}
+use Rattle.uda_grammar.specs.Words.{most_number}
+use Rattle.uda_grammar.specs.Forms.{most_written, statement_of}
+
+-- two hexadecimal digits in lower case
+abbrev pub hexadecimal : ℕ → List ℕ
+hexadecimal byte = digit_glyph false (byte / 16) ∷ digit_glyph false (byte % 16) ∷ []
+
+-- the numbers of a transfer as they are printed
+abbrev pub transfer_words : ℕ → ℕ → ℕ → List (List ℕ)
+transfer_words unit lbn count = decimal unit ∷ decimal lbn ∷ decimal count ∷ []
+
+-- the words of a statement
+abbrev pub words_in : Statement → List (List ℕ)
+words_in (form.Online unit false) = codes "online" ∷ decimal unit ∷ []
+words_in (form.Online unit true) = codes "online" ∷ decimal unit ∷ codes "protect" ∷ []
+words_in (form.Available unit) = codes "available" ∷ decimal unit ∷ []
+words_in (form.Status unit) = codes "status" ∷ decimal unit ∷ []
+words_in (form.Read unit lbn count) = codes "read" ∷ transfer_words unit lbn count
+words_in (form.Access unit lbn count) = codes "access" ∷ transfer_words unit lbn count
+words_in (form.Erase unit lbn count) = codes "erase" ∷ transfer_words unit lbn count
+words_in (form.Write unit lbn count) = codes "write" ∷ transfer_words unit lbn count
+words_in (form.Fill unit lbn count byte) =
+    codes "fill" ∷ transfer_words unit lbn count ++ hexadecimal byte ∷ []
+
+-- the numbers of a transfer, of at most so many blocks
+pub record IsTransfer (most unit lbn count : ℕ) : Type 0 where
+  pub unit_fits : unit ≤ 65535
+  pub lbn_fits : lbn ≤ most_number
+  pub count_fits : count ≤ most
+
+-- what the numbers of a statement may be
+abbrev pub Fits : Statement → Type 0
+Fits (form.Online unit protect) = unit ≤ 65535
+Fits (form.Available unit) = unit ≤ 65535
+Fits (form.Status unit) = unit ≤ 65535
+Fits (form.Read unit lbn count) = IsTransfer most_number unit lbn count
+Fits (form.Access unit lbn count) = IsTransfer most_number unit lbn count
+Fits (form.Erase unit lbn count) = IsTransfer most_number unit lbn count
+Fits (form.Write unit lbn count) = IsTransfer most_written unit lbn count
+Fits (form.Fill unit lbn count byte) = IsTransfer most_written unit lbn count × (byte ≤ 255)
+
+-- the text of a statement: its words, with a space between two
+abbrev pub text_of : Statement → List ℕ
+text_of statement = join_with_byte 32 (words_in statement)
+
+-- a line asks for a statement exactly where it is the statement's text, and the numbers fit
+abbrev pub OneText : Type 0
+OneText = (line : List ℕ) (statement : Statement)
+    → (statement_of (words_of line) ≡ Some statement) ↔ (Fits statement × (line ≡ text_of statement))

@@ -1,0 +1,56 @@
+-- What one word of a line may say.
+use Rattle.std.specs.Prelude.{ℕ, ◌+◌, ◌-◌, ◌*◌, Bool, false, not, ◌&&◌, ◌==◌, nat_le}
+use Rattle.std.specs.Prelude.{List, [], ◌∷◌, codes, Option, Some, None, if◌then◌else◌}
+use Rattle.std.specs.Char.{is_ascii_digit}
+use Rattle.std.specs.List.{fold, list_all, position}
+use Rattle.std.specs.Option.{option_map, option_and_then}
+use Rattle.std.specs.Str.{bytes_eq}
+use Rattle.uda_grammar.specs.declared.verb.Verb.{Verb}
+use Rattle.uda_grammar.specs.declared.verb.Verb.TheVariants as verb
+
+-- what a line's first word asks for
+abbrev pub verb_of : List ℕ → Option Verb
+verb_of word =
+    if bytes_eq word (codes "online") then Some verb.Online else
+    if bytes_eq word (codes "available") then Some verb.Available else
+    if bytes_eq word (codes "status") then Some verb.Status else
+    if bytes_eq word (codes "read") then Some verb.Read else
+    if bytes_eq word (codes "access") then Some verb.Access else
+    if bytes_eq word (codes "erase") then Some verb.Erase else
+    if bytes_eq word (codes "write") then Some verb.Write else
+    if bytes_eq word (codes "fill") then Some verb.Fill else None
+
+-- a number in decimal: digits, of which the first is no zero where there are more
+abbrev pub is_decimal : List ℕ → Bool
+is_decimal [] = false
+is_decimal (digit ∷ []) = is_ascii_digit digit
+is_decimal (digit ∷ next ∷ rest) =
+    not (digit == 48) && list_all is_ascii_digit (digit ∷ next ∷ rest)
+
+-- the number that digits tell, behind those of this number
+abbrev pub value_behind : ℕ → List ℕ → ℕ
+value_behind value digits = fold (λ before digit. 10 * before + (digit - 48)) value digits
+
+-- the number that a word is, where that is at most this
+abbrev pub number_of : ℕ → List ℕ → Option ℕ
+number_of most word =
+    if is_decimal word && nat_le (value_behind 0 word) most then Some (value_behind 0 word)
+    else None
+
+-- the greatest number of 32 bits
+abbrev pub most_number : ℕ
+most_number = 4294967295
+
+-- a unit's number, of 16 bits
+abbrev pub unit_of : List ℕ → Option ℕ
+unit_of word = number_of 65535 word
+
+-- the value of a hexadecimal digit is its place among them; upper case has none
+abbrev pub nibble_of : ℕ → Option ℕ
+nibble_of digit = position (λ d. d == digit) (codes "0123456789abcdef")
+
+-- two hexadecimal digits
+abbrev pub byte_of : List ℕ → Option ℕ
+byte_of (high ∷ low ∷ []) =
+    option_and_then (λ h. option_map (λ l. 16 * h + l) (nibble_of low)) (nibble_of high)
+byte_of _ = None

@@ -1,0 +1,153 @@
+//! The forms of a line that makes a request.
+ghost use Rattle.std.specs.Prelude.{◌≡◌, ◌<◌, [], ◌∷◌, length, IfSome, IfNone};
+ghost use Rattle.std.specs.Option.{option_copied};
+ghost use Rattle.uda_grammar.specs.Parts.{words_of, parts_behind};
+ghost use Rattle.uda_grammar.specs.Forms.{only_unit, transfer_of, online_of, fill_of, statement_of};
+
+use crate::cut::cut;
+use crate::number::{byte, number, unit};
+use crate::statement::Statement;
+use crate::transfer::Transfer;
+use crate::verb::Verb;
+use uda_model::BUFFER_BLOCKS;
+
+// What parts the words of a line.
+const SPACE: u8 = b' ';
+
+// The word, where there is only one.
+fn only_word(words: &[u8]) -> Option<&[u8]>
+    ensures only { IfSome result (λ word. words_of words.now ≡ word.now ∷ []) }
+    ensures more { IfNone result (1 < length (words_of words.now)) }
+{
+    match cut(words, SPACE) {
+        (word, None) => Some(word),
+        (_, Some(_)) => None,
+    }
+}
+
+// The words of a transfer.
+#[derive(Clone, Copy)]
+struct Fields<'a> {
+    unit: &'a [u8],
+    lbn: &'a [u8],
+    count: &'a [u8],
+    // what stands behind them
+    rest: Option<&'a [u8]>,
+}
+
+impl<'a> Fields<'a> {
+    // The first three words, and what stands behind them.
+    fn of_words(words: &'a [u8]) -> Option<Fields<'a>>
+        ensures words { IfSome result (λ f. words_of words.now
+            ≡ f.unit.now ∷ f.lbn.now ∷ f.count.now ∷ parts_behind 32 (option_copied f.rest)) }
+        ensures fewer { IfNone result (length (words_of words.now) < 3) }
+    {
+        let (unit, rest) = cut(words, SPACE);
+        let (lbn, rest) = cut(rest?, SPACE);
+        let (count, rest) = cut(rest?, SPACE);
+        Some(Fields {
+            unit,
+            lbn,
+            count,
+            rest,
+        })
+    }
+
+    // The numbers that the three words are, of at most so many blocks.
+    fn transfer(&self, most: u32) -> Option<Transfer>
+        ensures transfer { result
+            ≡ transfer_of most (self.now.unit.now ∷ self.now.lbn.now ∷ self.now.count.now ∷ []) }
+    {
+        Some(Transfer {
+            unit: unit(self.unit)?,
+            lbn: number(self.lbn, u32::MAX)?,
+            count: number(self.count, most)?,
+        })
+    }
+}
+
+// `U`
+fn unit_alone(words: &[u8]) -> Option<u16>
+    ensures unit { result ≡ only_unit (words_of words.now) }
+{
+    unit(only_word(words)?)
+}
+
+// `U L N`, of at most so many blocks
+#[tactic(auto, using(crate::proofs::Fields::transfer_of_more, crate::proofs::Cutting::behind_nonempty))]
+fn transfer_alone(words: &[u8], most: u32) -> Option<Transfer>
+    ensures transfer { result ≡ transfer_of most (words_of words.now) }
+{
+    let fields = Fields::of_words(words)?;
+    match fields.rest {
+        None => fields.transfer(most),
+        Some(_) => None,
+    }
+}
+
+// `U` and `U protect`
+fn online(words: &[u8]) -> Option<Statement>
+    ensures online { result ≡ online_of (words_of words.now) }
+{
+    let (word, rest) = cut(words, SPACE);
+    let protect = match rest {
+        None => false,
+        Some(rest) => match only_word(rest)? {
+            b"protect" => true,
+            _ => return None,
+        },
+    };
+    Some(Statement::Online {
+        unit: unit(word)?,
+        protect,
+    })
+}
+
+// `U L N XX`
+fn fill(words: &[u8]) -> Option<Statement>
+    ensures fill { result ≡ fill_of (words_of words.now) }
+{
+    let fields = Fields::of_words(words)?;
+    let byte = byte(only_word(fields.rest?)?)?;
+    let Transfer { unit, lbn, count } = fields.transfer(BUFFER_BLOCKS)?;
+    Some(Statement::Fill {
+        unit,
+        lbn,
+        count,
+        byte,
+    })
+}
+
+/// What a line asks for, where it is of one of the forms.
+pub(crate) fn statement_in(line: &[u8]) -> Option<Statement>
+    ensures statement { result ≡ statement_of (words_of line.now) }
+{
+    let (verb, words) = cut(line, SPACE);
+    let words = words?;
+    Some(match Verb::of_word(verb)? {
+        Verb::Online => online(words)?,
+        Verb::Available => Statement::Available {
+            unit: unit_alone(words)?,
+        },
+        Verb::Status => Statement::Status {
+            unit: unit_alone(words)?,
+        },
+        Verb::Read => {
+            let Transfer { unit, lbn, count } = transfer_alone(words, u32::MAX)?;
+            Statement::Read { unit, lbn, count }
+        }
+        Verb::Access => {
+            let Transfer { unit, lbn, count } = transfer_alone(words, u32::MAX)?;
+            Statement::Access { unit, lbn, count }
+        }
+        Verb::Erase => {
+            let Transfer { unit, lbn, count } = transfer_alone(words, u32::MAX)?;
+            Statement::Erase { unit, lbn, count }
+        }
+        Verb::Write => {
+            let Transfer { unit, lbn, count } = transfer_alone(words, BUFFER_BLOCKS)?;
+            Statement::Write { unit, lbn, count }
+        }
+        Verb::Fill => fill(words)?,
+    })
+}

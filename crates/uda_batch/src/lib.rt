@@ -1,0 +1,4 @@
+//! Scripts of block requests, run by a driver.
+#![tactic(auto)]
+
+mod put;

@@ -1,5 +1,5 @@
 -- What a script's run prints of its answers.
-use Rattle.std.specs.Prelude.{◌≡◌, ℕ, suc, List, [], ◌∷◌, ◌++◌, Option, codes}
+use Rattle.std.specs.Prelude.{◌≡◌, ℕ, suc, List, [], ◌∷◌, ◌++◌, Option}
 use Rattle.std.specs.Fmt.{decimal}
 use Rattle.std.specs.Io.KnownBytes.{Appends}
 use Rattle.uda_model.specs.Answer.{Answer, Data}
@@ -15,9 +15,9 @@ abbrev pub out_text : List Answer → List ℕ
 out_text [] = []
 out_text (answer ∷ rest) = answer_bytes answer ++ out_text rest
 
--- a line of the report: the request's number, and what it was answered
+-- a line of the report: the request's number, a space, what it was answered, and the end of the line
 abbrev pub report_line : ℕ → Answer → List ℕ
-report_line number answer = decimal number ++ codes " " ++ answer_display answer ++ codes "\n"
+report_line number answer = decimal number ++ 32 ∷ (answer_display answer ++ 10 ∷ [])
 
 -- the lines of the report, from this number on
 abbrev pub report_from : ℕ → List Answer → List ℕ

@@ -2,4 +2,5 @@
 #![tactic(auto)]
 
 mod put;
+mod requests;
 mod texts;

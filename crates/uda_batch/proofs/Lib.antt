@@ -1,3 +1,4 @@
 pub mod Puts
 pub mod Texting
 pub mod Fillings
+pub mod Readings

@@ -6,6 +6,7 @@ ghost use Rattle.uda_model.specs.Values.{request_value, request_values};
 ghost use Rattle.uda_batch.specs.Requests.{bytes_taken};
 ghost use Rattle.uda_batch.specs.Reading.{ReadsBlocks, ReadsRequest, ReadsRequests, IsUnread, AreUnread};
 
+use crate::growth::{push, with_room};
 use std::alloc::Global;
 use std::io::{ErrorKind, Read};
 use uda_grammar::{Line, ScriptError, Statement};
@@ -29,12 +30,10 @@ pub fn read_requests<R: Read>(
         (R.remaining input.new) (request_values made.items)) }
     ensures error { IfErr result (AreUnread lines.now (R.remaining input.old)) }
 {
-    let mut requests = Vec::with_capacity(alloc, lines.len()).map_err(|_| ScriptError::NoMemory)?;
+    let mut requests = with_room(alloc, lines.len())?;
     for line in lines {
         let request = read_request(alloc, line, input)?;
-        requests
-            .push(request)
-            .map_err(|_| ScriptError::NoMemory)?;
+        push(&mut requests, request)?;
     }
     Ok(requests)
 }
@@ -77,7 +76,11 @@ fn filled_blocks(alloc: Global, count: u32, byte: u8) -> Result<Vec<[u8; BLOCK]>
     ensures blocks { IfOk result (λ blocks. blocks.items ≡ replicate count (replicate BLOCK byte)) }
     ensures error { IfErr result (λ e. e ≡ ScriptError.NoMemory) }
 {
-    Vec::from_elem(alloc, [byte; BLOCK], count as usize).map_err(|_| ScriptError::NoMemory)
+    let mut blocks = with_room(alloc, count as usize)?;
+    for _ in 0..count {
+        push(&mut blocks, [byte; BLOCK])?;
+    }
+    Ok(blocks)
 }
 
 // The next blocks of the data, so many, for a line.
@@ -91,12 +94,11 @@ fn read_blocks<R: Read>(
         (R.remaining input.new) blocks.items) }
     ensures error { IfErr result (IsUnread (512 * count) line.now (R.remaining input.old)) }
 {
-    let mut blocks =
-        Vec::with_capacity(alloc, count as usize).map_err(|_| ScriptError::NoMemory)?;
+    let mut blocks = with_room(alloc, count as usize)?;
     for _ in 0..count {
         let mut block = [0; BLOCK];
         fill_block(line, &mut block, input)?;
-        blocks.push(block).map_err(|_| ScriptError::NoMemory)?;
+        push(&mut blocks, block)?;
     }
     Ok(blocks)
 }

@@ -2,3 +2,4 @@ pub mod Puts
 pub mod Texting
 pub mod Fillings
 pub mod Readings
+pub mod Endings

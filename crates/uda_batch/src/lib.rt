@@ -4,4 +4,7 @@
 mod growth;
 mod put;
 mod requests;
+mod script;
 mod texts;
+
+pub use script::run_script;

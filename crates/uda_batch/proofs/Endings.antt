@@ -2,8 +2,7 @@
 use Rattle.std.proofs.Common.{◌≡◌, ℕ, ◌≤◌, List, [], ◌∷◌, ◌++◌, arith, length, drop, map, refl, sym, ap, ◌∙◌, subst, append-nil}
 use Rattle.std.specs.Prelude.{Option, Result, Ok, Err, OnOk, OnErr, IfErr}
 use Rattle.std.proofs.lemmas.List.{length-map}
-use Rattle.std.specs.Io.KnownBytes.{Appends, Keeps}
-use Rattle.std.proofs.KnownBytes.{Keeps-refl}
+use Rattle.std.specs.Io.KnownBytes.{Appends}
 use Rattle.uda_grammar.specs.declared.error.ScriptError.{ScriptError}
 use Rattle.uda_grammar.specs.declared.error.ScriptError.TheVariants.{NoMemory, Write}
 use Rattle.uda_grammar.specs.declared.script.Line.{Line}
@@ -79,8 +78,8 @@ pub ends_early : (lines : List Line) (before after : Streams) (driver driver_aft
 ends_early lines before after driver driver_after e is stays out report =
     let none : NothingDone before after driver driver_after = record {
       driver_stays = stays;
-      out_stays = subst (λ (known : Option (List ℕ)). Keeps before.out known) (sym out) (Keeps-refl before.out);
-      report_stays = subst (λ (known : Option (List ℕ)). Keeps before.report known) (sym report) (Keeps-refl before.report);
+      out_stays = out;
+      report_stays = report;
     } in
     subst (EndsEarly lines before after driver driver_after) (sym is) none
 

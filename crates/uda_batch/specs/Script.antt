@@ -1,6 +1,6 @@
 -- What a run of a script leaves.
 use Rattle.std.specs.Prelude.{◌≡◌, ℕ, List, length, Option, Some, IfSome}
-use Rattle.std.specs.Io.KnownBytes.{Appends, Consumes, Keeps}
+use Rattle.std.specs.Io.KnownBytes.{Appends, Consumes}
 use Rattle.uda_model.specs.Keeping.{AllFaithful}
 use Rattle.uda_model.specs.Answer.{Answer}
 use Rattle.uda_model.specs.Request.{Request}
@@ -42,7 +42,7 @@ pub record EndsWhole (lines : List Line) (before after : Streams) (driver driver
 
 -- a beginning of both texts was written, `out` wholly before `report`
 pub data TextsBegin (told : List Answer) (out out_after report report_after : Option (List ℕ)) : Type 0 where
-  InOut : AppendsBeginning out out_after (out_text told) → Keeps report report_after → TextsBegin told out out_after report report_after
+  InOut : AppendsBeginning out out_after (out_text told) → report_after ≡ report → TextsBegin told out out_after report report_after
   InReport : Appends out out_after (out_text told) → AppendsBeginning report report_after (report_text told) → TextsBegin told out out_after report report_after
 
 -- a script that was run, but of which the texts couldn't be written to their end
@@ -55,8 +55,8 @@ pub record EndsBroken (lines : List Line) (before after : Streams) (driver drive
 -- nothing was done but that some data may have been read
 pub record NothingDone (before after : Streams) (driver driver_after : DriverState) : Type 0 where
   pub driver_stays : driver_after ≡ driver
-  pub out_stays : Keeps before.out after.out
-  pub report_stays : Keeps before.report after.report
+  pub out_stays : after.out ≡ before.out
+  pub report_stays : after.report ≡ before.report
 
 -- what an error says: a write failed after the run, or nothing was done. ShortData names the first line whose blocks the
 -- data doesn't hold; a script that was read never is Syntax or TooManyLines

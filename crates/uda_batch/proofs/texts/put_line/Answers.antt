@@ -12,7 +12,7 @@ told : (g : given.Over) (c : goal.After-put g) → c.as_bytes.result.now ≡ rep
 told g c =
     let line = report_line c.args.number (answer_value c.args.answer.now) in
     let made : c.writeln.new.self.bytes ≡ c.new-line.result.bytes ++ line =
-    contents_after_writes _ (λ s. s.bytes) (λ w bs v h. h) _ _ _ c.in-Ok.ensures.writes in
+    contents_after_writes _ (λ s. s.bytes) (λ w bs v h. h) c.new-line.result line c.writeln.new.self c.in-Ok.ensures.writes in
     c.as_bytes.ensures.value ∙ c.deref.ensures.0 ∙ made ∙ ap (λ (t : List ℕ). t ++ line) c.new-line.ensures
 
 pub returns-in-Ok-clause-whole : goal.returns-in-Ok-clause-whole

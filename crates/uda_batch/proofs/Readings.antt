@@ -169,3 +169,9 @@ lines_unread lines k line other (Some xs) (Some ys) made (ShortData number) h is
 lines_unread lines k line other left now made (Syntax number) h is so_far unread = absurd unread
 lines_unread lines k line other left now made TooManyLines h is so_far unread = absurd unread
 lines_unread lines k line other left now made Write h is so_far unread = absurd unread
+
+-- lines that take no data are lines of which none takes any
+pub lines_idle : (lines : List Line) (k : ℕ) (other : Line) (left now : Option (List ℕ)) (made : List Request) → k < length lines → ReadsLines lines k left now made → taken lines ≡ 0 → bytes_taken (get_or lines k other) ≡ 0
+lines_idle lines k other left now made h so_far none =
+    let takes : taken (drop k lines) ≡ bytes_taken (get_or lines k other) + taken (drop (suc k) lines) = ap taken (drop-cons lines k other h) ∙ sum_by-cons bytes_taken (get_or lines k other) (drop (suc k) lines) in
+    omega (arith, so_far.counts, takes, none)

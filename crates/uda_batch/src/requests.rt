@@ -3,7 +3,7 @@
 ghost use Rattle.std.specs.Prelude.{◌≡◌, ◌*◌, length, replicate, OnOk, IfOk, IfErr};
 ghost use Rattle.std.specs.Io.KnownBytes.{Consumes};
 ghost use Rattle.uda_model.specs.Values.{request_value, request_values};
-ghost use Rattle.uda_batch.specs.Requests.{bytes_taken};
+ghost use Rattle.uda_batch.specs.Requests.{bytes_taken, taken};
 ghost use Rattle.uda_batch.specs.Reading.{ReadsBlocks, ReadsRequest, ReadsRequests, IsUnread, AreUnread};
 
 use crate::growth::{push, with_room};
@@ -29,6 +29,7 @@ pub fn read_requests<R: Read>(
     ensures made { IfOk result (λ made. ReadsRequests lines.now (R.remaining input.old)
         (R.remaining input.new) (request_values made.items)) }
     ensures error { IfErr result (AreUnread lines.now (R.remaining input.old)) }
+    ensures idle { taken lines.now ≡ 0 → input.new ≡ input.old }
 {
     let mut requests = with_room(alloc, lines.len())?;
     for line in lines {
@@ -47,6 +48,7 @@ fn read_request<R: Read>(
     ensures made { IfOk result (λ request. ReadsRequest line.now (R.remaining input.old)
         (R.remaining input.new) (request_value request)) }
     ensures error { IfErr result (IsUnread (bytes_taken line.now) line.now (R.remaining input.old)) }
+    ensures idle { bytes_taken line.now ≡ 0 → input.new ≡ input.old }
 {
     match line.statement {
         Statement::Online { unit, protect } => Ok(Request::Online { unit, protect }),
@@ -93,6 +95,7 @@ fn read_blocks<R: Read>(
     ensures blocks { IfOk result (λ blocks. ReadsBlocks count (R.remaining input.old)
         (R.remaining input.new) blocks.items) }
     ensures error { IfErr result (IsUnread (512 * count) line.now (R.remaining input.old)) }
+    ensures idle { count ≡ 0 → input.new ≡ input.old }
 {
     let mut blocks = with_room(alloc, count as usize)?;
     for _ in 0..count {

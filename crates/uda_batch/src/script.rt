@@ -6,6 +6,7 @@ ghost use Rattle.uda_exec.specs.Execution.{natures_of};
 ghost use Rattle.uda_model.specs.Values.{request_values, answer_values};
 ghost use Rattle.uda_driver.specs.Driver.{units_of};
 ghost use Rattle.uda_driver.specs.Run.{request_limit};
+ghost use Rattle.uda_batch.specs.Requests.{taken};
 ghost use Rattle.uda_batch.specs.Texts.{out_text, report_text};
 ghost use Rattle.uda_batch.specs.Script.{Answers, Streams, TextsBegin, EndsWhole, EndsEarly};
 
@@ -21,7 +22,7 @@ use uda_model::{Answer, Request};
 /// Runs a script: has the requests that its lines make done by the driver, and tells what came of them.
 ///
 /// The `write` lines take their blocks from `input`, one after the other; exactly these bytes are read,
-/// and a read that is interrupted is tried again. `out` gets the bytes of all `Data` answers in the
+/// and a read that is interrupted is tried again; where that is none, the reader isn't called. `out` gets the bytes of all `Data` answers in the
 /// order of the requests, and is flushed; then `report` gets a line a request, its number from 1, a
 /// space and its answer, and is flushed. Reader and writers are lent, so that what they have left and
 /// hold afterwards can be said.
@@ -46,6 +47,7 @@ pub fn run_script<S: BlockStore, R: Read, W: Write, V: Write>(
         (record { input = R.remaining input.old; out = W.contents out.old; report = V.contents report.old })
         (record { input = R.remaining input.new; out = W.contents out.new; report = V.contents report.new })
         driver.old driver.new) }
+    ensures idle { taken script.now ≡ 0 → input.new ≡ input.old }
     ensures natures { natures_of (units_of driver.new) ≡ natures_of (units_of driver.old) }
 {
     let requests = read_requests(alloc, script.lines(), input)?;

@@ -1,5 +1,5 @@
 -- How a script's run ends.
-use Rattle.std.proofs.Common.{◌≡◌, ℕ, ◌≤◌, List, [], ◌∷◌, ◌++◌, arith, length, drop, map, refl, sym, ap, ◌∙◌, subst, append-nil}
+use Rattle.std.proofs.Common.{◌≡◌, ℕ, ◌≤◌, List, [], ◌∷◌, ◌++◌, arith, length, drop, refl, sym, ap, ◌∙◌, subst, append-nil}
 use Rattle.std.specs.Prelude.{Option, Result, Ok, Err, OnOk, OnErr, IfErr}
 use Rattle.std.proofs.lemmas.List.{length-map}
 use Rattle.std.specs.Io.KnownBytes.{Appends}
@@ -14,10 +14,10 @@ use Rattle.uda_model.specs.declared.answer.Answer.{Answer as Told}
 use Rattle.uda_model.specs.declared.request.Request.{Request as Made}
 use Rattle.uda_driver.specs.Driver.{DriverState}
 use Rattle.uda_driver.specs.Run.{request_limit}
-use Rattle.uda_batch.specs.Requests.{bytes_taken, request_of, requests, taken}
-use Rattle.uda_batch.specs.Reading.{ReadsAs, ReadsRequests}
+use Rattle.uda_batch.specs.Requests.{bytes_taken, requests}
+use Rattle.uda_batch.specs.Reading.{ReadsRequests}
 use Rattle.uda_batch.specs.Texts.{out_text, report_text}
-use Rattle.uda_batch.specs.Script.{Answers, Runs, Streams, EndsWhole, EndsBroken, EndsEarly, NothingDone, TextsBegin}
+use Rattle.uda_batch.specs.Script.{Answers, Runs, Streams, EndsWhole, EndsEarly, NothingDone, TextsBegin}
 
 -- a request a line
 length-requests : (lines : List Line) (bytes : List ℕ) → length (requests lines bytes) ≡ length lines

@@ -21,10 +21,10 @@ leaves_less a b c bytes rest n so_far more =
     record {
       begun = so_far.begun ++ take n rest;
       is_all =
-        append_assoc so_far.begun (take n rest) _
-        ∙ ap (λ (t : List ℕ). so_far.begun ++ (take n rest ++ t)) (take_rest rest n)
-        ∙ ap (λ (t : List ℕ). so_far.begun ++ t) (take-append-drop n rest)
-        ∙ so_far.is_all;
+          append_assoc so_far.begun (take n rest) _
+          ∙ ap (λ (t : List ℕ). so_far.begun ++ (take n rest ++ t)) (take_rest rest n)
+          ∙ ap (λ (t : List ℕ). so_far.begun ++ t) (take-append-drop n rest)
+          ∙ so_far.is_all;
       appended = Appends-trans a b c so_far.begun (take n rest) so_far.appended more;
     }
 
@@ -57,9 +57,9 @@ leaves_broken a b c all part rest so_far broken = record {
   begun = so_far.begun ++ broken.begun;
   missing = broken.missing ++ rest;
   is_text =
-    append_assoc so_far.begun broken.begun _
-    ∙ ap (λ (t : List ℕ). so_far.begun ++ t) (sym (append_assoc broken.begun broken.missing rest) ∙ ap (λ (t : List ℕ). t ++ rest) broken.is_text)
-    ∙ so_far.is_all;
+      append_assoc so_far.begun broken.begun _
+      ∙ ap (λ (t : List ℕ). so_far.begun ++ t) (sym (append_assoc broken.begun broken.missing rest) ∙ ap (λ (t : List ℕ). t ++ rest) broken.is_text)
+      ∙ so_far.is_all;
   appended = Appends-trans a b c so_far.begun broken.begun so_far.appended broken.appended;
 }
 

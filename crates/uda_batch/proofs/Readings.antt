@@ -1,5 +1,5 @@
 -- What is made of data that is read piece by piece.
-use Rattle.std.proofs.Common.{◌≡◌, ℕ, zero, suc, ◌+◌, ◌-◌, ◌*◌, ◌<◌, ◌≤◌, List, [], ◌∷◌, ◌++◌, arith, length, take, drop, get_or, refl, sym, ap, ◌∙◌, subst, append_assoc, append-nil, length-append, drop-cons, add-one}
+use Rattle.std.proofs.Common.{◌≡◌, ℕ, suc, ◌+◌, ◌-◌, ◌*◌, ◌<◌, ◌≤◌, List, [], ◌∷◌, ◌++◌, arith, length, drop, get_or, refl, sym, ap, ◌∙◌, append_assoc, append-nil, length-append, drop-cons, add-one}
 use Rattle.std.specs.Prelude.{Option, None, Some, nat_lt, if◌then◌else◌, true, false, Bool}
 use Rattle.std.proofs.lemmas.List.{take_at, drop_at}
 use Rattle.std.proofs.lemmas.List.Sums.{sum_by-cons}
@@ -13,7 +13,7 @@ use Rattle.uda_grammar.specs.declared.error.ScriptError.TheVariants.{NoMemory, S
 use Rattle.uda_grammar.specs.declared.script.Line.{Line}
 use Rattle.uda_model.specs.Request.{Request}
 use Rattle.uda_batch.specs.Requests.{bytes_taken, taken, request_of, requests, first_short}
-use Rattle.uda_batch.specs.Reading.{ReadsAs, ReadsBlocks, ReadsRequest, ReadsRequests, IsUnread, AreUnread}
+use Rattle.uda_batch.specs.Reading.{ReadsAs, ReadsRequest, ReadsRequests, IsUnread, AreUnread}
 
 -- so many bytes were read; of what f makes these items are made, and `rest` makes the others of what follows
 pub record ReadsPart {A : Type 0} (f rest : List ℕ → List A) (count : ℕ) (left now : Option (List ℕ)) (made : List A) : Type 0 where
@@ -35,10 +35,10 @@ reads_more {A} f rest next n m k left now after made item piece so_far size read
   counted = length-append so_far.bytes piece ∙ omega (arith, so_far.counted, size, total);
   consumed = Consumes-trans left now after so_far.bytes piece so_far.consumed read;
   is_made = λ later.
-    ap f (append_assoc so_far.bytes piece later)
-    ∙ so_far.is_made (piece ++ later)
-    ∙ ap (λ (t : List A). made ++ t) (makes later)
-    ∙ sym (append_assoc made (item ∷ []) (next later));
+      ap f (append_assoc so_far.bytes piece later)
+      ∙ so_far.is_made (piece ++ later)
+      ∙ ap (λ (t : List A). made ++ t) (makes later)
+      ∙ sym (append_assoc made (item ∷ []) (next later));
 }
 
 -- what needs no data is made whatever follows
@@ -141,10 +141,10 @@ lines_more lines k line other left now after made request h is so_far read =
       part = reads_more (requests lines) (requests (drop k lines)) (requests (drop (suc k) lines)) so_far.count (bytes_taken line) (so_far.count + bytes_taken line) left now after made request read.bytes so_far.part read.counted read.consumed makes refl;
       counts = omega (arith, so_far.counts, takes);
       short = λ held.
-        ap (first_short lines) (omega arith)
-        ∙ so_far.short (bytes_taken line + held)
-        ∙ ap (λ (xs : List Line). first_short xs (bytes_taken line + held)) from
-        ∙ short_later line (drop (suc k) lines) held;
+          ap (first_short lines) (omega arith)
+          ∙ so_far.short (bytes_taken line + held)
+          ∙ ap (λ (xs : List Line). first_short xs (bytes_taken line + held)) from
+          ∙ short_later line (drop (suc k) lines) held;
     })
 
 pub lines_whole : (lines : List Line) (k : ℕ) (left now : Option (List ℕ)) (made : List Request) → length lines ≤ k → ReadsLines lines k left now made → ReadsRequests lines left now made

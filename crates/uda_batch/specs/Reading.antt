@@ -3,7 +3,7 @@ use Rattle.std.specs.Prelude.{◌≡◌, ℕ, ◌*◌, ◌<◌, List, ◌++◌, 
 use Rattle.std.specs.Simd.{first_chunks}
 use Rattle.std.specs.Io.KnownBytes.{Consumes}
 use Rattle.uda_grammar.specs.declared.error.ScriptError.{ScriptError}
-use Rattle.uda_grammar.specs.declared.error.ScriptError.TheVariants.{NoMemory, Syntax, TooManyLines, ShortData, Read, Write}
+use Rattle.uda_grammar.specs.declared.error.ScriptError.TheVariants.{NoMemory, ShortData, Read}
 use Rattle.uda_grammar.specs.declared.script.Line.{Line}
 use Rattle.uda_model.specs.Request.{Request}
 use Rattle.uda_batch.specs.Requests.{bytes_taken, taken, request_of, requests, first_short}

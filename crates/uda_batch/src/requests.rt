@@ -40,11 +40,7 @@ pub fn read_requests<R: Read>(
 }
 
 // What a line asks for.
-fn read_request<R: Read>(
-    alloc: Global,
-    line: &Line,
-    input: &mut R,
-) -> Result<Request, ScriptError>
+fn read_request<R: Read>(alloc: Global, line: &Line, input: &mut R) -> Result<Request, ScriptError>
     ensures made { IfOk result (λ request. ReadsRequest line.now (R.remaining input.old)
         (R.remaining input.new) (request_value request)) }
     ensures error { IfErr result (IsUnread (bytes_taken line.now) line.now (R.remaining input.old)) }

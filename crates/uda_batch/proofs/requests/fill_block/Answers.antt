@@ -1,4 +1,4 @@
-use Rattle.std.proofs.Common.{rules, arith}
+use Rattle.std.proofs.Common.{rules}
 use Rattle.uda_batch.proofs.Fillings.{fills_more, fills_same}
 use Rattle.uda_batch.proofs.requests.fill_block.Goals as goal
 use Rattle.uda_batch.proofs.requests.fill_block.Goals.{in-Ok, in-Err+else-ne}

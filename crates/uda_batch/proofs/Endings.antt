@@ -1,5 +1,5 @@
 -- How a script's run ends.
-use Rattle.std.proofs.Common.{◌≡◌, ℕ, ◌≤◌, List, [], ◌∷◌, ◌++◌, arith, length, drop, refl, sym, ap, ◌∙◌, subst, append-nil}
+use Rattle.std.proofs.Common.{◌≡◌, ℕ, ◌≤◌, List, [], ◌∷◌, ◌++◌, arith, length, drop, refl, sym, ap, ◌∙◌, subst}
 use Rattle.std.specs.Prelude.{Option, Result, Ok, Err, OnOk, OnErr, IfErr}
 use Rattle.std.proofs.lemmas.List.{length-map}
 use Rattle.std.specs.Io.KnownBytes.{Appends}
@@ -17,7 +17,7 @@ use Rattle.uda_driver.specs.Run.{request_limit}
 use Rattle.uda_batch.specs.Requests.{bytes_taken, requests}
 use Rattle.uda_batch.specs.Reading.{ReadsRequests}
 use Rattle.uda_batch.specs.Texts.{out_text, report_text}
-use Rattle.uda_batch.specs.Script.{Answers, Runs, Streams, EndsWhole, EndsEarly, NothingDone, TextsBegin}
+use Rattle.uda_batch.specs.Script.{Serves, Runs, Streams, EndsWhole, EndsInError, NothingDone, TextsBegin}
 
 -- a request a line
 length-requests : (lines : List Line) (bytes : List ℕ) → length (requests lines bytes) ≡ length lines
@@ -38,57 +38,57 @@ requests_few lines script left after made lent read same all few =
     omega (arith, counted, lent_is, lines_are, few)
 
 pub runs_of : (lines : List Line) (input input_after : Option (List ℕ)) (asked : List Request) (told : List Answer) (driver driver_after : DriverState)
-    → (read : ReadsRequests lines input input_after asked) → Answers asked told driver driver_after → Runs lines input input_after read.bytes told driver driver_after
-runs_of lines input input_after asked told driver driver_after read answered = record {
+    → (read : ReadsRequests lines input input_after asked) → Serves asked told driver driver_after → Runs lines input input_after read.bytes told driver driver_after
+runs_of lines input input_after asked told driver driver_after read served = record {
   counted = read.counted;
   consumed = read.consumed;
-  answers = subst (λ (r : List Request). Answers r told driver driver_after) (sym (read.is_made []) ∙ ap (requests lines) (append-nil read.bytes)) answered;
+  serves = λ later. subst (λ (r : List Request). Serves r told driver driver_after) (sym (read.is_made later)) served;
 }
 
 -- both texts were written, or not
 pub ends_whole : (r : Result (Unit {0}) ScriptError) (lines : List Line) (before after : Streams) (asked : List Request) (told : List Answer) (driver driver_after : DriverState)
-    → ReadsRequests lines before.input after.input asked → Answers asked told driver driver_after
+    → ReadsRequests lines before.input after.input asked → Serves asked told driver driver_after
     → OnOk r (Appends before.out after.out (out_text told)) → OnOk r (Appends before.report after.report (report_text told))
     → OnOk r (EndsWhole lines before after driver driver_after)
-ends_whole (Ok u) lines before after asked told driver driver_after read answered out report = record {
+ends_whole (Ok u) lines before after asked told driver driver_after read served out report = record {
   bytes = read.bytes;
   told = told;
-  runs = runs_of lines before.input after.input asked told driver driver_after read answered;
+  runs = runs_of lines before.input after.input asked told driver driver_after read served;
   out = out;
   report = report;
 }
-ends_whole (Err e) lines before after asked told driver driver_after read answered out report = tt
+ends_whole (Err e) lines before after asked told driver driver_after read served out report = tt
 
 pub ends_broken : (r : Result (Unit {0}) ScriptError) (lines : List Line) (before after : Streams) (asked : List Request) (told : List Answer) (driver driver_after : DriverState)
-    → ReadsRequests lines before.input after.input asked → Answers asked told driver driver_after
+    → ReadsRequests lines before.input after.input asked → Serves asked told driver driver_after
     → OnErr r (TextsBegin told before.out after.out before.report after.report) → IfErr r (λ e. e ≡ Write)
-    → IfErr r (EndsEarly lines before after driver driver_after)
-ends_broken (Ok u) lines before after asked told driver driver_after read answered begun error = tt
-ends_broken (Err e) lines before after asked told driver driver_after read answered begun error =
-    subst (EndsEarly lines before after driver driver_after) (sym error) (record {
+    → IfErr r (EndsInError lines before after driver driver_after)
+ends_broken (Ok u) lines before after asked told driver driver_after read served begun error = tt
+ends_broken (Err e) lines before after asked told driver driver_after read served begun error =
+    subst (EndsInError lines before after driver driver_after) (sym error) (record {
       bytes = read.bytes;
       told = told;
-      runs = runs_of lines before.input after.input asked told driver driver_after read answered;
+      runs = runs_of lines before.input after.input asked told driver driver_after read served;
       texts = begun;
     })
 
 -- no memory for the answers: nothing was done
-pub ends_early : (lines : List Line) (before after : Streams) (driver driver_after : DriverState) (e : ScriptError) → e ≡ NoMemory → driver_after ≡ driver → after.out ≡ before.out → after.report ≡ before.report
-    → EndsEarly lines before after driver driver_after e
-ends_early lines before after driver driver_after e is stays out report =
+pub ends_unserved : (lines : List Line) (before after : Streams) (driver driver_after : DriverState) (e : ScriptError) → e ≡ NoMemory → driver_after ≡ driver → after.out ≡ before.out → after.report ≡ before.report
+    → EndsInError lines before after driver driver_after e
+ends_unserved lines before after driver driver_after e is stays out report =
     let none : NothingDone before after driver driver_after = record {
       driver_stays = stays;
       out_stays = out;
       report_stays = report;
     } in
-    subst (EndsEarly lines before after driver driver_after) (sym is) none
+    subst (EndsInError lines before after driver driver_after) (sym is) none
 
 -- the same of a script's lines, and of lists that were lent
 pub reads_script : (lines script : List Line) (left after : Option (List ℕ)) (asked : List Request) → lines ≡ script → ReadsRequests lines left after asked → ReadsRequests script left after asked
 reads_script lines script left after asked all read = subst (λ (xs : List Line). ReadsRequests xs left after asked) all read
 
-pub answers_lent : (made lent : List Made) (told shown : List Told) (driver driver_after : DriverState) → lent ≡ made → shown ≡ told → Answers (request_values lent) (answer_values told) driver driver_after
-    → Answers (request_values made) (answer_values shown) driver driver_after
-answers_lent made lent told shown driver driver_after same seen answered =
-    subst (λ (xs : List Told). Answers (request_values made) (answer_values xs) driver driver_after) (sym seen)
-    (subst (λ (xs : List Made). Answers (request_values xs) (answer_values told) driver driver_after) same answered)
+pub serves_lent : (made lent : List Made) (told shown : List Told) (driver driver_after : DriverState) → lent ≡ made → shown ≡ told → Serves (request_values lent) (answer_values told) driver driver_after
+    → Serves (request_values made) (answer_values shown) driver driver_after
+serves_lent made lent told shown driver driver_after same seen served =
+    subst (λ (xs : List Told). Serves (request_values made) (answer_values xs) driver driver_after) (sym seen)
+    (subst (λ (xs : List Made). Serves (request_values xs) (answer_values told) driver driver_after) same served)

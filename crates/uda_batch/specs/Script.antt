@@ -1,5 +1,5 @@
 -- What a run of a script leaves.
-use Rattle.std.specs.Prelude.{◌≡◌, ℕ, List, length, Option, Some, IfSome}
+use Rattle.std.specs.Prelude.{◌≡◌, ℕ, List, ◌++◌, length, Option, Some, IfSome}
 use Rattle.std.specs.Io.KnownBytes.{Appends, Consumes}
 use Rattle.uda_model.specs.Keeping.{AllFaithful}
 use Rattle.uda_model.specs.Answer.{Answer}
@@ -12,19 +12,19 @@ use Rattle.uda_grammar.specs.declared.script.Line.{Line}
 use Rattle.uda_batch.specs.Requests.{requests, taken, first_short}
 use Rattle.uda_batch.specs.Texts.{out_text, report_text, AppendsBeginning}
 
--- the driver answered these requests so
-pub record Answers (asked : List Request) (told : List Answer) (driver driver_after : DriverState) : Type 0 where
+-- the driver answered these requests so, and nothing of them is left out
+pub record Serves (asked : List Request) (told : List Answer) (driver driver_after : DriverState) : Type 0 where
   pub shape : AreAnswersOf asked told
   pub headline : AllFaithful (units_of driver) → NoneFailed (units_of driver) (units_of driver_after) → IsPlainRun (units_of driver) asked told (units_of driver_after)
   pub losses : AllFaithful (units_of driver) → TellsLosses (units_of driver) asked told (units_of driver_after)
   pub counts : CountsOn asked driver.port driver_after.port
   pub rest : IsAtRest driver_after
 
--- the driver answered the requests that the lines make of these bytes, and the lines' data is these bytes and no more
+-- the lines' data is these bytes and no more, and the driver answered the requests that they make of it, whatever data follows
 pub record Runs (lines : List Line) (input input_after : Option (List ℕ)) (bytes : List ℕ) (told : List Answer) (driver driver_after : DriverState) : Type 0 where
   pub counted : length bytes ≡ taken lines
   pub consumed : Consumes input input_after bytes
-  pub answers : Answers (requests lines bytes) told driver driver_after
+  pub serves : (later : List ℕ) → Serves (requests lines (bytes ++ later)) told driver driver_after
 
 -- the bytes that the input has left and those that the two writers hold, where they are known
 pub record Streams : Type 0 where
@@ -60,11 +60,11 @@ pub record NothingDone (before after : Streams) (driver driver_after : DriverSta
 
 -- what an error says: a write failed after the run, or nothing was done. ShortData names the first line whose blocks the
 -- data doesn't hold; a script that was read never is Syntax or TooManyLines
-abbrev pub EndsEarly : List Line → Streams → Streams → DriverState → DriverState → ScriptError → Type 0
-EndsEarly lines before after driver driver_after NoMemory = NothingDone before after driver driver_after
-EndsEarly lines before after driver driver_after (Syntax line) = ⊥
-EndsEarly lines before after driver driver_after TooManyLines = ⊥
-EndsEarly lines before after driver driver_after (ShortData line) =
+abbrev pub EndsInError : List Line → Streams → Streams → DriverState → DriverState → ScriptError → Type 0
+EndsInError lines before after driver driver_after NoMemory = NothingDone before after driver driver_after
+EndsInError lines before after driver driver_after (Syntax line) = ⊥
+EndsInError lines before after driver driver_after TooManyLines = ⊥
+EndsInError lines before after driver driver_after (ShortData line) =
     NothingDone before after driver driver_after × IfSome before.input (λ bytes. first_short lines (length bytes) ≡ Some line)
-EndsEarly lines before after driver driver_after Read = NothingDone before after driver driver_after
-EndsEarly lines before after driver driver_after Write = EndsBroken lines before after driver driver_after
+EndsInError lines before after driver driver_after Read = NothingDone before after driver driver_after
+EndsInError lines before after driver driver_after Write = EndsBroken lines before after driver driver_after

@@ -8,7 +8,7 @@ ghost use Rattle.uda_driver.specs.Driver.{units_of};
 ghost use Rattle.uda_driver.specs.Run.{request_limit};
 ghost use Rattle.uda_batch.specs.Requests.{taken};
 ghost use Rattle.uda_batch.specs.Texts.{out_text, report_text};
-ghost use Rattle.uda_batch.specs.Script.{Answers, Streams, TextsBegin, EndsWhole, EndsEarly};
+ghost use Rattle.uda_batch.specs.Script.{Serves, Streams, TextsBegin, EndsWhole, EndsInError};
 
 use crate::requests::read_requests;
 use crate::texts::{put_out, put_report};
@@ -21,11 +21,11 @@ use uda_model::{Answer, Request};
 
 /// Runs a script: has the requests that its lines make done by the driver, and tells what came of them.
 ///
-/// The `write` lines take their blocks from `input`, one after the other; exactly these bytes are read,
-/// and a read that is interrupted is tried again; where that is none, the reader isn't called. `out` gets the bytes of all `Data` answers in the
-/// order of the requests, and is flushed; then `report` gets a line a request, its number from 1, a
-/// space and its answer, and is flushed. Reader and writers are lent, so that what they have left and
-/// hold afterwards can be said.
+/// The `write` lines take their blocks from `input`, one after the other. Exactly these bytes are read,
+/// and where there are none the reader isn't called; a read that is interrupted is tried again. `out`
+/// gets the bytes of all `Data` answers in the order of the requests, and is flushed; then `report` gets
+/// a line a request, its number from 1, a space and its answer, and is flushed. Reader and writers are
+/// lent, so that what they have left and hold afterwards can be said.
 ///
 /// All memory is taken before the driver runs. [`ScriptError::NoMemory`], [`ScriptError::ShortData`]
 /// (the data ends inside the blocks of that line) and [`ScriptError::Read`] come before a request is
@@ -40,12 +40,28 @@ pub fn run_script<S: BlockStore, R: Read, W: Write, V: Write>(
     driver: &mut Driver<S>,
 ) -> Result<(), ScriptError>
     ensures whole { OnOk result (EndsWhole script.now
-        (record { input = R.remaining input.old; out = W.contents out.old; report = V.contents report.old })
-        (record { input = R.remaining input.new; out = W.contents out.new; report = V.contents report.new })
+        (record {
+          input = R.remaining input.old;
+          out = W.contents out.old;
+          report = V.contents report.old;
+        })
+        (record {
+          input = R.remaining input.new;
+          out = W.contents out.new;
+          report = V.contents report.new;
+        })
         driver.old driver.new) }
-    ensures early { IfErr result (EndsEarly script.now
-        (record { input = R.remaining input.old; out = W.contents out.old; report = V.contents report.old })
-        (record { input = R.remaining input.new; out = W.contents out.new; report = V.contents report.new })
+    ensures error { IfErr result (EndsInError script.now
+        (record {
+          input = R.remaining input.old;
+          out = W.contents out.old;
+          report = V.contents report.old;
+        })
+        (record {
+          input = R.remaining input.new;
+          out = W.contents out.new;
+          report = V.contents report.new;
+        })
         driver.old driver.new) }
     ensures idle { taken script.now ≡ 0 → input.new ≡ input.old }
     ensures natures { natures_of (units_of driver.new) ≡ natures_of (units_of driver.old) }
@@ -61,7 +77,7 @@ fn serve<S: BlockStore>(
     requests: &[Request],
 ) -> Result<Vec<Answer>, ScriptError>
     requires few { length requests.now ≤ request_limit }
-    ensures answers { IfOk result (λ answers. Answers (request_values requests.now)
+    ensures answers { IfOk result (λ answers. Serves (request_values requests.now)
         (answer_values answers.items) driver.old driver.new) }
     ensures unchanged { OnErr result (driver.new ≡ driver.old) }
     ensures error { IfErr result (λ e. e ≡ ScriptError.NoMemory) }

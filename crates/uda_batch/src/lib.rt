@@ -5,6 +5,8 @@ mod growth;
 mod put;
 mod requests;
 mod script;
+#[cfg(test)]
+mod tests;
 mod texts;
 
 pub use script::run_script;

@@ -1,5 +1,6 @@
 //! A script that was read.
-ghost use Rattle.std.specs.Prelude.{◌≡◌};
+ghost use Rattle.std.specs.Prelude.{◌≡◌, ◌≤◌, length};
+ghost use Rattle.uda_grammar.specs.Limit.{script_limit};
 
 use crate::statement::Statement;
 use std::marker::Model;
@@ -35,9 +36,10 @@ impl Model for Script {
 }
 
 impl Script {
-    /// The lines that make requests, in order.
+    /// The lines that make requests, in order; at most [`SCRIPT_LIMIT`].
     pub fn lines(&self) -> &[Line]
         ensures lines { result.now ≡ self.now }
+        ensures few { length self.now ≤ script_limit }
     {
         self.lines.as_slice()
     }

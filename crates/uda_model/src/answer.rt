@@ -1,6 +1,7 @@
 //! What a driver answers.
 ghost use Rattle.std.specs.Prelude.{Some};
 ghost use Rattle.uda_model.specs.Display.{answer_display};
+ghost use Rattle.uda_model.specs.Values.{answer_value};
 
 use std::fmt;
 
@@ -51,7 +52,7 @@ pub enum Answer {
 /// As `0000 1000 891072`: the status, and then flags, a size or the number of bytes; `long` of an answer
 /// that is `TooLong`.
 impl fmt::Display for Answer {
-    ghost output = { λ answer. Some (answer_display answer) };
+    ghost output = { λ answer. Some (answer_display (answer_value answer)) };
 
     fn fmt<W: fmt::Write>(&self, f: &mut fmt::Formatter<W>) -> fmt::Result {
         match self {

@@ -1,10 +1,9 @@
 -- The exit statuses of the program.
 use Rattle.std.specs.Prelude.{ℕ}
 use Rattle.uda_script.specs.declared.fault.Fault.{Fault}
-use Rattle.uda_script.specs.declared.fault.Fault.TheVariants.{Usage, NoMemory, Write}
+use Rattle.uda_script.specs.declared.fault.Fault.TheVariants.{Usage}
 
 -- words that are none of the program's end it with 2, and every other fault with 1
 abbrev pub status_of : Fault → ℕ
 status_of Usage = 2
-status_of NoMemory = 1
-status_of Write = 1
+status_of _ = 1

@@ -10,7 +10,8 @@ ghost use Rattle.uda_script.specs.Statuses.{status_of};
 use crate::fault::Fault;
 use crate::hexadecimal::hexadecimal;
 use crate::probe::probe;
-use crate::words::{Request, read_words};
+use crate::run::run;
+use crate::words::{Task, read_words};
 use std::alloc::Global;
 use std::io;
 use std::io::{ErrorKind, Read, Write};
@@ -19,19 +20,22 @@ use std::io::{ErrorKind, Read, Write};
 /// standard streams, and answers the exit status: 0, 1 after a fault, or 2 where the words are none
 /// of the program's. A fault's line goes to `report`.
 ///
-/// `probe` writes the end message of one Get Unit Status to `out`, 16 bytes a line.
+/// `probe` writes the end message of one Get Unit Status to `out`, 16 bytes a line. `run` runs a script
+/// over images in files, with data from `input`, of which just what the script takes is read.
 pub fn program<R: Read + Drop, W: Write + Drop, V: Write + Drop>(
     rt: &HostRuntime,
     words: &[&str],
-    input: R,
+    mut input: R,
     mut out: W,
     mut report: V,
 ) -> u8
     ensures status { result ≤ 2 }
 {
-    drop(input);
     let done = match read_words(rt.alloc(), words) {
-        Ok(Request::Probe) => print_probe(rt.alloc(), &mut out),
+        Ok(Task::Probe) => print_probe(rt.alloc(), &mut out),
+        Ok(Task::Run { script, units }) => {
+            run(rt, script, &units, &mut input, &mut out, &mut report)
+        }
         Err(fault) => Err(fault),
     };
     match done {

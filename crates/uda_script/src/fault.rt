@@ -2,6 +2,8 @@
 
 use std::alloc::AllocError;
 use thiserror::Error;
+use uda_batch::ScriptError;
+use uda_image::ImageError;
 use uda_mem::NoMemory;
 
 /// Why the program ended without doing what it was asked.
@@ -13,7 +15,40 @@ pub enum Fault {
     /// A growth was refused.
     #[error("uda: out of memory")]
     NoMemory,
-    /// Standard output could not be written.
+    /// A unit's image can't be used: it can't be opened, its length is no multiple of 512, or it has
+    /// more than 891,072 blocks.
+    #[error("uda: unit {unit}: {error}")]
+    Image {
+        /// The unit's number.
+        unit: usize,
+        /// Why.
+        error: ImageError,
+    },
+    /// The script's file can't be read.
+    #[error("uda: script: cannot read")]
+    ScriptUnreadable,
+    /// The script has more than 1,048,576 bytes.
+    #[error("uda: script: too long")]
+    ScriptTooLong,
+    /// A line of the script is none of its forms.
+    #[error("uda: line {line}: syntax")]
+    Syntax {
+        /// The line's number, from 1.
+        line: u64,
+    },
+    /// The script makes more than 4,096 requests.
+    #[error("uda: more than 4096 requests")]
+    TooManyLines,
+    /// The data ended inside what a line takes.
+    #[error("uda: line {line}: data ended")]
+    ShortData {
+        /// The line's number, from 1.
+        line: u64,
+    },
+    /// A read of the data failed.
+    #[error("uda: read failed")]
+    Read,
+    /// Standard output or standard error could not be written.
     #[error("uda: write failed")]
     Write,
 }
@@ -22,13 +57,21 @@ impl Fault {
     ghost use Rattle.std.specs.Prelude.{◌≡◌};
     ghost use Rattle.uda_script.specs.Statuses.{status_of};
 
+    /// A unit's image that can't be used.
+    pub fn image(unit: usize, error: ImageError) -> Fault {
+        match error {
+            ImageError::NoMemory => Fault::NoMemory,
+            error => Fault::Image { unit, error },
+        }
+    }
+
     /// The program's exit status.
     pub fn status(&self) -> u8
         ensures status { result ≡ status_of self.now }
     {
         match self {
             Fault::Usage => 2,
-            Fault::NoMemory | Fault::Write => 1,
+            _ => 1,
         }
     }
 }
@@ -42,5 +85,18 @@ impl From<NoMemory> for Fault {
 impl From<AllocError> for Fault {
     fn from(_: AllocError) -> Self {
         Fault::NoMemory
+    }
+}
+
+impl From<ScriptError> for Fault {
+    fn from(error: ScriptError) -> Self {
+        match error {
+            ScriptError::NoMemory => Fault::NoMemory,
+            ScriptError::Syntax { line } => Fault::Syntax { line },
+            ScriptError::TooManyLines => Fault::TooManyLines,
+            ScriptError::ShortData { line } => Fault::ShortData { line },
+            ScriptError::Read => Fault::Read,
+            ScriptError::Write => Fault::Write,
+        }
     }
 }

@@ -1,14 +1,17 @@
-//! The program `uda`: a simulated UDA50 disk controller at work.
+//! The program `uda`: scripts of block requests over disk images, and a probe of the controller.
 #![tactic(auto)]
 
 mod entry;
 mod fault;
+mod files;
 mod hexadecimal;
 mod probe;
+mod run;
 mod words;
 
 pub use entry::{program, unreadable_words};
 pub use fault::Fault;
+pub use uda_batch::{Script, ScriptError, parse, run_script};
 
 #[cfg(test)]
 mod tests;

@@ -1,0 +1,4 @@
+pub mod Requests
+pub mod Reading
+pub mod Texts
+pub mod Script

@@ -1,0 +1,12 @@
+//! Scripts of block requests, run by a driver.
+#![tactic(auto)]
+
+mod growth;
+mod put;
+mod requests;
+mod script;
+#[cfg(test)]
+mod tests;
+mod texts;
+
+pub use script::run_script;

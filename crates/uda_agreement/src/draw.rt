@@ -31,6 +31,17 @@ impl Draw {
         self.filled(alloc, count)
     }
 
+    /// So many requests that a script can ask for: none writes more than 32 blocks.
+    pub fn script(&mut self, alloc: Global, count: u32) -> Result<Vec<Request>, NoMemory> {
+        let mut requests = self.requests(alloc, count)?;
+        for request in requests.iter_mut() {
+            if let Request::Write { blocks, .. } = request {
+                blocks.truncate(32);
+            }
+        }
+        Ok(requests)
+    }
+
     /// So many requests.
     pub fn requests(&mut self, alloc: Global, count: u32) -> Result<Vec<Request>, NoMemory> {
         let mut requests = Vec::new(alloc);

@@ -1,9 +1,13 @@
 //! The driver beside the plain program.
-use crate::Draw;
+use crate::{Draw, text_of};
 use std::alloc::Global;
+use std::io::Write;
 use std::test::Fail;
+use uda_batch::run_script;
 use uda_driver::Driver;
+use uda_grammar::parse;
 use uda_image::{Drive, MemImage};
+use uda_model::Answer;
 use uda_plain::{PlainDisk, PlainUnits};
 
 /// How many lists are compared.
@@ -72,6 +76,55 @@ fn agree_on(rt: &HostRuntime, seed: u64) -> Result<bool, Fail> {
 fn driver_and_plain_program_agree(rt: HostRuntime) -> Result<(), Fail> {
     for seed in 0..LISTS {
         assert!(rt; agree_on(&rt, seed)?, "list {seed}");
+    }
+    Ok(())
+}
+
+// What a script's run prints of these answers: the bytes that were read, and a line each.
+fn printed(alloc: Global, answers: &[Answer]) -> Result<(Vec<u8>, Vec<u8>), Fail> {
+    let (mut out, mut report) = (Vec::new(alloc), Vec::new(alloc));
+    for (n, answer) in answers.iter().enumerate() {
+        if let Answer::Data { bytes, .. } = answer {
+            out.extend_from_slice(bytes)?;
+        }
+        writeln!(report, "{} {answer}", n.saturating_add(1))?;
+    }
+    Ok((out, report))
+}
+
+/// A script drawn from this seed prints what the plain program answers its requests, and takes all its data.
+fn prints_alike(rt: &HostRuntime, seed: u64) -> Result<bool, Fail> {
+    let alloc = rt.alloc();
+    let mut draw = Draw::new(seed);
+    let blocks = draw.blocks(alloc)?;
+    let (drive, plain) = twins(alloc, blocks, false)?;
+    let mut driver = Driver::start(alloc, [Some(drive), None, None, None]).map_err(
+        |_| "no memory",
+    )?;
+    let mut plain = PlainUnits::new([Some(plain), None, None, None]);
+    let requests = draw.script(alloc, 40)?;
+    let text = text_of(alloc, &requests)?;
+    let Ok(script) = parse(alloc, text.script.as_bytes()) else {
+        return Ok(false);
+    };
+    let mut data = text.data.as_slice();
+    let (mut out, mut report) = (Vec::new(alloc), Vec::new(alloc));
+    let done = run_script(
+        alloc,
+        &script,
+        &mut data,
+        &mut out,
+        &mut report,
+        &mut driver,
+    );
+    let (expected_out, expected_report) = printed(alloc, &plain.run(alloc, &requests)?)?;
+    Ok(done.is_ok() && data.is_empty() && out == expected_out && report == expected_report)
+}
+
+#[test]
+fn scripts_and_plain_program_agree(rt: HostRuntime) -> Result<(), Fail> {
+    for seed in 0..LISTS {
+        assert!(rt; prints_alike(&rt, seed)?, "script {seed}");
     }
     Ok(())
 }

@@ -2,7 +2,7 @@
 
 use std::alloc::AllocError;
 use thiserror::Error;
-use uda_batch::ScriptError;
+use uda_grammar::ScriptError;
 use uda_image::ImageError;
 use uda_mem::NoMemory;
 

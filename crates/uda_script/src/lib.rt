@@ -11,7 +11,8 @@ mod words;
 
 pub use entry::{program, unreadable_words};
 pub use fault::Fault;
-pub use uda_batch::{Script, ScriptError, parse, run_script};
+pub use uda_batch::run_script;
+pub use uda_grammar::{Script, ScriptError, parse};
 
 #[cfg(test)]
 mod tests;

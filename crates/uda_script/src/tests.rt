@@ -1,3 +1,6 @@
+//! The program by its words: what the tests share, and `probe`.
+mod runs;
+
 use crate::{program, unreadable_words};
 use std::io;
 use std::test::Fail;
@@ -88,10 +91,13 @@ fn other_words_are_the_usage_case(rt: HostRuntime) -> Result<(), Fail> {
         ["--", "probe"],
         ["help", "probe"],
         ["", "probe"],
-        ["run", "script"],
+        ["run", "-h"],
+        ["script", "run"],
     ] {
         assert!(rt; refused(&rt, words.as_slice()), "{words:?}");
     }
+    let six = ["run", "script", "-", "-", "-", "-", "-"];
+    assert!(rt; refused(&rt, six.as_slice()), "five units");
     Ok(())
 }
 

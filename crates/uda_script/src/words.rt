@@ -49,12 +49,14 @@ fn grammar<'w>(alloc: Global) -> Result<Command<'w>, Error> {
         .num_args(0..=4)
         .action(ArgAction::Append);
     let run = Command::new(alloc, "run").arg(script)?.arg(units)?;
-    Ok(Command::new(alloc, "uda")
-        .no_binary_name(true)
-        .disable_help_subcommand(true)
-        .subcommand_required(true)
-        .subcommand(Command::new(alloc, "probe"))?
-        .subcommand(run)?)
+    Ok(
+        Command::new(alloc, "uda")
+            .no_binary_name(true)
+            .disable_help_subcommand(true)
+            .subcommand_required(true)
+            .subcommand(Command::new(alloc, "probe"))?
+            .subcommand(run)?,
+    )
 }
 
 // What the words ask for by the grammar.

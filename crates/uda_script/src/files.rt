@@ -1,0 +1,69 @@
+//! The files that the program's words name.
+
+use crate::fault::Fault;
+use std::fs::{File, OpenFile};
+use std::io;
+use std::io::{ErrorKind, Read};
+use uda_image::{Drive, FileImage, ImageError};
+
+/// The most bytes of a script's file.
+pub const SCRIPT_SIZE: u64 = 1_048_576;
+
+/// The images of units 0 to 3, opened in this order: each of these words is `-` for no drive, `lock:FILE`
+/// for a file that is opened for reading alone and has hardware protection, or a file. A unit without a
+/// word has no drive.
+pub fn open_units(
+    rt: &HostRuntime,
+    words: &[&str],
+) -> Result<[Option<Drive<FileImage>>; 4], Fault> {
+    Ok([
+        open_unit(rt, words, 0)?,
+        open_unit(rt, words, 1)?,
+        open_unit(rt, words, 2)?,
+        open_unit(rt, words, 3)?,
+    ])
+}
+
+fn open_unit(
+    rt: &HostRuntime,
+    words: &[&str],
+    unit: usize,
+) -> Result<Option<Drive<FileImage>>, Fault> {
+    match words.get(unit) {
+        None | Some(&"-") => Ok(None),
+        Some(word) => match open(rt, word) {
+            Ok(drive) => Ok(Some(drive)),
+            Err(error) => Err(Fault::image(unit, error)),
+        },
+    }
+}
+
+// The image that a word names.
+fn open(rt: &HostRuntime, word: &str) -> Result<Drive<FileImage>, ImageError> {
+    let (path, hard) = match word.strip_prefix("lock:") {
+        Some(path) => (path, true),
+        None => (word, false),
+    };
+    let store = FileImage::open(rt, path, !hard)?;
+    Ok(Drive { store, hard })
+}
+
+/// The bytes of the script's file.
+pub fn read_script(rt: &HostRuntime, path: &str) -> Result<Vec<u8>, Fault> {
+    let Ok(file) = File::open(rt, path) else {
+        return Err(Fault::ScriptUnreadable);
+    };
+    let mut text = Vec::new(rt.alloc());
+    match file.take(SCRIPT_SIZE + 1).read_to_end(&mut text) {
+        Ok(count) if count as u64 > SCRIPT_SIZE => Err(Fault::ScriptTooLong),
+        Ok(_) => Ok(text),
+        Err(error) => Err(fault_of(&error)),
+    }
+}
+
+fn fault_of(error: &io::Error) -> Fault {
+    match error.kind() {
+        ErrorKind::OutOfMemory => Fault::NoMemory,
+        _ => Fault::ScriptUnreadable,
+    }
+}

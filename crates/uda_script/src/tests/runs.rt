@@ -1,0 +1,264 @@
+//! Scripts run over images in files.
+use super::Full;
+use crate::program;
+use std::fs::File;
+use std::io::Write;
+use std::path::PathBuf;
+use std::test::Fail;
+use std::{env, fs, io, process};
+
+/// What a run of the program leaves: its status, both texts, and how much of the data it left.
+#[derive(Debug, Drop, PartialEq)]
+struct Left {
+    status: u8,
+    out: Vec<u8>,
+    report: Vec<u8>,
+    unread: usize,
+}
+
+// A file of this process's own, by a word.
+fn path_of(rt: &HostRuntime, word: &str) -> io::Result<PathBuf> {
+    let name = format!(in rt.alloc(); "uda-script-{}-{word}", process::id(rt.process()))?;
+    Ok(env::temp_dir(rt)?.join(rt.alloc(), name.as_str())?)
+}
+
+// The program run on this script, with this data, over these units' words.
+fn run(rt: &HostRuntime, script: &[u8], data: &[u8], units: &[&str]) -> io::Result<Left> {
+    let path = path_of(rt, "script")?;
+    fs::write(rt, path.as_path(), script)?;
+    let mut words = Vec::new(rt.alloc());
+    words.push("run")?;
+    words.push(path.as_str())?;
+    words.extend_from_slice(units)?;
+    let (mut out, mut report) = (Vec::new(rt.alloc()), Vec::new(rt.alloc()));
+    let mut input = data;
+    let status = program(rt, &words, &mut input, &mut out, &mut report);
+    let unread = input.len();
+    fs::remove_file(rt, path.as_path())?;
+    Ok(Left {
+        status,
+        out,
+        report,
+        unread,
+    })
+}
+
+// The same over unit 0, an image file of so many zero blocks, and the image's bytes afterwards.
+fn run_on(
+    rt: &HostRuntime,
+    script: &[u8],
+    data: &[u8],
+    blocks: u64,
+) -> io::Result<(Left, Vec<u8>)> {
+    let path = path_of(rt, "image")?;
+    File::create(rt, path.as_path())?.set_len(512 * blocks)?;
+    let left = run(rt, script, data, &[path.as_str()])?;
+    let bytes = fs::read(rt, path.as_path())?;
+    fs::remove_file(rt, path.as_path())?;
+    Ok((left, bytes))
+}
+
+// Whether a script over eight zero blocks ends with this status and report.
+fn reports(
+    rt: &HostRuntime,
+    script: &[u8],
+    data: &[u8],
+    status: u8,
+    report: &str,
+) -> io::Result<bool> {
+    let (left, _) = run_on(rt, script, data, 8)?;
+    Ok(left.status == status && left.report.as_slice() == report.as_bytes())
+}
+
+#[test]
+fn fill_and_read(rt: HostRuntime) -> Result<(), Fail> {
+    let script = b"online 0\nfill 0 2 2 a5\nread 0 3 1\nstatus 0\nread 0 0 33\n";
+    let (left, bytes) = run_on(&rt, script, b"", 8)?;
+    assert_eq!(rt; left.status, 0);
+    assert_eq!(rt; left.out.as_slice(), [0xa5; 512].as_slice());
+    assert_eq!(rt;
+        left.report.as_slice(),
+        b"1 0000 0000 8\n2 0000 1024\n3 0000 512\n4 0000 0000\n5 long\n".as_slice()
+    );
+    assert!(rt; bytes[..1024].iter().all(|byte| *byte == 0));
+    assert_eq!(rt; &bytes[1024..2048], [0xa5; 1024].as_slice());
+    assert!(rt; bytes[2048..].iter().all(|byte| *byte == 0));
+    Ok(())
+}
+
+#[test]
+fn leading_zero_and_short_data(rt: HostRuntime) -> Result<(), Fail> {
+    let (left, bytes) = run_on(&rt, b"fill 0 0 1 ff\nread 0 01 1\n", b"", 8)?;
+    assert_eq!(rt; left.status, 1);
+    assert_eq!(rt; left.report.as_slice(), b"uda: line 2: syntax\n".as_slice());
+    assert_eq!(rt; left.out.len(), 0);
+    assert!(rt; bytes.iter().all(|byte| *byte == 0));
+    let (left, bytes) = run_on(&rt, b"online 0\nwrite 0 0 2\n", &[7; 1023], 8)?;
+    assert_eq!(rt; left.status, 1);
+    assert_eq!(rt;
+        left.report.as_slice(),
+        b"uda: line 2: data ended\n".as_slice()
+    );
+    assert!(rt; bytes.iter().all(|byte| *byte == 0));
+    Ok(())
+}
+
+#[test]
+fn script_edges(rt: HostRuntime) -> Result<(), Fail> {
+    for (script, status, report) in [
+        ("", 0, ""),
+        ("# x\n\nbad\n", 1, "uda: line 3: syntax\n"),
+        ("online 0 \n", 1, "uda: line 1: syntax\n"),
+        ("online 0\r\n", 1, "uda: line 1: syntax\n"),
+        ("available 65536\n", 1, "uda: line 1: syntax\n"),
+        ("fill 0 0 33 00\n", 1, "uda: line 1: syntax\n"),
+        ("fill 0 0 1 A5\n", 1, "uda: line 1: syntax\n"),
+        ("online 70", 0, "1 0003 0000 0\n"),
+        ("online 0\nwrite 0 0 0\n", 0, "1 0000 0000 8\n2 0000 0\n"),
+    ] {
+        assert!(rt;
+            reports(&rt, script.as_bytes(), b"", status, report)?,
+            "{script:?}"
+        );
+    }
+    let (left, _) = run_on(&rt, b"online 0\nwrite 0 0 1\n", &[1; 600], 8)?;
+    assert_eq!(rt; left.unread, 88);
+    assert_eq!(rt;
+        left.report.as_slice(),
+        b"1 0000 0000 8\n2 0000 512\n".as_slice()
+    );
+    Ok(())
+}
+
+// Whether the faults of images and scripts that can't be used are told so.
+fn is_told(rt: &HostRuntime, words: &[&str], report: &str) -> bool {
+    let (mut out, mut told) = (Vec::new(rt.alloc()), Vec::new(rt.alloc()));
+    let status = program(rt, words, io::empty(), &mut out, &mut told);
+    status == 1 && out.is_empty() && told.as_slice() == report.as_bytes()
+}
+
+#[test]
+fn files_that_cannot_be_used(rt: HostRuntime) -> Result<(), Fail> {
+    let path = path_of(&rt, "odd")?;
+    let file = File::create(&rt, path.as_path())?;
+    let (odd, none) = (path.as_str(), "uda-no-such-file");
+    file.set_len(513)?;
+    let length = "uda: unit 3: length is no multiple of 512\n";
+    assert!(rt; is_told(&rt, &["run", none, "-", "-", "-", odd], length));
+    assert!(rt;
+        is_told(
+            &rt,
+            &["run", none, "-", none, "-", odd],
+            "uda: unit 1: cannot open\n"
+        )
+    );
+    assert!(rt; is_told(&rt, &["run", none, ""], "uda: unit 0: cannot open\n"));
+    assert!(rt; is_told(&rt, &["run", none, "lock:"], "uda: unit 0: cannot open\n"));
+    file.set_len(891_073 * 512)?;
+    let large = "uda: unit 0: more than 891072 blocks\n";
+    assert!(rt; is_told(&rt, &["run", none, odd], large));
+    assert!(rt; is_told(&rt, &["run", odd], "uda: script: too long\n"));
+    file.set_len(1_048_577)?;
+    assert!(rt; is_told(&rt, &["run", odd], "uda: script: too long\n"));
+    file.set_len(1_048_576)?;
+    assert!(rt; is_told(&rt, &["run", odd], "uda: line 1: syntax\n"));
+    assert!(rt; is_told(&rt, &["run", none], "uda: script: cannot read\n"));
+    assert!(rt; is_told(&rt, &["run", "-"], "uda: script: cannot read\n"));
+    fs::remove_file(&rt, path.as_path())?;
+    Ok(())
+}
+
+#[test]
+fn a_locked_file_stays(rt: HostRuntime) -> Result<(), Fail> {
+    let path = path_of(&rt, "locked")?;
+    fs::write(&rt, path.as_path(), [3u8; 1024].as_slice())?;
+    let word = format!(in rt.alloc(); "lock:{}", path.as_str())?;
+    let left = run(
+        &rt,
+        b"online 1\nerase 1 0 2\nread 1 1 1\n",
+        b"",
+        &["-", word.as_str()],
+    )?;
+    assert_eq!(rt;
+        left.report.as_slice(),
+        b"1 0000 2000 2\n2 2006 0\n3 0000 512\n".as_slice()
+    );
+    assert_eq!(rt; left.out.as_slice(), [3; 512].as_slice());
+    assert_eq!(rt;
+        fs::read(&rt, path.as_path())?.as_slice(),
+        [3u8; 1024].as_slice()
+    );
+    fs::remove_file(&rt, path.as_path())?;
+    Ok(())
+}
+
+#[test]
+fn thousands_of_lines(rt: HostRuntime) -> Result<(), Fail> {
+    let mut script = Vec::new(rt.alloc());
+    for _ in 0..4096 {
+        script.extend_from_slice(b"# a comment\nstatus 0\n")?;
+    }
+    let (left, _) = run_on(&rt, &script, b"", 1)?;
+    assert_eq!(rt; left.status, 0);
+    assert!(rt; left.report.ends_with(b"\n4096 0004 0000\n"));
+    script.extend_from_slice(b"status 0")?;
+    let (left, _) = run_on(&rt, &script, b"", 1)?;
+    assert_eq!(rt; left.status, 1);
+    assert_eq!(rt;
+        left.report.as_slice(),
+        b"uda: more than 4096 requests\n".as_slice()
+    );
+    Ok(())
+}
+
+#[test]
+fn a_large_image(rt: HostRuntime) -> Result<(), Fail> {
+    let path = path_of(&rt, "large")?;
+    File::create(&rt, path.as_path())?.set_len(891_072 * 512)?;
+    let script = b"online 0\nfill 0 891071 1 77\nread 0 891070 2\nread 0 891071 2\n";
+    let left = run(&rt, script, b"", &[path.as_str()])?;
+    fs::remove_file(&rt, path.as_path())?;
+    assert_eq!(rt;
+        left.report.as_slice(),
+        b"1 0000 0000 891072\n2 0000 512\n3 0000 1024\n4 0c01 0\n".as_slice()
+    );
+    assert_eq!(rt; &left.out[512..], [0x77; 512].as_slice());
+    Ok(())
+}
+
+// What comes of a run over no drive whose texts go to these writers.
+fn status_of<W: Write + Drop, V: Write + Drop>(
+    rt: &HostRuntime,
+    script: &[u8],
+    out: W,
+    report: V,
+) -> io::Result<u8> {
+    let (path, image) = (path_of(rt, "full")?, path_of(rt, "zeros")?);
+    fs::write(rt, path.as_path(), script)?;
+    File::create(rt, image.as_path())?.set_len(512)?;
+    let words = ["run", path.as_str(), image.as_str()];
+    let status = program(rt, words.as_slice(), io::empty(), out, report);
+    fs::remove_file(rt, path.as_path())?;
+    fs::remove_file(rt, image.as_path())?;
+    Ok(status)
+}
+
+#[test]
+fn a_full_device(rt: HostRuntime) -> Result<(), Fail> {
+    let script = b"online 0\nread 0 0 1\n";
+    for room in [0, 1, 511] {
+        let mut report = Vec::new(rt.alloc());
+        let out = Full { room, taken: 0 };
+        assert_eq!(rt; status_of(&rt, script, out, &mut report)?, 1, "{room}");
+        assert_eq!(rt;
+            report.as_slice(),
+            b"uda: write failed\n".as_slice(),
+            "{room}"
+        );
+    }
+    let mut out = Vec::new(rt.alloc());
+    let report = Full { room: 5, taken: 0 };
+    assert_eq!(rt; status_of(&rt, script, &mut out, report)?, 1);
+    assert_eq!(rt; out.len(), 512);
+    Ok(())
+}

@@ -2,7 +2,7 @@
 use super::Full;
 use crate::program;
 use std::fs::File;
-use std::io::Write;
+use std::io::{Read, Write};
 use std::path::PathBuf;
 use std::test::Fail;
 use std::{env, fs, io, process};
@@ -22,14 +22,17 @@ fn path_of(rt: &HostRuntime, word: &str) -> io::Result<PathBuf> {
     Ok(env::temp_dir(rt)?.join(rt.alloc(), name.as_str())?)
 }
 
+// The words of a line.
+fn words_of<'a>(rt: &HostRuntime, line: &'a str) -> io::Result<Vec<&'a str>> {
+    Ok(line.split(' ').collect(rt.alloc())?)
+}
+
 // The program run on this script, with this data, over these units' words.
-fn run(rt: &HostRuntime, script: &[u8], data: &[u8], units: &[&str]) -> io::Result<Left> {
+fn run(rt: &HostRuntime, script: &[u8], data: &[u8], units: &str) -> io::Result<Left> {
     let path = path_of(rt, "script")?;
     fs::write(rt, path.as_path(), script)?;
-    let mut words = Vec::new(rt.alloc());
-    words.push("run")?;
-    words.push(path.as_str())?;
-    words.extend_from_slice(units)?;
+    let line = format!(in rt.alloc(); "run {} {units}", path.as_str())?;
+    let words = words_of(rt, &line)?;
     let (mut out, mut report) = (Vec::new(rt.alloc()), Vec::new(rt.alloc()));
     let mut input = data;
     let status = program(rt, &words, &mut input, &mut out, &mut report);
@@ -52,7 +55,7 @@ fn run_on(
 ) -> io::Result<(Left, Vec<u8>)> {
     let path = path_of(rt, "image")?;
     File::create(rt, path.as_path())?.set_len(512 * blocks)?;
-    let left = run(rt, script, data, &[path.as_str()])?;
+    let left = run(rt, script, data, path.as_str())?;
     let bytes = fs::read(rt, path.as_path())?;
     fs::remove_file(rt, path.as_path())?;
     Ok((left, bytes))
@@ -130,41 +133,99 @@ fn script_edges(rt: HostRuntime) -> Result<(), Fail> {
     Ok(())
 }
 
-// Whether the faults of images and scripts that can't be used are told so.
-fn is_told(rt: &HostRuntime, words: &[&str], report: &str) -> bool {
+// Whether the program ends with status 1 on the words of this line, and reports this alone.
+fn is_told(rt: &HostRuntime, line: &str, report: &str) -> io::Result<bool> {
+    let words = words_of(rt, line)?;
     let (mut out, mut told) = (Vec::new(rt.alloc()), Vec::new(rt.alloc()));
-    let status = program(rt, words, io::empty(), &mut out, &mut told);
-    status == 1 && out.is_empty() && told.as_slice() == report.as_bytes()
+    let status = program(rt, &words, io::empty(), &mut out, &mut told);
+    Ok(status == 1 && out.is_empty() && told.as_slice() == report.as_bytes())
 }
 
 #[test]
-fn files_that_cannot_be_used(rt: HostRuntime) -> Result<(), Fail> {
+fn images_that_cannot_be_used(rt: HostRuntime) -> Result<(), Fail> {
     let path = path_of(&rt, "odd")?;
     let file = File::create(&rt, path.as_path())?;
-    let (odd, none) = (path.as_str(), "uda-no-such-file");
     file.set_len(513)?;
-    let length = "uda: unit 3: length is no multiple of 512\n";
-    assert!(rt; is_told(&rt, &["run", none, "-", "-", "-", odd], length));
-    assert!(rt;
-        is_told(
-            &rt,
-            &["run", none, "-", none, "-", odd],
-            "uda: unit 1: cannot open\n"
-        )
-    );
-    assert!(rt; is_told(&rt, &["run", none, ""], "uda: unit 0: cannot open\n"));
-    assert!(rt; is_told(&rt, &["run", none, "lock:"], "uda: unit 0: cannot open\n"));
+    let last = format!(in rt.alloc(); "run none - - - {}", path.as_str())?;
+    assert!(rt; is_told(&rt, &last, "uda: unit 3: length is no multiple of 512\n")?);
+    assert!(rt; is_told(&rt, "run none - none - none", "uda: unit 1: cannot open\n")?);
+    assert!(rt; is_told(&rt, "run none ", "uda: unit 0: cannot open\n")?);
+    assert!(rt; is_told(&rt, "run none lock:", "uda: unit 0: cannot open\n")?);
     file.set_len(891_073 * 512)?;
-    let large = "uda: unit 0: more than 891072 blocks\n";
-    assert!(rt; is_told(&rt, &["run", none, odd], large));
-    assert!(rt; is_told(&rt, &["run", odd], "uda: script: too long\n"));
-    file.set_len(1_048_577)?;
-    assert!(rt; is_told(&rt, &["run", odd], "uda: script: too long\n"));
-    file.set_len(1_048_576)?;
-    assert!(rt; is_told(&rt, &["run", odd], "uda: line 1: syntax\n"));
-    assert!(rt; is_told(&rt, &["run", none], "uda: script: cannot read\n"));
-    assert!(rt; is_told(&rt, &["run", "-"], "uda: script: cannot read\n"));
+    assert!(rt; is_told(&rt, &last, "uda: unit 3: more than 891072 blocks\n")?);
     fs::remove_file(&rt, path.as_path())?;
+    Ok(())
+}
+
+#[test]
+fn scripts_that_cannot_be_used(rt: HostRuntime) -> Result<(), Fail> {
+    let path = path_of(&rt, "long")?;
+    let file = File::create(&rt, path.as_path())?;
+    let line = format!(in rt.alloc(); "run {}", path.as_str())?;
+    file.set_len(1_048_577)?;
+    assert!(rt; is_told(&rt, &line, "uda: script: too long\n")?);
+    file.set_len(1_048_576)?;
+    assert!(rt; is_told(&rt, &line, "uda: line 1: syntax\n")?);
+    fs::remove_file(&rt, path.as_path())?;
+    assert!(rt; is_told(&rt, &line, "uda: script: cannot read\n")?);
+    assert!(rt; is_told(&rt, "run -", "uda: script: cannot read\n")?);
+    Ok(())
+}
+
+/// A reader that gives one byte at a time.
+#[derive(Drop)]
+struct Sips<'a> {
+    left: &'a [u8],
+}
+
+impl Read for Sips<'_> {
+    fn read(&mut self, buf: &mut [u8]) -> io::Result<usize> {
+        let count = self.left.len().min(buf.len()).min(1);
+        buf[..count].copy_from_slice(&self.left[..count]);
+        self.left = &self.left[count..];
+        Ok(count)
+    }
+}
+
+/// A writer that takes one byte at a time, and counts them.
+#[derive(Drop)]
+struct Drips {
+    taken: usize,
+}
+
+impl Write for Drips {
+    fn write(&mut self, buf: &[u8]) -> io::Result<usize> {
+        let taken = buf.len().min(1);
+        self.taken = self.taken.saturating_add(taken);
+        Ok(taken)
+    }
+
+    fn flush(&mut self) -> io::Result<()> {
+        Ok(())
+    }
+}
+
+#[test]
+fn a_byte_at_a_time(rt: HostRuntime) -> Result<(), Fail> {
+    let (path, image) = (path_of(&rt, "sips")?, path_of(&rt, "sipped")?);
+    fs::write(
+        &rt,
+        path.as_path(),
+        b"online 0\nwrite 0 1 2\nread 0 2 1\n".as_slice(),
+    )?;
+    File::create(&rt, image.as_path())?.set_len(2048)?;
+    let line = format!(in rt.alloc(); "run {} {}", path.as_str(), image.as_str())?;
+    let words = words_of(&rt, &line)?;
+    let data = Sips {
+        left: &[0x42; 1030],
+    };
+    let (mut out, mut report) = (Drips { taken: 0 }, Drips { taken: 0 });
+    assert_eq!(rt; program(&rt, &words, data, &mut out, &mut report), 0);
+    assert_eq!(rt; (out.taken, report.taken), (512, 14 + 12 + 11));
+    let bytes = fs::read(&rt, image.as_path())?;
+    assert_eq!(rt; &bytes[512..1536], [0x42; 1024].as_slice());
+    fs::remove_file(&rt, path.as_path())?;
+    fs::remove_file(&rt, image.as_path())?;
     Ok(())
 }
 
@@ -172,13 +233,8 @@ fn files_that_cannot_be_used(rt: HostRuntime) -> Result<(), Fail> {
 fn a_locked_file_stays(rt: HostRuntime) -> Result<(), Fail> {
     let path = path_of(&rt, "locked")?;
     fs::write(&rt, path.as_path(), [3u8; 1024].as_slice())?;
-    let word = format!(in rt.alloc(); "lock:{}", path.as_str())?;
-    let left = run(
-        &rt,
-        b"online 1\nerase 1 0 2\nread 1 1 1\n",
-        b"",
-        &["-", word.as_str()],
-    )?;
+    let units = format!(in rt.alloc(); "- lock:{}", path.as_str())?;
+    let left = run(&rt, b"online 1\nerase 1 0 2\nread 1 1 1\n", b"", &units)?;
     assert_eq!(rt;
         left.report.as_slice(),
         b"1 0000 2000 2\n2 2006 0\n3 0000 512\n".as_slice()
@@ -216,7 +272,7 @@ fn a_large_image(rt: HostRuntime) -> Result<(), Fail> {
     let path = path_of(&rt, "large")?;
     File::create(&rt, path.as_path())?.set_len(891_072 * 512)?;
     let script = b"online 0\nfill 0 891071 1 77\nread 0 891070 2\nread 0 891071 2\n";
-    let left = run(&rt, script, b"", &[path.as_str()])?;
+    let left = run(&rt, script, b"", path.as_str())?;
     fs::remove_file(&rt, path.as_path())?;
     assert_eq!(rt;
         left.report.as_slice(),
@@ -236,8 +292,9 @@ fn status_of<W: Write + Drop, V: Write + Drop>(
     let (path, image) = (path_of(rt, "full")?, path_of(rt, "zeros")?);
     fs::write(rt, path.as_path(), script)?;
     File::create(rt, image.as_path())?.set_len(512)?;
-    let words = ["run", path.as_str(), image.as_str()];
-    let status = program(rt, words.as_slice(), io::empty(), out, report);
+    let line = format!(in rt.alloc(); "run {} {}", path.as_str(), image.as_str())?;
+    let words = words_of(rt, &line)?;
+    let status = program(rt, &words, io::empty(), out, report);
     fs::remove_file(rt, path.as_path())?;
     fs::remove_file(rt, image.as_path())?;
     Ok(status)

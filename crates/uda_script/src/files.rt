@@ -9,6 +9,17 @@ use uda_image::{Drive, FileImage, ImageError};
 /// The most bytes of a script's file.
 pub const SCRIPT_SIZE: u64 = 1_048_576;
 
+/// Files that stand where a standard stream was closed, and are to be kept while others are open. Without
+/// them an image could be opened in a closed stream's place, and what is printed would be written to it.
+pub fn fill_closed_streams(rt: &HostRuntime) -> [Option<File>; 3] {
+    [nothing(rt), nothing(rt), nothing(rt)]
+}
+
+// A file that is empty and takes nothing.
+fn nothing(rt: &HostRuntime) -> Option<File> {
+    File::open(rt, "/dev/null").ok()
+}
+
 /// The images of units 0 to 3, opened in this order: each of these words is `-` for no drive, `lock:FILE`
 /// for a file that is opened for reading alone and has hardware protection, or a file. A unit without a
 /// word has no drive.

@@ -1,7 +1,7 @@
 //! A script run over images in files.
 
 use crate::fault::Fault;
-use crate::files::{open_units, read_script};
+use crate::files::{fill_closed_streams, open_units, read_script};
 use std::io::{BufWriter, Read, Write};
 use uda_batch::run_script;
 use uda_driver::Driver;
@@ -24,6 +24,7 @@ pub fn run<R: Read, W: Write + Drop, V: Write + Drop>(
     report: &mut V,
 ) -> Result<(), Fault> {
     let alloc = rt.alloc();
+    let streams = fill_closed_streams(rt);
     let drives = open_units(rt, units)?;
     let script = parse(alloc, &read_script(rt, script)?)?;
     let Ok(mut driver) = Driver::start(alloc, drives) else {
@@ -36,6 +37,6 @@ pub fn run<R: Read, W: Write + Drop, V: Write + Drop>(
         return Err(Fault::NoMemory);
     };
     let done = run_script(alloc, &script, input, &mut out, &mut report, &mut driver);
-    drop((out.into_parts(), report.into_parts()));
+    drop((out.into_parts(), report.into_parts(), streams));
     Ok(done?)
 }

@@ -34,16 +34,16 @@ use Rattle.uda_model.specs.Posting.{Posted, posted_command, commands_in, op_of, 
 use Rattle.uda_model.specs.Keeping.{Ended, Tells, Beside, Has, Keeps, Outs}
 use Rattle.uda_host.specs.InStep.{InStep}
 use Rattle.uda_host.specs.Layout.{slots, memory_size, buffer_address, owner_word, response_descriptor, response_packet, with_command, memory_reopened}
-use Rattle.uda_driver.specs.Driving.{IsOut, Driving, posted_desk, taken_desk, Fetches, Does, Brings}
+use Rattle.uda_driver.specs.Driving.{IsOut, IsBefore, Driving, posted_desk}
 use Rattle.uda_model.specs.Values.{request_value, answer_value}
 use Rattle.uda_driver.specs.Underway.{AtRest, posted_of, outs_of, triangle, Prepared, IsBlank, AreBlank, IsPrepared, turns_due, Underway, Leading, Ahead, Leads, Led, Sailing, Onward, IsReady, Settles, Ran}
 use Rattle.uda_model.specs.declared.request.Request.{Request as CodeRequest}
 use Rattle.uda_model.specs.declared.answer.Answer.{Answer as CodeAnswer}
 use Rattle.uda_driver.specs.declared.desk.Desk.{Desk}
 use Rattle.uda_driver.specs.declared.desk.Out.{Out}
-use Rattle.uda_model.proofs.Lists.{map-remove, All-remove, All-at, pairs_others}
-use Rattle.uda_model.proofs.Owing.{slice_get-last, front_same, owes_start}
-use Rattle.uda_driver.proofs.Drivings.{driving_turn, many_out, driving_skip, driving_post, driving_end}
+use Rattle.uda_model.proofs.Lists.{map-remove, All-remove, All-at, pairs_others, slice_get-last, slice_get-before}
+use Rattle.uda_model.proofs.Owing.{owes_start}
+use Rattle.uda_driver.proofs.Drivings.{taken_desk, Fetches, Does, Brings, driving_turn, many_out, driving_skip, driving_post, driving_end}
 
 -- a request of the code as pure data
 value_at : (requests : List CodeRequest) (k : ℕ) (r : Request) (d : CodeRequest) → k < length requests → get_or (map request_value requests) k r ≡ request_value (get_or requests k d)
@@ -98,7 +98,7 @@ under_executed : {start : PortState} {requests : List CodeRequest} {n bound : �
     → Turned start requests n bound out answers desk port port_after memory_after
 under_executed {requests = requests} {out = out} {port = port} port_after memory_after kept F U =
     let size = length-map out (posted_of (map request_value requests)) in
-    let all = F.all in
+    let all = F.all_fetched in
     let q = length port_after.exec.pending in
     let before : length out - length port.waiting ≡ q + 1 = omega (arith, F.pending) in
     let after : length out - length port_after.waiting ≡ q = omega (arith, F.pending, F.waiting) in
@@ -131,14 +131,14 @@ pub under_other : {start : PortState} {requests : List CodeRequest} {n bound : �
     → OrderIsFree → AreImages port_after.exec.units → 0 < length out → CreditsAgree port_after → TurnGoes port.phase port memory turn port_after memory_after → (turn ≡ Delivered → ⊥) → Underway start requests n bound out answers desk port memory
     → Turned start requests n bound out answers desk port port_after memory_after
 under_other {requests = requests} {out = out} {port = port} {memory = memory} TurnFetched port_after memory_after law kept some agree goes not U =
-    under_fetched port_after memory_after kept (driving_turn TurnFetched port_after memory_after law (room_of_answers U) (omega (arith, length-map out (posted_of (map request_value requests)))) agree (running_turn port.phase port memory TurnFetched port_after memory_after U.driving.step.running goes) U.driving) U
+    under_fetched port_after memory_after kept (driving_turn U.driving port_after memory_after TurnFetched law (room_of_answers U) (omega (arith, length-map out (posted_of (map request_value requests)))) agree (running_turn port.phase port memory TurnFetched port_after memory_after U.driving.step.runs goes)) U
 under_other {requests = requests} {out = out} {port = port} {memory = memory} Executed port_after memory_after law kept some agree goes not U =
-    under_executed port_after memory_after kept (driving_turn Executed port_after memory_after law (room_of_answers U) (omega (arith, length-map out (posted_of (map request_value requests)))) agree (running_turn port.phase port memory Executed port_after memory_after U.driving.step.running goes) U.driving) U
+    under_executed port_after memory_after kept (driving_turn U.driving port_after memory_after Executed law (room_of_answers U) (omega (arith, length-map out (posted_of (map request_value requests)))) agree (running_turn port.phase port memory Executed port_after memory_after U.driving.step.runs goes)) U
 under_other {requests = requests} {out = out} {port = port} {memory = memory} Delivered port_after memory_after law kept some agree goes not U = absurd (not refl)
 under_other {requests = requests} {out = out} {port = port} {memory = memory} Idle port_after memory_after law kept some agree goes not U =
-    absurd (driving_turn Idle port_after memory_after law (room_of_answers U) (omega (arith, length-map out (posted_of (map request_value requests)))) agree (running_turn port.phase port memory Idle port_after memory_after U.driving.step.running goes) U.driving)
+    absurd (driving_turn U.driving port_after memory_after Idle law (room_of_answers U) (omega (arith, length-map out (posted_of (map request_value requests)))) agree (running_turn port.phase port memory Idle port_after memory_after U.driving.step.runs goes))
 under_other {requests = requests} {out = out} {port = port} {memory = memory} Dead port_after memory_after law kept some agree goes not U =
-    absurd (driving_turn Dead port_after memory_after law (room_of_answers U) (omega (arith, length-map out (posted_of (map request_value requests)))) agree (running_turn port.phase port memory Dead port_after memory_after U.driving.step.running goes) U.driving)
+    absurd (driving_turn U.driving port_after memory_after Dead law (room_of_answers U) (omega (arith, length-map out (posted_of (map request_value requests)))) agree (running_turn port.phase port memory Dead port_after memory_after U.driving.step.runs goes))
 
 -- ---- an answer is told
 
@@ -171,7 +171,7 @@ brings_one : {start : PortState} {requests : List CodeRequest} {n bound : ℕ} {
     → OrderIsFree → 0 < length out → CreditsAgree port_after → TurnGoes port.phase port memory Delivered port_after memory_after → Underway start requests n bound out answers desk port memory
     → Brings start.exec.units (take n (map request_value requests)) (outs_of requests out) (map answer_value answers) desk port port_after memory_after
 brings_one {requests = requests} {out = out} {port = port} {memory = memory} port_after memory_after law some agree goes U =
-    driving_turn Delivered port_after memory_after law (room_of_answers U) (omega (arith, length-map out (posted_of (map request_value requests)))) agree (running_turn port.phase port memory Delivered port_after memory_after U.driving.step.running goes) U.driving
+    driving_turn U.driving port_after memory_after Delivered law (room_of_answers U) (omega (arith, length-map out (posted_of (map request_value requests)))) agree (running_turn port.phase port memory Delivered port_after memory_after U.driving.step.runs goes)
 
 -- what is there to be read
 record IsRead (memory_after : List ℕ) (slot : ℕ) (e : End) (credits : ℕ) : Type 0 where
@@ -183,7 +183,7 @@ is_read : {start : List (Option UnitState)} {requests : List Request} {out : Lis
     → (B : Brings start requests out answers desk port port_after memory_after) → IsRead memory_after desk.response_place B.end (next_grant port.deliveries)
 is_read {desk = desk} {memory_after = memory_after} B =
     let slot = desk.response_place in
-    let one = B.taken B.some.number B.some.posted B.some.stands B.some.referred in
+    let one = B.taken B.some.index B.some.posted B.some.stands B.some.refers in
     let text : response_packet slot + 4 ≡ response_packet slot + 4 = refl in
     let word : response_packet slot + 2 ≡ response_packet slot + 2 = refl in
     record {
@@ -212,11 +212,11 @@ never_unknown {requests = requests} {out = out} port_after memory_after law some
     let same : e ≡ B.end = cc in
     let s = B.some in
     let f = posted_of (map request_value requests) in
-    let lt : s.number < length out = omega (arith, slice_get_within (outs_of requests out) s.number s.posted s.stands, length-map out f) in
-    let o = get_or out s.number default_out in
-    let there : Some (f o) ≡ Some s.posted = sym (slice_get-map f out s.number ∙ ap (option_map f) (slice_get-get_or out s.number default_out lt)) ∙ s.stands in
+    let lt : s.index < length out = omega (arith, slice_get_within (outs_of requests out) s.index s.posted s.stands, length-map out f) in
+    let o = get_or out s.index default_out in
+    let there : Some (f o) ≡ Some s.posted = sym (slice_get-map f out s.index ∙ ap (option_map f) (slice_get-get_or out s.index default_out lt)) ∙ s.stands in
     let is : f o ≡ s.posted = cc in
-    none s.number default_out lt (ap (λ (p : Posted). p.place + 1) is ∙ s.referred ∙ sym (ap (λ (x : End). x.reference) same))
+    none s.index default_out lt (ap (λ (p : Posted). p.place + 1) is ∙ s.refers ∙ sym (ap (λ (x : End). x.reference) same))
 
 pub record Landed (start : PortState) (requests : List CodeRequest) (n bound : ℕ) (out items : List Out) (noted : List CodeAnswer) (desk : Desk) (port port_after : PortState) (memory_left : List ℕ) : Type 0 where
   pub now : Underway start requests n bound items noted desk port_after memory_left
@@ -247,8 +247,8 @@ under_taken {start} {requests} {n} {bound} {out} {answers} {desk} {port} {memory
     let stands : slice_get (outs_of requests out) i ≡ Some p = slice_get-map f out i ∙ ap (option_map f) stands_code in
     let took = B.taken i p stands (referred ∙ ap (λ (x : End). x.reference) same) in
     let D = U.driving in
-    let own : IsOut p = All-at IsOut (outs_of requests out) i p D.are_out stands in
-    let low : o.place < length (take n rs) = All-at (λ (q : Posted). q.place < length (take n rs)) (outs_of requests out) i p D.placed stands in
+    let own : IsOut p = All-at IsOut (outs_of requests out) i p D.buffered stands in
+    let low : o.place < length (take n rs) = All-at (λ (q : Posted). q.place < length (take n rs)) (outs_of requests out) i p D.before stands in
     let short_n = length-take n rs in
     let size_rs = length-map requests request_value in
     let left_size : length memory_left ≡ memory_size = ap length left ∙ length-put memory_after (response_descriptor slot + 2) (word_bytes owner_word) ∙ r.size in
@@ -256,7 +256,7 @@ under_taken {start} {requests} {n} {bound} {out} {answers} {desk} {port} {memory
       there = omega arith;
       sized = U.sized;
       short = own.short;
-      inside = omega (arith, own.few, own.at, left_size);
+      inside = omega (arith, own.within, own.address_is, left_size);
       prepared = All-at (IsPrepared (map answer_value answers)) (outs_of requests out) i p U.prepared stands;
     } in
     let final = memory_reopened memory_after slot in
@@ -269,7 +269,7 @@ under_taken {start} {requests} {n} {bound} {out} {answers} {desk} {port} {memory
     let driving : Driving start.exec.units (take n rs) (outs_of requests items) (map answer_value noted) (taken_desk desk credits) port_after memory_left =
     subst₂ (λ (k : ℕ) (m : List ℕ). Driving start.exec.units (take n rs) (outs_of requests items) (map answer_value noted) (taken_desk desk k) port_after m) (sym granted) (sym left) base in
     let others : All (λ (q : Posted). q.place ≢ o.place) (remove (outs_of requests out) i) =
-    pairs_others (λ a b. a.place ≢ b.place) (λ a b. b.place ≢ a.place) (λ x y ne e. ne (sym e)) (λ x y ne. ne) (outs_of requests out) i p D.outs.distinct stands in
+    pairs_others (λ a b. a.place ≢ b.place) (λ a b. b.place ≢ a.place) (λ x y ne. (λ e. ne (sym e), ne)) (outs_of requests out) i p D.outs.distinct stands in
     let kept = All-remove (IsPrepared (map answer_value answers)) (outs_of requests out) i U.prepared in
     let prepared_set : All (IsPrepared (slice_set (map answer_value answers) o.place answer)) (remove (outs_of requests out) i) =
     λ k d l a at. kept k d l a (sym (slice_get-set_other (map answer_value answers) o.place _ answer (others k d l)) ∙ at) in
@@ -319,7 +319,7 @@ blank_more requests i answers request a size lt is long room all k r b le at tol
           subst₂ IsBlank r_is b_is (record { long = long; room = room })
       | inr other ↦
           let low : k < length (map answer_value answers) = omega (arith, slice_get_within (map answer_value answers ++ answer_value a ∷ []) k b pushed, length_push (map answer_value answers) (answer_value a), count) in
-          all k r b le at (sym (front_same (map answer_value answers) (answer_value a) k low) ∙ pushed)
+          all k r b le at (sym (slice_get-before (map answer_value answers) (answer_value a) k low) ∙ pushed)
     ]
 
 -- ---- the lead
@@ -394,7 +394,7 @@ sailing_skip {start} {requests} {n} {out} {answers} {desk} {port} {memory} reque
     let stands = slice_get-get_or (map answer_value answers) n TooLong size in
     let own = U.blank n r (get_or (map answer_value answers) n TooLong) (omega arith) w.at stands in
     let blank : slice_get (map answer_value answers) (length (take n rs)) ≡ Some TooLong = ap (slice_get (map answer_value answers)) w.counted ∙ stands ∙ ap (λ (a : Answer). Some a) (own.long long) in
-    let driving = subst (λ (qs : List Request). Driving start.exec.units qs (outs_of requests out) (map answer_value answers) desk port memory) w.more (driving_skip r long blank U.driving) in
+    let driving = subst (λ (qs : List Request). Driving start.exec.units qs (outs_of requests out) (map answer_value answers) desk port memory) w.more (driving_skip U.driving r long blank) in
     record {
       bound = S.bound;
       under = record {
@@ -570,10 +570,10 @@ sailing_post {start} {requests} {n} {out} {answers} {desk} {port} {memory} reque
     let clear : All (λ (x : Posted). clash r x.request ≡ false) (outs_of requests out) = All-map (λ (x : Posted). clash r x.request ≡ false) f out no_clash in
     let unused = none_any (λ (o : Out). nat_eq o.buffer new.buffer) out (subst (λ (os : List Out). list_any (λ o. nat_eq o.buffer new.buffer) os ≡ false) same_buffers free) in
     let apart : All (λ (x : Posted). x.address ≢ q.address) (outs_of requests out) = All-map (λ (x : Posted). x.address ≢ q.address) f out (λ k d l e. let ne = eqb-false (get_or out k d).buffer new.buffer (unused k d l) in ne (omega arith)) in
-    let own : IsOut q = record { number = new.buffer; few = few; at = refl; short = short } in
+    let own : IsOut q = record { number = new.buffer; within = few; address_is = refl; short = short } in
     let port' : PortState = record port { looking = true } in
     let memory' = with_command (put memory (buffer_address new.buffer) (bytes_brought r)) desk.command_place (command_for request new) in
-    let posted = driving_post q credit (place ∙ sym w.counted) own whole legible apart clear D in
+    let posted = driving_post D q credit (place ∙ sym w.counted) own whole legible apart clear in
     let outs_are : outs_of requests out ++ q ∷ [] ≡ outs_of requests (out ++ new ∷ []) = ap (λ (x : Posted). outs_of requests out ++ x ∷ []) (sym q_is) ∙ sym (map_push f out new) in
     let driving = subst₂ (λ (qs : List Request) (ps : List Posted). Driving start.exec.units qs ps (map answer_value answers) (posted_desk desk) port' memory') w.more outs_are posted in
     let Fit : Posted → Type 0 = IsPrepared (map answer_value answers) in
@@ -621,7 +621,7 @@ sailing_post {start} {requests} {n} {out} {answers} {desk} {port} {memory} reque
       }
     ] in
     subst₂ (λ (os : List Out) (d : Desk). F os d port_after memory_after) (sym items_are) (sym desk_is)
-    (subst₂ (λ (p : PortState) (m : List ℕ). F (out ++ new ∷ []) (posted_desk desk) p m) (sym (port_is D.step.running)) (sym memory_is) sailed)
+    (subst₂ (λ (p : PortState) (m : List ℕ). F (out ++ new ∷ []) (posted_desk desk) p m) (sym (port_is D.step.runs)) (sym memory_is) sailed)
 
 -- ---- the beginning
 
@@ -634,19 +634,19 @@ sailing_start requests answers out desk port memory rest images empty sized blan
     let owes = owes_start port.exec.units memory in
     let outs : Outs [] [] [] port.waiting = record {
       counted = refl;
-      due_out = All-nil (Has []);
-      ended_out = All-nil (λ (d : Ended). Has [] d.posted);
-      waiting_is = rest.nothing_waits;
-      referred = All-nil (λ (d : Ended). d.end.reference ≡ d.posted.place + 1);
+      has_due = All-nil (Has []);
+      has_ended = All-nil (λ (d : Ended). Has [] d.posted);
+      waits = rest.nothing_waits;
+      refer = All-nil (λ (d : Ended). d.end.reference ≡ d.posted.place + 1);
       distinct = λ i j d below within. absurd (omega arith);
-      ended_apart = λ i j d below within. absurd (omega arith);
-      due_apart = All-nil (λ (d : Ended). All (λ (p : Posted). p.place ≢ d.posted.place) []);
+      ended_distinct = λ i j d below within. absurd (omega arith);
+      none_both = All-nil (λ (d : Ended). All (λ (p : Posted). p.place ≢ d.posted.place) []);
     } in
     let keeps : Keeps port.exec.units [] [] [] (map answer_value answers) port.exec.units memory = record {
       told = [];
       owes = owes;
       tell = All-nil (Tells [] memory);
-      beside = All-nil (λ (d : Ended). All (Beside (posted_command d.posted)) (commands_in []));
+      left = All-nil (λ (d : Ended). All (Beside (posted_command d.posted)) (commands_in []));
       shown = λ k lt nd ne. absurd (omega arith);
     } in
     let driving : Driving port.exec.units [] [] (map answer_value answers) desk port memory = record {
@@ -654,13 +654,13 @@ sailing_start requests answers out desk port memory rest images empty sized blan
       due = [];
       ended = [];
       step = rest.step;
-      next = omega (arith, rest.next);
-      slot = rest.slot;
-      waits = ap (λ (cs : List Command). cs ++ []) rest.nothing_pending;
+      posts_next = omega (arith, rest.next);
+      looks_next = rest.slot;
+      are_due = ap (λ (cs : List Command). cs ++ []) rest.nothing_pending;
       keeps = keeps;
       outs = outs;
-      are_out = All-nil IsOut;
-      placed = All-nil (λ (p : Posted). p.place < 0);
+      buffered = All-nil IsOut;
+      before = All-nil (λ (p : Posted). p.place < 0);
     } in
     let under : Underway port requests 0 0 [] answers desk port memory = record {
       driving = driving;
@@ -717,13 +717,13 @@ drained {start} {requests} {out} {answers} {desk} {desk'} {port} {memory} {memor
     let before = was.step.agree.conserved in
     let size = length-map answers answer_value in
     let t = triangle-is (lead rs) in
-    let place = D.next in
+    let place = D.posts_next in
     let within = D.step.commands.within in
     record {
       rest = record {
         step = subst (λ (cs : List Command). InStep memory port cs desk.held) none D.step;
         next = omega (arith, ap length none);
-        slot = D.slot;
+        slot = D.looks_next;
         nothing_pending = none_pending;
         nothing_waits = none_waits;
         begun = U.begun;
@@ -752,7 +752,7 @@ pub in_range : {start : PortState} {requests : List CodeRequest} {n bound : ℕ}
 in_range U =
     let D = U.driving in
     let h = under_held U in
-    let next = D.next in let slot = D.slot in let within = D.step.within in
+    let next = D.posts_next in let slot = D.looks_next in let within = D.step.response_within in
     record { command = omega arith; response = omega arith; held = omega arith; size = D.step.commands.size; together = h }
 
 -- a request that need not wait has a credit, and there is a buffer for it

@@ -19,9 +19,9 @@ length-packet credits text size = length-append (word_bytes 48 ++ word_bytes cre
 
 -- ---- two words
 
-record TwoWords (memory : List ℕ) (at first second : ℕ) : Type 0 where
-  low : word_at memory at ≡ first
-  high : word_at memory (at + 2) ≡ second
+pub record TwoWords (memory : List ℕ) (at first second : ℕ) : Type 0 where
+  pub low : word_at memory at ≡ first
+  pub high : word_at memory (at + 2) ≡ second
 
 words-put : {first second : ℕ} (memory : List ℕ) (at : ℕ) (bytes : List ℕ) (from : ℕ) → (Meet at (length bytes) from 4 → ⊥) → TwoWords memory from first second → TwoWords (put memory at bytes) from first second
 words-put memory at bytes from apart two = record {
@@ -55,7 +55,7 @@ stands memory at d is = by (nat_le (at + 4) (length memory)) refl is
     by true fits is = record { room = leb-true (at + 4) (length memory) fits; words = record { low = cc; high = cc } }
     by false fits is = absurd (cc)
 
-read : (memory : List ℕ) (at : ℕ) (d : Descriptor) → at + 4 ≤ length memory → TwoWords memory at d.low d.high → descriptor_at memory at ≡ Some d
+pub read : (memory : List ℕ) (at : ℕ) (d : Descriptor) → at + 4 ≤ length memory → TwoWords memory at d.low d.high → descriptor_at memory at ≡ Some d
 read memory at d room words = rw (le-leb (at + 4) (length memory) room) (ap₂ (λ (low high : ℕ). Some (record { low = low; high = high })) words.low words.high)
 
 pub descriptor-put : (memory : List ℕ) (at : ℕ) (bytes : List ℕ) (from : ℕ) (d : Descriptor) → (Meet at (length bytes) from 4 → ⊥) → descriptor_at memory from ≡ Some d → descriptor_at (put memory at bytes) from ≡ Some d

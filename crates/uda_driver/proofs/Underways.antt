@@ -7,6 +7,7 @@ use Rattle.std.proofs.lemmas.List.Edits.{length-remove}
 use Rattle.std.proofs.lemmas.List.Sums.{count_by_more_no, count_by_more_yes}
 use Rattle.std.proofs.lemmas.List.Folds.{list_any-append}
 use Rattle.std.proofs.lemmas.List.Elements.{All-nil, All-cons, All-push, All-map}
+use Rattle.std.proofs.Math.Bool.{or_comm}
 use Rattle.std.proofs.lemmas.Bool.{eqb-true, eqb-false, cases_eq}
 use Rattle.std.proofs.lemmas.Option.{slice_get_within, slice_get-map, slice_get-get_or}
 use Rattle.uda_mem.specs.Put.{put, part}
@@ -31,7 +32,7 @@ use Rattle.uda_model.specs.Request.{Request, too_long, IsWhole}
 use Rattle.uda_model.specs.Answer.{Answer, TooLong}
 use Rattle.uda_model.specs.Clash.{clash, lead_from, lead, is_short, posted_count}
 use Rattle.uda_model.specs.Posting.{Posted, posted_command, commands_in, op_of, command_of, answer_of, buffer_of, bytes_brought}
-use Rattle.uda_model.specs.Keeping.{Ended, Tells, Beside, Has, Keeps, Outs}
+use Rattle.uda_model.specs.Keeping.{Ended, Tells, Beside, Has, AreTwo, Keeps, Outs}
 use Rattle.uda_host.specs.InStep.{InStep}
 use Rattle.uda_host.specs.Layout.{slots, memory_size, buffer_address, owner_word, response_descriptor, response_packet, with_command, memory_reopened}
 use Rattle.uda_driver.specs.Driving.{IsOut, IsBefore, Driving, posted_desk}
@@ -43,7 +44,7 @@ use Rattle.uda_driver.specs.declared.desk.Desk.{Desk}
 use Rattle.uda_driver.specs.declared.desk.Out.{Out}
 use Rattle.uda_model.proofs.Lists.{map-remove, All-remove, All-at, pairs_others, slice_get-last, slice_get-before}
 use Rattle.uda_model.proofs.Owing.{owes_start}
-use Rattle.uda_driver.proofs.Drivings.{taken_desk, Fetches, Does, Brings, driving_turn, many_out, driving_skip, driving_post, driving_end}
+use Rattle.uda_driver.proofs.Drivings.{taken_desk, Brings, DrivesOn, driving_turn, many_out, driving_skip, driving_post, driving_end}
 
 -- a request of the code as pure data
 value_at : (requests : List CodeRequest) (k : ℕ) (r : Request) (d : CodeRequest) → k < length requests → get_or (map request_value requests) k r ≡ request_value (get_or requests k d)
@@ -54,93 +55,12 @@ value_at (x ∷ xs) (suc k) r d h = value_at xs k r d (omega arith)
 triangle-more : (n : ℕ) → triangle (n + 1) ≡ n + 1 + triangle n
 triangle-more n = rw add-one refl
 
--- as many credits are held as are not out
-pub under_held : {start : PortState} {requests : List CodeRequest} {n bound : ℕ} {out : List Out} {answers : List CodeAnswer} {desk : Desk} {port : PortState} {memory : List ℕ}
-    → Underway start requests n bound out answers desk port memory → desk.held + length out ≡ slots
-under_held {requests = requests} {out = out} U =
-    let D = U.driving in
-    let many = many_out D in
-    let size = length-map out (posted_of (map request_value requests)) in
-    omega (arith, D.step.credits, D.step.agree.credits, D.step.agree.conserved, U.begun)
+-- ---- a turn, while requests are out
 
--- ---- a turn that delivers nothing
-
-pub record Turned (start : PortState) (requests : List CodeRequest) (n bound : ℕ) (out : List Out) (answers : List CodeAnswer) (desk : Desk) (port port_after : PortState) (memory_after : List ℕ) : Type 0 where
-  pub now : Underway start requests n bound out answers desk port_after memory_after
-  pub less : turns_due port_after out < turns_due port out
-
-under_fetched : {start : PortState} {requests : List CodeRequest} {n bound : ℕ} {out : List Out} {answers : List CodeAnswer} {desk : Desk} {port : PortState} {memory : List ℕ} (port_after : PortState) (memory_after : List ℕ)
-    → AreImages port_after.exec.units → Fetches start.exec.units (take n (map request_value requests)) (outs_of requests out) (map answer_value answers) desk port port_after memory_after → Underway start requests n bound out answers desk port memory
-    → Turned start requests n bound out answers desk port port_after memory_after
-under_fetched {requests = requests} {out = out} {port = port} port_after memory_after kept F U =
-    let same : length out - length port_after.waiting ≡ length out - length port.waiting = ap (λ (w : ℕ). length out - w) F.waiting in
-    let t = ap triangle same in
-    let many = many_out F.now in let before = many_out U.driving in
-    let size = length-map out (posted_of (map request_value requests)) in
-    record {
-      now = record {
-        driving = F.now;
-        prepared = U.prepared;
-        blank = U.blank;
-        sized = U.sized;
-        within = U.within;
-        images = kept;
-        begun = omega (arith, U.begun, F.deliveries);
-        turns = omega (arith, U.turns, F.turns, F.pending, F.waiting);
-        deliveries = omega (arith, U.deliveries, F.deliveries);
-        load = omega (arith, U.load, F.load, t);
-      };
-      less = omega (arith, F.pending, F.waiting, many, before, size);
-    }
-
-under_executed : {start : PortState} {requests : List CodeRequest} {n bound : ℕ} {out : List Out} {answers : List CodeAnswer} {desk : Desk} {port : PortState} {memory : List ℕ} (port_after : PortState) (memory_after : List ℕ)
-    → AreImages port_after.exec.units → Does start.exec.units (take n (map request_value requests)) (outs_of requests out) (map answer_value answers) desk port port_after memory_after → Underway start requests n bound out answers desk port memory
-    → Turned start requests n bound out answers desk port port_after memory_after
-under_executed {requests = requests} {out = out} {port = port} port_after memory_after kept F U =
-    let size = length-map out (posted_of (map request_value requests)) in
-    let all = F.all_fetched in
-    let q = length port_after.exec.pending in
-    let before : length out - length port.waiting ≡ q + 1 = omega (arith, F.pending) in
-    let after : length out - length port_after.waiting ≡ q = omega (arith, F.pending, F.waiting) in
-    let t = ap triangle before ∙ triangle-more q in
-    let t' = ap triangle after in
-    record {
-      now = record {
-        driving = F.now;
-        prepared = U.prepared;
-        blank = U.blank;
-        sized = U.sized;
-        within = U.within;
-        images = kept;
-        begun = omega (arith, U.begun, F.deliveries);
-        turns = omega (arith, U.turns, F.turns, F.pending, F.waiting);
-        deliveries = omega (arith, U.deliveries, F.deliveries);
-        load = omega (arith, U.load, F.load, F.pending, t, t');
-      };
-      less = omega (arith, F.pending, F.waiting, all, size);
-    }
-
-running_turn : (phase : Phase) (port : PortState) (memory : List ℕ) (turn : Turn) (port_after : PortState) (memory_after : List ℕ) → phase ≡ Running → TurnGoes phase port memory turn port_after memory_after → TurnGoes Running port memory turn port_after memory_after
-running_turn phase port memory turn port_after memory_after is goes = subst (λ (p : Phase). TurnGoes p port memory turn port_after memory_after) is goes
-
-room_of_answers : {start : PortState} {requests : List CodeRequest} {n bound : ℕ} {out : List Out} {answers : List CodeAnswer} {desk : Desk} {port : PortState} {memory : List ℕ}
-    → Underway start requests n bound out answers desk port memory → length (take n (map request_value requests)) ≤ length (map answer_value answers)
-room_of_answers {requests = requests} {n = n} {answers = answers} U = omega (arith, length-take n (map request_value requests), length-map requests request_value, length-map answers answer_value, U.sized)
-
-pub under_other : {start : PortState} {requests : List CodeRequest} {n bound : ℕ} {out : List Out} {answers : List CodeAnswer} {desk : Desk} {port : PortState} {memory : List ℕ} (turn : Turn) (port_after : PortState) (memory_after : List ℕ)
-    → OrderIsFree → AreImages port_after.exec.units → 0 < length out → CreditsAgree port_after → TurnGoes port.phase port memory turn port_after memory_after → (turn ≡ Delivered → ⊥) → Underway start requests n bound out answers desk port memory
-    → Turned start requests n bound out answers desk port port_after memory_after
-under_other {requests = requests} {out = out} {port = port} {memory = memory} TurnFetched port_after memory_after law kept some agree goes not U =
-    under_fetched port_after memory_after kept (driving_turn U.driving port_after memory_after TurnFetched law (room_of_answers U) (omega (arith, length-map out (posted_of (map request_value requests)))) agree (running_turn port.phase port memory TurnFetched port_after memory_after U.driving.step.runs goes)) U
-under_other {requests = requests} {out = out} {port = port} {memory = memory} Executed port_after memory_after law kept some agree goes not U =
-    under_executed port_after memory_after kept (driving_turn U.driving port_after memory_after Executed law (room_of_answers U) (omega (arith, length-map out (posted_of (map request_value requests)))) agree (running_turn port.phase port memory Executed port_after memory_after U.driving.step.runs goes)) U
-under_other {requests = requests} {out = out} {port = port} {memory = memory} Delivered port_after memory_after law kept some agree goes not U = absurd (not refl)
-under_other {requests = requests} {out = out} {port = port} {memory = memory} Idle port_after memory_after law kept some agree goes not U =
-    absurd (driving_turn U.driving port_after memory_after Idle law (room_of_answers U) (omega (arith, length-map out (posted_of (map request_value requests)))) agree (running_turn port.phase port memory Idle port_after memory_after U.driving.step.runs goes))
-under_other {requests = requests} {out = out} {port = port} {memory = memory} Dead port_after memory_after law kept some agree goes not U =
-    absurd (driving_turn U.driving port_after memory_after Dead law (room_of_answers U) (omega (arith, length-map out (posted_of (map request_value requests)))) agree (running_turn port.phase port memory Dead port_after memory_after U.driving.step.runs goes))
-
--- ---- an answer is told
+set_twice : {A : Type 0} (xs : List A) (i : ℕ) (a b : A) → set (set xs i a) i b ≡ set xs i b
+set_twice [] i a b = refl
+set_twice (x ∷ xs) zero a b = refl
+set_twice (x ∷ xs) (suc i) a b = ap (λ ys. x ∷ ys) (set_twice xs i a b)
 
 pub answer_told : (requests : List CodeRequest) (answers : List CodeAnswer) (done : Out) (e : End) (memory : List ℕ) (request : CodeRequest) (blank now told d : CodeAnswer)
     → IsReady requests answers done memory → request ≡ get_or requests done.place request → blank ≡ get_or answers done.place d
@@ -148,153 +68,153 @@ pub answer_told : (requests : List CodeRequest) (answers : List CodeAnswer) (don
     → map answer_value (slice_set (slice_set answers done.place now) done.place told)
     ≡ slice_set (map answer_value answers) done.place (answer_of (posted_of (map request_value requests) done).request e (buffer_of (posted_of (map request_value requests) done) memory))
 answer_told requests answers done e memory request blank now told d ready is was tells =
-    let p = posted_of (map request_value requests) done in
-    let ask_is : p.request ≡ request_value request = value_at requests done.place (ask.Status 0) request ready.there ∙ ap request_value (sym is) in
-    let stands : slice_get (map answer_value answers) done.place ≡ Some (answer_value blank) =
-    slice_get-map answer_value answers done.place ∙ ap (option_map answer_value) (slice_get-get_or answers done.place d (omega (arith, ready.there, ready.sized)) ∙ ap (λ (a : CodeAnswer). Some a) (sym was)) in
-    let prepared : Prepared (request_value request) (answer_value blank) = subst (λ (r : Request). Prepared r (answer_value blank)) ask_is (ready.prepared (answer_value blank) stands) in
-    let F : Request → Answer = λ r. answer_of r e (buffer_of (record { place = done.place; address = buffer_address done.buffer; request = r }) memory) in
-    let answer : answer_value told ≡ F p.request = tells prepared ∙ ap F (sym ask_is) in
-    ap (map answer_value) (set-set answers done.place now told) ∙ map-set answer_value answers done.place told ∙ ap (λ (a : Answer). set (map answer_value answers) done.place a) answer
-  where
-    set-set : (xs : List CodeAnswer) (i : ℕ) (a b : CodeAnswer) → set (set xs i a) i b ≡ set xs i b
-    set-set [] i a b = refl
-    set-set (x ∷ xs) zero a b = refl
-    set-set (x ∷ xs) (suc i) a b = ap (λ (l : List CodeAnswer). x ∷ l) (set-set xs i a b)
+    let asked : (posted_of (map request_value requests) done).request ≡ request_value request = value_at requests done.place (ask.Status 0) request ready.there ∙ ap request_value (sym is) in
+    let there = slice_get-get_or answers done.place d (omega (arith, ready.there, ready.sized)) ∙ ap Some (sym was) in
+    let prepared = subst (λ (r : Request). Prepared r (answer_value blank)) asked (ready.prepared (answer_value blank) (slice_get-map answer_value answers done.place ∙ ap (option_map answer_value) there)) in
+    let tell : Request → Answer = λ r. answer_of r e (buffer_of (record { place = done.place; address = buffer_address done.buffer; request = r }) memory) in
+    ap (map answer_value) (set_twice answers done.place now told) ∙ map-set answer_value answers done.place told ∙ ap (set (map answer_value answers) done.place) (tells prepared ∙ ap tell (sym asked))
 
--- ---- a turn that delivers an end
+-- what is kept of these requests, after a turn that leaves fewer turns
+pub record Turned (start : PortState) (requests : List CodeRequest) (n bound : ℕ) (out left : List Out) (answers : List CodeAnswer) (desk : Desk) (port new : PortState) (after : List ℕ) : Type 0 where
+  pub now : Underway start requests n bound left answers desk new after
+  pub less : turns_due new left < turns_due port out
 
-default_out : Out
-default_out = record { place = 0; buffer = 0 }
+module _ {start : PortState} {requests : List CodeRequest} {n bound : ℕ} {out : List Out} {answers : List CodeAnswer} {desk : Desk} {port : PortState} {memory : List ℕ} (U : Underway start requests n bound out answers desk port memory) where
+  abbrev the_asked : List Request
+  the_asked = map request_value requests
 
-brings_one : {start : PortState} {requests : List CodeRequest} {n bound : ℕ} {out : List Out} {answers : List CodeAnswer} {desk : Desk} {port : PortState} {memory : List ℕ} (port_after : PortState) (memory_after : List ℕ)
-    → OrderIsFree → 0 < length out → CreditsAgree port_after → TurnGoes port.phase port memory Delivered port_after memory_after → Underway start requests n bound out answers desk port memory
-    → Brings start.exec.units (take n (map request_value requests)) (outs_of requests out) (map answer_value answers) desk port port_after memory_after
-brings_one {requests = requests} {out = out} {port = port} {memory = memory} port_after memory_after law some agree goes U =
-    driving_turn U.driving port_after memory_after Delivered law (room_of_answers U) (omega (arith, length-map out (posted_of (map request_value requests)))) agree (running_turn port.phase port memory Delivered port_after memory_after U.driving.step.runs goes)
+  abbrev the_told : List Answer
+  the_told = map answer_value answers
 
--- what is there to be read
-record IsRead (memory_after : List ℕ) (slot : ℕ) (e : End) (credits : ℕ) : Type 0 where
-  size : length memory_after ≡ memory_size
-  end_is : read_end (part memory_after (response_packet slot + 4) 48) ≡ Some e
-  credits_are : word_at memory_after (response_packet slot + 2) ≡ credits
+  out_counted : length (outs_of requests out) ≡ length out
+  out_counted = length-map out (posted_of the_asked)
 
-is_read : {start : List (Option UnitState)} {requests : List Request} {out : List Posted} {answers : List Answer} {desk : Desk} {port port_after : PortState} {memory_after : List ℕ}
-    → (B : Brings start requests out answers desk port port_after memory_after) → IsRead memory_after desk.response_place B.end (next_grant port.deliveries)
-is_read {desk = desk} {memory_after = memory_after} B =
-    let slot = desk.response_place in
-    let one = B.taken B.some.index B.some.posted B.some.stands B.some.refers in
-    let text : response_packet slot + 4 ≡ response_packet slot + 4 = refl in
-    let word : response_packet slot + 2 ≡ response_packet slot + 2 = refl in
-    record {
-      size = sym (length-put memory_after (response_descriptor slot + 2) (word_bytes owner_word)) ∙ one.step.commands.size;
-      end_is = ap read_end (ap (λ (a : ℕ). part memory_after a 48) (sym text) ∙ B.there.text_is) ∙ B.legible;
-      credits_are = ap (word_at memory_after) (sym word) ∙ B.there.second_word;
-    }
+  -- as many credits are held as are not out
+  pub under_held : desk.held + length out ≡ slots
+  under_held = let step = U.driving.step in omega (arith, out_counted, many_out U.driving, step.credits, step.agree.credits, step.agree.conserved, U.begun)
 
-pub never_no_end : {start : PortState} {requests : List CodeRequest} {n bound : ℕ} {out : List Out} {answers : List CodeAnswer} {desk : Desk} {port : PortState} {memory : List ℕ} (port_after : PortState) (memory_after : List ℕ)
-    → OrderIsFree → 0 < length out → CreditsAgree port_after → TurnGoes port.phase port memory Delivered port_after memory_after
-    → (length memory_after ≡ memory_size → None ≡ read_end (part memory_after (response_packet desk.response_place + 4) 48)) → Underway start requests n bound out answers desk port memory → ⊥
-never_no_end port_after memory_after law some agree goes read U =
-    let B = brings_one port_after memory_after law some agree goes U in
-    let r = is_read B in
-    let a = read r.size in let b = r.end_is in
-    absurd (cc)
+  told_counted : length (take n the_asked) ≤ length the_told
+  told_counted = omega (arith, length-take n the_asked, length-map requests request_value, length-map answers answer_value, U.sized)
 
-pub never_unknown : {start : PortState} {requests : List CodeRequest} {n bound : ℕ} {out : List Out} {answers : List CodeAnswer} {desk : Desk} {port : PortState} {memory : List ℕ} (port_after : PortState) (memory_after : List ℕ)
-    → OrderIsFree → 0 < length out → CreditsAgree port_after → TurnGoes port.phase port memory Delivered port_after memory_after
-    → (e : End) → (length memory_after ≡ memory_size → Some e ≡ read_end (part memory_after (response_packet desk.response_place + 4) 48))
-    → ((k : ℕ) (o : Out) → k < length out → (get_or out k o).place + 1 ≢ e.reference) → Underway start requests n bound out answers desk port memory → ⊥
-never_unknown {requests = requests} {out = out} port_after memory_after law some agree goes e read none U =
-    let B = brings_one port_after memory_after law some agree goes U in
-    let r = is_read B in
-    let both : Some e ≡ Some B.end = read r.size ∙ r.end_is in
-    let same : e ≡ B.end = cc in
-    let s = B.some in
-    let f = posted_of (map request_value requests) in
-    let lt : s.index < length out = omega (arith, slice_get_within (outs_of requests out) s.index s.posted s.stands, length-map out f) in
-    let o = get_or out s.index default_out in
-    let there : Some (f o) ≡ Some s.posted = sym (slice_get-map f out s.index ∙ ap (option_map f) (slice_get-get_or out s.index default_out lt)) ∙ s.stands in
-    let is : f o ≡ s.posted = cc in
-    none s.index default_out lt (ap (λ (p : Posted). p.place + 1) is ∙ s.refers ∙ sym (ap (λ (x : End). x.reference) same))
+  module _ (new : PortState) (after : List ℕ) (order_is_free : OrderIsFree) (images : AreImages new.exec.units) (some : 0 < length out) (agree : CreditsAgree new) where
+    drives_on : (turn : Turn) → TurnGoes port.phase port memory turn new after → DrivesOn start.exec.units (take n the_asked) (outs_of requests out) the_told desk port new after turn
+    drives_on turn goes = driving_turn U.driving new after turn order_is_free told_counted (omega (arith, out_counted)) agree (subst (λ (phase : Phase). TurnGoes phase port memory turn new after) U.driving.step.runs goes)
 
-pub record Landed (start : PortState) (requests : List CodeRequest) (n bound : ℕ) (out items : List Out) (noted : List CodeAnswer) (desk : Desk) (port port_after : PortState) (memory_left : List ℕ) : Type 0 where
-  pub now : Underway start requests n bound items noted desk port_after memory_left
-  pub less : turns_due port_after items < turns_due port out
+    pub under_other : (turn : Turn) → TurnGoes port.phase port memory turn new after → (turn ≡ Delivered → ⊥) → Turned start requests n bound out out answers desk port new after
+    under_other turn goes other = by turn (drives_on turn goes) other
+      where
+        by : (turn : Turn) → DrivesOn start.exec.units (take n the_asked) (outs_of requests out) the_told desk port new after turn → (turn ≡ Delivered → ⊥) → Turned start requests n bound out out answers desk port new after
+        by TurnFetched F other =
+            let same = ap (λ (waiting : ℕ). triangle (length out - waiting)) F.waiting in
+            record {
+              now = record {
+                driving = F.now;
+                prepared = U.prepared;
+                blank = U.blank;
+                sized = U.sized;
+                within = U.within;
+                images = images;
+                begun = omega (arith, U.begun, F.deliveries);
+                turns = omega (arith, U.turns, F.turns, F.pending, F.waiting);
+                deliveries = omega (arith, U.deliveries, F.deliveries);
+                load = omega (arith, U.load, F.load, same);
+              };
+              less = omega (arith, F.pending, F.waiting, many_out F.now, many_out U.driving, out_counted);
+            }
+        by Executed F other =
+            let pending = length new.exec.pending in
+            let was : triangle (length out - length port.waiting) ≡ pending + 1 + triangle pending = ap triangle (omega (arith, F.pending, F.all_fetched, out_counted)) ∙ triangle-more pending in
+            let is : triangle (length out - length new.waiting) ≡ triangle pending = ap triangle (omega (arith, F.pending, F.waiting, F.all_fetched, out_counted)) in
+            record {
+              now = record {
+                driving = F.now;
+                prepared = U.prepared;
+                blank = U.blank;
+                sized = U.sized;
+                within = U.within;
+                images = images;
+                begun = omega (arith, U.begun, F.deliveries);
+                turns = omega (arith, U.turns, F.turns, F.pending, F.waiting);
+                deliveries = omega (arith, U.deliveries, F.deliveries);
+                load = omega (arith, U.load, F.load, F.pending, was, is);
+              };
+              less = omega (arith, F.pending, F.waiting, F.all_fetched, out_counted);
+            }
+        by Delivered B other = absurd (other refl)
+        by Idle none other = absurd none
+        by Dead none other = absurd none
 
-pub under_taken : {start : PortState} {requests : List CodeRequest} {n bound : ℕ} {out : List Out} {answers : List CodeAnswer} {desk : Desk} {port : PortState} {memory : List ℕ} (port_after : PortState) (memory_after : List ℕ)
-    → OrderIsFree → AreImages port_after.exec.units → 0 < length out → CreditsAgree port_after → TurnGoes port.phase port memory Delivered port_after memory_after
-    → (e : End) (i : ℕ) (o : Out) (items : List Out) (credits : ℕ) (memory_left : List ℕ) (noted : List CodeAnswer)
-    → (length memory_after ≡ memory_size → Some e ≡ read_end (part memory_after (response_packet desk.response_place + 4) 48))
-    → i < length out → o ≡ get_or out i o → o.place + 1 ≡ e.reference → items ≡ remove out i
-    → (length memory_after ≡ memory_size → credits ≡ word_at memory_after (response_packet desk.response_place + 2))
-    → (length memory_after ≡ memory_size → memory_left ≡ memory_reopened memory_after desk.response_place)
-    → Settles requests answers o e memory_left noted
-    → Underway start requests n bound out answers desk port memory
-    → Landed start requests n bound out items noted (taken_desk desk credits) port port_after memory_left
-under_taken {start} {requests} {n} {bound} {out} {answers} {desk} {port} {memory} port_after memory_after law images some agree goes e i o items credits memory_left noted read lt is referred items_are credits_are left_is settles U =
-    let rs = map request_value requests in
-    let f = posted_of rs in
-    let p = f o in
-    let B = brings_one port_after memory_after law some agree goes U in
-    let r = is_read B in
-    let slot = desk.response_place in
-    let both : Some e ≡ Some B.end = read r.size ∙ r.end_is in
-    let same : e ≡ B.end = cc in
-    let granted : credits ≡ next_grant port.deliveries = credits_are r.size ∙ r.credits_are in
-    let left : memory_left ≡ memory_reopened memory_after slot = left_is r.size in
-    let stands_code : slice_get out i ≡ Some o = slice_get-get_or out i o lt ∙ ap (λ (x : Out). Some x) (sym is) in
-    let stands : slice_get (outs_of requests out) i ≡ Some p = slice_get-map f out i ∙ ap (option_map f) stands_code in
-    let took = B.taken i p stands (referred ∙ ap (λ (x : End). x.reference) same) in
-    let D = U.driving in
-    let own : IsOut p = All-at IsOut (outs_of requests out) i p D.buffered stands in
-    let low : o.place < length (take n rs) = All-at (λ (q : Posted). q.place < length (take n rs)) (outs_of requests out) i p D.before stands in
-    let short_n = length-take n rs in
-    let size_rs = length-map requests request_value in
-    let left_size : length memory_left ≡ memory_size = ap length left ∙ length-put memory_after (response_descriptor slot + 2) (word_bytes owner_word) ∙ r.size in
-    let ready : IsReady requests answers o memory_left = record {
-      there = omega arith;
-      sized = U.sized;
-      short = own.short;
-      inside = omega (arith, own.within, own.address_is, left_size);
-      prepared = All-at (IsPrepared (map answer_value answers)) (outs_of requests out) i p U.prepared stands;
-    } in
-    let final = memory_reopened memory_after slot in
-    let answer = answer_of p.request B.end (buffer_of p final) in
-    let noted_is : map answer_value noted ≡ slice_set (map answer_value answers) o.place answer =
-    settles ready ∙ ap₂ (λ (x : End) (m : List ℕ). slice_set (map answer_value answers) o.place (answer_of p.request x (buffer_of p m))) same left in
-    let outs_are : outs_of requests items ≡ remove (outs_of requests out) i = ap (map f) items_are ∙ map-remove f out i in
-    let Base : List Posted → List Answer → Type 0 = λ ps as'. Driving start.exec.units (take n rs) ps as' (taken_desk desk (next_grant port.deliveries)) port_after final in
-    let base : Base (outs_of requests items) (map answer_value noted) = subst₂ Base (sym outs_are) (sym noted_is) took in
-    let driving : Driving start.exec.units (take n rs) (outs_of requests items) (map answer_value noted) (taken_desk desk credits) port_after memory_left =
-    subst₂ (λ (k : ℕ) (m : List ℕ). Driving start.exec.units (take n rs) (outs_of requests items) (map answer_value noted) (taken_desk desk k) port_after m) (sym granted) (sym left) base in
-    let others : All (λ (q : Posted). q.place ≢ o.place) (remove (outs_of requests out) i) =
-    pairs_others (λ a b. a.place ≢ b.place) (λ a b. b.place ≢ a.place) (λ x y ne. (λ e. ne (sym e), ne)) (outs_of requests out) i p D.outs.distinct stands in
-    let kept = All-remove (IsPrepared (map answer_value answers)) (outs_of requests out) i U.prepared in
-    let prepared_set : All (IsPrepared (slice_set (map answer_value answers) o.place answer)) (remove (outs_of requests out) i) =
-    λ k d l a at. kept k d l a (sym (slice_get-set_other (map answer_value answers) o.place _ answer (others k d l)) ∙ at) in
-    let blank_set : AreBlank rs n (slice_set (map answer_value answers) o.place answer) =
-    λ k q a le at_k told. U.blank k q a le at_k (sym (slice_get-set_other (map answer_value answers) o.place k answer (λ same. omega arith)) ∙ told) in
-    let fewer : length items + 1 ≡ length out = ap (λ (k : ℕ). k + 1) (ap length items_are) ∙ omega (arith, length-remove out i lt) in
-    let many = many_out D in
-    let size_out = length-map out f in
-    let q : length items - length port_after.waiting ≡ length out - length port.waiting = omega (arith, B.waiting) in
-    let t = ap triangle q in
-    record {
-      now = record {
-        driving = driving;
-        prepared = subst₂ (λ (as' : List Answer) (ps : List Posted). All (IsPrepared as') ps) (sym noted_is) (sym outs_are) prepared_set;
-        blank = subst (AreBlank rs n) (sym noted_is) blank_set;
-        sized = sym (length-map noted answer_value) ∙ ap length noted_is ∙ length-set (map answer_value answers) o.place answer ∙ length-map answers answer_value ∙ U.sized;
-        within = U.within;
-        images = images;
-        begun = omega (arith, B.deliveries);
-        turns = omega (arith, U.turns, B.turns, B.pending, B.waiting, fewer);
-        deliveries = omega (arith, U.deliveries, B.deliveries, fewer);
-        load = omega (arith, U.load, B.load, t);
-      };
-      less = omega (arith, B.pending, B.waiting, fewer, many, size_out);
-    }
+    module _ (goes : TurnGoes port.phase port memory Delivered new after) where
+      abbrev brought : Brings start.exec.units (take n the_asked) (outs_of requests out) the_told desk port new after
+      brought = drives_on Delivered goes
+
+      sized_after : length after ≡ memory_size
+      sized_after =
+          let one = brought.taken brought.some.index brought.some.posted brought.some.stands brought.some.refers in
+          sym (length-put after (response_descriptor desk.response_place + 2) (word_bytes owner_word)) ∙ one.step.commands.size
+
+      end_there : read_end (part after (response_packet desk.response_place + 4) 48) ≡ Some brought.end
+      end_there = ap read_end brought.there.text_is ∙ brought.legible
+
+      pub never_no_end : (length after ≡ memory_size → None ≡ read_end (part after (response_packet desk.response_place + 4) 48)) → ⊥
+      never_no_end read = let none : None ≡ Some brought.end = read sized_after ∙ end_there in absurd (cc)
+
+      -- the end that the driver reads
+      module _ (e : End) (read : length after ≡ memory_size → Some e ≡ read_end (part after (response_packet desk.response_place + 4) 48)) where
+        end_is : e ≡ brought.end
+        end_is = let both : Some e ≡ Some brought.end = read sized_after ∙ end_there in cc
+
+        pub never_unknown : ((k : ℕ) (o : Out) → k < length out → (get_or out k o).place + 1 ≢ e.reference) → ⊥
+        never_unknown unknown =
+            let it = brought.some in let f = posted_of the_asked in
+            let none : Out = record { place = 0; buffer = 0 } in
+            let low : it.index < length out = omega (arith, slice_get_within (outs_of requests out) it.index it.posted it.stands, out_counted) in
+            let there : Some (f (get_or out it.index none)) ≡ Some it.posted = sym (slice_get-map f out it.index ∙ ap (option_map f) (slice_get-get_or out it.index none low)) ∙ it.stands in
+            let is : f (get_or out it.index none) ≡ it.posted = cc in
+            unknown it.index none low (ap (λ (p : Posted). p.place + 1) is ∙ it.refers ∙ ap (λ (x : End). x.reference) (sym end_is))
+
+        pub under_taken : (i : ℕ) (o : Out) (left : List Out) (credits : ℕ) (final : List ℕ) (told : List CodeAnswer) → i < length out → o ≡ get_or out i o → o.place + 1 ≡ e.reference → left ≡ remove out i
+            → (length after ≡ memory_size → credits ≡ word_at after (response_packet desk.response_place + 2)) → (length after ≡ memory_size → final ≡ memory_reopened after desk.response_place)
+            → Settles requests answers o e final told → Turned start requests n bound out left told (taken_desk desk credits) port new final
+        under_taken i o left credits final told low is refers left_is credits_are final_is settles =
+            let B = brought in let D = U.driving in
+            let f = posted_of the_asked in let p = f o in
+            let grant : credits ≡ next_grant port.deliveries = credits_are sized_after ∙ B.there.second_word in
+            let reopened = final_is sized_after in
+            let stands : slice_get (outs_of requests out) i ≡ Some p = slice_get-map f out i ∙ ap (option_map f) (slice_get-get_or out i o low ∙ ap Some (sym is)) in
+            let took = B.taken i p stands (refers ∙ ap (λ (x : End). x.reference) end_is) in
+            let own : IsOut p = All-at IsOut (outs_of requests out) i p D.buffered stands in
+            let before : o.place < length (take n the_asked) = All-at (IsBefore (length (take n the_asked))) (outs_of requests out) i p D.before stands in
+            let place_low : o.place < n = omega (arith, length-take n the_asked) in
+            let long : length final ≡ memory_size = ap length reopened ∙ length-put after (response_descriptor desk.response_place + 2) (word_bytes owner_word) ∙ sized_after in
+            let answer = answer_of p.request B.end (buffer_of p (memory_reopened after desk.response_place)) in
+            let set_told = slice_set the_told o.place answer in
+            let told_is : map answer_value told ≡ set_told =
+            settles (record { there = omega (arith, U.within); sized = U.sized; short = own.short; inside = omega (arith, own.within, own.address_is, long); prepared = All-at (IsPrepared the_told) (outs_of requests out) i p U.prepared stands })
+            ∙ ap₂ (λ (x : End) (m : List ℕ). slice_set the_told o.place (answer_of p.request x (buffer_of p m))) end_is reopened in
+            let outs_are : outs_of requests left ≡ remove (outs_of requests out) i = ap (map f) left_is ∙ map-remove f out i in
+            let driving = subst₂ (λ (ps : List Posted) (as' : List Answer). Driving start.exec.units (take n the_asked) ps as' (taken_desk desk (next_grant port.deliveries)) new (memory_reopened after desk.response_place)) (sym outs_are) (sym told_is) took in
+            let others = pairs_others AreTwo (λ a b. b.place ≢ a.place) (λ x y two. (λ same. two (sym same), two)) (outs_of requests out) i p D.outs.distinct stands in
+            let prepared : All (IsPrepared set_told) (remove (outs_of requests out) i) = λ k d l a at.
+            All-remove (IsPrepared the_told) (outs_of requests out) i U.prepared k d l a (sym (slice_get-set_other the_told o.place _ answer (others k d l)) ∙ at) in
+            let blank : AreBlank the_asked n set_told = λ k q a from at_k at. U.blank k q a from at_k (sym (slice_get-set_other the_told o.place k answer (λ same. omega arith)) ∙ at) in
+            let fewer : length left + 1 ≡ length out = omega (arith, ap length left_is, length-remove out i low) in
+            let same : triangle (length left - length new.waiting) ≡ triangle (length out - length port.waiting) = ap triangle (omega (arith, B.waiting)) in
+            record {
+              now = record {
+                driving = subst₂ (λ (k : ℕ) (m : List ℕ). Driving start.exec.units (take n the_asked) (outs_of requests left) (map answer_value told) (taken_desk desk k) new m) (sym grant) (sym reopened) driving;
+                prepared = subst₂ (λ (as' : List Answer) (ps : List Posted). All (IsPrepared as') ps) (sym told_is) (sym outs_are) prepared;
+                blank = subst (AreBlank the_asked n) (sym told_is) blank;
+                sized = sym (length-map told answer_value) ∙ ap length told_is ∙ length-set the_told o.place answer ∙ length-map answers answer_value ∙ U.sized;
+                within = U.within;
+                images = images;
+                begun = omega (arith, B.deliveries);
+                turns = omega (arith, U.turns, B.turns, B.pending, B.waiting, fewer);
+                deliveries = omega (arith, U.deliveries, B.deliveries, fewer);
+                load = omega (arith, U.load, B.load, same);
+              };
+              less = omega (arith, B.pending, B.waiting, fewer, many_out D, out_counted);
+            }
 
 -- the request of an end stands there
 abbrev pub IsFoundAt : List Out → ℕ → End → Type 0
@@ -525,12 +445,6 @@ draining_step {start} {requests} out_after answers_after desk_after port_after m
 
 -- ---- a request is posted
 
-or-swap : (a b : Bool) → a || b ≡ b || a
-or-swap true true = refl
-or-swap true false = refl
-or-swap false true = refl
-or-swap false false = refl
-
 or-nothing : (a : Bool) → a || false ≡ a
 or-nothing true = refl
 or-nothing false = refl
@@ -539,7 +453,7 @@ any-push : (requests : List CodeRequest) (out : List Out) (o : Out) (r : Request
 any-push requests out o r =
     let f = posted_of (map request_value requests) in
     let test : Posted → Bool = λ p. clash r p.request in
-    ap (list_any test) (map_push f out o) ∙ list_any-append test (map f out) (f o ∷ []) ∙ ap (λ (b : Bool). list_any test (map f out) || b) (or-nothing (test (f o))) ∙ or-swap (list_any test (map f out)) (test (f o))
+    ap (list_any test) (map_push f out o) ∙ list_any-append test (map f out) (f o ∷ []) ∙ ap (λ (b : Bool). list_any test (map f out) || b) (or-nothing (test (f o))) ∙ or_comm (list_any test (map f out)) (test (f o))
 
 abbrev pub command_for : CodeRequest → Out → Command
 command_for request o = command_of (request_value request) (o.place + 1) (buffer_address o.buffer)

@@ -2,24 +2,24 @@ use Rattle.std.proofs.Common.{◌≡◌, ◌∙◌, ◌<◌, [], length, refl, a
 use Rattle.std.proofs.lemmas.List.{nil_from_length}
 use Rattle.std.proofs.lemmas.Bool.{eqb-true, eqb-false}
 use Rattle.arrayvec.specs.ArrayVec.{array_vec_len}
-use Rattle.uda_driver.proofs.Underways.{in_range, credit_left, wait_some, sailing_start, sailing_step, sailing_skip, sailing_post, draining, draining_step, drained}
+use Rattle.uda_driver.proofs.Underways.{in_range, credit_left, wait_some, going_start, going_step, going_skip, going_post, draining, draining_step, drained}
 use Rattle.uda_driver.proofs.serve.drive.Goals as goal
 use Rattle.uda_driver.proofs.serve.drive.Goals.{then-not-is_too_long+else-loop-port-test, else-not-is_too_long}
 
 pub loop-n-init : goal.loop-n-init
-loop-n-init g c = sailing_start _ _ _ _ _ _ c.requires.rest c.requires.images c.new-out.ensures c.requires.counted c.requires.blank
+loop-n-init g c = going_start _ _ _ _ _ _ c.requires.rest c.requires.images c.new-out.ensures c.requires.counted c.requires.blank
 
 pub step-requires : goal.step-requires
 step-requires g c =
     let r = in_range c.loop-port.invariant.under in
-    (search rules, (wait_some c.index-requests-n.result c.deref.result.now c.deref.ensures.0 (sym c.loop-port-test.ensures) c.loop-port.invariant, (r.response, r.held)))
+    (search rules, (wait_some c.loop-port.invariant c.index-requests-n.result c.deref.result.now c.deref.ensures.0 (sym c.loop-port-test.ensures), (r.response, r.held)))
 
 pub loop-port-smaller : goal.loop-port-smaller
 loop-port-smaller g c = c.step.ensures.less _ _ _ c.loop-port.invariant.under
 
 pub loop-port-preserved : goal.loop-port-preserved
 loop-port-preserved g c =
-    sailing_step c.index-requests-n.result c.deref.result.now _ _ _ _ _ c.loop-n-test.true c.index-requests-n.is (sym c.is_too_long.ensures.long ∙ c.if-not-is_too_long.true) c.deref.ensures.0 (sym c.loop-port-test.ensures) c.step.ensures c.loop-port.invariant
+    going_step c.loop-port.invariant c.index-requests-n.result c.deref.result.now c.deref.ensures.0 (sym c.loop-port-test.ensures) c.loop-n-test.true c.index-requests-n.is (sym c.is_too_long.ensures.long ∙ c.if-not-is_too_long.true) c.step.ensures
 
 pub free_buffer-requires : goal.free_buffer-requires
 free_buffer-requires g c =
@@ -37,13 +37,13 @@ post-requires g c =
 pub loop-n-preserved : goal.loop-n-preserved
 loop-n-preserved g c = elim c.if-not-is_too_long.branch [
   | then-not-is_too_long+else-loop-port-test w ↦
-      let done = sailing_post c.index-requests-n.result w.deref.result.now (record { place = c.loop-n.n; buffer = w.free_buffer.result }) w.post.new.out.items w.post.new.desk w.post.new.port w.post.new.memory
+      let done = going_post c.index-requests-n.result w.deref.result.now (record { place = c.loop-n.n; buffer = w.free_buffer.result }) w.post.new.out.items w.post.new.desk w.post.new.port w.post.new.memory
       c.loop-n-test.true c.index-requests-n.is (sym c.is_too_long.ensures.long ∙ w.if-not-is_too_long.true) w.deref.ensures.0 (sym w.loop-port-test.ensures)
       refl w.free_buffer.ensures.below w.deref-then-not-is_too_long.result.now w.deref-then-not-is_too_long.ensures.0 w.free_buffer.ensures.free
       w.post.ensures.out w.post.ensures.desk w.post.ensures.whole w.post.ensures.legible w.post.ensures.memory w.post.ensures.port w.loop-port.invariant in
       rw (w.port-is, w.memory-is, w.desk-is, w.answers-is, w.out-is) done
   | else-not-is_too_long w ↦
-      let done = sailing_skip c.index-requests-n.result c.loop-n-test.true c.index-requests-n.is (sym c.is_too_long.ensures.long ∙ w.if-not-is_too_long.false) c.loop-n.invariant in
+      let done = going_skip c.index-requests-n.result c.loop-n-test.true c.index-requests-n.is (sym c.is_too_long.ensures.long ∙ w.if-not-is_too_long.false) c.loop-n.invariant in
       rw (w.port-is, w.memory-is, w.desk-is, w.answers-is, w.out-is) done
 ]
 

@@ -63,7 +63,7 @@ IsPrepared answers p = (answer : Answer) → slice_get answers p.place ≡ Some 
 abbrev pub turns_due : PortState → List Out → ℕ
 turns_due port out = 3 * length out - (length port.exec.pending + 2 * length port.waiting)
 
--- The first n requests were posted or answered at once, and these are out; the load will be no less than the bound.
+-- The first n requests were posted or answered at once, and these are out; the load comes to the bound at least.
 pub record Underway (start : PortState) (requests : List CodeRequest) (n bound : ℕ) (out : List Out) (answers : List CodeAnswer) (desk : Desk) (port : PortState) (memory : List ℕ) : Type 0 where
   pub driving : Driving start.exec.units (take n (request_values requests)) (outs_of requests out) (answer_values answers) desk port memory
   pub prepared : All (IsPrepared (answer_values answers)) (outs_of requests out)
@@ -76,7 +76,7 @@ pub record Underway (start : PortState) (requests : List CodeRequest) (n bound :
   pub deliveries : port.deliveries + length out ≡ start.deliveries + posted_count (take n (request_values requests))
   pub load : start.load + bound ≤ port.load + triangle (length out - length port.waiting)
 
--- one turn on the way
+-- one turn keeps what is kept, whatever the bound, and leaves fewer turns
 pub record Onward (requests : List CodeRequest) (out : List Out) (answers : List CodeAnswer) (desk : Desk) (port : PortState) (memory : List ℕ) (out_after : List Out) (answers_after : List CodeAnswer) (desk_after : Desk) (port_after : PortState) (memory_after : List ℕ) : Type 0 where
   pub kept : (start : PortState) (n bound : ℕ) → Underway start requests n bound out answers desk port memory → Underway start requests n bound out_after answers_after desk_after port_after memory_after
   pub less : (start : PortState) (n bound : ℕ) → Underway start requests n bound out answers desk port memory → turns_due port_after out_after < turns_due port out

@@ -23,7 +23,7 @@ use Rattle.uda_port.specs.declared.phase.Phase.TheVariants.{Running}
 use Rattle.uda_port.specs.declared.turn.Turn.{Turn}
 use Rattle.uda_port.specs.declared.turn.Turn.TheVariants.{Fetched as TurnFetched, Executed, Delivered, Idle, Dead}
 use Rattle.uda_port.specs.declared.phase.Fatal.{Fatal}
-use Rattle.uda_port.specs.declared.phase.Fatal.TheVariants.{PacketRead, PacketWrite, RingRead, RingWrite, CreditsExceeded, WrongEnvelope, StartUpWord}
+use Rattle.uda_port.specs.declared.phase.Fatal.TheVariants.{PacketRead, PacketWrite, RingRead, CreditsExceeded, WrongEnvelope}
 use Rattle.uda_port.specs.Ring.{is_owned, address_of, word_given_back, descriptor_at, RingState, descriptor_address}
 use Rattle.uda_port.specs.Fetch.{Takes}
 use Rattle.uda_port.specs.Packet.{packet_put}
@@ -35,8 +35,8 @@ use Rattle.uda_host.specs.Layout.{slots, response_descriptor, command_descriptor
 use Rattle.uda_host.specs.InStep.{IsSound, InStep}
 use Rattle.uda_host.proofs.Lists.{All-remove, All-at}
 use Rattle.uda_host.proofs.Frames.{length-packet, length-two, packet_put-one}
-use Rattle.uda_host.proofs.CommandSides.{ClearOfCommands, command_side-put, command_side-post, command_side-first, command_side-none, command_side-fetch}
-use Rattle.uda_host.proofs.ResponseSides.{ClearOfResponses, response_side-put, response_there, response_side-reopened}
+use Rattle.uda_host.proofs.CommandSides.{command_side-put, command_side-post, command_side-first, command_side-none, command_side-fetch}
+use Rattle.uda_host.proofs.ResponseSides.{response_side-put, response_there, response_side-reopened}
 
 -- ---- what a turn leaves
 

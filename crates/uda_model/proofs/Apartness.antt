@@ -1,6 +1,6 @@
 -- Commands of requests that don't clash, each with a buffer of its own, are apart; and a command is ready once its bytes were put.
 use Rattle.std.proofs.Common.{◌≡◌, ℕ, ◌+◌, ◌*◌, ◌%◌, ◌<◌, ◌≤◌, zero-le, false, true, List, length, sym, ap₂, ◌∙◌, arith, refl, min, max}
-use Rattle.std.specs.Prelude.{◌&&◌, ◌||◌, nat_eq, nat_lt}
+use Rattle.std.specs.Prelude.{◌&&◌, ◌||◌, nat_lt}
 use Rattle.std.specs.List.{concat}
 use Rattle.std.proofs.lemmas.Bool.{eq-eqb, and_from, both_ways}
 use Rattle.std.proofs.lemmas.Bool.Decides.{nat_tests}
@@ -9,7 +9,7 @@ use Rattle.uda_mem.proofs.PutLaws.{length-put, part-put_at}
 use Rattle.uda_exec.specs.Commands.{first_block_of, blocks_of, address_of, room_of}
 use Rattle.uda_exec.specs.Order.{Clash, data_of}
 use Rattle.uda_exec.proofs.Blocks.{length-concat_blocks}
-use Rattle.uda_model.specs.Request.{Request, Online, Available, Status, Read, Access, Write, Erase, is_moving, is_writing, unit_of, first_of, count_of, too_long, IsWhole}
+use Rattle.uda_model.specs.Request.{Request, Read, Write, is_moving, is_writing, unit_of, first_of, count_of, too_long, IsWhole}
 use Rattle.uda_model.specs.Clash.{clash}
 use Rattle.uda_model.specs.Posting.{op_of, bytes_brought, Posted, posted_command, Ready}
 use Rattle.uda_model.proofs.Outcomes.{MovesSame, moves_same}

@@ -116,9 +116,9 @@ module _ {start : Units} {requests : List Request} {due : List Posted} {ended : 
         owes = owes;
         tell = All-push (Tells told left) ended new
             (λ k d l.
-                let it = get_or ended k d in
-                let beside = All-at (Beside (posted_command it.posted)) (commands_in due) j c (keeps.left k d l) c_stands in
-                slice_get-set_other keeps.told p.place it.posted.place a (told_elsewhere keeps.told memory it p (keeps.tell k d l) untold) ∙ still_tells keeps.told memory left it (buffer_left it.posted c memory left changes beside) (keeps.tell k d l))
+            let it = get_or ended k d in
+            let beside = All-at (Beside (posted_command it.posted)) (commands_in due) j c (keeps.left k d l) c_stands in
+            slice_get-set_other keeps.told p.place it.posted.place a (told_elsewhere keeps.told memory it p (keeps.tell k d l) untold) ∙ still_tells keeps.told memory left it (buffer_left it.posted c memory left changes beside) (keeps.tell k d l))
             (slice_get-set_same keeps.told p.place a (slice_get_within keeps.told p.place TooLong untold));
         left = All-push (IsLeftBy (remove due j)) ended new
             (λ k d l. let B = Beside (posted_command (get_or ended k d).posted) in subst (All B) names (All-remove B (commands_in due) j (keeps.left k d l)))
@@ -159,9 +159,9 @@ pub keeps_end : {start : Units} {requests : List Request} {answers : List Answer
     → length answers ≡ length requests → Keeps start requests [] [] answers units memory → Owes start requests [] answers units memory
 keeps_end {start} {requests} {answers} {units} {memory} size keeps =
     let all : answers ≡ keeps.told = ext_get_or TooLong answers keeps.told (size ∙ sym keeps.owes.counted) (λ k low.
-        let shown = keeps.shown k (omega arith) (All-nil (IsNotAt k)) (All-nil (EndedNotAt k)) in
-        let here = slice_get-get_or answers k TooLong low in
-        let there = slice_get-get_or keeps.told k TooLong (omega (arith, keeps.owes.counted)) in
-        let same : Some (get_or answers k TooLong) ≡ Some (get_or keeps.told k TooLong) = sym here ∙ shown ∙ there in
-        cc) in
+    let shown = keeps.shown k (omega arith) (All-nil (IsNotAt k)) (All-nil (EndedNotAt k)) in
+    let here = slice_get-get_or answers k TooLong low in
+    let there = slice_get-get_or keeps.told k TooLong (omega (arith, keeps.owes.counted)) in
+    let same : Some (get_or answers k TooLong) ≡ Some (get_or keeps.told k TooLong) = sym here ∙ shown ∙ there in
+    cc) in
     subst (λ (told : List Answer). Owes start requests [] told units memory) (sym all) keeps.owes

@@ -5,7 +5,7 @@ use Rattle.std.proofs.lemmas.Bool.{eq-eqb}
 use Rattle.uda_exec.specs.Disks.{Disk, Disks}
 use Rattle.uda_exec.specs.Status.{DRIVE_ERROR}
 use Rattle.uda_exec.specs.Effect.{Outcome, Done, Lost}
-use Rattle.uda_model.specs.Request.{Request, Online, Available, Status, Read, Access, Write, Erase, unit_of, too_long}
+use Rattle.uda_model.specs.Request.{Request, Online, Available, Status, unit_of, too_long}
 use Rattle.uda_model.specs.Answer.{Answer, TooLong, status_of}
 use Rattle.uda_model.specs.Plain.{Bar, Barred, Free, bar, answer_by, step_by, step_as, step, plain, FixedRequest, step_of, plain_as, requests_of, PlainWithLosses, tells_error, drive_errors}
 

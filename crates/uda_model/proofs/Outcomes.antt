@@ -3,7 +3,7 @@ use Rattle.std.proofs.Common.{◌≡◌, ℕ, ◌<◌, Bool, true, false, List, 
 use Rattle.std.specs.Prelude.{slice_get, option_map, nat_eq, if◌then◌else◌}
 use Rattle.std.proofs.lemmas.Option.{slice_get-map}
 use Rattle.uda_exec.specs.declared.refusal.Refusal.{Refusal}
-use Rattle.uda_exec.specs.declared.refusal.Refusal.TheVariants.{UnitUnknown, NoVolume, NotOnline, OddAddress, OddCount, PartBlock, BlockPastEnd, RangePastEnd, HardwareProtected, SoftwareProtected, NoSuchMemory}
+use Rattle.uda_exec.specs.declared.refusal.Refusal.TheVariants.{UnitUnknown}
 use Rattle.uda_exec.specs.Disks.{Disks, UnitState}
 use Rattle.uda_exec.specs.Refusal.{refusal_status}
 use Rattle.uda_exec.specs.Status.{DRIVE_ERROR}
@@ -12,7 +12,7 @@ use Rattle.uda_packet.specs.declared.command.Command.{Command}
 use Rattle.uda_packet.specs.declared.end.End.{End}
 use Rattle.uda_exec.specs.Effect.{World, Outcome, Done, Lost, Verdict, is_acting, verdict, effect, Fits, is_lost}
 use Rattle.uda_exec.specs.Execution.{Nature, nature_of, natures_of, is_faithful, EndsBy}
-use Rattle.uda_model.specs.Request.{Request, Online, Available, Status, Read, Access, Write, Erase, is_moving, is_writing, first_of, count_of, too_long}
+use Rattle.uda_model.specs.Request.{Request, Online, Available, Status, Read, is_moving, is_writing, first_of, count_of, too_long}
 use Rattle.uda_model.specs.Answer.{Answer, status_of}
 use Rattle.uda_model.specs.Plain.{Bar, Barred, Free, bar, answer_by, step_by, step_as, FitsCount}
 use Rattle.uda_model.specs.Posting.{op_of}

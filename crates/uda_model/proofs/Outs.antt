@@ -1,5 +1,5 @@
 -- The list of what is out, as a request is posted, done, and taken back with its end.
-use Rattle.std.proofs.Common.{◌≡◌, ◌≢◌, ℕ, zero, suc, ◌+◌, inl, inr, List, [], ◌∷◌, ◌++◌, length, map, get_or, Some, refl, sym, ap, ◌∙◌, arith, length-append}
+use Rattle.std.proofs.Common.{◌≡◌, ◌≢◌, ℕ, zero, suc, ◌+◌, inl, inr, List, [], ◌∷◌, ◌++◌, length, get_or, Some, refl, sym, ap, ◌∙◌, arith, length-append}
 use Rattle.std.specs.Prelude.{slice_get, remove, All, AllPairs}
 use Rattle.std.proofs.lemmas.List.{map_push}
 use Rattle.std.proofs.lemmas.List.Edits.{length-remove}
@@ -9,7 +9,7 @@ use Rattle.std.proofs.lemmas.Bool.{cases_lt}
 use Rattle.std.proofs.lemmas.Option.{slice_get_within, get_or_from_slice_get}
 use Rattle.uda_packet.specs.declared.end.End.{End}
 use Rattle.uda_model.specs.Posting.{Posted}
-use Rattle.uda_model.specs.Keeping.{IsNotAt, Ended, EndedNotAt, Has, HasEnded, RefersBack, AreTwo, EndedAreTwo, EndedIsNone, Outs}
+use Rattle.uda_model.specs.Keeping.{IsNotAt, Ended, Has, HasEnded, RefersBack, AreTwo, EndedAreTwo, EndedIsNone, Outs}
 use Rattle.uda_model.proofs.Lists.{All-remove, All-at, pairs_first, pairs_rest, pairs_others, slice_get-append, slice_get-last}
 
 -- ---- one of a list is at one index

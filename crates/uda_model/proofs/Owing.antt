@@ -1,5 +1,5 @@
 -- What is owed, as a request is answered at once, posted, or done by its command.
-use Rattle.std.proofs.Common.{◌≡◌, ◌≢◌, ℕ, zero, suc, ◌+◌, ◌<◌, inl, inr, ◌⊎◌, Bool, true, false, List, [], ◌∷◌, ◌++◌, length, Option, Some, None, refl, sym, ap, ◌∙◌, arith, subst, subst₂, length-append}
+use Rattle.std.proofs.Common.{◌≡◌, ◌≢◌, ℕ, zero, suc, ◌+◌, ◌<◌, inl, inr, Bool, true, false, List, [], ◌∷◌, ◌++◌, length, Some, None, refl, sym, ap, ◌∙◌, arith, subst, subst₂, length-append}
 use Rattle.std.specs.Prelude.{slice_get, slice_set, option_map, remove, All, AllPairs, nat_eq, ◌&&◌, if◌then◌else◌}
 use Rattle.std.proofs.lemmas.List.{length-set, map_push}
 use Rattle.std.proofs.lemmas.List.Elements.{All-nil, All-cons, All-head, All-tail, All-push}
@@ -11,17 +11,16 @@ use Rattle.uda_mem.specs.Put.{part, put}
 use Rattle.uda_mem.proofs.PutLaws.{length-put, length-part}
 use Rattle.uda_packet.specs.declared.command.Command.{Command}
 use Rattle.uda_packet.specs.declared.end.End.{End}
-use Rattle.uda_exec.specs.Disks.{Disks, UnitState, ExecState, disk_of, disks_of, HoldsImage, AreImages}
+use Rattle.uda_exec.specs.Disks.{Disks, ExecState, disk_of, disks_of, HoldsImage, AreImages}
 use Rattle.uda_exec.specs.Commands.{address_of, landing_of}
 use Rattle.uda_exec.specs.Effect.{World, Fits, is_lost}
-use Rattle.uda_exec.specs.Status.{DRIVE_ERROR}
 use Rattle.uda_exec.specs.Transfers.{ChangesAt}
 use Rattle.uda_exec.specs.Order.{MayGo, Apart, OrderIsFree}
-use Rattle.uda_exec.specs.Execution.{is_faithful, failures_at, world_of, Executes, ExecutesAt}
+use Rattle.uda_exec.specs.Execution.{failures_at, world_of, Executes, ExecutesAt}
 use Rattle.uda_exec.proofs.Changes.{landing-le}
 use Rattle.uda_exec.proofs.Swap.{data_of-put}
 use Rattle.uda_exec.proofs.Units.{slice_get-set_same, slice_get-set_other}
-use Rattle.uda_model.specs.Request.{Request, Online, unit_of, count_of, too_long}
+use Rattle.uda_model.specs.Request.{Request, Online, unit_of, too_long}
 use Rattle.uda_model.specs.Answer.{Answer, TooLong, SameForm, blank_answer, IsAnswerOf}
 use Rattle.uda_model.specs.Plain.{bar, step_as, plain, PlainWithLosses, HasImage, HaveImages, tells_error}
 use Rattle.uda_model.specs.Posting.{answer_of, Posted, posted_command, commands_in, buffer_of, Ready}

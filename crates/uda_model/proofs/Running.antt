@@ -18,7 +18,7 @@ use Rattle.uda_exec.specs.Effect.{World, Outcome, bytes_put, Verdict, OfControll
 use Rattle.uda_exec.specs.Order.{FixedCommand, effects, effect_of, IsBeside, data_of}
 use Rattle.uda_exec.proofs.Blocks.{AreBlocks}
 use Rattle.uda_exec.proofs.Swap.{length-bytes_put, length-world_after, data_of-put}
-use Rattle.uda_model.specs.Request.{Request, Online, Available, Status, Read, Access, Write, Erase, unit_of, extent_of, first_of, count_of, too_long, IsWhole}
+use Rattle.uda_model.specs.Request.{Request, Write, Erase, unit_of, extent_of, first_of, count_of, too_long, IsWhole}
 use Rattle.uda_model.specs.declared.extent.Extent.{Extent}
 use Rattle.uda_model.specs.Answer.{Answer, TooLong}
 use Rattle.uda_model.specs.Plain.{extent_refusal, Bar, Barred, Free, bar_of, bar_on, bar_at, bar, blocks_brought, disk_left, disks_by, answer_by, step_as, plain_as, FitsCount, FitsRequest, HasImage, HaveImages}

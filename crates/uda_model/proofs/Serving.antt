@@ -17,7 +17,7 @@ use Rattle.uda_exec.specs.Commands.{is_controller, address_of, room_of}
 use Rattle.uda_exec.specs.Effect.{World, Outcome, blocks_moved, transfer_status, refusal_of, Verdict, OfController, Refused, ActsOn, verdict_of, verdict_at, verdict, end_of, disk_after, world_after, effect}
 use Rattle.uda_exec.specs.Order.{data_of}
 use Rattle.uda_exec.proofs.Blocks.{AreBlocks-part}
-use Rattle.uda_model.specs.Request.{Request, Online, Available, Status, Read, Access, Write, Erase, unit_of, extent_of, count_of, too_long, IsWhole}
+use Rattle.uda_model.specs.Request.{Request, Online, Read, Access, Write, Erase, unit_of, extent_of, count_of, too_long, IsWhole}
 use Rattle.uda_model.specs.declared.extent.Extent.{Extent}
 use Rattle.uda_model.specs.Answer.{Answer, TooLong, Moved, Data}
 use Rattle.uda_model.specs.Plain.{extent_refusal, Bar, Barred, Free, bar_of, bar_on, bar_at, bar, disk_left, disks_by, whole_count, answer_on, answer_by, step_as, FitsCount, HasImage, HaveImages}
@@ -99,7 +99,6 @@ disk_after-left o (Erase unit f n) a memory disk g h =
     let zeros : List ℕ = replicate 512 0 in
     let make : ℕ → Disk = λ k. record { blocks = put disk.blocks f (blocks_moved o (replicate k zeros)); size = disk.size; mode = disk.mode } in
     ap make (quotient n)
-
 disk_after-left o _ a memory disk g h = refl
 
 abbrev buffer_at : Request → ℕ → List ℕ → List ℕ

@@ -1,8 +1,8 @@
 -- The steps of a driver: those of the ring protocol and those of what is owed, together.
-use Rattle.std.proofs.Common.{◌≡◌, ◌≢◌, ℕ, ◌+◌, ◌*◌, ◌%◌, ◌<◌, ◌≤◌, false, true, List, [], ◌∷◌, ◌++◌, length, map, get_or, Some, refl, sym, ap, ap₂, ◌∙◌, arith, subst, subst₂, length-append}
+use Rattle.std.proofs.Common.{◌≡◌, ◌≢◌, ℕ, ◌+◌, ◌%◌, ◌<◌, ◌≤◌, false, true, List, [], ◌∷◌, ◌++◌, length, map, get_or, Some, refl, sym, ap, ap₂, ◌∙◌, arith, subst, subst₂, length-append}
 use Rattle.std.specs.Prelude.{slice_get, slice_set, remove, All, AllPairs, Ok}
 use Rattle.std.proofs.Math.Bool.{and_comm, or_comm}
-use Rattle.std.proofs.lemmas.List.{length-map, map_push, append-nil, append_assoc, length_push, nil_from_length}
+use Rattle.std.proofs.lemmas.List.{length-map, map_push, append_assoc, length_push, nil_from_length}
 use Rattle.std.proofs.lemmas.List.Edits.{length-remove}
 use Rattle.std.proofs.lemmas.List.Elements.{All-head, All-push, All-weaker, All-map}
 use Rattle.uda_mem.specs.Put.{put}
@@ -24,9 +24,9 @@ use Rattle.uda_model.specs.Request.{Request, too_long, IsWhole}
 use Rattle.uda_model.specs.Answer.{Answer, TooLong}
 use Rattle.uda_model.specs.Clash.{clash}
 use Rattle.uda_model.specs.Posting.{Posted, posted_command, commands_in, answer_of, buffer_of, bytes_brought}
-use Rattle.uda_model.specs.Keeping.{Units, Misses, Beside, IsNotAt, Owes, Ended, answer_now, Keeps, HasEnded, RefersBack, AreTwo, Outs}
+use Rattle.uda_model.specs.Keeping.{Units, Misses, IsNotAt, Owes, Ended, answer_now, Keeps, HasEnded, RefersBack, AreTwo, Outs}
 use Rattle.uda_host.specs.Layout.{slots, buffers_start, flag_word, response_descriptor, response_packet, command_packet, command_descriptor, owner_word, packet, HoldsPacket, with_command, memory_reopened}
-use Rattle.uda_host.specs.InStep.{IsAbove, IsSound}
+use Rattle.uda_host.specs.InStep.{IsAbove}
 use Rattle.uda_driver.specs.Driving.{IsOut, IsBefore, Driving, posted_desk}
 use Rattle.uda_driver.specs.declared.desk.Desk.{Desk}
 use Rattle.uda_model.proofs.Lists.{All-remove, All-at}

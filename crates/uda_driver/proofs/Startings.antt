@@ -1,5 +1,5 @@
 -- How a driver comes to run.
-use Rattle.std.proofs.Common.{◌≡◌, ℕ, ◌+◌, ◌-◌, ◌*◌, ◌%◌, ◌<◌, ◌≤◌, min, inl, inr, true, List, [], ◌∷◌, ◌++◌, length, get_or, Option, Some, None, refl, sym, ap, ap₂, ◌∙◌, arith, subst, subst₂, replicate}
+use Rattle.std.proofs.Common.{◌≡◌, ℕ, ◌+◌, ◌-◌, ◌*◌, ◌%◌, ◌<◌, ◌≤◌, min, inl, inr, true, List, [], ◌∷◌, ◌++◌, length, get_or, Some, refl, sym, ap, ap₂, ◌∙◌, arith, subst, subst₂, replicate}
 use Rattle.std.specs.Prelude.{slice_get, All, Ok, if◌then◌else◌}
 use Rattle.std.proofs.lemmas.Bool.{cases_lt}
 use Rattle.std.proofs.lemmas.List.{nil_from_length, length-replicate, get_or-replicate, same_lists}
@@ -13,19 +13,18 @@ use Rattle.uda_mem.proofs.WordLaws.{length-word_bytes, word_at-put_apart, word_a
 use Rattle.uda_packet.specs.declared.command.Command.{Command}
 use Rattle.uda_packet.specs.declared.command.Op.TheVariants.{Controller}
 use Rattle.uda_packet.specs.declared.end.End.{End}
-use Rattle.uda_packet.specs.Written.{written_command, written_end}
+use Rattle.uda_packet.specs.Written.{written_command}
 use Rattle.uda_packet.specs.Reading.{read_command}
-use Rattle.uda_exec.specs.Disks.{UnitState}
 use Rattle.uda_exec.specs.Execution.{Executes}
 use Rattle.uda_port.specs.declared.phase.Phase.{Phase}
 use Rattle.uda_port.specs.declared.phase.Phase.TheVariants.{Step1, Step2, Step3, Step4, Running}
 use Rattle.uda_port.specs.declared.phase.Fatal.TheVariants.{RingWrite}
 use Rattle.uda_port.specs.declared.turn.Turn.{Turn}
-use Rattle.uda_port.specs.declared.turn.Turn.TheVariants.{Fetched as TurnFetched, Executed, Delivered, Idle, Dead}
+use Rattle.uda_port.specs.declared.turn.Turn.TheVariants.{Fetched as TurnFetched, Executed, Delivered}
 use Rattle.uda_port.specs.Startup.{by_word, dead_port, has_area}
 use Rattle.uda_port.specs.Port.{PortState, CreditsAgree, next_grant, port_asked}
 use Rattle.uda_port.specs.Turn.{TurnGoes}
-use Rattle.uda_host.specs.Layout.{slots, memory_size, owner_word, response_descriptor, command_descriptor, command_ring_at, response_ring_at, response_packet, HoldsPacket, with_command, open_descriptor, IsFree, IsOpen, ResponseSide, memory_reopened}
+use Rattle.uda_host.specs.Layout.{slots, memory_size, owner_word, response_descriptor, command_descriptor, command_ring_at, response_ring_at, response_packet, with_command, open_descriptor, IsFree, IsOpen, ResponseSide, memory_reopened}
 use Rattle.uda_host.specs.InStep.{IsSound, InStep}
 use Rattle.uda_driver.specs.Starting.{IsNew, port_running}
 use Rattle.uda_driver.specs.Underway.{AtRest}

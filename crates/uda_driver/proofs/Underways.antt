@@ -1,5 +1,5 @@
 -- The steps of a run of requests.
-use Rattle.std.proofs.Common.{◌≡◌, ◌≢◌, ℕ, zero, suc, ◌+◌, ◌-◌, ◌*◌, ◌/◌, ◌<◌, ◌≤◌, ◌⊎◌, inl, inr, Bool, true, false, List, [], ◌∷◌, ◌++◌, length, map, take, drop, get_or, set, slice_index_or, nat_eq, Option, Some, None, refl, sym, ap, ap₂, ◌∙◌, arith, subst, subst₂, add-one}
+use Rattle.std.proofs.Common.{◌≡◌, ◌≢◌, ℕ, zero, suc, ◌+◌, ◌-◌, ◌*◌, ◌/◌, ◌<◌, ◌≤◌, ◌⊎◌, inl, inr, Bool, true, false, List, [], ◌∷◌, ◌++◌, length, map, take, drop, get_or, set, slice_index_or, nat_eq, Some, None, refl, sym, ap, ap₂, ◌∙◌, arith, subst, subst₂, add-one}
 use Rattle.std.specs.Prelude.{slice_get, slice_set, remove, option_map, All, Ok, ◌||◌, not}
 use Rattle.std.specs.List.{list_any}
 use Rattle.std.proofs.lemmas.List.{length-map, length-take, map-set, map_push, take_more, take_all, drop_more, drop_all, length_push, nil_from_length, length-set}
@@ -17,7 +17,7 @@ use Rattle.uda_packet.specs.declared.command.Command.{Command}
 use Rattle.uda_packet.specs.declared.end.End.{End}
 use Rattle.uda_packet.specs.Written.{written_command}
 use Rattle.uda_packet.specs.Reading.{read_end, read_command}
-use Rattle.uda_exec.specs.Disks.{UnitState, AreImages}
+use Rattle.uda_exec.specs.Disks.{AreImages}
 use Rattle.uda_exec.specs.Commands.{address_of, room_of}
 use Rattle.uda_exec.specs.Order.{OrderIsFree}
 use Rattle.uda_exec.proofs.Units.{slice_get-set_other}

@@ -23,7 +23,8 @@ IsBefore n p = p.place < n
 
 -- These requests are out, of those so far: their commands are unfetched, pending, or done with an end that waits; the
 -- answers of all others are told.
-pub record Driving (start : Units) (requests : List Request) (out : List Posted) (answers : List Answer) (desk : Desk) (port : PortState) (memory : List ℕ) : Type 0 where
+pub record Driving (start : Units) (requests : List Request) (out : List Posted) (answers : List Answer) (desk : Desk)
+    (port : PortState) (memory : List ℕ) : Type 0 where
   pub unfetched : List Command
   pub due : List Posted
   pub ended : List Ended

@@ -1,6 +1,5 @@
 -- What a driver keeps while it has requests done.
-use Rattle.std.specs.Prelude.{◌≡◌, ℕ, zero, suc, ◌+◌, ◌-◌, ◌*◌, ◌<◌, ◌≤◌, true, false, List, [], length, map, take, drop, slice_index_or, slice_get, slice_set, All, Some}
-use Rattle.std.specs.List.{list_any}
+use Rattle.std.specs.Prelude.{◌≡◌, ℕ, zero, suc, ◌+◌, ◌-◌, ◌*◌, ◌<◌, ◌≤◌, true, false, List, [], length, map, take, slice_index_or, slice_get, slice_set, All, Some}
 use Rattle.uda_packet.specs.declared.end.End.{End}
 use Rattle.uda_exec.specs.Disks.{AreImages}
 use Rattle.uda_port.specs.Port.{PortState}
@@ -8,13 +7,13 @@ use Rattle.uda_model.specs.Request as ask
 use Rattle.uda_model.specs.Request.{Request, too_long}
 use Rattle.uda_model.specs.Answer as tell
 use Rattle.uda_model.specs.Answer.{Answer}
-use Rattle.uda_model.specs.Clash.{clash, lead_from, lead, posted_count}
+use Rattle.uda_model.specs.Clash.{posted_count}
 use Rattle.uda_model.specs.Posting.{Posted, answer_of, buffer_of}
 use Rattle.uda_model.specs.Keeping.{Owes}
 use Rattle.uda_host.specs.InStep.{InStep}
 use Rattle.uda_driver.specs.Run.{CountsOn}
 use Rattle.uda_driver.specs.Driving.{Driving}
-use Rattle.uda_model.specs.Values.{request_value, answer_value, request_values, answer_values}
+use Rattle.uda_model.specs.Values.{request_values, answer_values}
 use Rattle.uda_model.specs.declared.request.Request.{Request as CodeRequest}
 use Rattle.uda_model.specs.declared.answer.Answer.{Answer as CodeAnswer}
 use Rattle.uda_driver.specs.declared.desk.Desk.{Desk}
@@ -63,23 +62,34 @@ IsPrepared answers p = (answer : Answer) → slice_get answers p.place ≡ Some 
 abbrev pub turns_due : PortState → List Out → ℕ
 turns_due port out = 3 * length out - (length port.exec.pending + 2 * length port.waiting)
 
+-- the first n requests, as pure data
+abbrev pub asked_before : List CodeRequest → ℕ → List Request
+asked_before requests n = take n (request_values requests)
+
 -- The first n requests were posted or answered at once, and these are out; the load comes to the bound at least.
-pub record Underway (start : PortState) (requests : List CodeRequest) (n bound : ℕ) (out : List Out) (answers : List CodeAnswer) (desk : Desk) (port : PortState) (memory : List ℕ) : Type 0 where
-  pub driving : Driving start.exec.units (take n (request_values requests)) (outs_of requests out) (answer_values answers) desk port memory
+pub record Underway (start : PortState) (requests : List CodeRequest) (n bound : ℕ) (out : List Out) (answers : List CodeAnswer)
+    (desk : Desk) (port : PortState) (memory : List ℕ) : Type 0 where
+  pub driving :
+      Driving start.exec.units (asked_before requests n) (outs_of requests out) (answer_values answers) desk port memory
   pub prepared : All (IsPrepared (answer_values answers)) (outs_of requests out)
   pub blank : AreBlank (request_values requests) n (answer_values answers)
   pub sized : length answers ≡ length requests
   pub within : n ≤ length requests
   pub images : AreImages port.exec.units
   pub begun : 0 < port.deliveries
-  pub turns : port.turns + 3 * length out ≡ start.turns + 3 * posted_count (take n (request_values requests)) + (length port.exec.pending + 2 * length port.waiting)
-  pub deliveries : port.deliveries + length out ≡ start.deliveries + posted_count (take n (request_values requests))
+  pub turns :
+      port.turns + 3 * length out
+      ≡ start.turns + 3 * posted_count (asked_before requests n) + (length port.exec.pending + 2 * length port.waiting)
+  pub deliveries : port.deliveries + length out ≡ start.deliveries + posted_count (asked_before requests n)
   pub load : start.load + bound ≤ port.load + triangle (length out - length port.waiting)
 
 -- one turn keeps what is kept, whatever the bound, and leaves fewer turns
-pub record Onward (requests : List CodeRequest) (out : List Out) (answers : List CodeAnswer) (desk : Desk) (port : PortState) (memory : List ℕ) (out_after : List Out) (answers_after : List CodeAnswer) (desk_after : Desk) (port_after : PortState) (memory_after : List ℕ) : Type 0 where
-  pub kept : (start : PortState) (n bound : ℕ) → Underway start requests n bound out answers desk port memory → Underway start requests n bound out_after answers_after desk_after port_after memory_after
-  pub less : (start : PortState) (n bound : ℕ) → Underway start requests n bound out answers desk port memory → turns_due port_after out_after < turns_due port out
+pub record Onward (requests : List CodeRequest) (out : List Out) (answers : List CodeAnswer) (desk : Desk) (port : PortState)
+    (memory : List ℕ) (left : List Out) (told : List CodeAnswer) (desk_after : Desk) (new : PortState) (after : List ℕ) : Type 0 where
+  pub kept : (start : PortState) (n bound : ℕ) → Underway start requests n bound out answers desk port memory
+      → Underway start requests n bound left told desk_after new after
+  pub less : (start : PortState) (n bound : ℕ) → Underway start requests n bound out answers desk port memory
+      → turns_due new left < turns_due port out
 
 -- the answer that is told, where its request is there and its place is prepared
 pub record IsReady (requests : List CodeRequest) (answers : List CodeAnswer) (done : Out) (memory : List ℕ) : Type 0 where
@@ -89,13 +99,19 @@ pub record IsReady (requests : List CodeRequest) (answers : List CodeAnswer) (do
   pub inside : buffer_address done.buffer + buffer_size ≤ length memory
   pub prepared : IsPrepared (answer_values answers) (posted_of (request_values requests) done)
 
+-- the answer of a request by its end and its buffer
+abbrev pub answer_told_by : Posted → End → List ℕ → Answer
+answer_told_by p e memory = answer_of p.request e (buffer_of p memory)
+
 abbrev pub Settles : List CodeRequest → List CodeAnswer → Out → End → List ℕ → List CodeAnswer → Type 0
 Settles requests answers done e memory answers_after =
     IsReady requests answers done memory
-    → answer_values answers_after ≡ slice_set (answer_values answers) done.place (answer_of (posted_of (request_values requests) done).request e (buffer_of (posted_of (request_values requests) done) memory))
+    → answer_values answers_after
+    ≡ slice_set (answer_values answers) done.place (answer_told_by (posted_of (request_values requests) done) e memory)
 
 -- whatever the stores
-pub record Ran (start : PortState) (requests : List CodeRequest) (answers : List CodeAnswer) (desk : Desk) (port : PortState) (memory : List ℕ) : Type 0 where
+pub record Ran (start : PortState) (requests : List CodeRequest) (answers : List CodeAnswer) (desk : Desk) (port : PortState)
+    (memory : List ℕ) : Type 0 where
   pub rest : AtRest desk port memory
   pub counted : length answers ≡ length requests
   pub images : AreImages port.exec.units

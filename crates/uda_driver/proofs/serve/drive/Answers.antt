@@ -1,4 +1,4 @@
-use Rattle.std.proofs.Common.{◌≡◌, ◌∙◌, ◌<◌, [], length, refl, ap, sym, arith, rules}
+use Rattle.std.proofs.Common.{◌∙◌, ◌<◌, length, refl, ap, sym, arith, rules}
 use Rattle.std.proofs.lemmas.List.{nil_from_length}
 use Rattle.std.proofs.lemmas.Bool.{eqb-true, eqb-false}
 use Rattle.arrayvec.specs.ArrayVec.{array_vec_len}

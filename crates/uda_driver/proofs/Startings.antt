@@ -1,5 +1,5 @@
 -- How a driver comes to run.
-use Rattle.std.proofs.Common.{◌≡◌, ℕ, ◌+◌, ◌-◌, ◌*◌, ◌%◌, ◌<◌, ◌≤◌, min, inl, inr, true, List, [], ◌∷◌, ◌++◌, length, get_or, Option, Some, None, refl, sym, ap, ap₂, ◌∙◌, arith, subst, subst₂, replicate}
+use Rattle.std.proofs.Common.{◌≡◌, ℕ, ◌+◌, ◌-◌, ◌*◌, ◌%◌, ◌<◌, ◌≤◌, min, inl, inr, true, List, [], ◌∷◌, ◌++◌, length, get_or, Some, refl, sym, ap, ap₂, ◌∙◌, arith, subst, subst₂, replicate}
 use Rattle.std.specs.Prelude.{slice_get, All, Ok, if◌then◌else◌}
 use Rattle.std.proofs.lemmas.Bool.{cases_lt}
 use Rattle.std.proofs.lemmas.List.{nil_from_length, length-replicate, get_or-replicate, same_lists}
@@ -13,25 +13,24 @@ use Rattle.uda_mem.proofs.WordLaws.{length-word_bytes, word_at-put_apart, word_a
 use Rattle.uda_packet.specs.declared.command.Command.{Command}
 use Rattle.uda_packet.specs.declared.command.Op.TheVariants.{Controller}
 use Rattle.uda_packet.specs.declared.end.End.{End}
-use Rattle.uda_packet.specs.Written.{written_command, written_end}
+use Rattle.uda_packet.specs.Written.{written_command}
 use Rattle.uda_packet.specs.Reading.{read_command}
-use Rattle.uda_exec.specs.Disks.{UnitState}
 use Rattle.uda_exec.specs.Execution.{Executes}
 use Rattle.uda_port.specs.declared.phase.Phase.{Phase}
 use Rattle.uda_port.specs.declared.phase.Phase.TheVariants.{Step1, Step2, Step3, Step4, Running}
 use Rattle.uda_port.specs.declared.phase.Fatal.TheVariants.{RingWrite}
 use Rattle.uda_port.specs.declared.turn.Turn.{Turn}
-use Rattle.uda_port.specs.declared.turn.Turn.TheVariants.{Fetched as TurnFetched, Executed, Delivered, Idle, Dead}
+use Rattle.uda_port.specs.declared.turn.Turn.TheVariants.{Fetched as TurnFetched, Executed, Delivered}
 use Rattle.uda_port.specs.Startup.{by_word, dead_port, has_area}
 use Rattle.uda_port.specs.Port.{PortState, CreditsAgree, next_grant, port_asked}
 use Rattle.uda_port.specs.Turn.{TurnGoes}
-use Rattle.uda_host.specs.Layout.{slots, memory_size, owner_word, response_descriptor, command_descriptor, command_ring_at, response_ring_at, response_packet, HoldsPacket, with_command, IsFree, IsOpen, ResponseSide, memory_reopened}
-use Rattle.uda_host.specs.InStep.{IsSound, InStep, FetchesFirst, DoesOne, HandsOver, StepGoes}
+use Rattle.uda_host.specs.Layout.{slots, memory_size, owner_word, response_descriptor, command_descriptor, command_ring_at, response_ring_at, response_packet, with_command, open_descriptor, IsFree, IsOpen, ResponseSide, memory_reopened}
+use Rattle.uda_host.specs.InStep.{IsSound, InStep}
 use Rattle.uda_driver.specs.Starting.{IsNew, port_running}
 use Rattle.uda_driver.specs.Underway.{AtRest}
-use Rattle.uda_host.proofs.Frames.{length-two, descriptor-put, descriptor-put_at, descriptor-in}
+use Rattle.uda_host.proofs.Frames.{length-two, descriptor-put, descriptor-put_at, read}
 use Rattle.uda_host.proofs.ResponseSides.{open-put}
-use Rattle.uda_host.proofs.Steps.{step_goes, step_post}
+use Rattle.uda_host.proofs.Steps.{StepFetches, StepExecutes, StepDelivers, StepGoes, port_fetched, port_executed, turns_left, step_goes, step_post}
 
 -- ---- the four words
 
@@ -74,7 +73,7 @@ free-zeros memory k size lt =
     let same = length-put memory 4 (replicate 68 0) in
     let low : word_at (put memory 4 (replicate 68 0)) (command_descriptor k) ≡ 0 = word_at-put_inside memory 4 (replicate 68 0) (command_descriptor k) (omega arith) (omega arith) (omega arith) ∙ word-zeros 68 (40 + 4 * k - 4) (omega arith) in
     let high : word_at (put memory 4 (replicate 68 0)) (40 + 4 * k + 2) ≡ 0 = word_at-put_inside memory 4 (replicate 68 0) (40 + 4 * k + 2) (omega arith) (omega arith) (omega arith) ∙ word-zeros 68 (40 + 4 * k + 2 - 4) (omega arith) in
-    record { descriptor = record { low = 0; high = 0 }; is = descriptor-in (put memory 4 (replicate 68 0)) (command_descriptor k) 0 0 (omega arith) low high; not_owned = refl }
+    record { descriptor = record { low = 0; high = 0 }; is = read (put memory 4 (replicate 68 0)) (command_descriptor k) (record { low = 0; high = 0 }) (omega arith) (record { low = low; high = high }); not_owned = refl }
 
 -- ---- the responses are opened
 
@@ -96,7 +95,7 @@ opening_more start m m1 m2 m3 i lt e1 e2 e3 o =
     let size : length one ≡ memory_size = length-put m (response_packet i) (word_bytes 48) ∙ o.size in
     let w : word_at (put one (response_descriptor i) pair) (response_packet i) ≡ 48 = word_at-put_apart one (response_descriptor i) pair (response_packet i) (λ h. omega arith) ∙ word_at-put_at m (response_packet i) 48 (omega (arith, o.size)) (omega arith) in
     let own : IsOpen (put one (response_descriptor i) pair) i = record {
-      descriptor = descriptor-put_at one (response_descriptor i) (response_packet i + 4) owner_word (omega arith) (omega arith) (omega arith);
+      descriptor = descriptor-put_at one (response_descriptor i) (open_descriptor i) (omega arith) (omega arith) (omega arith);
       room = omega (arith, w);
     } in
     let old : (k : ℕ) → k < i → IsOpen (put one (response_descriptor i) pair) k = λ k less.
@@ -110,7 +109,7 @@ opening_more start m m1 m2 m3 i lt e1 e2 e3 o =
       ];
       free = λ k lt_k was. let f = o.free k lt_k was in record {
         descriptor = f.descriptor;
-        is = descriptor-put one (response_descriptor i) pair (command_descriptor k) (λ h. omega arith) ∙ descriptor-put m (response_packet i) (word_bytes 48) (command_descriptor k) (λ h. omega arith) ∙ f.is;
+        is = descriptor-put one (response_descriptor i) pair (command_descriptor k) f.descriptor (λ h. omega arith) (descriptor-put m (response_packet i) (word_bytes 48) (command_descriptor k) f.descriptor (λ h. omega arith) f.is);
         not_owned = f.not_owned;
       };
     } in
@@ -121,69 +120,56 @@ opening_more start m m1 m2 m3 i lt e1 e2 e3 o =
 abbrev pub characteristics : Command
 characteristics = record { reference = 1; unit = 0; op = Controller }
 
--- Set Controller Characteristics leaves the units as they are
-pub controller_leaves : {units units_after : List (Option UnitState)} {memory memory_after : List ℕ} {e : End} → Executes characteristics units memory e units_after memory_after → units_after ≡ units
-controller_leaves x = x.units_stay refl
-
 -- ---- the three turns
 
-fetches_it : {memory : List ℕ} {port : PortState} {c : Command} {held : ℕ} {port_after : PortState} {memory_after : List ℕ} (turn : Turn) → StepGoes memory port (c ∷ []) held turn port_after memory_after → FetchesFirst memory port (c ∷ []) held port_after memory_after
-fetches_it TurnFetched g = g
-fetches_it Executed g = let no = g.all_fetched in absurd (cc)
-fetches_it Delivered g = let no = g.all_fetched in absurd (cc)
-fetches_it Idle g = absurd g
-fetches_it Dead g = absurd g
+module _ {memory after : List ℕ} {port new : PortState} {held : ℕ} where
+  -- a command that is posted is fetched
+  first_turn : {c : Command} (turn : Turn) → StepGoes memory port (c ∷ []) held turn new after → StepFetches memory port (c ∷ []) held new after
+  first_turn TurnFetched step = step
+  first_turn Executed step = let none = step.none_unfetched in absurd (cc)
+  first_turn Delivered step = let none = step.none_unfetched in absurd (cc)
+  first_turn _ step = absurd step
 
-does_it : {memory : List ℕ} {port : PortState} {c : Command} {held : ℕ} {port_after : PortState} {memory_after : List ℕ} (turn : Turn) → port.exec.pending ≡ c ∷ [] → StepGoes memory port [] held turn port_after memory_after → DoesOne memory port [] held port_after memory_after
-does_it TurnFetched e g = let no = g.were in absurd (cc)
-does_it Executed e g = g
-does_it Delivered e g = let no = g.all_done in absurd (cc)
-does_it Idle e g = absurd g
-does_it Dead e g = absurd g
+  -- one that is pending is done
+  second_turn : {c : Command} (turn : Turn) → port.exec.pending ≡ c ∷ [] → StepGoes memory port [] held turn new after → StepExecutes memory port [] held new after
+  second_turn TurnFetched pending step = let some = step.were in absurd (cc)
+  second_turn Executed pending step = step
+  second_turn Delivered pending step = let none = step.none_pending in absurd (cc)
+  second_turn _ pending step = absurd step
 
-hands_it : {memory : List ℕ} {port : PortState} {held : ℕ} {port_after : PortState} {memory_after : List ℕ} (turn : Turn) → port.exec.pending ≡ [] → StepGoes memory port [] held turn port_after memory_after → HandsOver memory port [] held port_after memory_after
-hands_it TurnFetched e g = let no = g.were in absurd (cc)
-hands_it Executed e g = let s = g.executes.taken.stands in let none : None ≡ Some g.executes.command = sym (ap (λ (cs : List Command). slice_get cs g.place) e) ∙ s in absurd (cc)
-hands_it Delivered e g = g
-hands_it Idle e g = absurd g
-hands_it Dead e g = absurd g
+  -- and then its end is delivered
+  third_turn : (turn : Turn) → port.exec.pending ≡ [] → StepGoes memory port [] held turn new after → StepDelivers memory port [] held new after
+  third_turn TurnFetched none step = let some = step.were in absurd (cc)
+  third_turn Executed none step = absurd (omega (arith, step.executes.taken.may.stands, ap length none))
+  third_turn Delivered none step = step
+  third_turn _ none step = absurd step
 
-goes_running : (phase : Phase) (port : PortState) (memory : List ℕ) (turn : Turn) (port_after : PortState) (memory_after : List ℕ) → phase ≡ Running → TurnGoes phase port memory turn port_after memory_after → TurnGoes Running port memory turn port_after memory_after
-goes_running phase port memory turn port_after memory_after is goes = subst (λ (p : Phase). TurnGoes p port memory turn port_after memory_after) is goes
+turn_goes : {memory : List ℕ} {port : PortState} {held : ℕ} {unfetched : List Command} (turn : Turn) (new : PortState) (after : List ℕ)
+    → InStep memory port unfetched held → 0 < turns_left port unfetched → CreditsAgree new → TurnGoes port.phase port memory turn new after → StepGoes memory port unfetched held turn new after
+turn_goes {memory} {port} turn new after step some agree goes = step_goes turn new after step some agree (subst (λ (p : Phase). TurnGoes p port memory turn new after) step.runs goes)
 
-same_head : {A : Type 0} (x y : A) (xs ys : List A) → x ∷ xs ≡ y ∷ ys → x ≡ y
-same_head x y xs ys e = cc
+same_tail : {A : Type 0} {x y : A} {xs ys : List A} → x ∷ xs ≡ y ∷ ys → xs ≡ ys
+same_tail same = cc
 
-same_tail : {A : Type 0} (x y : A) (xs ys : List A) → x ∷ xs ≡ y ∷ ys → xs ≡ ys
-same_tail x y xs ys e = cc
-
-same_some : {A : Type 0} (x y : A) → Some x ≡ Some y → x ≡ y
-same_some x y e = cc
-
-in_step_new : (old started : PortState) (memory : List ℕ) → IsNew old → started ≡ port_running old
-    → ResponseSide memory → ((k : ℕ) → k < slots → IsFree memory k) → InStep memory started [] 1
-in_step_new old started memory new is responses free =
-    let n_p = ap length new.nothing_pending in
-    let n_w = ap length new.nothing_waits in
-    subst (λ (p : PortState). InStep memory p [] 1) (sym is) (record {
-      running = refl;
-      command_ring = refl;
-      response_ring = refl;
-      within = omega arith;
-      commands = record {
-        size = responses.size;
-        within = omega arith;
-        few = omega arith;
-        posted = λ k d lt. absurd (omega arith);
-        free = λ k le lt. free ((0 + k) % slots) (omega arith);
-      };
-      responses = responses;
-      looks = λ some. absurd (omega arith);
-      agree = record { credits = omega (arith, new.credits, new.fetches, ap (λ (d : ℕ). 1 + 8 * min d 1 + (d - 1)) new.deliveries); conserved = omega (arith, new.fetches, new.deliveries, n_p, n_w); within = omega (arith, n_p, n_w) };
-      credits = omega (arith, new.credits);
-      sound_unfetched = All-nil IsSound;
-      sound_pending = subst (All IsSound) (sym new.nothing_pending) (All-nil IsSound);
-    })
+-- what the start-up has left is in step
+in_step_new : (old : PortState) (memory : List ℕ) → IsNew old → ResponseSide memory → ((k : ℕ) → k < slots → IsFree memory k) → InStep memory (port_running old) [] 1
+in_step_new old memory new responses free = record {
+  runs = refl;
+  looks = λ some. absurd (omega arith);
+  command_ring_is = refl;
+  response_ring_is = refl;
+  response_within = omega arith;
+  commands = record { size = responses.size; within = omega arith; few = omega arith; posted = λ k d low. absurd (omega arith); free = λ k from low. free ((0 + k) % slots) (omega arith) };
+  responses = responses;
+  agree = record {
+    credits = omega (arith, new.credits, new.fetches, ap (λ (d : ℕ). 1 + 8 * min d 1 + (d - 1)) new.deliveries);
+    conserved = omega (arith, new.fetches, new.deliveries, ap length new.nothing_pending, ap length new.nothing_waits);
+    within = omega (arith, ap length new.nothing_pending, ap length new.nothing_waits);
+  };
+  credits = omega (arith, new.credits);
+  unfetched_sound = All-nil IsSound;
+  pending_sound = subst (All IsSound) (sym new.nothing_pending) (All-nil IsSound);
+}
 
 pub record Begun (old port : PortState) (held : ℕ) (memory : List ℕ) : Type 0 where
   pub rest : AtRest (record { command_place = 1; response_place = 1; held = held }) port memory
@@ -200,57 +186,47 @@ pub begun : (old started looking p1 p2 p3 : PortState) (m0 zeroed opened posted 
     → Begun old p3 held left
 begun old started looking p1 p2 p3 m0 zeroed opened posted m1 m2 m3 left t1 t2 t3 held new size started_is zeroed_is responses kept posted_is legible looking_is g1 a1 g2 a2 g3 a3 held_is left_is =
     let c = characteristics in
-    let free : (k : ℕ) → k < slots → IsFree opened k = λ k lt. kept k lt (subst (λ (m : List ℕ). IsFree m k) (sym zeroed_is) (free-zeros m0 k size lt)) in
-    let s0 = in_step_new old started opened new started_is responses free in
-    let place0 : started.commands.place ≡ 0 = ap (λ (p : PortState). p.commands.place) started_is in
-    let slot0 : started.responses.place ≡ 0 = ap (λ (p : PortState). p.responses.place) started_is in
-    let pending0 : started.exec.pending ≡ [] = ap (λ (p : PortState). p.exec.pending) started_is ∙ new.nothing_pending in
-    let waiting0 : started.waiting ≡ [] = ap (λ (p : PortState). p.waiting) started_is ∙ new.nothing_waits in
-    let deliveries0 : started.deliveries ≡ 0 = ap (λ (p : PortState). p.deliveries) started_is ∙ new.deliveries in
-    let units0 : started.exec.units ≡ old.exec.units = ap (λ (p : PortState). p.exec.units) started_is in
-    let sound : IsSound c = record { legible = legible; above = λ m. omega arith } in
-    let s1 : InStep (with_command opened 0 c) (record started { looking = true }) (c ∷ []) 0 = step_post opened started [] 0 c s0 (omega arith) (omega (arith, place0)) sound in
-    let look = looking_is ∙ ap (λ (ph : Phase). port_asked ph started) s0.running in
-    let s1' : InStep posted looking (c ∷ []) 0 = subst₂ (λ (m : List ℕ) (p : PortState). InStep m p (c ∷ []) 0) (sym posted_is) (sym look) s1 in
-    let f = fetches_it t1 (step_goes posted looking (c ∷ []) t1 p1 m1 s1' (omega arith) a1 (goes_running looking.phase looking posted t1 p1 m1 s1'.running g1)) in
-    let command_is : f.command ≡ c = same_head f.command c f.rest [] (sym f.were) in
-    let rest_is : f.rest ≡ [] = same_tail f.command c f.rest [] (sym f.were) in
-    let pending1 : p1.exec.pending ≡ c ∷ [] = ap (λ (p : PortState). p.exec.pending) f.port_is ∙ ap₂ (λ (cs : List Command) (d : Command). cs ++ d ∷ []) (ap (λ (p : PortState). p.exec.pending) look ∙ pending0) command_is in
-    let waiting1 : p1.waiting ≡ [] = ap (λ (p : PortState). p.waiting) f.port_is ∙ ap (λ (p : PortState). p.waiting) look ∙ waiting0 in
-    let units1 : p1.exec.units ≡ old.exec.units = ap (λ (p : PortState). p.exec.units) f.port_is ∙ ap (λ (p : PortState). p.exec.units) look ∙ units0 in
-    let place1 : p1.commands.place ≡ 1 = ap (λ (p : PortState). p.commands.place) f.port_is ∙ ap (λ (p : PortState). (p.commands.place + 1) % slots) look ∙ ap (λ (k : ℕ). (k + 1) % slots) place0 in
-    let slot1 : p1.responses.place ≡ 0 = ap (λ (p : PortState). p.responses.place) f.port_is ∙ ap (λ (p : PortState). p.responses.place) look ∙ slot0 in
-    let deliveries1 : p1.deliveries ≡ 0 = ap (λ (p : PortState). p.deliveries) f.port_is ∙ ap (λ (p : PortState). p.deliveries) look ∙ deliveries0 in
+    let q = port_running old in
+    let free : (k : ℕ) → k < slots → IsFree opened k = λ k low. kept k low (subst (λ (m : List ℕ). IsFree m k) (sym zeroed_is) (free-zeros m0 k size low)) in
+    -- the command is posted
+    let asked : PortState = record q { looking = true } in
+    let asked_is : looking ≡ asked = looking_is ∙ ap (λ (p : PortState). port_asked p.phase p) started_is in
+    let s0 : InStep (with_command opened 0 c) asked (c ∷ []) 0 = step_post (in_step_new old opened new responses free) 0 c (omega arith) (omega arith) (record { legible = legible; above = λ meet. omega arith }) in
+    let s1 = subst₂ (λ (m : List ℕ) (p : PortState). InStep m p (c ∷ []) 0) (sym posted_is) (sym asked_is) s0 in
+    -- it is fetched
+    let f = first_turn t1 (turn_goes t1 p1 m1 s1 (omega arith) a1 g1) in
+    let were = f.were in
+    let first_is : f.first ≡ c = cc in let rest_is : f.rest ≡ [] = same_tail (sym were) in
+    let p1_is : p1 ≡ port_fetched asked c = f.port_is ∙ ap₂ port_fetched asked_is first_is in
+    let pending1 : p1.exec.pending ≡ c ∷ [] = ap (λ (p : PortState). p.exec.pending) p1_is ∙ ap (λ (cs : List Command). cs ++ c ∷ []) new.nothing_pending in
     let s2 : InStep m1 p1 [] 0 = subst (λ (cs : List Command). InStep m1 p1 cs 0) rest_is f.in_step in
-    let x = does_it t2 pending1 (step_goes m1 p1 [] t2 p2 m2 s2 (omega (arith, ap length pending1)) a2 (goes_running p1.phase p1 m1 t2 p2 m2 s2.running g2)) in
-    let one = x.executes.taken in
-    let pending2 : p2.exec.pending ≡ [] = nil_from_length p2.exec.pending (ap length one.taken ∙ omega (arith, length-remove p1.exec.pending x.place one.may.stands, ap length pending1)) in
-    let waiting2 : p2.waiting ≡ x.end ∷ [] = ap (λ (p : PortState). p.waiting) x.port_is ∙ ap (λ (w : List End). w ++ x.end ∷ []) waiting1 in
-    let at0 : x.place ≡ 0 = omega (arith, one.may.stands, ap length pending1) in
-    let both : Some c ≡ Some x.executes.command = sym (ap₂ (λ (cs : List Command) (k : ℕ). slice_get cs k) pending1 at0) ∙ one.stands in
-    let is_c : x.executes.command ≡ c = same_some x.executes.command c (sym both) in
+    -- it is done, and leaves the units as they are
+    let x = second_turn t2 pending1 (turn_goes t2 p2 m2 s2 (omega (arith, ap length pending1)) a2 g2) in
+    let taken = x.executes.taken in
+    let one = ap length pending1 in
+    let at : x.place ≡ 0 = omega (arith, taken.may.stands, one) in
+    let it : Some c ≡ Some x.executes.command = sym (ap₂ (λ (cs : List Command) (k : ℕ). slice_get cs k) pending1 at) ∙ taken.stands in
+    let is_c : x.executes.command ≡ c = cc in
     let done : Executes c p1.exec.units m1 x.end p2.exec.units m2 = subst (λ (d : Command). Executes d p1.exec.units m1 x.end p2.exec.units m2) is_c x.executes.executes in
-    let units2 : p2.exec.units ≡ old.exec.units = controller_leaves done ∙ units1 in
-    let place2 : p2.commands.place ≡ 1 = ap (λ (p : PortState). p.commands.place) x.port_is ∙ place1 in
-    let slot2 : p2.responses.place ≡ 0 = ap (λ (p : PortState). p.responses.place) x.port_is ∙ slot1 in
-    let deliveries2 : p2.deliveries ≡ 0 = ap (λ (p : PortState). p.deliveries) x.port_is ∙ deliveries1 in
-    let h = hands_it t3 pending2 (step_goes m2 p2 [] t3 p3 m3 x.in_step (omega (arith, ap length waiting2)) a3 (goes_running p2.phase p2 m2 t3 p3 m3 x.in_step.running g3)) in
-    let answer_value : next_grant p2.deliveries ≡ slots = ap next_grant deliveries2 in
-    let before = h.in_step in
-    let size3 : length m3 ≡ memory_size = sym (length-put m3 (response_descriptor p2.responses.place + 2) (word_bytes owner_word)) ∙ before.commands.size in
-    let there : HoldsPacket m3 256 (next_grant p2.deliveries) (written_end h.end) = subst (λ (k : ℕ). HoldsPacket m3 (response_packet k) (next_grant p2.deliveries) (written_end h.end)) slot2 h.there in
-    let held8 : held ≡ slots = held_is size3 ∙ there.second_word ∙ answer_value in
-    let left' : left ≡ memory_reopened m3 p2.responses.place = left_is size3 ∙ ap (memory_reopened m3) (sym slot2) in
-    let credit : 0 + next_grant p2.deliveries ≡ held = omega (arith, answer_value, held8) in
-    let waiting3 : p3.waiting ≡ [] = same_tail h.end x.end p3.waiting [] (sym h.first ∙ waiting2) in
+    let pending2 : p2.exec.pending ≡ [] = nil_from_length p2.exec.pending (omega (arith, ap length taken.taken, length-remove p1.exec.pending x.place taken.may.stands, one)) in
+    let p2_is : p2 ≡ port_executed (port_fetched asked c) p2.exec x.end = x.port_is ∙ ap (λ (p : PortState). port_executed p p2.exec x.end) p1_is in
+    let waiting2 : p2.waiting ≡ x.end ∷ [] = ap (λ (p : PortState). p.waiting) p2_is ∙ ap (λ (es : List End). es ++ x.end ∷ []) new.nothing_waits in
+    -- its end is delivered, and grants the credits
+    let h = third_turn t3 pending2 (turn_goes t3 p3 m3 x.in_step (omega (arith, ap length waiting2)) a3 g3) in
+    let slot : p2.responses.place ≡ 0 = ap (λ (p : PortState). p.responses.place) p2_is in
+    let deliveries : p2.deliveries ≡ 0 = ap (λ (p : PortState). p.deliveries) p2_is ∙ new.deliveries in
+    let grant : next_grant p2.deliveries ≡ slots = ap next_grant deliveries in
+    let long : length m3 ≡ memory_size = sym (length-put m3 (response_descriptor p2.responses.place + 2) (word_bytes owner_word)) ∙ h.in_step.commands.size in
+    let all : held ≡ slots = held_is long ∙ ap (λ (k : ℕ). word_at m3 (response_packet k + 2)) (sym slot) ∙ h.there.second_word ∙ grant in
+    let left_now : left ≡ memory_reopened m3 p2.responses.place = left_is long ∙ ap (memory_reopened m3) (sym slot) in
     record {
       rest = record {
-        step = subst₂ (λ (m : List ℕ) (k : ℕ). InStep m p3 [] k) (sym left') credit before;
-        next = sym (ap (λ (p : PortState). p.commands.place) h.port_is ∙ place2);
-        slot = sym (ap (λ (p : PortState). p.responses.place) h.port_is ∙ ap (λ (k : ℕ). (k + 1) % slots) slot2);
+        step = subst₂ (λ (m : List ℕ) (k : ℕ). InStep m p3 [] k) (sym left_now) (omega (arith, grant, all)) h.in_step;
+        next = sym (ap (λ (p : PortState). p.commands.place) h.port_is ∙ ap (λ (p : PortState). p.commands.place) p2_is);
+        slot = sym (ap (λ (p : PortState). p.responses.place) h.port_is ∙ ap (λ (k : ℕ). (k + 1) % slots) slot);
         nothing_pending = ap (λ (p : PortState). p.exec.pending) h.port_is ∙ pending2;
-        nothing_waits = waiting3;
+        nothing_waits = same_tail (sym h.waited ∙ waiting2);
         begun = omega (arith, ap (λ (p : PortState). p.deliveries) h.port_is);
       };
-      units = ap (λ (p : PortState). p.exec.units) h.port_is ∙ units2;
+      units = ap (λ (p : PortState). p.exec.units) h.port_is ∙ done.units_stay refl ∙ ap (λ (p : PortState). p.exec.units) p1_is;
     }

@@ -1,6 +1,5 @@
 -- What a driver keeps while it has requests done.
-use Rattle.std.specs.Prelude.{◌≡◌, ℕ, zero, suc, ◌+◌, ◌-◌, ◌*◌, ◌<◌, ◌≤◌, true, false, List, [], length, map, take, drop, slice_index_or, slice_get, slice_set, All, Some}
-use Rattle.std.specs.List.{list_any}
+use Rattle.std.specs.Prelude.{◌≡◌, ℕ, zero, suc, ◌+◌, ◌-◌, ◌*◌, ◌<◌, ◌≤◌, true, false, List, [], length, map, take, slice_index_or, slice_get, slice_set, All, Some}
 use Rattle.uda_packet.specs.declared.end.End.{End}
 use Rattle.uda_exec.specs.Disks.{AreImages}
 use Rattle.uda_port.specs.Port.{PortState}
@@ -8,13 +7,13 @@ use Rattle.uda_model.specs.Request as ask
 use Rattle.uda_model.specs.Request.{Request, too_long}
 use Rattle.uda_model.specs.Answer as tell
 use Rattle.uda_model.specs.Answer.{Answer}
-use Rattle.uda_model.specs.Clash.{clash, lead_from, lead, posted_count}
+use Rattle.uda_model.specs.Clash.{posted_count}
 use Rattle.uda_model.specs.Posting.{Posted, answer_of, buffer_of}
 use Rattle.uda_model.specs.Keeping.{Owes}
 use Rattle.uda_host.specs.InStep.{InStep}
 use Rattle.uda_driver.specs.Run.{CountsOn}
 use Rattle.uda_driver.specs.Driving.{Driving}
-use Rattle.uda_model.specs.Values.{request_value, answer_value}
+use Rattle.uda_model.specs.Values.{request_values, answer_values}
 use Rattle.uda_model.specs.declared.request.Request.{Request as CodeRequest}
 use Rattle.uda_model.specs.declared.answer.Answer.{Answer as CodeAnswer}
 use Rattle.uda_driver.specs.declared.desk.Desk.{Desk}
@@ -34,7 +33,7 @@ abbrev pub posted_of : List Request → Out → Posted
 posted_of requests o = record { place = o.place; address = buffer_address o.buffer; request = slice_index_or requests o.place (ask.Status 0) }
 
 abbrev pub outs_of : List CodeRequest → List Out → List Posted
-outs_of requests out = map (posted_of (map request_value requests)) out
+outs_of requests out = map (posted_of (request_values requests)) out
 
 -- 1 + 2 + .. + n
 abbrev pub triangle : ℕ → ℕ
@@ -63,62 +62,58 @@ IsPrepared answers p = (answer : Answer) → slice_get answers p.place ≡ Some 
 abbrev pub turns_due : PortState → List Out → ℕ
 turns_due port out = 3 * length out - (length port.exec.pending + 2 * length port.waiting)
 
--- The first n requests were posted or answered at once, and these are out; the load will be no less than the bound.
-pub record Underway (start : PortState) (requests : List CodeRequest) (n bound : ℕ) (out : List Out) (answers : List CodeAnswer) (desk : Desk) (port : PortState) (memory : List ℕ) : Type 0 where
-  pub driving : Driving start.exec.units (take n (map request_value requests)) (outs_of requests out) (map answer_value answers) desk port memory
-  pub prepared : All (IsPrepared (map answer_value answers)) (outs_of requests out)
-  pub blank : AreBlank (map request_value requests) n (map answer_value answers)
+-- the first n requests, as pure data
+abbrev pub asked_before : List CodeRequest → ℕ → List Request
+asked_before requests n = take n (request_values requests)
+
+-- The first n requests were posted or answered at once, and these are out; the load comes to the bound at least.
+pub record Underway (start : PortState) (requests : List CodeRequest) (n bound : ℕ) (out : List Out) (answers : List CodeAnswer)
+    (desk : Desk) (port : PortState) (memory : List ℕ) : Type 0 where
+  pub driving :
+      Driving start.exec.units (asked_before requests n) (outs_of requests out) (answer_values answers) desk port memory
+  pub prepared : All (IsPrepared (answer_values answers)) (outs_of requests out)
+  pub blank : AreBlank (request_values requests) n (answer_values answers)
   pub sized : length answers ≡ length requests
   pub within : n ≤ length requests
   pub images : AreImages port.exec.units
   pub begun : 0 < port.deliveries
-  pub turns : port.turns + 3 * length out ≡ start.turns + 3 * posted_count (take n (map request_value requests)) + (length port.exec.pending + 2 * length port.waiting)
-  pub deliveries : port.deliveries + length out ≡ start.deliveries + posted_count (take n (map request_value requests))
+  pub turns :
+      port.turns + 3 * length out
+      ≡ start.turns + 3 * posted_count (asked_before requests n) + (length port.exec.pending + 2 * length port.waiting)
+  pub deliveries : port.deliveries + length out ≡ start.deliveries + posted_count (asked_before requests n)
   pub load : start.load + bound ≤ port.load + triangle (length out - length port.waiting)
 
--- nothing was done yet, and the lead goes on
-pub record Leading (start : PortState) (requests : List CodeRequest) (n : ℕ) (out : List Out) (desk : Desk) (port : PortState) : Type 0 where
-  pub seen : List Request
-  pub same : (r : Request) → list_any (clash r) seen ≡ list_any (λ p. clash r p.request) (outs_of requests out)
-  pub ahead : lead (map request_value requests) ≡ length out + lead_from desk.held seen (drop n (map request_value requests))
-  pub all_out : length out ≡ posted_count (take n (map request_value requests))
-  pub none_done : length port.waiting ≡ 0
-  pub load_is : port.load ≡ start.load
-
-pub data Ahead (start : PortState) (requests : List CodeRequest) (n bound : ℕ) (out : List Out) (desk : Desk) (port : PortState) : Type 0 where
-  Leads : bound ≡ triangle (posted_count (take n (map request_value requests))) → Leading start requests n out desk port → Ahead start requests n bound out desk port
-  Led : lead (map request_value requests) ≤ posted_count (take n (map request_value requests))
-      → bound ≡ triangle (lead (map request_value requests)) + (posted_count (take n (map request_value requests)) - lead (map request_value requests))
-      → Ahead start requests n bound out desk port
-
--- the same, whatever the bound
-pub record Sailing (start : PortState) (requests : List CodeRequest) (n : ℕ) (out : List Out) (answers : List CodeAnswer) (desk : Desk) (port : PortState) (memory : List ℕ) : Type 0 where
-  pub bound : ℕ
-  pub under : Underway start requests n bound out answers desk port memory
-  pub ahead : Ahead start requests n bound out desk port
-
--- one turn on the way
-pub record Onward (requests : List CodeRequest) (out : List Out) (answers : List CodeAnswer) (desk : Desk) (port : PortState) (memory : List ℕ) (out_after : List Out) (answers_after : List CodeAnswer) (desk_after : Desk) (port_after : PortState) (memory_after : List ℕ) : Type 0 where
-  pub kept : (start : PortState) (n bound : ℕ) → Underway start requests n bound out answers desk port memory → Underway start requests n bound out_after answers_after desk_after port_after memory_after
-  pub less : (start : PortState) (n bound : ℕ) → Underway start requests n bound out answers desk port memory → turns_due port_after out_after < turns_due port out
+-- one turn keeps what is kept, whatever the bound, and leaves fewer turns
+pub record Onward (requests : List CodeRequest) (out : List Out) (answers : List CodeAnswer) (desk : Desk) (port : PortState)
+    (memory : List ℕ) (left : List Out) (told : List CodeAnswer) (desk_after : Desk) (new : PortState) (after : List ℕ) : Type 0 where
+  pub kept : (start : PortState) (n bound : ℕ) → Underway start requests n bound out answers desk port memory
+      → Underway start requests n bound left told desk_after new after
+  pub less : (start : PortState) (n bound : ℕ) → Underway start requests n bound out answers desk port memory
+      → turns_due new left < turns_due port out
 
 -- the answer that is told, where its request is there and its place is prepared
 pub record IsReady (requests : List CodeRequest) (answers : List CodeAnswer) (done : Out) (memory : List ℕ) : Type 0 where
   pub there : done.place < length requests
   pub sized : length answers ≡ length requests
-  pub short : too_long (posted_of (map request_value requests) done).request ≡ false
+  pub short : too_long (posted_of (request_values requests) done).request ≡ false
   pub inside : buffer_address done.buffer + buffer_size ≤ length memory
-  pub prepared : IsPrepared (map answer_value answers) (posted_of (map request_value requests) done)
+  pub prepared : IsPrepared (answer_values answers) (posted_of (request_values requests) done)
+
+-- the answer of a request by its end and its buffer
+abbrev pub answer_told_by : Posted → End → List ℕ → Answer
+answer_told_by p e memory = answer_of p.request e (buffer_of p memory)
 
 abbrev pub Settles : List CodeRequest → List CodeAnswer → Out → End → List ℕ → List CodeAnswer → Type 0
 Settles requests answers done e memory answers_after =
     IsReady requests answers done memory
-    → map answer_value answers_after ≡ slice_set (map answer_value answers) done.place (answer_of (posted_of (map request_value requests) done).request e (buffer_of (posted_of (map request_value requests) done) memory))
+    → answer_values answers_after
+    ≡ slice_set (answer_values answers) done.place (answer_told_by (posted_of (request_values requests) done) e memory)
 
 -- whatever the stores
-pub record Ran (start : PortState) (requests : List CodeRequest) (answers : List CodeAnswer) (desk : Desk) (port : PortState) (memory : List ℕ) : Type 0 where
+pub record Ran (start : PortState) (requests : List CodeRequest) (answers : List CodeAnswer) (desk : Desk) (port : PortState)
+    (memory : List ℕ) : Type 0 where
   pub rest : AtRest desk port memory
   pub counted : length answers ≡ length requests
   pub images : AreImages port.exec.units
-  pub owes : Owes start.exec.units (map request_value requests) [] (map answer_value answers) port.exec.units memory
-  pub counts : CountsOn (map request_value requests) start port
+  pub owes : Owes start.exec.units (request_values requests) [] (answer_values answers) port.exec.units memory
+  pub counts : CountsOn (request_values requests) start port

@@ -20,14 +20,14 @@ pub record ClearOfCommands (at n : ℕ) : Type 0 where
 posted-put : (memory : List ℕ) (at : ℕ) (bytes : List ℕ) (i : ℕ) (c : Command) → (Meet at (length bytes) (command_descriptor i) 4 → ⊥) → (Meet at (length bytes) (command_packet i) 52 → ⊥)
     → IsPosted memory i c → IsPosted (put memory at bytes) i c
 posted-put memory at bytes i c ring text is = record {
-  descriptor = descriptor-put memory at bytes (command_descriptor i) ring ∙ is.descriptor;
+  descriptor = descriptor-put memory at bytes (command_descriptor i) (posted_descriptor i) ring is.descriptor;
   holds = packet-put memory at bytes (command_packet i) 0 (written_command c) text is.holds;
 }
 
 free-put : (memory : List ℕ) (at : ℕ) (bytes : List ℕ) (i : ℕ) → (Meet at (length bytes) (command_descriptor i) 4 → ⊥) → IsFree memory i → IsFree (put memory at bytes) i
 free-put memory at bytes i ring is = record {
   descriptor = is.descriptor;
-  is = descriptor-put memory at bytes (command_descriptor i) ring ∙ is.is;
+  is = descriptor-put memory at bytes (command_descriptor i) is.descriptor ring is.is;
   not_owned = is.not_owned;
 }
 
@@ -63,7 +63,7 @@ posted_there memory i c lt room =
     let first = put memory (command_packet i) (packet 0 (written_command c)) in
     let s : length first ≡ memory_size = length-put memory (command_packet i) (packet 0 (written_command c)) ∙ room in
     record {
-      descriptor = descriptor-put_at first (command_descriptor i) (command_packet i + 4) owner_word (omega arith) (omega arith) (omega arith);
+      descriptor = descriptor-put_at first (command_descriptor i) (posted_descriptor i) (omega arith) (omega arith) (omega arith);
       holds = packet-put first (command_descriptor i) (word_bytes (command_packet i + 4) ++ word_bytes owner_word) (command_packet i) 0 (written_command c) (λ h. omega arith)
           (packet-put_at memory (command_packet i) 0 (written_command c) (length-written_command c) (omega arith) (omega arith));
     }

@@ -22,7 +22,7 @@ pub open-put : (memory : List ℕ) (at : ℕ) (bytes : List ℕ) (i : ℕ) → (
 open-put memory at bytes i ring text is =
     let w : word_at (put memory at bytes) (response_packet i) ≡ word_at memory (response_packet i) = word_at-put_apart memory at bytes (response_packet i) text in
     record {
-      descriptor = descriptor-put memory at bytes (response_descriptor i) ring ∙ is.descriptor;
+      descriptor = descriptor-put memory at bytes (response_descriptor i) (open_descriptor i) ring is.descriptor;
       room = subst (λ (n : ℕ). 48 ≤ n) (sym w) is.room;
     }
 
@@ -55,7 +55,7 @@ response_side-reopened memory i credits e side lt fits = record {
     at k lt_k (inl same) =
         let n = length-packet credits (written_end e) (length-written_end e) in
         let two' = length-word_bytes owner_word in
-        let d1 : descriptor_at (with_packet memory i credits e) (response_descriptor i) ≡ Some (open_descriptor i) = descriptor-put memory (response_packet i) (packet credits (written_end e)) (response_descriptor i) (λ h. omega arith) ∙ (side.opens i lt).descriptor in
+        let d1 : descriptor_at (with_packet memory i credits e) (response_descriptor i) ≡ Some (open_descriptor i) = descriptor-put memory (response_packet i) (packet credits (written_end e)) (response_descriptor i) (open_descriptor i) (λ h. omega arith) (side.opens i lt).descriptor in
         let there = response_there memory i credits e side lt fits in
         let w : word_at (memory_reopened (with_response memory i credits e) i) (response_packet i) ≡ 48
         = word_at-put_apart (with_response memory i credits e) (response_descriptor i + 2) (word_bytes owner_word) (response_packet i) (λ h. omega arith) ∙ there.first_word in

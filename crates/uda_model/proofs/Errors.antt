@@ -1,11 +1,11 @@
--- A plain effects with losses in which no drive error is told is a plain effects; and how the count of drive errors grows.
+-- A plain run with losses in which no drive error is told is a plain run; and how the count of drive errors grows.
 use Rattle.std.proofs.Common.{◌≡◌, ℕ, zero, suc, ◌+◌, Bool, true, false, List, [], ◌∷◌, ◌++◌, length, Some, refl, sym, ap, ap₂, ◌∙◌, arith}
 use Rattle.std.specs.Prelude.{slice_get, slice_set, nat_eq, ◌&&◌, if◌then◌else◌}
 use Rattle.std.proofs.lemmas.Bool.{eq-eqb}
 use Rattle.uda_exec.specs.Disks.{Disk, Disks}
 use Rattle.uda_exec.specs.Status.{DRIVE_ERROR}
 use Rattle.uda_exec.specs.Effect.{Outcome, Done, Lost}
-use Rattle.uda_model.specs.Request.{Request, Online, Available, Status, Read, Access, Write, Erase, unit_of, too_long}
+use Rattle.uda_model.specs.Request.{Request, Online, Available, Status, unit_of, too_long}
 use Rattle.uda_model.specs.Answer.{Answer, TooLong, status_of}
 use Rattle.uda_model.specs.Plain.{Bar, Barred, Free, bar, answer_by, step_by, step_as, step, plain, FixedRequest, step_of, plain_as, requests_of, PlainWithLosses, tells_error, drive_errors}
 
@@ -18,10 +18,7 @@ free-clean : (k : ℕ) (left : List ℕ) (r : Request) (disks : Disks) (d : Disk
 free-clean k left (Online unit protect) disks d h = refl
 free-clean k left (Available unit) disks d h = refl
 free-clean k left (Status unit) disks d h = refl
-free-clean k left (Read unit f n) disks d h = absurd (cc)
-free-clean k left (Access unit f n) disks d h = absurd (cc)
-free-clean k left (Write unit f blocks) disks d h = absurd (cc)
-free-clean k left (Erase unit f n) disks d h = absurd (cc)
+free-clean k left _ disks d h = absurd (cc)
 
 bar-clean : (k : ℕ) (left : List ℕ) (r : Request) (disks : Disks) (b : Bar) → is_error (answer_by (Lost k left) r b) ≡ false → step_by (Lost k left) r b disks ≡ step_by Done r b disks
 bar-clean k left r disks (Barred refusal) h = refl
@@ -68,27 +65,26 @@ plain_from_faulty start requests answers left h none =
     ap (λ (x : List Answer × Disks). drive_errors u (requests_of h.fixed) x.0) h.gives ∙ ap (λ (rs : List Request). drive_errors u rs answers) h.are_requests ∙ none u in
     sym h.gives ∙ plain_as-clean h.fixed start given ∙ ap (plain start) h.are_requests
 
-tells_nothing : (b : Bool) → (let n : ℕ = if b && false then 1 else 0 in n) ≡ 0
-tells_nothing true = refl
-tells_nothing false = refl
+-- TooLong tells no drive error
+tells-long : (u : ℕ) (r : Request) → tells_error u r TooLong ≡ 0
+tells-long u r = by (nat_eq (unit_of r) u)
+  where
+    by : (own : Bool) → (let n : ℕ = if own && false then 1 else 0 in n) ≡ 0
+    by true = refl
+    by false = refl
 
-pub tells-long : (u : ℕ) (r : Request) → tells_error u r TooLong ≡ 0
-tells-long u r = tells_nothing (nat_eq (unit_of r) u)
-
--- an answer in the place of a request that was not yet answer_by
+-- an answer that is told in place of TooLong
 pub errors-set : (u : ℕ) (requests : List Request) (told : List Answer) (k : ℕ) (r : Request) (a : Answer) → slice_get requests k ≡ Some r → slice_get told k ≡ Some TooLong
     → drive_errors u requests (slice_set told k a) ≡ drive_errors u requests told + tells_error u r a
 errors-set u [] told k r a at blank = absurd (cc)
 errors-set u (q ∷ rest) [] k r a at blank = absurd (cc)
 errors-set u (q ∷ rest) (t ∷ ts) zero r a at blank =
-    let same : q ≡ r = cc in let is : t ≡ TooLong = cc in
-    let now : tells_error u q a ≡ tells_error u r a = ap (λ (x : Request). tells_error u x a) same in
-    let before : tells_error u q t ≡ 0 = ap (tells_error u q) is ∙ tells-long u q in
-    omega arith
-errors-set u (q ∷ rest) (t ∷ ts) (suc k) r a at blank = let more = errors-set u rest ts k r a at blank in omega arith
+    let same : q ≡ r = cc in let none : t ≡ TooLong = cc in
+    omega (arith, ap (λ (x : Request). tells_error u x a) same, ap (tells_error u q) none, tells-long u q)
+errors-set u (q ∷ rest) (t ∷ ts) (suc k) r a at blank = omega (arith, errors-set u rest ts k r a at blank)
 
+-- one more request, whose answer is still to come, tells none
 pub errors-push : (u : ℕ) (requests : List Request) (told : List Answer) (r : Request) → length told ≡ length requests → drive_errors u (requests ++ r ∷ []) (told ++ TooLong ∷ []) ≡ drive_errors u requests told
-errors-push u [] [] r e = let none = tells-long u r in omega arith
-errors-push u [] (t ∷ ts) r e = absurd (omega arith)
-errors-push u (q ∷ rest) [] r e = absurd (omega arith)
-errors-push u (q ∷ rest) (t ∷ ts) r e = let more = errors-push u rest ts r (omega arith) in omega arith
+errors-push u [] [] r size = omega (arith, tells-long u r)
+errors-push u (q ∷ rest) (t ∷ ts) r size = omega (arith, errors-push u rest ts r (omega arith))
+errors-push u _ _ r size = absurd (omega arith)

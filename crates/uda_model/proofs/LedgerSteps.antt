@@ -14,11 +14,11 @@ use Rattle.uda_model.specs.Plain.{step_as, FixedRequest, step_of, plain_as, Fits
 use Rattle.uda_model.specs.Posting.{Posted, commands_in, Ready}
 use Rattle.uda_model.specs.Ledger.{FixedPosted, posted_of, fixed_request, with_answers, Ledger}
 use Rattle.uda_model.specs.Keeping.{IsEarlier}
-use Rattle.uda_model.proofs.Lists.{map-insert, insert-remove, remove-insert, slice_get-insert, All-insert, pairs_first, pairs_rest}
+use Rattle.uda_model.proofs.Lists.{map-insert, put_back, put_in, All-insert, pairs_first, pairs_rest}
 use Rattle.uda_model.proofs.Serving.{step-long}
 use Rattle.uda_model.proofs.Ordering.{order_of_requests}
 
-pub length-plain_as : (disks : Disks) (requests' : List FixedRequest) → length (plain_as disks requests').0 ≡ length requests'
+length-plain_as : (disks : Disks) (requests' : List FixedRequest) → length (plain_as disks requests').0 ≡ length requests'
 length-plain_as disks [] = refl
 length-plain_as disks (d ∷ ds) = ap suc (length-plain_as (step_of d disks).1 ds)
 
@@ -151,18 +151,18 @@ pub ledger_execute : OrderIsFree → (start : Disks) (requests : List Request) (
 ledger_execute order_is_free start requests due told w j p o ready apart rising goes at images f h fixed e fit =
     let it : FixedPosted = record { posted = p; outcome = o } in
     let fixed' = insert fixed j it in
-    let back : insert (remove due j) j p ≡ due = insert-remove due j p at in
+    let back : insert (remove due j) j p ≡ due = put_back due j p at in
     let posted' : posted_of fixed' ≡ due = map-insert (λ (x : FixedPosted). x.posted) fixed j it ∙ ap (λ (ps : List Posted). insert ps j p) e ∙ back in
     let fit' : All FitsRequest (map fixed_request fixed') = subst (All FitsRequest) (sym (map-insert fixed_request fixed j it)) (All-insert FitsRequest (map fixed_request fixed) j (fixed_request it) f fit) in
     let size : length fixed ≡ length (remove due j) = sym (length-map fixed (λ (x : FixedPosted). x.posted)) ∙ ap length e in
     let within = slice_get_within due j p at in
     let room : j ≤ length fixed = omega (arith, size, length-remove due j within) in
     let law = order_of_requests order_is_free fixed' j it w (subst (All (λ q. Ready q w.memory)) (sym posted') ready) (subst (λ (ps : List Posted). AllPairs Apart (commands_in ps)) (sym posted') apart)
-    (subst (λ (ps : List Posted). MayGo (commands_in ps) j) (sym posted') goes) (slice_get-insert fixed j it room) images fit' in
+    (subst (λ (ps : List Posted). MayGo (commands_in ps) j) (sym posted') goes) (put_in fixed j it room).0 images fit' in
     let now = step_as o w.disks p.request in
     let later = plain_as now.1 (map fixed_request fixed) in
     let first : (insert later.0 j now.0, later.1) ≡ plain_as w.disks (map fixed_request fixed') =
-    ap (λ (xs : List FixedPosted). let l = plain_as now.1 (map fixed_request xs) in (insert l.0 j now.0, l.1)) (sym (remove-insert fixed j it room)) ∙ law in
+    ap (λ (xs : List FixedPosted). let l = plain_as now.1 (map fixed_request xs) in (insert l.0 j now.0, l.1)) (sym (put_in fixed j it room).1) ∙ law in
     let n : length later.0 ≡ length (remove due j) = length-plain_as now.1 (map fixed_request fixed) ∙ length-map fixed fixed_request ∙ size in
     let P : List Answer → Disks → Type 0 = λ answers left. PlainWithLosses start requests answers left in
     subst₂ P

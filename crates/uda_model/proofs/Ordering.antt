@@ -13,21 +13,18 @@ use Rattle.uda_model.specs.Request.{count_of}
 use Rattle.uda_model.specs.Answer.{Answer}
 use Rattle.uda_model.specs.Plain.{step_as, step_of, plain_as, FitsCount, FitsRequest, HaveImages}
 use Rattle.uda_model.specs.Posting.{answer_of, Posted, posted_command, commands_in, buffer_of, Ready}
-use Rattle.uda_model.specs.Ledger.{FixedPosted, posted_of, fixed_request, fixed_command}
+use Rattle.uda_model.specs.Ledger.{FixedPosted, posted_of, fixed_request}
 use Rattle.uda_model.specs.Keeping.{Beside}
 use Rattle.uda_model.proofs.Lists.{map-remove, pairs_others, All-remove, All-at}
 use Rattle.uda_model.proofs.Serving.{serves}
-use Rattle.uda_model.proofs.Running.{length-effects, all_ready-effect, images-step, told_by, buffer_of-effects, serves_all}
-
-beside_all : (c : Command) (cs : List Command) → All (Apart c) cs → All (Beside c) cs
-beside_all c cs h k d below = (h k d below).no_overlap
+use Rattle.uda_model.proofs.Running.{fixed_command, length-effects, all_ready-effect, images-step, told_by, buffer_of-effects, serves_all}
 
 pub beside_pairs : (cs : List Command) → AllPairs Apart cs → AllPairs Beside cs
 beside_pairs cs h i j d below within = (h i j d below within).no_overlap
 
 -- one command of a list is beside all others
 pub beside_others : (cs : List Command) (j : ℕ) (c : Command) → AllPairs Beside cs → slice_get cs j ≡ Some c → All (Beside c) (remove cs j)
-beside_others cs j c h at = pairs_others Beside Beside (λ x y r. r) (λ x y r meet. r (omega arith)) cs j c h at
+beside_others cs j c h at = pairs_others Beside Beside (λ x y r. (r, λ meet. r (omega arith))) cs j c h at
 
 commands_same : (fixed : List FixedPosted) → commands_of (map fixed_command fixed) ≡ commands_in (posted_of fixed)
 commands_same [] = refl

@@ -3,34 +3,36 @@ use Rattle.std.proofs.Common.{◌≡◌, ℕ, ◌<◌, Bool, true, false, List, 
 use Rattle.std.specs.Prelude.{slice_get, option_map, nat_eq, if◌then◌else◌}
 use Rattle.std.proofs.lemmas.Option.{slice_get-map}
 use Rattle.uda_exec.specs.declared.refusal.Refusal.{Refusal}
-use Rattle.uda_exec.specs.declared.refusal.Refusal.TheVariants.{UnitUnknown, NoVolume, NotOnline, OddAddress, OddCount, PartBlock, BlockPastEnd, RangePastEnd, HardwareProtected, SoftwareProtected, NoSuchMemory}
+use Rattle.uda_exec.specs.declared.refusal.Refusal.TheVariants.{UnitUnknown}
 use Rattle.uda_exec.specs.Disks.{Disks, UnitState}
 use Rattle.uda_exec.specs.Refusal.{refusal_status}
 use Rattle.uda_exec.specs.Status.{DRIVE_ERROR}
-use Rattle.uda_exec.specs.Commands.{blocks_of}
+use Rattle.uda_exec.specs.Commands.{is_transfer, is_changing, first_block_of, blocks_of}
 use Rattle.uda_packet.specs.declared.command.Command.{Command}
 use Rattle.uda_packet.specs.declared.end.End.{End}
 use Rattle.uda_exec.specs.Effect.{World, Outcome, Done, Lost, Verdict, is_acting, verdict, effect, Fits, is_lost}
 use Rattle.uda_exec.specs.Execution.{Nature, nature_of, natures_of, is_faithful, EndsBy}
-use Rattle.uda_model.specs.Request.{Request, Online, Available, Status, Read, Access, Write, Erase, count_of, too_long}
+use Rattle.uda_model.specs.Request.{Request, Online, Available, Status, Read, is_moving, is_writing, first_of, count_of, too_long}
 use Rattle.uda_model.specs.Answer.{Answer, status_of}
 use Rattle.uda_model.specs.Plain.{Bar, Barred, Free, bar, answer_by, step_by, step_as, FitsCount}
 use Rattle.uda_model.specs.Posting.{op_of}
 use Rattle.uda_model.proofs.Serving.{verdict_by}
 use Rattle.uda_model.proofs.Errors.{is_error}
 
-pub blocks-count : (r : Request) (a : ℕ) → blocks_of (op_of r a) ≡ count_of r
-blocks-count (Online unit protect) a = refl
-blocks-count (Available unit) a = refl
-blocks-count (Status unit) a = refl
-blocks-count (Read unit f n) a = omega arith
-blocks-count (Access unit f n) a = omega arith
-blocks-count (Write unit f blocks) a = omega arith
-blocks-count (Erase unit f n) a = omega arith
+-- the command of a request, with its buffer at this address, moves what the request names
+pub record MovesSame (r : Request) (address : ℕ) : Type 0 where
+  pub moving : is_transfer (op_of r address) ≡ is_moving r
+  pub writing : is_changing (op_of r address) ≡ is_writing r
+  pub first : first_block_of (op_of r address) ≡ first_of r
+  pub count : blocks_of (op_of r address) ≡ count_of r
+
+pub moves_same : (r : Request) (address : ℕ) → MovesSame r address
+moves_same (Read unit first count) address = record { moving = refl; writing = refl; first = refl; count = omega arith }
+moves_same _ address = record { moving = refl; writing = refl; first = refl; count = omega arith }
 
 pub fits-count : (o : Outcome) (r : Request) (a : ℕ) (v : Verdict) → Fits o (op_of r a) v → FitsCount (count_of r) o
 fits-count Done r a v f = tt
-fits-count (Lost k left) r a v f = (let n = blocks-count r a in omega (arith, f.within), f.whole)
+fits-count (Lost k left) r a v f = (omega (arith, f.within, (moves_same r a).count), f.whole)
 
 -- what an outcome is: it fits, and the end and the world are its effect
 pub record IsEffect (o : Outcome) (c : Command) (w : World) (e : End) (after : World) : Type 0 where
@@ -44,25 +46,11 @@ effect_by (Lost k left) c w e after h = record { fits = h.fits; effect_is = h.ef
 -- a refusal is no drive error
 refusal-clean : (refusal : Refusal) → nat_eq (refusal_status refusal) DRIVE_ERROR ≡ false
 refusal-clean UnitUnknown = refl
-refusal-clean NoVolume = refl
-refusal-clean NotOnline = refl
-refusal-clean OddAddress = refl
-refusal-clean OddCount = refl
-refusal-clean PartBlock = refl
-refusal-clean BlockPastEnd = refl
-refusal-clean RangePastEnd = refl
-refusal-clean HardwareProtected = refl
-refusal-clean SoftwareProtected = refl
-refusal-clean NoSuchMemory = refl
+refusal-clean _ = refl
 
 barred-clean : (o : Outcome) (r : Request) (refusal : Refusal) → is_error (answer_by o r (Barred refusal)) ≡ false
 barred-clean o (Online unit protect) refusal = refusal-clean refusal
-barred-clean o (Available unit) refusal = refusal-clean refusal
-barred-clean o (Status unit) refusal = refusal-clean refusal
-barred-clean o (Read unit f n) refusal = refusal-clean refusal
-barred-clean o (Access unit f n) refusal = refusal-clean refusal
-barred-clean o (Write unit f blocks) refusal = refusal-clean refusal
-barred-clean o (Erase unit f n) refusal = refusal-clean refusal
+barred-clean o _ refusal = refusal-clean refusal
 
 -- nor is what a request tells of which nothing is lost
 status-clean : (online : Bool) → (let n : ℕ = if online then 0 else 4 in nat_eq n 11) ≡ false
@@ -76,12 +64,8 @@ online-clean false = refl
 done-clean : (r : Request) (b : Bar) → is_error (answer_by Done r b) ≡ false
 done-clean r (Barred refusal) = barred-clean Done r refusal
 done-clean (Online unit protect) (Free d) = online-clean d.mode.online
-done-clean (Available unit) (Free d) = refl
 done-clean (Status unit) (Free d) = status-clean d.mode.online
-done-clean (Read unit f n) (Free d) = refl
-done-clean (Access unit f n) (Free d) = refl
-done-clean (Write unit f blocks) (Free d) = refl
-done-clean (Erase unit f n) (Free d) = refl
+done-clean _ (Free d) = refl
 
 -- and one that is lost tells one
 lost-told : (k : ℕ) (left : List ℕ) (r : Request) (b : Bar) → is_acting (verdict_by b) ≡ true → k < count_of r → is_error (answer_by (Lost k left) r b) ≡ true
@@ -89,14 +73,11 @@ lost-told k left r (Barred refusal) h l = absurd (cc)
 lost-told k left (Online unit protect) (Free d) h l = absurd (omega arith)
 lost-told k left (Available unit) (Free d) h l = absurd (omega arith)
 lost-told k left (Status unit) (Free d) h l = absurd (omega arith)
-lost-told k left (Read unit f n) (Free d) h l = refl
-lost-told k left (Access unit f n) (Free d) h l = refl
-lost-told k left (Write unit f blocks) (Free d) h l = refl
-lost-told k left (Erase unit f n) (Free d) h l = refl
+lost-told k left _ (Free d) h l = refl
 
 by_outcome : (o : Outcome) (r : Request) (a : ℕ) (b : Bar) → Fits o (op_of r a) (verdict_by b) → is_error (answer_by o r b) ≡ is_lost o
 by_outcome Done r a b f = done-clean r b
-by_outcome (Lost k left) r a b f = lost-told k left r b f.passes (let n = blocks-count r a in omega (arith, f.within))
+by_outcome (Lost k left) r a b f = lost-told k left r b f.passes (omega (arith, f.within, (moves_same r a).count))
 
 -- a drive error is told exactly where the outcome is a loss
 pub error-lost : (o : Outcome) (r : Request) (a : ℕ) (disks : Disks) → too_long r ≡ false → Fits o (op_of r a) (verdict_by (bar disks r)) → nat_eq (status_of (step_as o disks r).0) DRIVE_ERROR ≡ is_lost o

@@ -18,12 +18,12 @@ use Rattle.uda_exec.specs.Effect.{World, Outcome, bytes_put, Verdict, OfControll
 use Rattle.uda_exec.specs.Order.{FixedCommand, effects, effect_of, IsBeside, data_of}
 use Rattle.uda_exec.proofs.Blocks.{AreBlocks}
 use Rattle.uda_exec.proofs.Swap.{length-bytes_put, length-world_after, data_of-put}
-use Rattle.uda_model.specs.Request.{Request, Online, Available, Status, Read, Access, Write, Erase, unit_of, extent_of, first_of, count_of, too_long, IsWhole}
+use Rattle.uda_model.specs.Request.{Request, Write, Erase, unit_of, extent_of, first_of, count_of, too_long, IsWhole}
 use Rattle.uda_model.specs.declared.extent.Extent.{Extent}
 use Rattle.uda_model.specs.Answer.{Answer, TooLong}
 use Rattle.uda_model.specs.Plain.{extent_refusal, Bar, Barred, Free, bar_of, bar_on, bar_at, bar, blocks_brought, disk_left, disks_by, answer_by, step_as, plain_as, FitsCount, FitsRequest, HasImage, HaveImages}
 use Rattle.uda_model.specs.Posting.{answer_of, Posted, posted_command, commands_in, buffer_of, Ready}
-use Rattle.uda_model.specs.Ledger.{FixedPosted, posted_of, fixed_request, fixed_command}
+use Rattle.uda_model.specs.Ledger.{FixedPosted, posted_of, fixed_request}
 use Rattle.uda_model.specs.Keeping.{Beside}
 use Rattle.uda_model.proofs.Bytes.{AreBlocks-moved}
 use Rattle.uda_model.proofs.Lists.{pairs_first, pairs_rest}
@@ -31,7 +31,7 @@ use Rattle.uda_model.proofs.Serving.{serves}
 
 -- ---- a command leaves memory beside its buffer_of as it was
 
-pub length-effect : (o : Outcome) (c : Command) (w : World) → length (effect o c w).1.memory ≡ length w.memory
+length-effect : (o : Outcome) (c : Command) (w : World) → length (effect o c w).1.memory ≡ length w.memory
 length-effect o c w = length-world_after o c (verdict c w) w
 
 part-after : (o : Outcome) (c : Command) (v : Verdict) (w : World) (at n : ℕ) → (Meet at n (address_of c.op) (room_of c.op) → ⊥) → part (world_after o c v w).memory at n ≡ part w.memory at n
@@ -40,7 +40,7 @@ part-after o c (Refused refusal) w at n h = refl
 part-after o c (ActsOn disk) w at n h =
     part-put_apart w.memory (address_of c.op) (bytes_put o (transfer_of c.op) disk.blocks w.memory) at n (λ meet. let less = length-bytes_put o c.op disk.blocks w.memory in h (omega arith))
 
-pub part-effect : (o : Outcome) (c : Command) (w : World) (at n : ℕ) → (Meet at n (address_of c.op) (room_of c.op) → ⊥) → part (effect o c w).1.memory at n ≡ part w.memory at n
+part-effect : (o : Outcome) (c : Command) (w : World) (at n : ℕ) → (Meet at n (address_of c.op) (room_of c.op) → ⊥) → part (effect o c w).1.memory at n ≡ part w.memory at n
 part-effect o c w at n h = part-after o c (verdict c w) w at n h
 
 data-after : (o : Outcome) (c : Command) (v : Verdict) (w : World) (op : Op) → (Meet (address_of c.op) (room_of c.op) (address_of op) (room_of op) → ⊥) → data_of op (world_after o c v w).memory ≡ data_of op w.memory
@@ -48,7 +48,7 @@ data-after o c OfController w op h = refl
 data-after o c (Refused refusal) w op h = refl
 data-after o c (ActsOn disk) w op h = data_of-put op w.memory (address_of c.op) (bytes_put o (transfer_of c.op) disk.blocks w.memory) (λ meet. let less = length-bytes_put o c.op disk.blocks w.memory in h (omega arith))
 
-pub part-effects : (acts : List FixedCommand) (w : World) (at n : ℕ) → IsBeside at n acts → part (effects acts w).1.memory at n ≡ part w.memory at n
+part-effects : (acts : List FixedCommand) (w : World) (at n : ℕ) → IsBeside at n acts → part (effects acts w).1.memory at n ≡ part w.memory at n
 part-effects [] w at n h = refl
 part-effects (act ∷ rest) w at n h =
     let P : FixedCommand → Type 0 = λ a. Meet at n (address_of a.command.op) (room_of a.command.op) → ⊥ in
@@ -81,15 +81,11 @@ AreBlocks-put blocks at new h g =
     All-take P (length blocks) (take at blocks ++ (new ++ drop (at + length new) blocks)) (All-append P (take at blocks) (new ++ drop (at + length new) blocks) (All-take P at blocks h) (All-append P new (drop (at + length new) blocks) g (All-drop P (at + length new) blocks h)))
 
 brought_blocks : (o : Outcome) (r : Request) → IsWhole r → FitsCount (count_of r) o → AreBlocks (blocks_brought o r)
-brought_blocks o (Online unit protect) g f = All-nil (λ block. length block ≡ 512)
-brought_blocks o (Available unit) g f = All-nil (λ block. length block ≡ 512)
-brought_blocks o (Status unit) g f = All-nil (λ block. length block ≡ 512)
-brought_blocks o (Read unit first n) g f = All-nil (λ block. length block ≡ 512)
-brought_blocks o (Access unit first n) g f = All-nil (λ block. length block ≡ 512)
 brought_blocks o (Write unit first blocks) g f = AreBlocks-moved o (length blocks) blocks g f
 brought_blocks o (Erase unit first n) g f =
     let zeros : List ℕ = replicate 512 0 in
     AreBlocks-moved o n (replicate n zeros) (All-replicate (λ block. length block ≡ 512) n zeros (length-replicate {A = ℕ} 512 0)) f
+brought_blocks o _ g f = All-nil (λ block. length block ≡ 512)
 
 -- where a request is free, its unit has that disk
 freed-by : (found : Option Refusal) (d disk : Disk) → bar_of found d ≡ Free disk → d ≡ disk
@@ -126,6 +122,10 @@ images-step o r disks g f images = by (too_long r)
     by false = images-by o r disks (bar disks r) refl g f images
 
 -- ---- a list of commands
+
+-- the command of a request whose outcome is fixed
+abbrev pub fixed_command : FixedPosted → FixedCommand
+fixed_command f = record { command = posted_command f.posted; outcome = f.outcome }
 
 -- the answers of requests, by the ends of their commands and what their buffers hold in this memory
 abbrev pub told_by : List Posted → List End → List ℕ → List Answer

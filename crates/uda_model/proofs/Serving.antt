@@ -17,7 +17,7 @@ use Rattle.uda_exec.specs.Commands.{is_controller, address_of, room_of}
 use Rattle.uda_exec.specs.Effect.{World, Outcome, blocks_moved, transfer_status, refusal_of, Verdict, OfController, Refused, ActsOn, verdict_of, verdict_at, verdict, end_of, disk_after, world_after, effect}
 use Rattle.uda_exec.specs.Order.{data_of}
 use Rattle.uda_exec.proofs.Blocks.{AreBlocks-part}
-use Rattle.uda_model.specs.Request.{Request, Online, Available, Status, Read, Access, Write, Erase, unit_of, extent_of, count_of, too_long, IsWhole}
+use Rattle.uda_model.specs.Request.{Request, Online, Read, Access, Write, Erase, unit_of, extent_of, count_of, too_long, IsWhole}
 use Rattle.uda_model.specs.declared.extent.Extent.{Extent}
 use Rattle.uda_model.specs.Answer.{Answer, TooLong, Moved, Data}
 use Rattle.uda_model.specs.Plain.{extent_refusal, Bar, Barred, Free, bar_of, bar_on, bar_at, bar, disk_left, disks_by, whole_count, answer_on, answer_by, step_as, FitsCount, HasImage, HaveImages}
@@ -50,22 +50,15 @@ extent_bar (Some e) disk = extent_refusal e disk
 
 refusal-extent : (r : Request) (a m : ℕ) (disk : Disk) → address_of (op_of r a) % 2 ≡ 0 → address_of (op_of r a) + room_of (op_of r a) ≤ m
     → refusal_of (transfer_of (op_of r a)) m disk.size disk.mode ≡ extent_bar (extent_of r) disk
-refusal-extent (Online unit protect) a m disk e h = refl
-refusal-extent (Available unit) a m disk e h = refl
-refusal-extent (Status unit) a m disk e h = refl
 refusal-extent (Read unit f n) a m disk e h = simp (even_address a e, even_count n, whole_blocks n, quotient n, le-ltb m (a + 512 * n) h)
 refusal-extent (Access unit f n) a m disk e h = simp (even_count n, whole_blocks n, quotient n, le-ltb m 0 zero-le)
 refusal-extent (Write unit f blocks) a m disk e h = simp (even_address a e, even_count (length blocks), whole_blocks (length blocks), quotient (length blocks), le-ltb m (a + 512 * length blocks) h)
 refusal-extent (Erase unit f n) a m disk e h = simp (even_count n, whole_blocks n, quotient n, le-ltb m 0 zero-le)
+refusal-extent _ a m disk e h = refl
 
 no_controller : (r : Request) (a : ℕ) → is_controller (op_of r a) ≡ false
 no_controller (Online unit protect) a = refl
-no_controller (Available unit) a = refl
-no_controller (Status unit) a = refl
-no_controller (Read unit f n) a = refl
-no_controller (Access unit f n) a = refl
-no_controller (Write unit f blocks) a = refl
-no_controller (Erase unit f n) a = refl
+no_controller _ a = refl
 
 by_refusal : (found : Option Refusal) (disk : Disk) → verdict_of found disk ≡ verdict_by (bar_of found disk)
 by_refusal None disk = refl
@@ -98,11 +91,6 @@ in_range e disk h = grind (arith, nat_tests)
 
 disk_after-left : (o : Outcome) (r : Request) (a : ℕ) (memory : List ℕ) (disk : Disk) → IsWhole r → data_of (op_of r a) memory ≡ bytes_brought r
     → disk_after o (op_of r a) memory disk ≡ disk_left o r disk
-disk_after-left o (Online unit protect) a memory disk g h = refl
-disk_after-left o (Available unit) a memory disk g h = refl
-disk_after-left o (Status unit) a memory disk g h = refl
-disk_after-left o (Read unit f n) a memory disk g h = refl
-disk_after-left o (Access unit f n) a memory disk g h = refl
 disk_after-left o (Write unit f blocks) a memory disk g h =
     let make : List (List ℕ) → Disk = λ bs. record { blocks = put disk.blocks f (blocks_moved o bs); size = disk.size; mode = disk.mode } in
     ap (λ (k : ℕ). make (first_chunks 512 k (part memory a (512 * length blocks)))) (quotient (length blocks))
@@ -111,25 +99,18 @@ disk_after-left o (Erase unit f n) a memory disk g h =
     let zeros : List ℕ = replicate 512 0 in
     let make : ℕ → Disk = λ k. record { blocks = put disk.blocks f (blocks_moved o (replicate k zeros)); size = disk.size; mode = disk.mode } in
     ap make (quotient n)
+disk_after-left o _ a memory disk g h = refl
 
 abbrev buffer_at : Request → ℕ → List ℕ → List ℕ
 buffer_at r a memory = part memory (address_of (op_of r a)) (room_of (op_of r a))
 
 answers-barred : (o : Outcome) (r : Request) (k a : ℕ) (refusal : Refusal) (bytes : List ℕ) → answer_of r (end_of o (command_of r k a) (Refused refusal)) bytes ≡ answer_by o r (Barred refusal)
 answers-barred o (Online unit protect) k a refusal bytes = refl
-answers-barred o (Available unit) k a refusal bytes = refl
-answers-barred o (Status unit) k a refusal bytes = refl
-answers-barred o (Read unit f n) k a refusal bytes = refl
-answers-barred o (Access unit f n) k a refusal bytes = refl
-answers-barred o (Write unit f blocks) k a refusal bytes = refl
-answers-barred o (Erase unit f n) k a refusal bytes = refl
+answers-barred o _ k a refusal bytes = refl
 
 answers-free : (o : Outcome) (r : Request) (k a : ℕ) (w : World) (disk : Disk) → IsImage disk.size disk.blocks → bar_on (extent_of r) disk ≡ Free disk → FitsCount (count_of r) o
     → address_of (op_of r a) + room_of (op_of r a) ≤ length w.memory
     → answer_of r (end_of o (command_of r k a) (ActsOn disk)) (buffer_at r a (world_after o (command_of r k a) (ActsOn disk) w).memory) ≡ answer_on o r disk
-answers-free o (Online unit protect) k a w disk image free f l = refl
-answers-free o (Available unit) k a w disk image free f l = refl
-answers-free o (Status unit) k a w disk image free f l = refl
 answers-free o (Read unit first n) k a w disk image free f l =
     let there : first + n ≤ length disk.blocks = omega (arith, in_range (record { kind = kind.Read; first = first; count = n }) disk (none_if _ disk free), image.counted) in
     let tell : List ℕ → Answer = λ bytes. Data (transfer_status o) bytes in
@@ -139,6 +120,7 @@ answers-free o (Read unit first n) k a w disk image free f l =
 answers-free o (Access unit first n) k a w disk image free f l = ap (λ (i : ℕ). Moved (transfer_status o) i) (transfer_bytes-whole o n)
 answers-free o (Write unit first blocks) k a w disk image free f l = ap (λ (i : ℕ). Moved (transfer_status o) i) (transfer_bytes-whole o (length blocks))
 answers-free o (Erase unit first n) k a w disk image free f l = ap (λ (i : ℕ). Moved (transfer_status o) i) (transfer_bytes-whole o n)
+answers-free o _ k a w disk image free f l = refl
 
 -- ---- one request
 

@@ -13,72 +13,124 @@ use Rattle.uda_model.specs.Plain.{HaveImages, drive_errors}
 use Rattle.uda_model.specs.Posting.{Posted, posted_command, commands_in, answer_of, buffer_of, Ready}
 use Rattle.uda_model.specs.Ledger.{Ledger}
 
-abbrev pub AllFaithful : List (Option UnitState) → Type 0
+-- the units that there are
+abbrev pub Units : Type 0
+Units = List (Option UnitState)
+
+abbrev pub AllFaithful : Units → Type 0
 AllFaithful units = (u : ℕ) → is_faithful (slice_get units u) ≡ true
+
+-- ---- memory
+
+-- none of so many bytes from an address on is in the command's buffer
+abbrev pub Misses : ℕ → ℕ → Command → Type 0
+Misses at size c = Meet at size (address_of c.op) (room_of c.op) → ⊥
 
 -- the buffers of two commands share no byte
 abbrev pub Beside : Command → Command → Type 0
-Beside c d = Meet (address_of c.op) (room_of c.op) (address_of d.op) (room_of d.op) → ⊥
+Beside c d = Misses (address_of c.op) (room_of c.op) d
 
--- it was posted before the other
+abbrev pub IsReadyIn : List ℕ → Posted → Type 0
+IsReadyIn memory p = Ready p memory
+
+-- ---- places in the list of requests
+
+-- it is the request at its place
+abbrev pub StandsIn : List Request → Posted → Type 0
+StandsIn requests p = slice_get requests p.place ≡ Some p.request
+
+-- its answer is still to come
+abbrev pub IsUntold : List Answer → Posted → Type 0
+IsUntold told p = slice_get told p.place ≡ Some TooLong
+
 abbrev pub IsEarlier : Posted → Posted → Type 0
 IsEarlier p q = p.place < q.place
 
--- no request of these is the one at place k
-abbrev pub IsNotDue : ℕ → List Posted → Type 0
-IsNotDue k due = All (λ p. p.place ≢ k) due
+abbrev pub IsNotAt : ℕ → Posted → Type 0
+IsNotAt k p = p.place ≢ k
 
--- over faithful stores: what the commands that are due will make of what was told, and that each failure was told once
-pub record Sound (start : List (Option UnitState)) (requests : List Request) (due : List Posted) (told : List Answer) (units : List (Option UnitState)) : Type 0 where
+-- none of these is the request at place k
+abbrev pub IsNotDue : ℕ → List Posted → Type 0
+IsNotDue k due = All (IsNotAt k) due
+
+-- ---- what is owed
+
+-- Over faithful stores: what the commands that are due will make of what was told, and each failure was told once.
+pub record Sound (start : Units) (requests : List Request) (due : List Posted) (told : List Answer) (units : Units) : Type 0 where
   pub ledger : Ledger (disks_of start) requests due told (disks_of units)
   pub images : HaveImages (disks_of units)
   pub errors : (u : ℕ) → failures_at (slice_get units u) ≡ failures_at (slice_get start u) + drive_errors u requests told
 
--- These requests were posted or answered at once, these of them are due, and the others were told these answers, in which a
--- request that is due has TooLong.
-pub record Owes (start : List (Option UnitState)) (requests : List Request) (due : List Posted) (told : List Answer) (units : List (Option UnitState)) (memory : List ℕ) : Type 0 where
+-- Of these requests, posted or answered at once, these are still to be done by their commands; all others have their answers.
+pub record Owes (start : Units) (requests : List Request) (due : List Posted) (told : List Answer) (units : Units) (memory : List ℕ) : Type 0 where
   pub counted : length told ≡ length requests
-  pub stand : All (λ p. slice_get requests p.place ≡ Some p.request) due
-  pub blank : All (λ p. slice_get told p.place ≡ Some TooLong) due
-  pub rising : AllPairs IsEarlier due
-  pub ready : All (λ p. Ready p memory) due
+  pub stand : All (StandsIn requests) due
+  pub untold : All (IsUntold told) due
+  pub in_order : AllPairs IsEarlier due
+  pub ready : All (IsReadyIn memory) due
   pub apart : AllPairs Apart (commands_in due)
   pub formed : (k : ℕ) (r : Request) (answer : Answer) → slice_get requests k ≡ Some r → slice_get told k ≡ Some answer → IsNotDue k due → IsAnswerOf r answer
   pub natures : natures_of units ≡ natures_of start
   pub sound : AllFaithful start → AreImages start → Sound start requests due told units
 
--- a command that was done, and whose end was not yet taken
+-- ---- what has ended
+
+-- a command that was done, and its end, which the driver has not taken yet
 pub record Ended : Type 0 where
   pub posted : Posted
   pub end : End
 
--- its end, and its buffer as it is now, tell its answer
+-- the answer that its end and its buffer tell
+abbrev pub answer_now : List ℕ → Ended → Answer
+answer_now memory d = answer_of d.posted.request d.end (buffer_of d.posted memory)
+
 abbrev pub Tells : List Answer → List ℕ → Ended → Type 0
-Tells told memory d = slice_get told d.posted.place ≡ Some (answer_of d.posted.request d.end (buffer_of d.posted memory))
+Tells told memory d = slice_get told d.posted.place ≡ Some (answer_now memory d)
 
-abbrev pub IsNotEnded : ℕ → List Ended → Type 0
-IsNotEnded k ended = All (λ d. d.posted.place ≢ k) ended
+-- no command that is due touches its buffer
+abbrev pub IsLeftBy : List Posted → Ended → Type 0
+IsLeftBy due d = All (Beside (posted_command d.posted)) (commands_in due)
 
--- Of the requests so far these are due, these have ended, the first to be delivered first, and all others have their answers.
-pub record Keeps (start : List (Option UnitState)) (requests : List Request) (due : List Posted) (ended : List Ended) (answers : List Answer) (units : List (Option UnitState)) (memory : List ℕ) : Type 0 where
+abbrev pub EndedNotAt : ℕ → Ended → Type 0
+EndedNotAt k d = IsNotAt k d.posted
+
+-- What is owed, where some answers still lie in their ends: the driver has told all others.
+pub record Keeps (start : Units) (requests : List Request) (due : List Posted) (ended : List Ended) (answers : List Answer) (units : Units) (memory : List ℕ) : Type 0 where
   pub told : List Answer
   pub owes : Owes start requests due told units memory
   pub tell : All (Tells told memory) ended
-  pub beside : All (λ d. All (Beside (posted_command d.posted)) (commands_in due)) ended
-  pub shown : (k : ℕ) → k < length requests → IsNotDue k due → IsNotEnded k ended → slice_get answers k ≡ slice_get told k
+  pub left : All (IsLeftBy due) ended
+  pub shown : (k : ℕ) → k < length requests → IsNotDue k due → All (EndedNotAt k) ended → slice_get answers k ≡ slice_get told k
 
--- a request stands somewhere in a list
+-- ---- what is out
+
 abbrev pub Has : List Posted → Posted → Type 0
 Has out p = (k : ℕ) × (slice_get out k ≡ Some p)
 
--- The requests that are out are those that are due and those that have ended, and no others; the ends wait in the order in
--- which they were made, each with its request's reference.
+abbrev pub HasEnded : List Posted → Ended → Type 0
+HasEnded out d = Has out d.posted
+
+-- the end gives the request by its place, counted from 1
+abbrev pub RefersBack : Ended → Type 0
+RefersBack d = d.end.reference ≡ d.posted.place + 1
+
+abbrev pub AreTwo : Posted → Posted → Type 0
+AreTwo p q = p.place ≢ q.place
+
+abbrev pub EndedAreTwo : Ended → Ended → Type 0
+EndedAreTwo c d = AreTwo c.posted d.posted
+
+abbrev pub EndedIsNone : List Posted → Ended → Type 0
+EndedIsNone due d = IsNotDue d.posted.place due
+
+-- The requests that are out are those that are due and those that have ended, each once; the ends wait in the order in
+-- which they were made.
 pub record Outs (out : List Posted) (due : List Posted) (ended : List Ended) (waiting : List End) : Type 0 where
   pub counted : length out ≡ length ended + length due
-  pub due_out : All (Has out) due
-  pub ended_out : All (λ d. Has out d.posted) ended
-  pub waiting_is : waiting ≡ map (λ d. d.end) ended
-  pub referred : All (λ d. d.end.reference ≡ d.posted.place + 1) ended
-  pub distinct : AllPairs (λ p q. p.place ≢ q.place) out
-  pub ended_apart : AllPairs (λ c d. c.posted.place ≢ d.posted.place) ended
-  pub due_apart : All (λ d. All (λ p. p.place ≢ d.posted.place) due) ended
+  pub has_due : All (Has out) due
+  pub has_ended : All (HasEnded out) ended
+  pub waits : waiting ≡ map (λ d. d.end) ended
+  pub refer : All RefersBack ended
+  pub distinct : AllPairs AreTwo out
+  pub ended_distinct : AllPairs EndedAreTwo ended
+  pub none_both : All (EndedIsNone due) ended

@@ -2,11 +2,10 @@
 use Rattle.std.specs.Prelude.{◌≡◌, List, [], ◌∷◌, map, All, slice_set}
 use Rattle.uda_exec.specs.Disks.{Disks}
 use Rattle.uda_exec.specs.Effect.{Outcome}
-use Rattle.uda_exec.specs.Order.{FixedCommand}
 use Rattle.uda_model.specs.Request.{Request}
 use Rattle.uda_model.specs.Answer.{Answer}
 use Rattle.uda_model.specs.Plain.{FixedRequest, FitsRequest, plain_as, PlainWithLosses}
-use Rattle.uda_model.specs.Posting.{Posted, posted_command}
+use Rattle.uda_model.specs.Posting.{Posted}
 
 -- a request that was posted, its outcome fixed
 pub record FixedPosted : Type 0 where
@@ -18,9 +17,6 @@ posted_of fixed = map (λ f. f.posted) fixed
 
 abbrev pub fixed_request : FixedPosted → FixedRequest
 fixed_request f = record { request = f.posted.request; outcome = f.outcome }
-
-abbrev pub fixed_command : FixedPosted → FixedCommand
-fixed_command f = record { command = posted_command f.posted; outcome = f.outcome }
 
 -- answers, each put at the place of its request
 abbrev pub with_answers : List Answer → List Posted → List Answer → List Answer

@@ -12,7 +12,7 @@ returns-in-Ok-clause-shape g c = record {
 }
 
 pub returns-in-Ok-clause-headline : goal.returns-in-Ok-clause-headline
-returns-in-Ok-clause-headline g c = λ faithful none. owes_plain faithful c.requires.images none c.drive.ensures.owes
+returns-in-Ok-clause-headline g c = λ faithful none. owes_plain faithful c.requires.images c.drive.ensures.owes none
 
 pub returns-in-Ok-clause-losses : goal.returns-in-Ok-clause-losses
 returns-in-Ok-clause-losses g c = λ faithful. record {

@@ -40,7 +40,7 @@ abbrev pub triangle : ℕ → ℕ
 triangle zero = 0
 triangle (suc n) = suc n + triangle n
 
--- an answer that has room for the bytes that a Read bytes_brought
+-- an answer that has room for the bytes that a Read brings
 abbrev pub Prepared : Request → Answer → Type 0
 Prepared (ask.Read unit first count) (tell.Data status bytes) = 512 * count ≤ length bytes
 Prepared (ask.Read unit first count) answer = ⊥

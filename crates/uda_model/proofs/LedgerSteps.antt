@@ -85,7 +85,7 @@ pub ledger_start : (start : Disks) → Ledger start [] [] [] start
 ledger_start start [] e fit = record { fixed = []; are_requests = refl; fit = All-nil FitsRequest; gives = refl }
 ledger_start start (f ∷ fs) e fit = absurd (cc)
 
--- a request that is too long is answer_by at once
+-- a request that is too long is answered at once
 pub ledger_skip : (start : Disks) (requests : List Request) (due : List Posted) (told : List Answer) (disks : Disks) (r : Request) → too_long r ≡ true → All (IsBelow (length told)) due
     → Ledger start requests due told disks → Ledger start (requests ++ r ∷ []) due (told ++ TooLong ∷ []) disks
 ledger_skip start requests due told disks r long below h fixed e fit =

@@ -29,7 +29,7 @@ use Rattle.uda_model.proofs.Bytes.{AreBlocks-moved}
 use Rattle.uda_model.proofs.Lists.{pairs_first, pairs_rest}
 use Rattle.uda_model.proofs.Serving.{serves}
 
--- ---- a command leaves memory beside its buffer_of as it was
+-- ---- a command leaves memory beside its buffer as it was
 
 length-effect : (o : Outcome) (c : Command) (w : World) → length (effect o c w).1.memory ≡ length w.memory
 length-effect o c w = length-world_after o c (verdict c w) w
@@ -139,7 +139,7 @@ beside_fixed c (f ∷ fs) h =
     All-cons (λ a. Meet (address_of c.op) (room_of c.op) (address_of a.command.op) (room_of a.command.op) → ⊥) (fixed_command f) (map fixed_command fs)
     (All-head (Beside c) (posted_command f.posted) (commands_in (posted_of fs)) h) (beside_fixed c fs (All-tail (Beside c) (posted_command f.posted) (commands_in (posted_of fs)) h))
 
--- the buffer_of of a command stays while others are done
+-- the buffer of a command stays while others are done
 pub buffer_of-effects : (p : Posted) (fixed : List FixedPosted) (w : World) → All (Beside (posted_command p)) (commands_in (posted_of fixed)) → buffer_of p (effects (map fixed_command fixed) w).1.memory ≡ buffer_of p w.memory
 buffer_of-effects p fixed w h = part-effects (map fixed_command fixed) w _ _ (beside_fixed (posted_command p) fixed h)
 

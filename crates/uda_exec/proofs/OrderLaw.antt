@@ -1,4 +1,4 @@
--- Whichever command that may go is effect_of first, nothing is different; and what else a driver needs of a list of commands.
+-- Whichever command that may go is done first, nothing is different; and what else a driver needs of a list of commands.
 use Rattle.std.proofs.Common.{◌≡◌, ℕ, zero, suc, ◌+◌, ◌-◌, inl, inr, min, subst, ◌<◌, true, List, [], ◌∷◌, length, get_or, set, Option, Some, refl, sym, ap, ap₂, ◌∙◌, arith}
 use Rattle.std.specs.Prelude.{slice_get, option_map, insert, remove, AllPairs}
 use Rattle.std.proofs.lemmas.List.{same_lists}
@@ -37,7 +37,7 @@ order_is_free (first ∷ rest) (suc j) x w apart goes at =
     let beside = pairs_first first.command (commands_of rest) j x.command apart at_command in
     let swap = swaps x first w may beside in
     let induction = order_is_free rest j x (effect_of first w).1 (pairs_rest first.command (commands_of rest) apart) (goes_rest first.command (commands_of rest) j goes) at in
-    -- the end of the first, the end of the one that goes, and the others effect_of in the world that the two leave
+    -- the end of the first, the end of the one that goes, and those of the others in the world that the two leave
     let joined : End → End → World → List End × World = λ e f v. let later = effects (remove rest j) v in (e ∷ insert later.0 j f, later.1) in
     let behind : List End × World → List End × World = λ r. ((effect_of first w).0 ∷ r.0, r.1) in
     ap (λ (e : End). joined e (effect_of x w).0 (effect_of first (effect_of x w).1).1) swap.end_second

@@ -34,7 +34,7 @@ word_back n h = little_number-reads_back 2 n [] h
 long_back : (n : ℕ) → n < 2 ^ 32 → little_from 0 4 (little_bytes 4 n) ≡ n
 long_back n h = little_number-reads_back 4 n [] h
 
--- written entry by entry behind the head, a command's text is the one that is text_from out at once
+-- written entry by entry behind the head, a command's text is the one that is written at once
 pub entries_command : (reference unit : ℕ) (o : Op)
     → with_entries (parameters o) (text_of (reference_field holds reference ∷ unit_field holds unit ∷ code_field holds (opcode_of o) ∷ []))
     ≡ written_command (record { reference = reference; unit = unit; op = o })
@@ -129,7 +129,7 @@ entries_online : (reference unit code status flags size : ℕ) (told : Bool)
 entries_online reference unit code status flags size true = refl
 entries_online reference unit code status flags size false = refl
 
--- written entry by entry behind the status, an end message's text is the one that is text_from out at once
+-- written entry by entry behind the status, an end message's text is the one that is written at once
 entries_end : (reference unit status : ℕ) (b : EndBody)
     → with_entries (answer_entries unit status b) (text_begin reference unit (end_code b) status)
     ≡ written_end (record { reference = reference; unit = unit; status = status; body = b })

@@ -1,4 +1,4 @@
-use Rattle.std.proofs.Common.{◌≡◌, ◌*◌, refl, sym, ap, ◌∙◌}
+use Rattle.std.proofs.Common.{◌*◌, refl, sym, ap, ◌∙◌}
 use Rattle.uda_exec.specs.Effect.{Done}
 use Rattle.uda_exec.specs.Status.{SUCCESS}
 use Rattle.uda_model.specs.Request.{Online, Available, Status, Read, Access, Write}

@@ -1,4 +1,4 @@
-use Rattle.std.proofs.Common.{◌≡◌, ◌+◌, ◌-◌, ap, ◌∙◌, take, drop, arith}
+use Rattle.std.proofs.Common.{◌+◌, ◌-◌, ap, ◌∙◌, take, drop, arith}
 use Rattle.std.specs.List.{concat}
 use Rattle.uda_model.specs.Answer.{Data}
 use Rattle.uda_plain.proofs.Ranges.{part-whole}

@@ -46,15 +46,10 @@ fn run(rt: &HostRuntime, script: &[u8], data: &[u8], units: &str) -> io::Result<
     })
 }
 
-// The same over unit 0, an image file of so many zero blocks, and the image's bytes afterwards.
-fn run_on(
-    rt: &HostRuntime,
-    script: &[u8],
-    data: &[u8],
-    blocks: u64,
-) -> io::Result<(Left, Vec<u8>)> {
+// The same over unit 0, an image file of so many zeros, and the image's bytes afterwards.
+fn run_on(rt: &HostRuntime, script: &[u8], data: &[u8], len: u64) -> io::Result<(Left, Vec<u8>)> {
     let path = path_of(rt, "image")?;
-    File::create(rt, path.as_path())?.set_len(512 * blocks)?;
+    File::create(rt, path.as_path())?.set_len(len)?;
     let left = run(rt, script, data, path.as_str())?;
     let bytes = fs::read(rt, path.as_path())?;
     fs::remove_file(rt, path.as_path())?;
@@ -69,34 +64,34 @@ fn reports(
     status: u8,
     report: &str,
 ) -> io::Result<bool> {
-    let (left, _) = run_on(rt, script, data, 8)?;
+    let (left, _) = run_on(rt, script, data, 4096)?;
     Ok(left.status == status && left.report.as_slice() == report.as_bytes())
 }
 
 #[test]
 fn fill_and_read(rt: HostRuntime) -> Result<(), Fail> {
     let script = b"online 0\nfill 0 2 2 a5\nread 0 3 1\nstatus 0\nread 0 0 33\n";
-    let (left, bytes) = run_on(&rt, script, b"", 8)?;
+    let (left, bytes) = run_on(&rt, script, b"", 4096)?;
     assert_eq!(rt; left.status, 0);
     assert_eq!(rt; left.out.as_slice(), [0xa5; 512].as_slice());
     assert_eq!(rt;
         left.report.as_slice(),
         b"1 0000 0000 8\n2 0000 1024\n3 0000 512\n4 0000 0000\n5 long\n".as_slice()
     );
-    assert!(rt; bytes[..1024].iter().all(|byte| *byte == 0));
-    assert_eq!(rt; &bytes[1024..2048], [0xa5; 1024].as_slice());
-    assert!(rt; bytes[2048..].iter().all(|byte| *byte == 0));
+    assert!(rt; bytes.iter().take(1024).all(|byte| *byte == 0));
+    assert_eq!(rt; bytes.get(1024..2048), Some([0xa5; 1024].as_slice()));
+    assert!(rt; bytes.iter().skip(2048).all(|byte| *byte == 0));
     Ok(())
 }
 
 #[test]
 fn leading_zero_and_short_data(rt: HostRuntime) -> Result<(), Fail> {
-    let (left, bytes) = run_on(&rt, b"fill 0 0 1 ff\nread 0 01 1\n", b"", 8)?;
+    let (left, bytes) = run_on(&rt, b"fill 0 0 1 ff\nread 0 01 1\n", b"", 4096)?;
     assert_eq!(rt; left.status, 1);
     assert_eq!(rt; left.report.as_slice(), b"uda: line 2: syntax\n".as_slice());
     assert_eq!(rt; left.out.len(), 0);
     assert!(rt; bytes.iter().all(|byte| *byte == 0));
-    let (left, bytes) = run_on(&rt, b"online 0\nwrite 0 0 2\n", &[7; 1023], 8)?;
+    let (left, bytes) = run_on(&rt, b"online 0\nwrite 0 0 2\n", &[7; 1023], 4096)?;
     assert_eq!(rt; left.status, 1);
     assert_eq!(rt;
         left.report.as_slice(),
@@ -124,7 +119,7 @@ fn script_edges(rt: HostRuntime) -> Result<(), Fail> {
             "{script:?}"
         );
     }
-    let (left, _) = run_on(&rt, b"online 0\nwrite 0 0 1\n", &[1; 600], 8)?;
+    let (left, _) = run_on(&rt, b"online 0\nwrite 0 0 1\n", &[1; 600], 4096)?;
     assert_eq!(rt; left.unread, 88);
     assert_eq!(rt;
         left.report.as_slice(),
@@ -223,7 +218,7 @@ fn a_byte_at_a_time(rt: HostRuntime) -> Result<(), Fail> {
     assert_eq!(rt; program(&rt, &words, data, &mut out, &mut report), 0);
     assert_eq!(rt; (out.taken, report.taken), (512, 14 + 12 + 11));
     let bytes = fs::read(&rt, image.as_path())?;
-    assert_eq!(rt; &bytes[512..1536], [0x42; 1024].as_slice());
+    assert_eq!(rt; bytes.get(512..1536), Some([0x42; 1024].as_slice()));
     fs::remove_file(&rt, path.as_path())?;
     fs::remove_file(&rt, image.as_path())?;
     Ok(())
@@ -254,11 +249,11 @@ fn thousands_of_lines(rt: HostRuntime) -> Result<(), Fail> {
     for _ in 0..4096 {
         script.extend_from_slice(b"# a comment\nstatus 0\n")?;
     }
-    let (left, _) = run_on(&rt, &script, b"", 1)?;
+    let (left, _) = run_on(&rt, &script, b"", 512)?;
     assert_eq!(rt; left.status, 0);
     assert!(rt; left.report.ends_with(b"\n4096 0004 0000\n"));
     script.extend_from_slice(b"status 0")?;
-    let (left, _) = run_on(&rt, &script, b"", 1)?;
+    let (left, _) = run_on(&rt, &script, b"", 512)?;
     assert_eq!(rt; left.status, 1);
     assert_eq!(rt;
         left.report.as_slice(),
@@ -278,7 +273,7 @@ fn a_large_image(rt: HostRuntime) -> Result<(), Fail> {
         left.report.as_slice(),
         b"1 0000 0000 891072\n2 0000 512\n3 0000 1024\n4 0c01 0\n".as_slice()
     );
-    assert_eq!(rt; &left.out[512..], [0x77; 512].as_slice());
+    assert_eq!(rt; left.out.get(512..), Some([0x77; 512].as_slice()));
     Ok(())
 }
 

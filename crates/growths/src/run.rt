@@ -1,0 +1,74 @@
+//! A run of more requests than may be out at once.
+use crate::counting::{Counting, one_drive};
+use crate::tell::{tell, tell_bytes, tell_drives};
+use anyhow::{Result, anyhow};
+use std::alloc::{AllocError, Global};
+use uda_driver::Driver;
+use uda_model::{Answer, Request};
+
+/// Has ten Writes and ten Reads done, and prints the answers and the drives.
+pub fn more_than_eight(rt: &HostRuntime) -> Result<()> {
+    let requests = requests(rt.alloc())?;
+    let mut driver = started(rt.alloc(), 10)?;
+    ask_twice(rt, &mut driver, &requests)?;
+    tell_drives(rt, &driver.into_stores())
+}
+
+// Has requests done and prints the answers. Where memory was refused the same driver is asked again.
+fn ask_twice(rt: &HostRuntime, driver: &mut Driver<Counting>, requests: &[Request]) -> Result<()> {
+    tell(rt, "begun run")?;
+    let first = ask(driver, requests);
+    tell(rt, "ended run")?;
+    if let Some(answers) = first {
+        return tell_answers(rt, &answers);
+    }
+    tell(rt, "refused")?;
+    match ask(driver, requests) {
+        Some(answers) => tell_answers(rt, &answers),
+        None => Err(anyhow!("refused again")),
+    }
+}
+
+/// A driver over one drive of so many blocks of zeros.
+pub fn started(alloc: Global, blocks: u32) -> Result<Driver<Counting>> {
+    let drives = one_drive(alloc, blocks, false)?;
+    Driver::start(alloc, drives).map_err(|_| anyhow!("no memory"))
+}
+
+// The answers, or none where memory was refused.
+fn ask(driver: &mut Driver<Counting>, requests: &[Request]) -> Option<Vec<Answer>> {
+    driver.run(requests).ok()
+}
+
+fn requests(alloc: Global) -> Result<Vec<Request>, AllocError> {
+    let mut requests = Vec::new(alloc);
+    requests.push(Request::Online {
+        unit: 0,
+        protect: false,
+    })?;
+    for k in 0..10u8 {
+        requests.push(Request::Write {
+            unit: 0,
+            lbn: u32::from(k),
+            blocks: Vec::from_elem(alloc, [k; 512], 1)?,
+        })?;
+    }
+    for lbn in 0..10 {
+        requests.push(Request::Read {
+            unit: 0,
+            lbn,
+            count: 1,
+        })?;
+    }
+    Ok(requests)
+}
+
+fn tell_answers(rt: &HostRuntime, answers: &[Answer]) -> Result<()> {
+    for answer in answers {
+        println!(rt; "{answer}")?;
+        if let Answer::Data { bytes, .. } = answer {
+            tell_bytes(rt, bytes)?;
+        }
+    }
+    Ok(())
+}

@@ -6,7 +6,5 @@ mod desk;
 mod driver;
 mod serve;
 mod start;
-#[cfg(test)]
-mod tests;
 
 pub use driver::{Driver, RunError};

@@ -20,6 +20,3 @@ mod reply;
 pub use executor::{Exec, PENDING};
 pub use mode::Mode;
 pub use refusal::Refusal;
-
-#[cfg(test)]
-mod tests;

@@ -13,6 +13,3 @@ pub use entry::{program, unreadable_words};
 pub use fault::Fault;
 pub use uda_batch::run_script;
 pub use uda_grammar::{Script, ScriptError, parse};
-
-#[cfg(test)]
-mod tests;

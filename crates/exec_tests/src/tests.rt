@@ -1,12 +1,17 @@
 //! The executor by its commands: what the tests share.
+mod bench;
 mod choice;
 mod files;
 mod transfers;
 mod units;
 
-use crate::{Exec, PENDING};
-use uda_image::{BlockStore, Drive};
-use uda_mem::HostMemory;
+use bench::Bench;
+use std::alloc::Global;
+use std::process::Abort;
+use std::test::Fail;
+use uda_exec::PENDING;
+use uda_image::{Drive, ImageError, MemImage};
+use uda_mem::{HostMemory, MEMORY_LIMIT};
 use uda_packet::{Command, End, EndBody, Op};
 
 /// The reference of the commands of which only the answers matter.
@@ -75,17 +80,12 @@ fn first_of<S: Drop>(drives: [Option<Drive<S>>; 4]) -> Option<S> {
     first.map(|drive| drive.store)
 }
 
-/// Takes a command in and executes one that may go.
-fn execute<S: BlockStore>(
-    exec: &mut Exec<S>,
-    memory: &mut HostMemory,
-    unit: u16,
-    op: Op,
-) -> Option<End> {
-    if exec.pending() < PENDING {
-        exec.accept(command(unit, op));
+/// Memory of this many bytes, all of them 0.
+fn memory(alloc: Global, len: u32) -> Result<HostMemory, Fail> {
+    if len % 2 != 0 || len > MEMORY_LIMIT {
+        return Err(Fail::new("no such memory"));
     }
-    exec.execute_one(memory)
+    Ok(HostMemory::new(alloc, len)?)
 }
 
 /// Eight blocks, each of 512 times its byte.
@@ -97,19 +97,42 @@ fn blocks_of(bytes: [u8; 8]) -> [u8; 4096] {
     blocks
 }
 
-/// Eight blocks that differ.
+/// The bytes of eight blocks that differ.
+const EIGHT: [u8; 8] = [0x30, 0x31, 0x32, 0x33, 0x34, 0x35, 0x36, 0x37];
+
+/// Those blocks.
 fn eight_blocks() -> [u8; 4096] {
-    blocks_of([0x30, 0x31, 0x32, 0x33, 0x34, 0x35, 0x36, 0x37])
+    blocks_of(EIGHT)
 }
 
-/// Sets bytes of memory.
-fn fill(memory: &mut HostMemory, address: u32, count: u32, byte: u8) {
-    if let Some(buffer) = memory.window_mut(address, count) {
-        buffer.fill(byte);
-    }
+/// Asserts that these are eight blocks, each of 512 times its byte.
+fn assert_blocks(rt: &impl Abort, blocks: &[u8], bytes: [u8; 8]) {
+    assert_eq!(rt; blocks, blocks_of(bytes).as_slice());
 }
 
-/// Bytes of memory, none where they aren't there.
-fn bytes(memory: &HostMemory, address: u32, count: u32) -> &[u8] {
-    memory.window(address, count).unwrap_or(&[])
+/// An image of the eight blocks that differ.
+fn image_of_eight(alloc: Global) -> Result<MemImage, ImageError> {
+    MemImage::from_bytes(alloc, &eight_blocks())
+}
+
+/// An image of this many blocks, all of them 0.
+fn empty_image(alloc: Global, blocks: u32) -> Result<MemImage, ImageError> {
+    MemImage::new(alloc, blocks)
+}
+
+/// An image of eight blocks as unit 0, and no other drive.
+fn bench_of_eight(alloc: Global, len: u32, hard: bool) -> Result<Bench<MemImage>, Fail> {
+    let image = image_of_eight(alloc)?;
+    Ok(Bench::new(memory(alloc, len)?, alone(image, hard)))
+}
+
+/// An image of this many empty blocks as unit 0, and no other drive.
+fn bench_of_empty(
+    alloc: Global,
+    len: u32,
+    blocks: u32,
+    hard: bool,
+) -> Result<Bench<MemImage>, Fail> {
+    let image = empty_image(alloc, blocks)?;
+    Ok(Bench::new(memory(alloc, len)?, alone(image, hard)))
 }

@@ -3,13 +3,37 @@ ghost use Rattle.std.specs.Prelude.{◌≡◌, length};
 
 use super::*;
 use arrayvec::ArrayVec;
-use std::test::Fail;
-use uda_image::{FailingImage, MemImage, StoreError};
-use uda_packet::{decode_command, encode_end};
+use uda_image::{BlockStore, FailingImage, StoreError};
+use uda_packet::{Bad, decode_command, encode_end};
+
+/// Asserts that an image has eight blocks, each of 512 times its byte.
+fn assert_left(rt: &impl Abort, op: Op, image: &MemImage, bytes: [u8; 8]) {
+    assert_eq!(rt; image.bytes(), blocks_of(bytes).as_slice(), "at {op:?}");
+}
+
+/// Executes a transfer of a unit with these protections, of which this is the end message. Of its eight
+/// blocks only the first may change, to zeros where a block is written, and memory doesn't.
+fn assert_checked(
+    rt: &impl Abort,
+    alloc: Global,
+    (hard, soft): (bool, bool),
+    op: Op,
+    status: u16,
+    count: u32,
+) -> Result<(), Fail> {
+    let mut bench = bench_of_eight(alloc, 4096, hard)?;
+    bench.execute(0, online(Some(soft)));
+    bench.assert_moved(rt, &[(op, status, count)]);
+    assert!(rt; bench.is_filled(0, 4096, 0), "at {op:?}");
+    let first = if count == 512 { 0 } else { 0x30 };
+    let blocks = [first, 0x31, 0x32, 0x33, 0x34, 0x35, 0x36, 0x37];
+    let store = first_of(bench.into_drives()).ok_or("no drive")?;
+    assert_left(rt, op, &store, blocks);
+    Ok(())
+}
 
 #[test]
 fn order_of_checks(rt: HostRuntime) -> Result<(), Fail> {
-    let mut memory = HostMemory::new(rt.alloc(), 4096)?;
     for (hard, soft, op, status, count) in [
         (true, true, write(0x1001, 513, 0), 0x0029, 0),
         (true, true, write(0x1000, 513, 0), 0x0049, 0),
@@ -28,19 +52,7 @@ fn order_of_checks(rt: HostRuntime) -> Result<(), Fail> {
         (false, true, write(0x0e00, 0, 0), 0x1006, 0),
         (true, false, erase(0, 0), 0x2006, 0),
     ] {
-        let image = MemImage::from_bytes(rt.alloc(), &eight_blocks())?;
-        let mut exec = Exec::new(alone(image, hard));
-        execute(&mut exec, &mut memory, 0, online(Some(soft)));
-        assert_eq!(rt;
-            execute(&mut exec, &mut memory, 0, op),
-            transfer_end(op, status, count),
-            "at {op:?}"
-        );
-        let first = if count == 512 { 0 } else { 0x30 };
-        let blocks = blocks_of([first, 0x31, 0x32, 0x33, 0x34, 0x35, 0x36, 0x37]);
-        let store = first_of(exec.into_stores()).ok_or("no drive")?;
-        assert_eq!(rt; store.bytes(), blocks.as_slice(), "at {op:?}");
-        assert_eq!(rt; bytes(&memory, 0, 4096), [0; 4096].as_slice(), "at {op:?}");
+        assert_checked(&rt, rt.alloc(), (hard, soft), op, status, count)?;
     }
     Ok(())
 }
@@ -59,89 +71,89 @@ const READ_END: [u8; 48] = [
     0x00, 0x00, 0x00, 0x00, 0x00, 0x00, 0x00, 0x00, 0x00, 0x00, 0x00, 0x00, 0x00, 0x00, 0x00, 0x00,
 ];
 
+fn read_command() -> Result<Command, Bad> {
+    decode_command(&READ)
+}
+
+/// Asserts the text of an end message.
+fn assert_text(rt: &impl Abort, end: &End, text: [u8; 48]) {
+    assert_eq!(rt; encode_end(end), text);
+}
+
 #[test]
 fn read_one_block(rt: HostRuntime) -> Result<(), Fail> {
-    let mut memory = HostMemory::new(rt.alloc(), 135_168)?;
-    let image = MemImage::from_bytes(rt.alloc(), &eight_blocks())?;
-    let mut exec = Exec::new(alone(image, false));
-    execute(&mut exec, &mut memory, 0, online(None));
-    assert!(rt; exec.pending() < PENDING);
-    exec.accept(decode_command(&READ)?);
-    let end = exec.execute_one(&mut memory).ok_or("no end")?;
-    assert_eq!(rt; encode_end(&end), READ_END);
-    assert_eq!(rt; bytes(&memory, 0x1000, 512), [0x35; 512].as_slice());
-    assert_eq!(rt; bytes(&memory, 0, 0x1000), [0; 0x1000].as_slice());
-    assert_eq!(rt; bytes(&memory, 0x1200, 0x1000), [0; 0x1000].as_slice());
+    let mut bench = bench_of_eight(rt.alloc(), 135_168, false)?;
+    bench.execute(0, online(None));
+    assert!(rt; bench.pending() < PENDING);
+    bench.accept(read_command()?);
+    let end = bench.execute_one().ok_or("no end")?;
+    assert_text(&rt, &end, READ_END);
+    bench.assert_filled(&rt, 0x1000, 512, 0x35);
+    bench.assert_filled(&rt, 0, 0x1000, 0);
+    bench.assert_filled(&rt, 0x1200, 0x1000, 0);
     Ok(())
 }
 
 #[test]
 fn refused_transfers(rt: HostRuntime) -> Result<(), Fail> {
-    let mut memory = HostMemory::new(rt.alloc(), 135_168)?;
-    let image = MemImage::from_bytes(rt.alloc(), &eight_blocks())?;
-    let mut exec = Exec::new(alone(image, false));
-    execute(&mut exec, &mut memory, 0, online(None));
-    for (address, count, status) in [
-        (0x1001, 512, 0x0029),
-        (0x1000, 513, 0x0049),
-        (0x1000, 514, 0x0c01),
-        (0x2_1000, 512, 0x0069),
-    ] {
-        let op = read(address, count, 5);
-        assert_eq!(rt;
-            execute(&mut exec, &mut memory, 0, op),
-            transfer_end(op, status, 0),
-            "at {op:?}"
-        );
-    }
-    assert_eq!(rt; bytes(&memory, 0x1000, 1024), [0; 1024].as_slice());
+    let mut bench = bench_of_eight(rt.alloc(), 135_168, false)?;
+    bench.execute(0, online(None));
+    let transfers = [
+        (read(0x1001, 512, 5), 0x0029, 0),
+        (read(0x1000, 513, 5), 0x0049, 0),
+        (read(0x1000, 514, 5), 0x0c01, 0),
+        (read(0x2_1000, 512, 5), 0x0069, 0),
+    ];
+    bench.assert_moved(&rt, &transfers);
+    bench.assert_filled(&rt, 0x1000, 1024, 0);
     Ok(())
+}
+
+/// An image that fails once, at this call, as unit 0, and no other drive.
+fn bench_of_failing(alloc: Global, image: MemImage, at: u32) -> Result<Bench<FailingImage>, Fail> {
+    let store = FailingImage::new(image, at);
+    Ok(Bench::new(memory(alloc, 4096)?, alone(store, false)))
+}
+
+/// Eight blocks, of which the first and half of the second are 0x44, and the rest zeros.
+fn one_and_a_half() -> [u8; 4096] {
+    let mut blocks = [0; 4096];
+    blocks[..768].fill(0x44);
+    blocks
 }
 
 #[test]
 fn failing_store(rt: HostRuntime) -> Result<(), Fail> {
-    let mut memory = HostMemory::new(rt.alloc(), 4096)?;
-    fill(&mut memory, 0, 1536, 0x44);
-    let image = FailingImage::new(MemImage::new(rt.alloc(), 8)?, 2);
-    let mut exec = Exec::new(alone(image, false));
-    assert_eq!(rt;
-        execute(&mut exec, &mut memory, 0, online(Some(false))),
-        end(0, 0, EndBody::Online { flags: 0, size: 8 })
-    );
-    for (op, status, count) in [
+    let image = empty_image(rt.alloc(), 8)?;
+    let mut bench = bench_of_failing(rt.alloc(), image, 2)?;
+    bench.fill(0, 1536, 0x44);
+    let brought = EndBody::Online { flags: 0, size: 8 };
+    bench.assert_ends(&rt, &[(0, online(Some(false)), 0, brought)]);
+    let transfers = [
         (write(0, 1536, 0), 0x000b, 512),
         (read(0x0800, 512, 0), 0, 512),
-    ] {
-        assert_eq!(rt;
-            execute(&mut exec, &mut memory, 0, op),
-            transfer_end(op, status, count)
-        );
-    }
-    assert_eq!(rt; bytes(&memory, 0x0800, 512), [0x44; 512].as_slice());
-    assert_eq!(rt; bytes(&memory, 0x0a00, 512), [0; 512].as_slice());
-    let image = first_of(exec.into_stores()).ok_or("no drive")?.into_inner();
-    let mut blocks = [0; 4096];
-    blocks[..768].fill(0x44);
-    assert_eq!(rt; image.bytes(), blocks.as_slice());
+    ];
+    bench.assert_moved(&rt, &transfers);
+    bench.assert_filled(&rt, 0x0800, 512, 0x44);
+    bench.assert_filled(&rt, 0x0a00, 512, 0);
+    let image = first_of(bench.into_drives())
+        .ok_or("no drive")?
+        .into_inner();
+    assert_eq!(rt; image.bytes(), one_and_a_half().as_slice());
     Ok(())
 }
 
 #[test]
 fn a_failing_read(rt: HostRuntime) -> Result<(), Fail> {
-    let mut memory = HostMemory::new(rt.alloc(), 4096)?;
-    fill(&mut memory, 0, 4096, 0xff);
-    let inner = MemImage::from_bytes(rt.alloc(), &eight_blocks())?;
-    let mut exec = Exec::new(alone(FailingImage::new(inner, 3), false));
-    execute(&mut exec, &mut memory, 0, online(None));
-    let op = read(0x0400, 2048, 4);
-    assert_eq!(rt;
-        execute(&mut exec, &mut memory, 0, op),
-        transfer_end(op, 0x000b, 1024)
-    );
-    assert_eq!(rt; bytes(&memory, 0, 0x0400), [0xff; 0x0400].as_slice());
-    assert_eq!(rt; bytes(&memory, 0x0400, 512), [0x34; 512].as_slice());
-    assert_eq!(rt; bytes(&memory, 0x0600, 512), [0x35; 512].as_slice());
-    assert_eq!(rt; bytes(&memory, 0x0a00, 0x0600), [0xff; 0x0600].as_slice());
+    let image = image_of_eight(rt.alloc())?;
+    let mut bench = bench_of_failing(rt.alloc(), image, 3)?;
+    bench.fill(0, 4096, 0xff);
+    bench.execute(0, online(None));
+    bench.assert_moved(&rt, &[(read(0x0400, 2048, 4), 0x000b, 1024)]);
+    bench.assert_filled(&rt, 0, 0x0400, 0xff);
+    bench.assert_filled(&rt, 0x0400, 512, 0x34);
+    bench.assert_filled(&rt, 0x0600, 512, 0x35);
+    bench.assert_filled(&rt, 0x0a00, 0x0600, 0xff);
     Ok(())
 }
 
@@ -203,17 +215,49 @@ impl BlockStore for Recorder {
     }
 }
 
-/// The end of a transfer of an online unit 0, and the blocks that were read and written for it.
-fn recorded(memory: &mut HostMemory, op: Op, bad_block: u32) -> Option<(End, Recorder)> {
-    let mut exec = Exec::new(alone(Recorder::new(bad_block), false));
-    execute(&mut exec, memory, 0, online(None));
-    let end = execute(&mut exec, memory, 0, op)?;
-    Some((end, first_of(exec.into_stores())?))
+/// The end of a command of an online unit 0, and the store that keeps which blocks were asked for by it.
+fn recorded(alloc: Global, op: Op, bad_block: u32) -> Result<(Option<End>, Recorder), Fail> {
+    let drives = alone(Recorder::new(bad_block), false);
+    let mut bench = Bench::new(memory(alloc, 4096)?, drives);
+    bench.execute(0, online(None));
+    let end = bench.execute(0, op);
+    Ok((end, first_of(bench.into_drives()).ok_or("no drive")?))
+}
+
+/// Asserts which blocks a store was asked for.
+fn assert_asked(rt: &impl Abort, op: Op, asked: &[u32], blocks: &[u32]) {
+    assert_eq!(rt; asked, blocks, "at {op:?}");
+}
+
+/// Asserts which blocks a store was asked to read and to write.
+fn assert_calls(rt: &impl Abort, op: Op, store: &Recorder, read: &[u32], written: &[u32]) {
+    assert_asked(rt, op, store.read.as_slice(), read);
+    assert_asked(rt, op, store.written.as_slice(), written);
+}
+
+/// The store after a transfer, which has this end message.
+fn moved(
+    rt: &impl Abort,
+    alloc: Global,
+    (op, bad_block): (Op, u32),
+    status: u16,
+    count: u32,
+) -> Result<Recorder, Fail> {
+    let (answer, store) = recorded(alloc, op, bad_block)?;
+    assert_eq!(rt; answer, transfer_end(op, status, count), "at {op:?}");
+    Ok(store)
+}
+
+/// Asserts that a command has an end message, and that the store wasn't called for it.
+fn assert_no_calls(rt: &impl Abort, alloc: Global, op: Op) -> Result<(), Fail> {
+    let (answer, store) = recorded(alloc, op, 8)?;
+    assert!(rt; answer.is_some(), "at {op:?}");
+    assert_calls(rt, op, &store, &[], &[]);
+    Ok(())
 }
 
 #[test]
 fn store_calls(rt: HostRuntime) -> Result<(), Fail> {
-    let mut memory = HostMemory::new(rt.alloc(), 4096)?;
     let none = [].as_slice();
     for (op, bad_block, status, count, read, written) in [
         (access(2048, 2), 8, 0, 2048, [2, 3, 4, 5].as_slice(), none),
@@ -238,10 +282,8 @@ fn store_calls(rt: HostRuntime) -> Result<(), Fail> {
         (read(0, 1024, 7), 8, 0x0c01, 0, none, none),
         (write(4096, 512, 0), 8, 0x0069, 0, none, none),
     ] {
-        let (answer, store) = recorded(&mut memory, op, bad_block).ok_or("no end")?;
-        assert_eq!(rt; Some(answer), transfer_end(op, status, count), "at {op:?}");
-        assert_eq!(rt; store.read.as_slice(), read, "at {op:?}");
-        assert_eq!(rt; store.written.as_slice(), written, "at {op:?}");
+        let store = moved(&rt, rt.alloc(), (op, bad_block), status, count)?;
+        assert_calls(&rt, op, &store, read, written);
     }
     for op in [
         Op::Status,
@@ -249,9 +291,7 @@ fn store_calls(rt: HostRuntime) -> Result<(), Fail> {
         Op::Available,
         online(Some(true)),
     ] {
-        let (_, store) = recorded(&mut memory, op, 8).ok_or("no end")?;
-        assert_eq!(rt; store.read.as_slice(), none, "at {op:?}");
-        assert_eq!(rt; store.written.as_slice(), none, "at {op:?}");
+        assert_no_calls(&rt, rt.alloc(), op)?;
     }
     Ok(())
 }
@@ -309,17 +349,13 @@ impl BlockStore for DirtyReader {
 
 #[test]
 fn dirty_failing_read(rt: HostRuntime) -> Result<(), Fail> {
-    let mut memory = HostMemory::new(rt.alloc(), 8192)?;
-    fill(&mut memory, 0x1000, 1536, 0x77);
-    let mut exec = Exec::new(alone(DirtyReader { reads: 0 }, false));
-    execute(&mut exec, &mut memory, 0, online(None));
-    let op = read(0x1000, 1536, 0);
-    assert_eq!(rt;
-        execute(&mut exec, &mut memory, 0, op),
-        transfer_end(op, 0x000b, 512)
-    );
-    assert_eq!(rt; bytes(&memory, 0x1000, 512), [0x11; 512].as_slice());
-    assert_eq!(rt; bytes(&memory, 0x1200, 256), [0xee; 256].as_slice());
-    assert_eq!(rt; bytes(&memory, 0x1300, 768), [0x77; 768].as_slice());
+    let drives = alone(DirtyReader { reads: 0 }, false);
+    let mut bench = Bench::new(memory(rt.alloc(), 8192)?, drives);
+    bench.fill(0x1000, 1536, 0x77);
+    bench.execute(0, online(None));
+    bench.assert_moved(&rt, &[(read(0x1000, 1536, 0), 0x000b, 512)]);
+    bench.assert_filled(&rt, 0x1000, 512, 0x11);
+    bench.assert_filled(&rt, 0x1200, 256, 0xee);
+    bench.assert_filled(&rt, 0x1300, 768, 0x77);
     Ok(())
 }

@@ -1,11 +1,12 @@
 //! Scripts run over images in files.
 use super::Full;
-use crate::program;
 use std::fs::File;
 use std::io::{Read, Write};
 use std::path::PathBuf;
+use std::process::Abort;
 use std::test::Fail;
 use std::{env, fs, io, process};
+use uda_script::program;
 
 /// What a run of the program leaves: its status, both texts, and how much of the data it left.
 #[derive(Debug, Drop, PartialEq)]
@@ -20,6 +21,24 @@ struct Left {
 fn path_of(rt: &HostRuntime, word: &str) -> io::Result<PathBuf> {
     let name = format!(in rt.alloc(); "uda-script-{}-{word}", process::id(rt.process()))?;
     Ok(env::temp_dir(rt)?.join(rt.alloc(), name.as_str())?)
+}
+
+// The path of a new file with these bytes.
+fn file_of(rt: &HostRuntime, word: &str, bytes: &[u8]) -> io::Result<PathBuf> {
+    let path = path_of(rt, word)?;
+    fs::write(rt, path.as_path(), bytes)?;
+    Ok(path)
+}
+
+// The bytes of a file, which is then removed.
+fn take_file(rt: &HostRuntime, path: &PathBuf) -> io::Result<Vec<u8>> {
+    let bytes = fs::read(rt, path.as_path())?;
+    fs::remove_file(rt, path.as_path())?;
+    Ok(bytes)
+}
+
+fn assert_bytes(rt: &impl Abort, bytes: &[u8], wanted: &[u8]) {
+    assert_eq!(rt; bytes, wanted);
 }
 
 // The words of a line.
@@ -56,6 +75,20 @@ fn run_on(rt: &HostRuntime, script: &[u8], data: &[u8], len: u64) -> io::Result<
     Ok((left, bytes))
 }
 
+// The status of a run of this script over this image, with these streams.
+fn status_over<R: Read + Drop, W: Write + Drop, V: Write + Drop>(
+    rt: &HostRuntime,
+    script: &PathBuf,
+    image: &PathBuf,
+    input: R,
+    out: W,
+    report: V,
+) -> io::Result<u8> {
+    let line = format!(in rt.alloc(); "run {} {}", script.as_str(), image.as_str())?;
+    let words = words_of(rt, &line)?;
+    Ok(program(rt, &words, input, out, report))
+}
+
 // Whether a script over eight zero blocks ends with this status and report.
 fn reports(
     rt: &HostRuntime,
@@ -73,10 +106,11 @@ fn fill_and_read(rt: HostRuntime) -> Result<(), Fail> {
     let script = b"online 0\nfill 0 2 2 a5\nread 0 3 1\nstatus 0\nread 0 0 33\n";
     let (left, bytes) = run_on(&rt, script, b"", 4096)?;
     assert_eq!(rt; left.status, 0);
-    assert_eq!(rt; left.out.as_slice(), [0xa5; 512].as_slice());
-    assert_eq!(rt;
-        left.report.as_slice(),
-        b"1 0000 0000 8\n2 0000 1024\n3 0000 512\n4 0000 0000\n5 long\n".as_slice()
+    assert_bytes(&rt, &left.out, &[0xa5; 512]);
+    assert_bytes(
+        &rt,
+        &left.report,
+        b"1 0000 0000 8\n2 0000 1024\n3 0000 512\n4 0000 0000\n5 long\n",
     );
     assert!(rt; bytes.iter().take(1024).all(|byte| *byte == 0));
     assert_eq!(rt; bytes.get(1024..2048), Some([0xa5; 1024].as_slice()));
@@ -88,15 +122,12 @@ fn fill_and_read(rt: HostRuntime) -> Result<(), Fail> {
 fn leading_zero_and_short_data(rt: HostRuntime) -> Result<(), Fail> {
     let (left, bytes) = run_on(&rt, b"fill 0 0 1 ff\nread 0 01 1\n", b"", 4096)?;
     assert_eq!(rt; left.status, 1);
-    assert_eq!(rt; left.report.as_slice(), b"uda: line 2: syntax\n".as_slice());
+    assert_bytes(&rt, &left.report, b"uda: line 2: syntax\n");
     assert_eq!(rt; left.out.len(), 0);
     assert!(rt; bytes.iter().all(|byte| *byte == 0));
     let (left, bytes) = run_on(&rt, b"online 0\nwrite 0 0 2\n", &[7; 1023], 4096)?;
     assert_eq!(rt; left.status, 1);
-    assert_eq!(rt;
-        left.report.as_slice(),
-        b"uda: line 2: data ended\n".as_slice()
-    );
+    assert_bytes(&rt, &left.report, b"uda: line 2: data ended\n");
     assert!(rt; bytes.iter().all(|byte| *byte == 0));
     Ok(())
 }
@@ -121,10 +152,7 @@ fn script_edges(rt: HostRuntime) -> Result<(), Fail> {
     }
     let (left, _) = run_on(&rt, b"online 0\nwrite 0 0 1\n", &[1; 600], 4096)?;
     assert_eq!(rt; left.unread, 88);
-    assert_eq!(rt;
-        left.report.as_slice(),
-        b"1 0000 0000 8\n2 0000 512\n".as_slice()
-    );
+    assert_bytes(&rt, &left.report, b"1 0000 0000 8\n2 0000 512\n");
     Ok(())
 }
 
@@ -202,44 +230,28 @@ impl Write for Drips {
 
 #[test]
 fn a_byte_at_a_time(rt: HostRuntime) -> Result<(), Fail> {
-    let (path, image) = (path_of(&rt, "sips")?, path_of(&rt, "sipped")?);
-    fs::write(
-        &rt,
-        path.as_path(),
-        b"online 0\nwrite 0 1 2\nread 0 2 1\n".as_slice(),
-    )?;
-    File::create(&rt, image.as_path())?.set_len(2048)?;
-    let line = format!(in rt.alloc(); "run {} {}", path.as_str(), image.as_str())?;
-    let words = words_of(&rt, &line)?;
+    let script = file_of(&rt, "sips", b"online 0\nwrite 0 1 2\nread 0 2 1\n")?;
+    let image = file_of(&rt, "sipped", &[0; 2048])?;
+    let (mut out, mut report) = (Drips { taken: 0 }, Drips { taken: 0 });
     let data = Sips {
         left: &[0x42; 1030],
     };
-    let (mut out, mut report) = (Drips { taken: 0 }, Drips { taken: 0 });
-    assert_eq!(rt; program(&rt, &words, data, &mut out, &mut report), 0);
-    assert_eq!(rt; (out.taken, report.taken), (512, 14 + 12 + 11));
-    let bytes = fs::read(&rt, image.as_path())?;
+    let status = status_over(&rt, &script, &image, data, &mut out, &mut report)?;
+    assert_eq!(rt; (status, out.taken, report.taken), (0, 512, 14 + 12 + 11));
+    let bytes = take_file(&rt, &image)?;
     assert_eq!(rt; bytes.get(512..1536), Some([0x42; 1024].as_slice()));
-    fs::remove_file(&rt, path.as_path())?;
-    fs::remove_file(&rt, image.as_path())?;
+    fs::remove_file(&rt, script.as_path())?;
     Ok(())
 }
 
 #[test]
 fn a_locked_file_stays(rt: HostRuntime) -> Result<(), Fail> {
-    let path = path_of(&rt, "locked")?;
-    fs::write(&rt, path.as_path(), [3u8; 1024].as_slice())?;
+    let path = file_of(&rt, "locked", &[3; 1024])?;
     let units = format!(in rt.alloc(); "- lock:{}", path.as_str())?;
     let left = run(&rt, b"online 1\nerase 1 0 2\nread 1 1 1\n", b"", &units)?;
-    assert_eq!(rt;
-        left.report.as_slice(),
-        b"1 0000 2000 2\n2 2006 0\n3 0000 512\n".as_slice()
-    );
-    assert_eq!(rt; left.out.as_slice(), [3; 512].as_slice());
-    assert_eq!(rt;
-        fs::read(&rt, path.as_path())?.as_slice(),
-        [3u8; 1024].as_slice()
-    );
-    fs::remove_file(&rt, path.as_path())?;
+    assert_bytes(&rt, &left.report, b"1 0000 2000 2\n2 2006 0\n3 0000 512\n");
+    assert_bytes(&rt, &left.out, &[3; 512]);
+    assert_bytes(&rt, &take_file(&rt, &path)?, &[3; 1024]);
     Ok(())
 }
 
@@ -255,10 +267,7 @@ fn thousands_of_lines(rt: HostRuntime) -> Result<(), Fail> {
     script.extend_from_slice(b"status 0")?;
     let (left, _) = run_on(&rt, &script, b"", 512)?;
     assert_eq!(rt; left.status, 1);
-    assert_eq!(rt;
-        left.report.as_slice(),
-        b"uda: more than 4096 requests\n".as_slice()
-    );
+    assert_bytes(&rt, &left.report, b"uda: more than 4096 requests\n");
     Ok(())
 }
 
@@ -269,48 +278,46 @@ fn a_large_image(rt: HostRuntime) -> Result<(), Fail> {
     let script = b"online 0\nfill 0 891071 1 77\nread 0 891070 2\nread 0 891071 2\n";
     let left = run(&rt, script, b"", path.as_str())?;
     fs::remove_file(&rt, path.as_path())?;
-    assert_eq!(rt;
-        left.report.as_slice(),
-        b"1 0000 0000 891072\n2 0000 512\n3 0000 1024\n4 0c01 0\n".as_slice()
+    assert_bytes(
+        &rt,
+        &left.report,
+        b"1 0000 0000 891072\n2 0000 512\n3 0000 1024\n4 0c01 0\n",
     );
     assert_eq!(rt; left.out.get(512..), Some([0x77; 512].as_slice()));
     Ok(())
 }
 
-// What comes of a run over no drive whose texts go to these writers.
-fn status_of<W: Write + Drop, V: Write + Drop>(
-    rt: &HostRuntime,
-    script: &[u8],
-    out: W,
-    report: V,
-) -> io::Result<u8> {
-    let (path, image) = (path_of(rt, "full")?, path_of(rt, "zeros")?);
-    fs::write(rt, path.as_path(), script)?;
-    File::create(rt, image.as_path())?.set_len(512)?;
-    let line = format!(in rt.alloc(); "run {} {}", path.as_str(), image.as_str())?;
-    let words = words_of(rt, &line)?;
-    let status = program(rt, &words, io::empty(), out, report);
-    fs::remove_file(rt, path.as_path())?;
+// Whether a run that reads one block ends with this status and reports this, its data going to a writer
+// of so much room.
+fn is_read(rt: &HostRuntime, room: usize, status: u8, told: &[u8]) -> io::Result<bool> {
+    let script = file_of(rt, "full", b"online 0\nread 0 0 1\n")?;
+    let image = file_of(rt, "zeros", &[0; 512])?;
+    let mut report = Vec::new(rt.alloc());
+    let out = Full { room, taken: 0 };
+    let ended = status_over(rt, &script, &image, io::empty(), out, &mut report)?;
+    fs::remove_file(rt, script.as_path())?;
     fs::remove_file(rt, image.as_path())?;
-    Ok(status)
+    Ok(ended == status && report.as_slice() == told)
 }
 
 #[test]
 fn a_full_device(rt: HostRuntime) -> Result<(), Fail> {
-    let script = b"online 0\nread 0 0 1\n";
     for room in [0, 1, 511] {
-        let mut report = Vec::new(rt.alloc());
-        let out = Full { room, taken: 0 };
-        assert_eq!(rt; status_of(&rt, script, out, &mut report)?, 1, "{room}");
-        assert_eq!(rt;
-            report.as_slice(),
-            b"uda: write failed\n".as_slice(),
-            "{room}"
-        );
+        assert!(rt; is_read(&rt, room, 1, b"uda: write failed\n")?, "{room}");
     }
+    assert!(rt; is_read(&rt, 512, 0, b"1 0000 0000 1\n2 0000 512\n")?);
+    Ok(())
+}
+
+#[test]
+fn a_report_that_is_full(rt: HostRuntime) -> Result<(), Fail> {
+    let script = file_of(&rt, "told", b"online 0\nread 0 0 1\n")?;
+    let image = file_of(&rt, "untold", &[0; 512])?;
     let mut out = Vec::new(rt.alloc());
     let report = Full { room: 5, taken: 0 };
-    assert_eq!(rt; status_of(&rt, script, &mut out, report)?, 1);
-    assert_eq!(rt; out.len(), 512);
+    let status = status_over(&rt, &script, &image, io::empty(), &mut out, report)?;
+    assert_eq!(rt; (status, out.len()), (1, 512));
+    fs::remove_file(&rt, script.as_path())?;
+    fs::remove_file(&rt, image.as_path())?;
     Ok(())
 }

@@ -3,9 +3,10 @@ mod orders;
 mod stores;
 mod units;
 
-use crate::Driver;
 use std::alloc::Global;
+use std::process::Abort;
 use std::test::Fail;
+use uda_driver::Driver;
 use uda_image::{BlockStore, Drive, MemImage};
 use uda_model::{Answer, Request};
 
@@ -64,11 +65,30 @@ fn alone<S>(store: S, hard: bool) -> [Option<Drive<S>>; 4] {
     [Some(Drive { store, hard }), None, None, None]
 }
 
+/// A driver over this image as unit 0, and no other drive.
+fn started(alloc: Global, image: MemImage, hard: bool) -> Result<Driver<MemImage>, Fail> {
+    match Driver::start(alloc, alone(image, hard)) {
+        Ok(driver) => Ok(driver),
+        Err(_) => Err("no memory".into()),
+    }
+}
+
 fn run<S: BlockStore>(driver: &mut Driver<S>, requests: &[Request]) -> Result<Vec<Answer>, Fail> {
     match driver.run(requests) {
         Ok(answers) => Ok(answers),
         Err(_) => Err("the run was refused".into()),
     }
+}
+
+// What is compared stands behind a function, so that a test stays small: a test's proof grows faster
+// than its length.
+
+fn assert_answers(rt: &impl Abort, answers: &[Answer], told: &[Answer]) {
+    assert_eq!(rt; answers, told);
+}
+
+fn assert_bytes(rt: &impl Abort, image: &MemImage, bytes: &[u8]) {
+    assert_eq!(rt; image.bytes(), bytes);
 }
 
 /// The store of unit 0.
@@ -83,10 +103,37 @@ fn serve(
     image: MemImage,
     requests: &[Request],
 ) -> Result<(Vec<Answer>, MemImage), Fail> {
-    let mut driver = Driver::start(alloc, alone(image, false)).map_err(|_| "no memory")?;
+    serve_drive(alloc, image, false, requests)
+}
+
+/// The same of a drive that may be protected.
+fn serve_drive(
+    alloc: Global,
+    image: MemImage,
+    hard: bool,
+    requests: &[Request],
+) -> Result<(Vec<Answer>, MemImage), Fail> {
+    let mut driver = started(alloc, image, hard)?;
     let answers = run(&mut driver, requests)?;
-    let image = first_of(driver.into_stores()).ok_or("no drive")?;
-    Ok((answers, image))
+    match first_of(driver.into_stores()) {
+        Some(image) => Ok((answers, image)),
+        None => Err("no drive".into()),
+    }
+}
+
+/// Asserts what a driver over one image answers, and which bytes the image has afterwards.
+fn assert_served(
+    rt: &impl Abort,
+    alloc: Global,
+    image: MemImage,
+    requests: &[Request],
+    told: &[Answer],
+    bytes: &[u8],
+) -> Result<(), Fail> {
+    let (answers, image) = serve(alloc, image, requests)?;
+    assert_answers(rt, &answers, told);
+    assert_bytes(rt, &image, bytes);
+    Ok(())
 }
 
 /// An image of eight blocks at least, of which block k is all of the k-th byte.

@@ -1,6 +1,6 @@
 //! What single requests answer, by the state of their unit.
 use super::*;
-use crate::RunError;
+use uda_driver::RunError;
 
 #[test]
 fn empty_run(rt: HostRuntime) -> Result<(), Fail> {
@@ -14,9 +14,7 @@ fn empty_run(rt: HostRuntime) -> Result<(), Fail> {
 fn unit_states(rt: HostRuntime) -> Result<(), Fail> {
     let alloc = rt.alloc();
     let available = Request::Available { unit: 0 };
-    let mut driver = Driver::start(alloc, alone(MemImage::new(alloc, 8)?, false)).map_err(
-        |_| "no memory",
-    )?;
+    let mut driver = started(alloc, MemImage::new(alloc, 8)?, false)?;
     for (request, answer) in [
         (read(0, 1), no_data(alloc, 4)),
         (
@@ -56,61 +54,51 @@ fn unit_states(rt: HostRuntime) -> Result<(), Fail> {
         ),
     ] {
         let answers = run(&mut driver, &[request])?;
-        assert_eq!(rt; answers.as_slice(), [answer].as_slice());
+        assert_answers(&rt, &answers, &[answer]);
     }
     Ok(())
 }
 
-#[test]
-fn protected_units(rt: HostRuntime) -> Result<(), Fail> {
-    let alloc = rt.alloc();
-    let protect = Request::Online {
-        unit: 0,
-        protect: true,
-    };
-    // by software: a Write of a block, and an empty one
-    for count in [1, 0] {
-        let requests = [
-            Request::Online {
-                unit: 0,
-                protect: true,
-            },
-            write(alloc, 0, 0x5a, count)?,
-            read(0, 1),
-        ];
-        let (answers, image) = serve(alloc, MemImage::new(alloc, 8)?, &requests)?;
-        let online = Answer::Online {
-            status: 0,
-            flags: 0x1000,
-            size: 8,
-        };
-        assert_eq!(rt;
-            answers.as_slice(),
-            [online, moved(0x1006, 0), data(alloc, 0, 512)?].as_slice()
-        );
-        assert_eq!(rt; image.bytes(), [0; 4096].as_slice());
+const PROTECTED: Request = Request::Online {
+    unit: 0,
+    protect: true,
+};
+
+fn online_with(flags: u16) -> Answer {
+    Answer::Online {
+        status: 0,
+        flags,
+        size: 8,
     }
-    // by the drive
-    let mut driver = Driver::start(alloc, alone(image_of(alloc, &[1; 8])?, true)).map_err(
-        |_| "no memory",
-    )?;
+}
+
+/// A Write of so many blocks is refused, an empty one too.
+fn assert_protected_by_software(rt: &impl Abort, alloc: Global, count: usize) -> Result<(), Fail> {
+    let requests = [PROTECTED, write(alloc, 0, 0x5a, count)?, read(0, 1)];
+    let told = [online_with(0x1000), moved(0x1006, 0), data(alloc, 0, 512)?];
+    let image = MemImage::new(alloc, 8)?;
+    assert_served(rt, alloc, image, &requests, &told, &[0; 4096])
+}
+
+fn assert_protected_by_the_drive(rt: &impl Abort, alloc: Global) -> Result<(), Fail> {
     let erase = Request::Erase {
         unit: 0,
         lbn: 0,
         count: 1,
     };
-    let answers = run(&mut driver, &[protect, erase])?;
-    let online = Answer::Online {
-        status: 0,
-        flags: 0x3000,
-        size: 8,
-    };
-    assert_eq!(rt; answers.as_slice(), [online, moved(0x2006, 0)].as_slice());
-    assert_eq!(rt;
-        first_of(driver.into_stores()).ok_or("no drive")?.bytes(),
-        [1; 4096].as_slice()
-    );
+    let image = image_of(alloc, &[1; 8])?;
+    let (answers, image) = serve_drive(alloc, image, true, &[PROTECTED, erase])?;
+    assert_answers(rt, &answers, &[online_with(0x3000), moved(0x2006, 0)]);
+    assert_bytes(rt, &image, &[1; 4096]);
     Ok(())
+}
+
+#[test]
+fn protected_units(rt: HostRuntime) -> Result<(), Fail> {
+    for count in [1, 0] {
+        assert_protected_by_software(&rt, rt.alloc(), count)?;
+    }
+    assert_protected_by_the_drive(&rt, rt.alloc())
 }
 
 #[test]
@@ -123,7 +111,7 @@ fn ranges(rt: HostRuntime) -> Result<(), Fail> {
     ] {
         let image = image_of(alloc, &[0, 0, 0, 0, 0, 0, 0, 0x37])?;
         let (answers, _) = serve(alloc, image, &[ONLINE, request])?;
-        assert_eq!(rt; answers.as_slice(), [online(8), answer].as_slice());
+        assert_answers(&rt, &answers, &[online(8), answer]);
     }
     Ok(())
 }
@@ -132,10 +120,7 @@ fn ranges(rt: HostRuntime) -> Result<(), Fail> {
 fn no_blocks(rt: HostRuntime) -> Result<(), Fail> {
     let alloc = rt.alloc();
     let (answers, _) = serve(alloc, MemImage::new(alloc, 0)?, &[ONLINE, read(0, 0)])?;
-    assert_eq!(rt;
-        answers.as_slice(),
-        [online(0), no_data(alloc, 0x1c01)].as_slice()
-    );
+    assert_answers(&rt, &answers, &[online(0), no_data(alloc, 0x1c01)]);
     Ok(())
 }
 
@@ -145,21 +130,28 @@ fn thirty_three_blocks(rt: HostRuntime) -> Result<(), Fail> {
     let requests = [ONLINE, read(0, 33), read(0, 32)];
     let (answers, _) = serve(alloc, MemImage::new(alloc, 40)?, &requests)?;
     let told = [online(40), Answer::TooLong, data(alloc, 0, 16_384)?];
-    assert_eq!(rt; answers.as_slice(), told.as_slice());
+    assert_answers(&rt, &answers, &told);
     Ok(())
+}
+
+/// So many requests for the state of unit 0.
+fn statuses(alloc: Global, count: usize) -> Result<Vec<Request>, Fail> {
+    let mut requests = Vec::new(alloc);
+    for _ in 0..count {
+        requests.push(Request::Status { unit: 0 })?;
+    }
+    Ok(requests)
+}
+
+fn are_too_many(driver: &mut Driver<MemImage>, requests: &[Request]) -> bool {
+    matches!(driver.run(requests), Err(RunError::TooMany))
 }
 
 #[test]
 fn too_many_requests(rt: HostRuntime) -> Result<(), Fail> {
-    let alloc = rt.alloc();
-    let mut requests = Vec::new(alloc);
-    for _ in 0..4097 {
-        requests.push(Request::Status { unit: 0 })?;
-    }
-    let mut driver = Driver::start(alloc, alone(MemImage::new(alloc, 8)?, false)).map_err(
-        |_| "no memory",
-    )?;
-    assert!(rt; matches!(driver.run(&requests), Err(RunError::TooMany)));
+    let mut requests = statuses(rt.alloc(), 4097)?;
+    let mut driver = started(rt.alloc(), MemImage::new(rt.alloc(), 8)?, false)?;
+    assert!(rt; are_too_many(&mut driver, &requests));
     requests.truncate(4096);
     let answers = run(&mut driver, &requests)?;
     assert_eq!(rt; answers.len(), 4096);
@@ -169,11 +161,9 @@ fn too_many_requests(rt: HostRuntime) -> Result<(), Fail> {
 #[test]
 fn two_runs_of_one_driver(rt: HostRuntime) -> Result<(), Fail> {
     let alloc = rt.alloc();
-    let mut driver = Driver::start(alloc, alone(MemImage::new(alloc, 8)?, false)).map_err(
-        |_| "no memory",
-    )?;
+    let mut driver = started(alloc, MemImage::new(alloc, 8)?, false)?;
     let answers = run(&mut driver, &[ONLINE, write(alloc, 2, 0x21, 1)?])?;
-    assert_eq!(rt; answers.as_slice(), [online(8), moved(0, 512)].as_slice());
+    assert_answers(&rt, &answers, &[online(8), moved(0, 512)]);
     let available = Request::Available { unit: 0 };
     let answers = run(&mut driver, &[read(2, 1), available, read(2, 1)])?;
     let told = [
@@ -181,6 +171,6 @@ fn two_runs_of_one_driver(rt: HostRuntime) -> Result<(), Fail> {
         Answer::Plain { status: 0 },
         no_data(alloc, 4),
     ];
-    assert_eq!(rt; answers.as_slice(), told.as_slice());
+    assert_answers(&rt, &answers, &told);
     Ok(())
 }

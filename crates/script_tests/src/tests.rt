@@ -1,9 +1,9 @@
 //! The program by its words: what the tests share, and `probe`.
 mod runs;
 
-use crate::{program, unreadable_words};
 use std::io;
 use std::test::Fail;
+use uda_script::{program, unreadable_words};
 
 /// The end of a Get Unit Status of an available unit 0.
 const PROBED: &str =
@@ -66,59 +66,65 @@ fn refused(rt: &HostRuntime, words: &[&str]) -> bool {
     status == 2 && out.is_empty() && report.as_slice() == b"uda: usage\n".as_slice()
 }
 
+/// Single words that are none of the program's.
+const OTHER_WORDS: [&str; 11] = [
+    "--help",
+    "-h",
+    "--version",
+    "--",
+    "-",
+    "help",
+    "prob",
+    "",
+    "run",
+    "PROBE",
+    "probe ",
+];
+
+/// Pairs of words that are none of the program's.
+const OTHER_PAIRS: [[&str; 2]; 8] = [
+    ["probe", "x"],
+    ["probe", "probe"],
+    ["probe", "--help"],
+    ["--", "probe"],
+    ["help", "probe"],
+    ["", "probe"],
+    ["run", "-h"],
+    ["script", "run"],
+];
+
 #[test]
 fn other_words_are_the_usage_case(rt: HostRuntime) -> Result<(), Fail> {
-    assert!(rt; refused(&rt, &[]), "no word");
-    for word in [
-        "--help",
-        "-h",
-        "--version",
-        "--",
-        "-",
-        "help",
-        "prob",
-        "",
-        "run",
-        "PROBE",
-        "probe ",
-    ] {
+    for word in OTHER_WORDS {
         assert!(rt; refused(&rt, &[word]), "{word:?}");
     }
-    for words in [
-        ["probe", "x"],
-        ["probe", "probe"],
-        ["probe", "--help"],
-        ["--", "probe"],
-        ["help", "probe"],
-        ["", "probe"],
-        ["run", "-h"],
-        ["script", "run"],
-    ] {
-        assert!(rt; refused(&rt, words.as_slice()), "{words:?}");
+    for words in OTHER_PAIRS {
+        assert!(rt; refused(&rt, &words), "{words:?}");
     }
-    let six = ["run", "script", "-", "-", "-", "-", "-"];
-    assert!(rt; refused(&rt, six.as_slice()), "five units");
     Ok(())
+}
+
+#[test]
+fn no_word_and_a_fifth_unit_are_the_usage_case(rt: HostRuntime) -> Result<(), Fail> {
+    assert!(rt; refused(&rt, &[]), "no word");
+    let seven = ["run", "script", "-", "-", "-", "-", "-"];
+    assert!(rt; refused(&rt, &seven), "five units");
+    Ok(())
+}
+
+// Whether the probe over a writer of so much room ends with this status and reports this.
+fn is_probed(rt: &HostRuntime, room: usize, status: u8, told: &[u8]) -> bool {
+    let mut report = Vec::new(rt.alloc());
+    let out = Full { room, taken: 0 };
+    program(rt, &["probe"], io::empty(), out, &mut report) == status && report.as_slice() == told
 }
 
 #[test]
 fn a_full_device_is_told_once(rt: HostRuntime) -> Result<(), Fail> {
     for room in [0, 1, 100, 143] {
-        let mut report = Vec::new(rt.alloc());
-        let input: &[u8] = b"";
-        let status = program(&rt, &["probe"], input, Full { room, taken: 0 }, &mut report);
-        assert_eq!(rt; status, 1, "{room}");
-        assert_eq!(rt; report.as_slice(), b"uda: write failed\n".as_slice());
+        assert!(rt; is_probed(&rt, room, 1, b"uda: write failed\n"), "{room}");
     }
-    let input: &[u8] = b"";
-    let enough = Full {
-        room: 144,
-        taken: 0,
-    };
-    assert_eq!(rt;
-        program(&rt, &["probe"], input, enough, Vec::new(rt.alloc())),
-        0
-    );
+    assert!(rt; is_probed(&rt, 144, 0, b""));
     Ok(())
 }
 

@@ -10,8 +10,6 @@ mod port;
 mod ring;
 mod startup;
 mod tally;
-#[cfg(test)]
-mod tests;
 mod turn;
 
 pub use descriptor::Descriptor;

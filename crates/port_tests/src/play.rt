@@ -1,12 +1,11 @@
 //! Hosts that do anything: events played to a port.
 ghost use Rattle.std.specs.Prelude.{◌<◌};
 
-use super::machine::{MEMORY, START_UP, new_port, running};
-use crate::{Fatal, HostEvent, Phase, Port};
+use super::machine::{Machine, START_UP};
+use std::alloc::Global;
 use std::process::Abort;
 use std::test::Fail;
-use uda_image::MemImage;
-use uda_mem::HostMemory;
+use uda_port::{Fatal, HostEvent, Phase};
 
 /// What SA shows after the start-up words with bit `bit` of word `step` changed.
 fn sa_after(step: usize, bit: u32) -> u16 {
@@ -40,16 +39,15 @@ fn start_up_with(step: usize, bit: u32) -> [HostEvent; 4] {
 fn each_bit_of_the_start_up(rt: HostRuntime) -> Result<(), Fail> {
     for step in 0..4 {
         for bit in 0..16 {
-            let mut port = new_port(rt.alloc())?;
-            let mut memory = HostMemory::new(rt.alloc(), MEMORY)?;
-            let sa = port.play(&start_up_with(step, bit), &mut memory);
+            let mut machine = Machine::new(rt.alloc())?;
+            let sa = machine.play(&start_up_with(step, bit));
             assert_eq!(rt; sa, sa_after(step, bit), "bit {bit} of word {step}");
-            assert_eq!(rt; port.read_sa(), sa);
+            assert_eq!(rt; machine.sa(), sa);
             // a turn changes nothing of a port that hasn't anything to do
             let look = [HostEvent::ReadIp, HostEvent::Turn];
-            assert_eq!(rt; port.play(&look, &mut memory), sa);
+            assert_eq!(rt; machine.play(&look), sa);
             // and IP begins anew, whatever was
-            assert_eq!(rt; port.play(&[HostEvent::WriteIp], &mut memory), 0x0800);
+            assert_eq!(rt; machine.play(&[HostEvent::WriteIp]), 0x0800);
         }
     }
     Ok(())
@@ -148,47 +146,55 @@ fn assert_lawful(rt: &impl Abort, before: Phase, event: HostEvent, after: Phase)
 }
 
 /// Plays the events one by one, and answers how many deaths and how many turns with work there were.
-fn play_one_by_one(
-    rt: &impl Abort,
-    port: &mut Port<MemImage>,
-    memory: &mut HostMemory,
-    events: &[HostEvent],
-) -> (u32, u32) {
+fn play_one_by_one(rt: &impl Abort, machine: &mut Machine, events: &[HostEvent]) -> (u32, u32) {
     let mut deaths = 0u32;
     let mut busy = 0u32;
     for &event in events {
-        let before = port.phase();
-        let sa = port.play(&[event], memory);
-        let after = port.phase();
+        let before = machine.phase();
+        let sa = machine.play(&[event]);
+        let after = machine.phase();
         assert_lawful(rt, before, event, after);
         assert_eq!(rt; sa, after.sa());
         if sa >= 0x8000 && before != after {
             deaths = deaths.saturating_add(1);
         }
-        if event == HostEvent::Turn && port.pending().max(port.waiting()) > 0 {
+        if event == HostEvent::Turn && machine.pending().max(machine.waiting()) > 0 {
             busy = busy.saturating_add(1);
         }
     }
     (deaths, busy)
 }
 
-#[test]
-fn a_trace_of_random_events(rt: HostRuntime) -> Result<(), Fail> {
+/// What the host does in 20,000 events.
+fn random_events(alloc: Global) -> Result<Vec<HostEvent>, Fail> {
     let mut host = Host::new();
-    let mut events = Vec::new(rt.alloc());
+    let mut events = Vec::new(alloc);
     for _ in 0..20_000 {
         events.push(host.event())?;
     }
-    let (mut port, mut memory) = running(rt.alloc())?;
-    let (deaths, busy) = play_one_by_one(&rt, &mut port, &mut memory, &events);
+    Ok(events)
+}
+
+/// What SA shows and what the port is doing after events played in one call.
+fn played_at_once(alloc: Global, events: &[HostEvent]) -> Result<(u16, Phase), Fail> {
+    let mut machine = Machine::running(alloc)?;
+    let sa = machine.play(events);
+    Ok((sa, machine.phase()))
+}
+
+#[test]
+fn a_trace_of_random_events(rt: HostRuntime) -> Result<(), Fail> {
+    let events = random_events(rt.alloc())?;
+    let mut machine = Machine::running(rt.alloc())?;
+    let (deaths, busy) = play_one_by_one(&rt, &mut machine, &events);
     // the trace reached both
     assert!(rt;
         deaths > 20 && busy > 20,
         "{deaths} deaths, {busy} turns with work"
     );
     // played again in one call, it ends alike
-    let (mut again, mut memory) = running(rt.alloc())?;
-    assert_eq!(rt; again.play(&events, &mut memory), port.read_sa());
-    assert_eq!(rt; again.phase(), port.phase());
+    let (sa, phase) = played_at_once(rt.alloc(), &events)?;
+    assert_eq!(rt; sa, machine.sa());
+    assert_eq!(rt; phase, machine.phase());
     Ok(())
 }

@@ -1,0 +1,19 @@
+//! The tests of the port, by its public calls.
+//!
+//! They stand in a crate of their own, since a crate with tests is proved twice.
+#![tactic(auto)]
+
+#[cfg(test)]
+mod hostile;
+#[cfg(test)]
+mod machine;
+#[cfg(test)]
+mod memory;
+#[cfg(test)]
+mod play;
+#[cfg(test)]
+mod ring;
+#[cfg(test)]
+mod startup;
+#[cfg(test)]
+mod turn;

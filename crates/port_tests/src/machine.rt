@@ -1,0 +1,253 @@
+//! The machine of the tests: a port over four units, and a host's memory, laid out as a driver's.
+//!
+//! What the machine does has no contract, so that a test's proof carries none of the port's.
+
+use super::memory::{bytes, poke, put};
+use std::alloc::Global;
+use std::process::Abort;
+use std::test::Fail;
+use uda_exec::Exec;
+use uda_image::{Drive, MemImage};
+use uda_mem::HostMemory;
+use uda_packet::{Command, End, Op, decode_end, encode_command};
+use uda_port::{HostEvent, Phase, Port, Turn};
+
+/// The bytes of host memory.
+pub(crate) const MEMORY: u32 = 135_168;
+
+/// The words of a start-up: rings of 8 descriptors from the address 8 on.
+pub(crate) const START_UP: [u16; 4] = [0x9b00, 0x0008, 0x0000, 0x0001];
+
+/// The command ring of that start-up.
+pub(crate) const COMMANDS: u32 = 0x28;
+
+/// A port, and the memory of its host.
+#[derive(Drop)]
+pub(crate) struct Machine {
+    port: Port<MemImage>,
+    memory: HostMemory,
+}
+
+/// A unit 0 of 8 blocks, block k all bytes k.
+fn image_of_eight(alloc: Global) -> Result<MemImage, Fail> {
+    let mut bytes = vec![in alloc; 0u8; 4096]?;
+    for (i, byte) in bytes.iter_mut().enumerate() {
+        *byte = (i / 512 % 256) as u8;
+    }
+    Ok(MemImage::from_bytes(alloc, &bytes)?)
+}
+
+/// A port over a unit 0 of these bytes, and no other drive.
+fn port_over(alloc: Global, image: MemImage) -> Result<Port<MemImage>, Fail> {
+    let drive = Drive {
+        store: image,
+        hard: false,
+    };
+    match Port::new(alloc, Exec::new([Some(drive), None, None, None])) {
+        Ok(port) => Ok(port),
+        Err((error, _)) => Err(error.into()),
+    }
+}
+
+/// A port over a unit 0 of 8 blocks, block k all bytes k.
+pub(crate) fn new_port(alloc: Global) -> Result<Port<MemImage>, Fail> {
+    port_over(alloc, image_of_eight(alloc)?)
+}
+
+impl Machine {
+    /// A port over a unit 0 of 8 blocks, block k all bytes k, in an empty memory.
+    pub(crate) fn new(alloc: Global) -> Result<Machine, Fail> {
+        let port = new_port(alloc)?;
+        let memory = HostMemory::new(alloc, MEMORY)?;
+        Ok(Machine { port, memory })
+    }
+
+    /// The same, running.
+    pub(crate) fn running(alloc: Global) -> Result<Machine, Fail> {
+        let mut machine = Machine::new(alloc)?;
+        machine.start_up();
+        Ok(machine)
+    }
+
+    /// Writes the words of a start-up.
+    pub(crate) fn start_up(&mut self) {
+        self.write_words(&START_UP);
+    }
+
+    /// Writes words to SA.
+    pub(crate) fn write_words(&mut self, words: &[u16]) {
+        for &word in words {
+            self.write_sa(word);
+        }
+    }
+
+    /// Writes a word to SA.
+    pub(crate) fn write_sa(&mut self, word: u16) {
+        self.port.write_sa(word, &mut self.memory);
+    }
+
+    /// Reads SA.
+    pub(crate) fn sa(&self) -> u16 {
+        self.port.read_sa()
+    }
+
+    /// Writes IP.
+    pub(crate) fn write_ip(&mut self, value: u16) {
+        self.port.write_ip(value);
+    }
+
+    /// Reads IP.
+    pub(crate) fn read_ip(&mut self) -> u16 {
+        self.port.read_ip()
+    }
+
+    /// One turn of the port.
+    pub(crate) fn turn(&mut self) -> Turn {
+        self.port.turn(&mut self.memory)
+    }
+
+    /// Plays events, and answers SA.
+    pub(crate) fn play(&mut self, events: &[HostEvent]) -> u16 {
+        self.port.play(events, &mut self.memory)
+    }
+
+    /// What the port is doing.
+    pub(crate) fn phase(&self) -> Phase {
+        self.port.phase()
+    }
+
+    /// How many commands are pending.
+    pub(crate) fn pending(&self) -> usize {
+        self.port.pending()
+    }
+
+    /// How many ends wait.
+    pub(crate) fn waiting(&self) -> usize {
+        self.port.waiting()
+    }
+
+    /// Whether the port looks at its command ring.
+    pub(crate) fn is_looking(&self) -> bool {
+        self.port.is_looking()
+    }
+
+    /// The units, as the port leaves them.
+    pub(crate) fn into_drives(self) -> [Option<Drive<MemImage>>; 4] {
+        let Machine { port, .. } = self;
+        port.into_exec().into_stores()
+    }
+
+    /// Puts a new port in the place of this one.
+    pub(crate) fn renew_port(&mut self, alloc: Global) -> Result<(), Fail> {
+        self.port = new_port(alloc)?;
+        Ok(())
+    }
+
+    /// Puts an empty memory of 8 bytes in the place of this one.
+    pub(crate) fn lose_memory(&mut self, alloc: Global) -> Result<(), Fail> {
+        self.memory = HostMemory::new(alloc, 8)?;
+        Ok(())
+    }
+
+    /// Fills memory with one byte.
+    pub(crate) fn fill(&mut self, byte: u8) {
+        if let Some(bytes) = self.memory.window_mut(0, MEMORY) {
+            bytes.fill(byte);
+        }
+    }
+
+    /// Fills a block of memory with one byte.
+    pub(crate) fn fill_block(&mut self, addr: u32, byte: u8) {
+        if let Some(block) = self.memory.block_mut(addr) {
+            block.fill(byte);
+        }
+    }
+
+    /// All bytes of memory.
+    pub(crate) fn bytes(&self) -> &[u8] {
+        bytes(&self.memory)
+    }
+
+    /// The word of memory at an address.
+    pub(crate) fn word(&self, addr: u32) -> Option<u16> {
+        self.memory.read_word(addr)
+    }
+
+    /// Asserts words of memory, each at its address.
+    pub(crate) fn assert_words(&self, rt: &impl Abort, words: &[(u32, u16)]) {
+        for &(addr, word) in words {
+            assert_eq!(rt; self.word(addr), Some(word), "at {addr}");
+        }
+    }
+
+    /// The 512 bytes of memory from an address on.
+    pub(crate) fn block(&self, addr: u32) -> Option<&[u8; 512]> {
+        self.memory.block(addr)
+    }
+
+    /// Writes words of memory, each at its address.
+    pub(crate) fn poke(&mut self, rt: &impl Abort, words: &[(u32, u16)]) {
+        poke(rt, &mut self.memory, words);
+    }
+
+    /// Posts a text as command i, with an envelope of 48 bytes.
+    pub(crate) fn post(&mut self, rt: &impl Abort, i: u16, text: &[u8; 48]) {
+        assert!(rt; i < 8);
+        let low = 0x304 + 64 * i;
+        let envelope = 0x300 + 64 * u32::from(i);
+        let descriptor = COMMANDS + 4 * u32::from(i);
+        put(rt, &mut self.memory, envelope + 4, text);
+        self.poke(rt, &[(envelope, 48), (envelope + 2, 0)]);
+        self.poke(rt, &[(descriptor, low), (descriptor + 2, 0x8000)]);
+    }
+
+    /// Posts a command as command i.
+    pub(crate) fn post_command(&mut self, rt: &impl Abort, i: u16, unit: u16, op: Op) {
+        let command = Command {
+            reference: u32::from(i) + 1,
+            unit,
+            op,
+        };
+        self.post(rt, i, &encode_command(&command));
+    }
+
+    /// Hands response descriptor i to the port, with a buffer of 60 bytes.
+    pub(crate) fn open_response(&mut self, rt: &impl Abort, i: u16) {
+        assert!(rt; i < 8);
+        let low = 0x104 + 64 * i;
+        let descriptor = 8 + 4 * u32::from(i);
+        self.poke(rt, &[(0x100 + 64 * u32::from(i), 60)]);
+        self.poke(rt, &[(descriptor, low), (descriptor + 2, 0x8000)]);
+    }
+
+    /// The text of response i.
+    pub(crate) fn response(&self, rt: &impl Abort, i: u16) -> [u8; 48] {
+        assert!(rt; i < 8);
+        let mut text = [0; 48];
+        match self.memory.window(0x104 + 64 * u32::from(i), 48) {
+            Some(bytes) => text.copy_from_slice(bytes),
+            None => panic!(rt; "no text of response {i}"),
+        }
+        text
+    }
+
+    /// The end message of response i, where it is one.
+    pub(crate) fn end(&self, rt: &impl Abort, i: u16) -> Option<End> {
+        decode_end(&self.response(rt, i))
+    }
+
+    /// Reads IP and takes turns, each of which answers what is wanted.
+    pub(crate) fn take_turns(&mut self, rt: &impl Abort, wanted: &[Turn]) {
+        assert_eq!(rt; self.read_ip(), 0);
+        for &turn in wanted {
+            assert_eq!(rt; self.turn(), turn);
+        }
+    }
+
+    /// Puts unit 0 online by command 0, whose end goes to response 0.
+    pub(crate) fn put_online(&mut self, rt: &impl Abort) {
+        self.open_response(rt, 0);
+        self.post_command(rt, 0, 0, Op::Online { soft: None });
+        self.take_turns(rt, &[Turn::Fetched, Turn::Executed, Turn::Delivered]);
+    }
+}

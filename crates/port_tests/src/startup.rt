@@ -1,0 +1,136 @@
+//! The start-up, by the worked examples.
+
+use super::machine::{Machine, START_UP};
+use std::process::Abort;
+use std::test::Fail;
+use uda_port::{Fatal, Phase, Turn};
+
+/// Writes words to SA and asserts what SA shows after each.
+fn write_words(rt: &impl Abort, machine: &mut Machine, steps: &[(u16, u16)]) {
+    for &(word, sa) in steps {
+        machine.write_sa(word);
+        assert_eq!(rt; machine.sa(), sa, "after {word:x}");
+    }
+}
+
+/// A machine in step 1, with a memory of bytes 0xFF.
+fn full_machine(rt: &HostRuntime) -> Result<Machine, Fail> {
+    let mut machine = Machine::new(rt.alloc())?;
+    machine.fill(0xff);
+    Ok(machine)
+}
+
+/// Whether the bytes from `start` up to `end` are zero, and all others 0xFF.
+fn is_zero_there(machine: &Machine, start: usize, end: usize) -> bool {
+    machine.bytes().iter().enumerate().all(|(i, byte)| {
+        *byte == if start <= i && i < end { 0 } else { 0xff }
+    })
+}
+
+#[test]
+fn start_up_words(rt: HostRuntime) -> Result<(), Fail> {
+    let mut machine = full_machine(&rt)?;
+    assert_eq!(rt; machine.sa(), 0x0800);
+    let steps = [
+        (0x9b00, 0x109b),
+        (0x0008, 0x2000),
+        (0x0000, 0x4063),
+        (0x0001, 0x0000),
+    ];
+    write_words(&rt, &mut machine, &steps);
+    assert!(rt; is_zero_there(&machine, 4, 72));
+    assert_eq!(rt; machine.phase(), Phase::Running);
+    // a port that runs ignores the next word
+    write_words(&rt, &mut machine, &[(0xffff, 0x0000)]);
+    assert!(rt; is_zero_there(&machine, 4, 72));
+    Ok(())
+}
+
+#[test]
+fn word_without_bit_15(rt: HostRuntime) -> Result<(), Fail> {
+    let mut machine = full_machine(&rt)?;
+    write_words(&rt, &mut machine, &[(0x1b00, 0x0800), (0x9b00, 0x109b)]);
+    Ok(())
+}
+
+#[test]
+fn wrap_refused(rt: HostRuntime) -> Result<(), Fail> {
+    let mut machine = full_machine(&rt)?;
+    write_words(&rt, &mut machine, &[(0xdb00, 0x8013)]);
+    for _ in 0..3 {
+        assert_eq!(rt; machine.turn(), Turn::Dead);
+    }
+    assert_eq!(rt;
+        machine.phase(),
+        Phase::Dead {
+            cause: Fatal::StartUpWord
+        }
+    );
+    Ok(())
+}
+
+#[test]
+fn ring_lengths(rt: HostRuntime) -> Result<(), Fail> {
+    for (first, second_sa, end) in [
+        (0x8000, 0x1080, 16),
+        (0xbf00, 0x10bf, 1032),
+        (0x9900, 0x1099, 48),
+    ] {
+        let mut machine = full_machine(&rt)?;
+        let steps = [
+            (first, second_sa),
+            (0x0008, 0x2000),
+            (0x0000, 0x4063),
+            (0x0001, 0x0000),
+        ];
+        write_words(&rt, &mut machine, &steps);
+        assert!(rt; is_zero_there(&machine, 4, end), "{first:x}");
+        if first == 0x9900 {
+            // two response descriptors, so the command ring begins at 16
+            machine.poke(&rt, &[(0x300, 48), (0x302, 0)]);
+            machine.poke(&rt, &[(16, 0x0304), (18, 0x8000)]);
+            machine.read_ip();
+            assert_eq!(rt; machine.turn(), Turn::Fetched);
+            assert_eq!(rt; machine.word(18), Some(0x4000));
+        }
+    }
+    Ok(())
+}
+
+#[test]
+fn bad_start_up_words(rt: HostRuntime) -> Result<(), Fail> {
+    for (words, sa) in [
+        ([0x0009, 0x0000], 0x8013),
+        ([0x0008, 0x0004], 0x8013),
+        ([0x0008, 0x8000], 0x8013),
+        ([0x0000, 0x0000], 0x8007),
+        ([0x0fc8, 0x0002], 0x8007),
+        ([0x0fc0, 0x0002], 0x4063),
+    ] {
+        let mut machine = full_machine(&rt)?;
+        machine.write_sa(0x9b00);
+        machine.write_words(&words);
+        assert_eq!(rt; machine.sa(), sa, "{words:?}");
+        let zeroed = if sa == 0x4063 {
+            (0x20fbc, 0x21000)
+        } else {
+            (0, 0)
+        };
+        assert!(rt; is_zero_there(&machine, zeroed.0, zeroed.1), "{words:?}");
+    }
+    Ok(())
+}
+
+#[test]
+fn a_dead_port_wants_ip(rt: HostRuntime) -> Result<(), Fail> {
+    let mut machine = full_machine(&rt)?;
+    machine.write_sa(0xdb00);
+    for word in START_UP {
+        write_words(&rt, &mut machine, &[(word, 0x8013)]);
+    }
+    machine.write_ip(0x1234);
+    assert_eq!(rt; machine.sa(), 0x0800);
+    machine.start_up();
+    assert_eq!(rt; machine.phase(), Phase::Running);
+    Ok(())
+}

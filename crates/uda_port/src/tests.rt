@@ -1,8 +1,0 @@
-//! Tests of the port.
-
-mod hostile;
-mod machine;
-mod play;
-mod ring;
-mod startup;
-mod turn;

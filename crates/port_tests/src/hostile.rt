@@ -4,7 +4,8 @@ use super::machine::{COMMANDS, Machine};
 use std::alloc::Global;
 use std::process::Abort;
 use std::test::Fail;
-use uda_packet::{EndBody, Op};
+use uda_image::Drive;
+use uda_packet::{End, EndBody, Op};
 use uda_port::{Fatal, Phase, Turn};
 
 #[test]
@@ -20,8 +21,8 @@ fn bad_command_packets(rt: HostRuntime) -> Result<(), Fail> {
         machine.poke(&rt, &[(COMMANDS, low), (COMMANDS + 2, high)]);
         let before = machine.bytes().to_vec(rt.alloc())?;
         machine.take_turns(&rt, &[Turn::Dead, Turn::Dead]);
-        assert_eq!(rt; machine.sa(), 0x8001, "{high:x} {low:x}");
-        assert_eq!(rt; machine.bytes(), before.as_slice());
+        machine.assert_sa(&rt, 0x8001);
+        machine.assert_bytes(&rt, &before);
     }
     Ok(())
 }
@@ -37,7 +38,7 @@ fn bad_envelopes(rt: HostRuntime) -> Result<(), Fail> {
         machine.post_command(&rt, 0, 0, Op::Status);
         machine.poke(&rt, &[(COMMANDS + 2, 0xc000), (0x302, second)]);
         machine.take_turns(&rt, &[turn]);
-        assert_eq!(rt; machine.sa(), sa);
+        machine.assert_sa(&rt, sa);
         machine.assert_words(&rt, &[(COMMANDS, 0x0304), (COMMANDS + 2, 0x4000)]);
     }
     Ok(())
@@ -53,19 +54,14 @@ fn response_not_owned(rt: HostRuntime) -> Result<(), Fail> {
         machine.open_response(&rt, 0);
         machine.poke(&rt, &[(0x100, length)]);
         let before = machine.bytes().to_vec(rt.alloc())?;
-        assert_eq!(rt; machine.turn(), turn);
-        assert_eq!(rt; machine.sa(), sa);
+        machine.assert_turn(&rt, turn);
+        machine.assert_sa(&rt, sa);
         match turn {
-            Turn::Delivered => assert_eq!(rt; machine.word(0x100), Some(48)),
-            _ => assert_eq!(rt; machine.bytes(), before.as_slice()),
+            Turn::Delivered => machine.assert_words(&rt, &[(0x100, 48)]),
+            _ => machine.assert_bytes(&rt, &before),
         }
     }
     Ok(())
-}
-
-/// Whether all of memory is these bytes.
-fn holds(machine: &Machine, wanted: &[u8]) -> bool {
-    machine.bytes() == wanted
 }
 
 /// A machine that runs, with a Status posted.
@@ -80,8 +76,8 @@ fn memory_changed(rt: HostRuntime) -> Result<(), Fail> {
     let mut machine = with_status(&rt, rt.alloc())?;
     machine.lose_memory(rt.alloc())?;
     machine.take_turns(&rt, &[Turn::Dead]);
-    assert_eq!(rt; machine.sa(), 0x8006);
-    assert!(rt; holds(&machine, &[0; 8]));
+    machine.assert_sa(&rt, 0x8006);
+    machine.assert_bytes(&rt, &[0; 8]);
     response_ring_lost(&rt, rt.alloc())
 }
 
@@ -90,9 +86,9 @@ fn response_ring_lost(rt: &impl Abort, alloc: Global) -> Result<(), Fail> {
     let mut machine = with_status(rt, alloc)?;
     machine.take_turns(rt, &[Turn::Fetched, Turn::Executed]);
     machine.lose_memory(alloc)?;
-    assert_eq!(rt; machine.turn(), Turn::Dead);
+    machine.assert_turn(rt, Turn::Dead);
     let cause = Fatal::RingRead;
-    assert_eq!(rt; machine.phase(), Phase::Dead { cause });
+    machine.assert_phase(rt, Phase::Dead { cause });
     Ok(())
 }
 
@@ -111,9 +107,15 @@ fn read_over_the_rings(rt: HostRuntime) -> Result<(), Fail> {
     machine.post_command(&rt, 1, 0, read);
     let wanted = [Turn::Fetched, Turn::Executed, Turn::Idle];
     machine.take_turns(&rt, &wanted);
-    assert_eq!(rt; machine.block(8), Some(&[0; 512]));
-    assert_eq!(rt; machine.sa(), 0);
+    machine.assert_block(&rt, 8, 0);
+    machine.assert_sa(&rt, 0);
     Ok(())
+}
+
+/// The store of unit 0.
+fn first_of<S: Drop>(drives: [Option<Drive<S>>; 4]) -> Option<S> {
+    let [first, _, _, _] = drives;
+    first.map(|drive| drive.store)
 }
 
 #[test]
@@ -135,24 +137,25 @@ fn start_up_in_mid_work(rt: HostRuntime) -> Result<(), Fail> {
     };
     machine.post_command(&rt, 2, 0, read);
     machine.take_turns(&rt, &[Turn::Fetched]);
-    assert!(rt; machine.pending() == 1 && machine.waiting() == 1);
+    machine.assert_load(&rt, 1, 1);
     machine.write_ip(0);
     machine.start_up();
     machine.take_turns(&rt, &[Turn::Idle]);
-    assert!(rt; machine.pending() == 0 && machine.waiting() == 0);
+    machine.assert_load(&rt, 0, 0);
     // the unit is available without protection, and the block stays
     machine.open_response(&rt, 0);
     machine.post_command(&rt, 0, 0, Op::Status);
     let one = [Turn::Fetched, Turn::Executed, Turn::Delivered];
     machine.take_turns(&rt, &one);
-    let told = machine.end(&rt, 0).map(|end| (end.status, end.body));
-    assert_eq!(rt; told, Some((0x0004, EndBody::Status { flags: 0 })));
-    for (unit, drive) in machine.into_drives().into_iter().enumerate() {
-        if let Some(drive) = drive {
-            assert_eq!(rt; unit, 0);
-            let written = drive.store.bytes().get(1024..1536);
-            assert_eq!(rt; written, Some([0x77; 512].as_slice()));
-        }
-    }
+    let available = End {
+        reference: 1,
+        unit: 0,
+        status: 0x0004,
+        body: EndBody::Status { flags: 0 },
+    };
+    machine.assert_end(&rt, 0, available);
+    let image = first_of(machine.into_drives()).ok_or("no drive")?;
+    let written = image.bytes().get(1024..1536);
+    assert_eq!(rt; written, Some([0x77; 512].as_slice()));
     Ok(())
 }

@@ -173,13 +173,6 @@ impl Machine {
         self.memory.read_word(addr)
     }
 
-    /// Asserts words of memory, each at its address.
-    pub(crate) fn assert_words(&self, rt: &impl Abort, words: &[(u32, u16)]) {
-        for &(addr, word) in words {
-            assert_eq!(rt; self.word(addr), Some(word), "at {addr}");
-        }
-    }
-
     /// The 512 bytes of memory from an address on.
     pub(crate) fn block(&self, addr: u32) -> Option<&[u8; 512]> {
         self.memory.block(addr)
@@ -249,5 +242,61 @@ impl Machine {
         self.open_response(rt, 0);
         self.post_command(rt, 0, 0, Op::Online { soft: None });
         self.take_turns(rt, &[Turn::Fetched, Turn::Executed, Turn::Delivered]);
+    }
+
+    // What is asserted stands behind methods too: a test's proof grows faster than its body.
+
+    pub(crate) fn assert_sa(&self, rt: &impl Abort, sa: u16) {
+        assert_eq!(rt; self.sa(), sa);
+    }
+
+    /// Plays events, and asserts what SA shows then.
+    pub(crate) fn assert_play(&mut self, rt: &impl Abort, events: &[HostEvent], sa: u16) {
+        assert_eq!(rt; self.play(events), sa, "{events:?}");
+    }
+
+    pub(crate) fn assert_phase(&self, rt: &impl Abort, phase: Phase) {
+        assert_eq!(rt; self.phase(), phase);
+    }
+
+    pub(crate) fn assert_looks(&self, rt: &impl Abort, looks: bool) {
+        assert_eq!(rt; self.is_looking(), looks);
+    }
+
+    /// Asserts how many commands are pending, and how many ends wait.
+    pub(crate) fn assert_load(&self, rt: &impl Abort, pending: usize, waiting: usize) {
+        assert_eq!(rt; (self.pending(), self.waiting()), (pending, waiting));
+    }
+
+    /// Takes a turn, and asserts what it was.
+    pub(crate) fn assert_turn(&mut self, rt: &impl Abort, turn: Turn) {
+        assert_eq!(rt; self.turn(), turn);
+    }
+
+    /// Asserts words of memory, each at its address.
+    pub(crate) fn assert_words(&self, rt: &impl Abort, words: &[(u32, u16)]) {
+        for &(addr, word) in words {
+            assert_eq!(rt; self.word(addr), Some(word), "at {addr}");
+        }
+    }
+
+    /// Asserts that a block of memory is all of one byte.
+    pub(crate) fn assert_block(&self, rt: &impl Abort, addr: u32, byte: u8) {
+        assert_eq!(rt; self.block(addr), Some(&[byte; 512]));
+    }
+
+    /// Asserts all bytes of memory.
+    pub(crate) fn assert_bytes(&self, rt: &impl Abort, bytes: &[u8]) {
+        assert_eq!(rt; self.bytes(), bytes);
+    }
+
+    /// Asserts the text of response i.
+    pub(crate) fn assert_response(&self, rt: &impl Abort, i: u16, text: &[u8; 48]) {
+        assert_eq!(rt; &self.response(rt, i), text);
+    }
+
+    /// Asserts the end message of response i.
+    pub(crate) fn assert_end(&self, rt: &impl Abort, i: u16, end: End) {
+        assert_eq!(rt; self.end(rt, i), Some(end));
     }
 }

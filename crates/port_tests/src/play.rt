@@ -35,19 +35,24 @@ fn start_up_with(step: usize, bit: u32) -> [HostEvent; 4] {
     words.map(HostEvent::WriteSa)
 }
 
+/// Asserts what a new port shows after a start-up with bit `bit` of word `step` changed.
+fn assert_bit(rt: &impl Abort, alloc: Global, step: usize, bit: u32) -> Result<(), Fail> {
+    let mut machine = Machine::new(alloc)?;
+    let sa = sa_after(step, bit);
+    machine.assert_play(rt, &start_up_with(step, bit), sa);
+    machine.assert_sa(rt, sa);
+    // a turn changes nothing of a port that hasn't anything to do
+    machine.assert_play(rt, &[HostEvent::ReadIp, HostEvent::Turn], sa);
+    // and IP begins anew, whatever was
+    machine.assert_play(rt, &[HostEvent::WriteIp], 0x0800);
+    Ok(())
+}
+
 #[test]
 fn each_bit_of_the_start_up(rt: HostRuntime) -> Result<(), Fail> {
     for step in 0..4 {
         for bit in 0..16 {
-            let mut machine = Machine::new(rt.alloc())?;
-            let sa = machine.play(&start_up_with(step, bit));
-            assert_eq!(rt; sa, sa_after(step, bit), "bit {bit} of word {step}");
-            assert_eq!(rt; machine.sa(), sa);
-            // a turn changes nothing of a port that hasn't anything to do
-            let look = [HostEvent::ReadIp, HostEvent::Turn];
-            assert_eq!(rt; machine.play(&look), sa);
-            // and IP begins anew, whatever was
-            assert_eq!(rt; machine.play(&[HostEvent::WriteIp]), 0x0800);
+            assert_bit(&rt, rt.alloc(), step, bit)?;
         }
     }
     Ok(())
@@ -194,7 +199,7 @@ fn a_trace_of_random_events(rt: HostRuntime) -> Result<(), Fail> {
     );
     // played again in one call, it ends alike
     let (sa, phase) = played_at_once(rt.alloc(), &events)?;
-    assert_eq!(rt; sa, machine.sa());
-    assert_eq!(rt; phase, machine.phase());
+    machine.assert_sa(&rt, sa);
+    machine.assert_phase(&rt, phase);
     Ok(())
 }

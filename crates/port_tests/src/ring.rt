@@ -44,6 +44,30 @@ impl Commands {
     fn put(&mut self, rt: &impl Abort, addr: u32, bytes: &[u8]) {
         put(rt, &mut self.memory, addr, bytes);
     }
+
+    /// Fetches, and asserts what comes of it.
+    fn assert_fetch(&mut self, rt: &impl Abort, fetched: Result<Option<Fetched>, RingFault>) {
+        assert_eq!(rt; self.fetch(), fetched);
+    }
+
+    /// Fetches, and asserts the command reference, or that nothing is there.
+    fn assert_next(&mut self, rt: &impl Abort, reference: Option<u32>) {
+        assert_eq!(rt; self.next_reference(), Ok(reference));
+    }
+
+    fn assert_words(&self, rt: &impl Abort, words: &[(u32, u16)]) {
+        for &(addr, word) in words {
+            assert_eq!(rt; self.word(addr), Some(word), "at {addr}");
+        }
+    }
+
+    fn assert_bytes(&self, rt: &impl Abort, bytes: &[u8]) {
+        assert_eq!(rt; self.bytes(), bytes);
+    }
+
+    fn assert_ring(&self, rt: &impl Abort, ring: CommandRing) {
+        assert_eq!(rt; self.ring, ring);
+    }
 }
 
 /// A ring of two descriptors.
@@ -67,15 +91,15 @@ fn ring_wraps(rt: HostRuntime) -> Result<(), Fail> {
         &rt,
         &[(8, 0x0040), (10, 0x8000), (12, 0x0080), (14, 0x8000)],
     );
-    assert_eq!(rt; commands.next_reference(), Ok(Some(1)));
-    assert_eq!(rt; commands.word(8), Some(0x0040));
-    assert_eq!(rt; commands.word(10), Some(0x4000));
-    assert_eq!(rt; commands.word(12), Some(0x0080));
-    assert_eq!(rt; commands.word(14), Some(0x8000));
+    commands.assert_next(&rt, Some(1));
+    commands.assert_words(
+        &rt,
+        &[(8, 0x0040), (10, 0x4000), (12, 0x0080), (14, 0x8000)],
+    );
     commands.poke(&rt, &[(0xc0, 3), (8, 0x00c0), (10, 0x8000)]);
-    assert_eq!(rt; commands.next_reference(), Ok(Some(2)));
-    assert_eq!(rt; commands.next_reference(), Ok(Some(3)));
-    assert_eq!(rt; commands.next_reference(), Ok(None));
+    commands.assert_next(&rt, Some(2));
+    commands.assert_next(&rt, Some(3));
+    commands.assert_next(&rt, None);
     Ok(())
 }
 
@@ -87,9 +111,9 @@ fn hole_in_ring(rt: HostRuntime) -> Result<(), Fail> {
     commands.poke(&rt, &[(0x40, 1), (0x80, 2)]);
     commands.poke(&rt, &[(8, 0x0040), (12, 0x0080), (14, 0x8000)]);
     let before = commands.bytes().to_vec(rt.alloc())?;
-    assert_eq!(rt; commands.fetch(), Ok(None));
-    assert_eq!(rt; commands.bytes(), before.as_slice());
-    assert_eq!(rt; commands.ring, CommandRing::new(8, 2));
+    commands.assert_fetch(&rt, Ok(None));
+    commands.assert_bytes(&rt, &before);
+    commands.assert_ring(&rt, CommandRing::new(8, 2));
     Ok(())
 }
 
@@ -100,8 +124,8 @@ fn rings_of_one_and_of_128(rt: HostRuntime) -> Result<(), Fail> {
     let mut commands = Commands { ring, memory };
     for turn in 1..4 {
         commands.poke(&rt, &[(0x40, turn), (0x3c, 0x0040), (0x3e, 0x8000)]);
-        assert_eq!(rt; commands.next_reference(), Ok(Some(u32::from(turn))));
-        assert_eq!(rt; commands.next_reference(), Ok(None));
+        commands.assert_next(&rt, Some(u32::from(turn)));
+        commands.assert_next(&rt, None);
     }
     commands.ring = CommandRing::new(0, 128);
     for i in 0..128 {
@@ -110,10 +134,10 @@ fn rings_of_one_and_of_128(rt: HostRuntime) -> Result<(), Fail> {
         commands.poke(&rt, &[(u32::from(text), i), (at, text), (at + 2, 0x8000)]);
     }
     for i in 0..128 {
-        assert_eq!(rt; commands.next_reference(), Ok(Some(i)));
+        commands.assert_next(&rt, Some(i));
     }
-    assert_eq!(rt; commands.ring, CommandRing::new(0, 128));
-    assert_eq!(rt; commands.next_reference(), Ok(None));
+    commands.assert_ring(&rt, CommandRing::new(0, 128));
+    commands.assert_next(&rt, None);
     Ok(())
 }
 
@@ -136,9 +160,8 @@ fn a_packet_is_an_envelope_and_a_text(rt: HostRuntime) -> Result<(), Fail> {
         commands.put(&rt, below + 4, &text);
         // the flag bit is ignored
         commands.poke(&rt, &[(64, low), (66, 0xc000 | high)]);
-        assert_eq!(rt; commands.fetch(), Ok(Some(packet)));
-        assert_eq!(rt; commands.word(64), Some(low));
-        assert_eq!(rt; commands.word(66), Some(0x4000 | high));
+        commands.assert_fetch(&rt, Ok(Some(packet)));
+        commands.assert_words(&rt, &[(64, low), (66, 0x4000 | high)]);
     }
     Ok(())
 }
@@ -153,7 +176,7 @@ fn a_packet_is_read_before_its_descriptor_is_given_back(rt: HostRuntime) -> Resu
     let p = commands.fetch()?.ok_or("no packet")?;
     assert_eq!(rt; p.words, (48, 0x0004));
     assert_eq!(rt; reference(p), 0x8000);
-    assert_eq!(rt; commands.word(4), Some(0x4000));
+    commands.assert_words(&rt, &[(4, 0x4000)]);
     Ok(())
 }
 
@@ -179,16 +202,12 @@ fn an_unreadable_packet_is_a_packet_fault(rt: HostRuntime) -> Result<(), Fail> {
         commands.ring = CommandRing::new(8, 2);
         commands.poke(&rt, &[(8, low), (10, high), (12, 0x0040), (14, 0x8000)]);
         let before = commands.bytes().to_vec(rt.alloc())?;
-        assert_eq!(rt;
-            commands.fetch(),
-            Err(RingFault::Packet),
-            "at {high:x} {low:x}"
-        );
-        assert_eq!(rt; commands.bytes(), before.as_slice());
-        assert_eq!(rt; commands.ring, CommandRing::new(8, 2));
+        commands.assert_fetch(&rt, Err(RingFault::Packet));
+        commands.assert_bytes(&rt, &before);
+        commands.assert_ring(&rt, CommandRing::new(8, 2));
         // owned by bit 15 alone
         commands.poke(&rt, &[(10, high & 0x7fff)]);
-        assert_eq!(rt; commands.fetch(), Ok(None), "at {high:x} {low:x}");
+        commands.assert_fetch(&rt, Ok(None));
     }
     Ok(())
 }
@@ -199,44 +218,42 @@ fn a_descriptor_outside_memory_is_a_ring_fault(rt: HostRuntime) -> Result<(), Fa
     let memory = HostMemory::new(rt.alloc(), 256)?;
     let mut commands = Commands { ring, memory };
     commands.poke(&rt, &[(0x40, 1), (252, 0x0040), (254, 0x8000)]);
-    assert_eq!(rt; commands.next_reference(), Ok(Some(1)));
+    commands.assert_next(&rt, Some(1));
     let after_one = commands.ring;
     let before = commands.bytes().to_vec(rt.alloc())?;
     for _ in 0..2 {
-        assert_eq!(rt; commands.fetch(), Err(RingFault::Ring));
-        assert_eq!(rt; commands.ring, after_one);
+        commands.assert_fetch(&rt, Err(RingFault::Ring));
+        commands.assert_ring(&rt, after_one);
     }
     for base in [254, 256, 65_540, RING_BASE_LIMIT] {
         commands.ring = ring_of_two(&rt, base);
-        assert_eq!(rt; commands.fetch(), Err(RingFault::Ring), "at {base}");
-        assert_eq!(rt; commands.ring, ring_of_two(&rt, base));
+        commands.assert_fetch(&rt, Err(RingFault::Ring));
+        commands.assert_ring(&rt, ring_of_two(&rt, base));
     }
-    assert_eq!(rt; commands.bytes(), before.as_slice());
+    commands.assert_bytes(&rt, &before);
     Ok(())
+}
+
+/// What a descriptor at an even address is: its words, whether it is owned, its address, and its second word
+/// given back.
+fn descriptor_at(memory: &HostMemory, at: u32) -> Option<(u16, u16, bool, u32, u16)> {
+    if at % 2 != 0 {
+        return None;
+    }
+    let d = Descriptor::read(memory, at)?;
+    Some((d.low, d.high, d.is_owned(), d.address(), d.given_back()))
 }
 
 #[test]
 fn a_descriptor_is_two_words(rt: HostRuntime) -> Result<(), Fail> {
     let mut memory = HostMemory::new(rt.alloc(), 8)?;
     poke(&rt, &mut memory, &[(2, 0x1234), (4, 0xbfff), (6, 0x7fff)]);
-    let owned = Descriptor {
-        low: 0x1234,
-        high: 0xbfff,
-    };
-    assert_eq!(rt; Descriptor::read(&memory, 2), Some(owned));
-    assert!(rt; owned.is_owned());
-    assert_eq!(rt; owned.address(), 0x3fff_1234);
-    assert_eq!(rt; owned.given_back(), 0x7fff);
-    let host = Descriptor {
-        low: 0xbfff,
-        high: 0x7fff,
-    };
-    assert_eq!(rt; Descriptor::read(&memory, 4), Some(host));
-    assert!(rt; !host.is_owned());
-    assert_eq!(rt; host.address(), 0x3fff_bfff);
-    assert_eq!(rt; host.given_back(), 0x7fff);
+    let owned = (0x1234, 0xbfff, true, 0x3fff_1234, 0x7fff);
+    assert_eq!(rt; descriptor_at(&memory, 2), Some(owned));
+    let host = (0xbfff, 0x7fff, false, 0x3fff_bfff, 0x7fff);
+    assert_eq!(rt; descriptor_at(&memory, 4), Some(host));
     for at in [6, 8, 65_536, u32::MAX - 1] {
-        assert_eq!(rt; Descriptor::read(&memory, at), None, "at {at}");
+        assert_eq!(rt; descriptor_at(&memory, at), None, "at {at}");
     }
     Ok(())
 }

@@ -9,7 +9,7 @@ use uda_port::{Fatal, Phase, Turn};
 fn write_words(rt: &impl Abort, machine: &mut Machine, steps: &[(u16, u16)]) {
     for &(word, sa) in steps {
         machine.write_sa(word);
-        assert_eq!(rt; machine.sa(), sa, "after {word:x}");
+        machine.assert_sa(rt, sa);
     }
 }
 
@@ -30,7 +30,7 @@ fn is_zero_there(machine: &Machine, start: usize, end: usize) -> bool {
 #[test]
 fn start_up_words(rt: HostRuntime) -> Result<(), Fail> {
     let mut machine = full_machine(&rt)?;
-    assert_eq!(rt; machine.sa(), 0x0800);
+    machine.assert_sa(&rt, 0x0800);
     let steps = [
         (0x9b00, 0x109b),
         (0x0008, 0x2000),
@@ -39,7 +39,7 @@ fn start_up_words(rt: HostRuntime) -> Result<(), Fail> {
     ];
     write_words(&rt, &mut machine, &steps);
     assert!(rt; is_zero_there(&machine, 4, 72));
-    assert_eq!(rt; machine.phase(), Phase::Running);
+    machine.assert_phase(&rt, Phase::Running);
     // a port that runs ignores the next word
     write_words(&rt, &mut machine, &[(0xffff, 0x0000)]);
     assert!(rt; is_zero_there(&machine, 4, 72));
@@ -58,13 +58,13 @@ fn wrap_refused(rt: HostRuntime) -> Result<(), Fail> {
     let mut machine = full_machine(&rt)?;
     write_words(&rt, &mut machine, &[(0xdb00, 0x8013)]);
     for _ in 0..3 {
-        assert_eq!(rt; machine.turn(), Turn::Dead);
+        machine.assert_turn(&rt, Turn::Dead);
     }
-    assert_eq!(rt;
-        machine.phase(),
+    machine.assert_phase(
+        &rt,
         Phase::Dead {
-            cause: Fatal::StartUpWord
-        }
+            cause: Fatal::StartUpWord,
+        },
     );
     Ok(())
 }
@@ -90,8 +90,8 @@ fn ring_lengths(rt: HostRuntime) -> Result<(), Fail> {
             machine.poke(&rt, &[(0x300, 48), (0x302, 0)]);
             machine.poke(&rt, &[(16, 0x0304), (18, 0x8000)]);
             machine.read_ip();
-            assert_eq!(rt; machine.turn(), Turn::Fetched);
-            assert_eq!(rt; machine.word(18), Some(0x4000));
+            machine.assert_turn(&rt, Turn::Fetched);
+            machine.assert_words(&rt, &[(18, 0x4000)]);
         }
     }
     Ok(())
@@ -110,7 +110,7 @@ fn bad_start_up_words(rt: HostRuntime) -> Result<(), Fail> {
         let mut machine = full_machine(&rt)?;
         machine.write_sa(0x9b00);
         machine.write_words(&words);
-        assert_eq!(rt; machine.sa(), sa, "{words:?}");
+        machine.assert_sa(&rt, sa);
         let zeroed = if sa == 0x4063 {
             (0x20fbc, 0x21000)
         } else {
@@ -129,8 +129,8 @@ fn a_dead_port_wants_ip(rt: HostRuntime) -> Result<(), Fail> {
         write_words(&rt, &mut machine, &[(word, 0x8013)]);
     }
     machine.write_ip(0x1234);
-    assert_eq!(rt; machine.sa(), 0x0800);
+    machine.assert_sa(&rt, 0x0800);
     machine.start_up();
-    assert_eq!(rt; machine.phase(), Phase::Running);
+    machine.assert_phase(&rt, Phase::Running);
     Ok(())
 }

@@ -47,8 +47,8 @@ fn read_one_block(rt: HostRuntime) -> Result<(), Fail> {
     machine.open_response(&rt, 1);
     machine.post(&rt, 1, &read_text());
     machine.take_turns(&rt, &ONE_COMMAND);
-    assert_eq!(rt; machine.response(&rt, 1), read_end());
-    assert_eq!(rt; machine.block(0x1000), Some(&[5; 512]));
+    machine.assert_response(&rt, 1, &read_end());
+    machine.assert_block(&rt, 0x1000, 5);
     // the first end grants 8 credits, the next one 1; both descriptors are given back
     machine.assert_words(
         &rt,
@@ -62,7 +62,7 @@ fn read_one_block(rt: HostRuntime) -> Result<(), Fail> {
             (COMMANDS + 6, 0x4000),
         ],
     );
-    assert_eq!(rt; machine.turn(), Turn::Idle);
+    machine.assert_turn(&rt, Turn::Idle);
     Ok(())
 }
 
@@ -73,12 +73,12 @@ fn credits_exceeded(rt: HostRuntime) -> Result<(), Fail> {
     machine.post_command(&rt, 0, 0, Op::Status);
     machine.post_command(&rt, 1, 0, Op::Status);
     machine.take_turns(&rt, &[Turn::Fetched, Turn::Dead]);
-    assert_eq!(rt; machine.sa(), 0x800a);
+    machine.assert_sa(&rt, 0x800a);
     machine.assert_words(
         &rt,
         &[(COMMANDS + 2, 0x4000), (COMMANDS + 6, 0x4000), (10, 0x8000)],
     );
-    assert_eq!(rt; machine.response(&rt, 0), [0; 48]);
+    machine.assert_response(&rt, 0, &[0; 48]);
     Ok(())
 }
 
@@ -109,8 +109,8 @@ fn refused_transfers(rt: HostRuntime) -> Result<(), Fail> {
                 bytes: 0,
             },
         };
-        assert_eq!(rt; machine.end(&rt, 1), Some(refused));
-        assert_eq!(rt; machine.block(0x1000), Some(&[0; 512]));
+        machine.assert_end(&rt, 1, refused);
+        machine.assert_block(&rt, 0x1000, 0);
     }
     Ok(())
 }
@@ -130,7 +130,7 @@ fn what_is_no_command_ends_as_invalid(rt: HostRuntime) -> Result<(), Fail> {
             status,
             body: EndBody::Invalid,
         };
-        assert_eq!(rt; machine.end(&rt, 0), Some(invalid), "length {length}");
+        machine.assert_end(&rt, 0, invalid);
     }
     Ok(())
 }
@@ -144,18 +144,20 @@ fn fetches_come_first_and_ends_go_in_order(rt: HostRuntime) -> Result<(), Fail> 
         machine.post_command(&rt, i, i, Op::Status);
     }
     machine.take_turns(&rt, &[Turn::Fetched, Turn::Fetched, Turn::Fetched]);
-    assert!(rt; machine.is_looking() && machine.pending() == 3 && machine.waiting() == 0);
-    assert_eq!(rt; machine.turn(), Turn::Executed);
-    assert!(rt; !machine.is_looking() && machine.pending() == 2 && machine.waiting() == 1);
-    assert_eq!(rt; machine.turn(), Turn::Executed);
-    assert_eq!(rt; machine.turn(), Turn::Executed);
+    machine.assert_looks(&rt, true);
+    machine.assert_load(&rt, 3, 0);
+    machine.assert_turn(&rt, Turn::Executed);
+    machine.assert_looks(&rt, false);
+    machine.assert_load(&rt, 2, 1);
+    machine.assert_turn(&rt, Turn::Executed);
+    machine.assert_turn(&rt, Turn::Executed);
     for i in 1..4 {
-        assert_eq!(rt; machine.turn(), Turn::Delivered);
+        machine.assert_turn(&rt, Turn::Delivered);
         let reference = machine.end(&rt, i).map(|end| end.reference);
         assert_eq!(rt; reference, Some(u32::from(i) + 1));
     }
-    assert_eq!(rt; machine.turn(), Turn::Idle);
-    assert!(rt; machine.pending() == 0 && machine.waiting() == 0);
+    machine.assert_turn(&rt, Turn::Idle);
+    machine.assert_load(&rt, 0, 0);
     Ok(())
 }
 
@@ -163,14 +165,14 @@ fn fetches_come_first_and_ends_go_in_order(rt: HostRuntime) -> Result<(), Fail> 
 fn a_port_looks_when_ip_is_read(rt: HostRuntime) -> Result<(), Fail> {
     let mut machine = Machine::running(rt.alloc())?;
     machine.post_command(&rt, 0, 0, Op::Status);
-    assert_eq!(rt; machine.turn(), Turn::Idle);
-    assert_eq!(rt; machine.word(COMMANDS + 2), Some(0x8000));
+    machine.assert_turn(&rt, Turn::Idle);
+    machine.assert_words(&rt, &[(COMMANDS + 2, 0x8000)]);
     machine.take_turns(&rt, &[Turn::Fetched]);
     // a port in step 1 doesn't look
     machine.renew_port(rt.alloc())?;
     assert_eq!(rt; machine.read_ip(), 0);
-    assert!(rt; !machine.is_looking());
-    assert_eq!(rt; machine.turn(), Turn::Idle);
+    machine.assert_looks(&rt, false);
+    machine.assert_turn(&rt, Turn::Idle);
     Ok(())
 }
 

@@ -1,4 +1,5 @@
 //! The program by its words: what the tests share, and `probe`.
+mod lines;
 mod runs;
 
 use std::io;

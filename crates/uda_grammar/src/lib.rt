@@ -9,8 +9,6 @@ mod number;
 mod parsing;
 mod script;
 mod statement;
-#[cfg(test)]
-mod tests;
 mod transfer;
 mod verb;
 

@@ -6,6 +6,7 @@ use crate::*;
 use std::alloc::Global;
 use std::fs::{File, OpenFile};
 use std::path::PathBuf;
+use std::process::Abort;
 use std::test::Fail;
 use std::{env, fs, io, process};
 
@@ -33,40 +34,72 @@ fn write_then_read<S: BlockStore>(
     store.read(n, to)
 }
 
+// What is compared stands behind functions, so that a test stays small: a test's proof grows faster than
+// its length.
+
+fn assert_block(rt: &impl Abort, block: &[u8; 512], byte: u8) {
+    assert_eq!(rt; *block, [byte; 512]);
+}
+
+fn assert_bytes(rt: &impl Abort, bytes: &[u8], wanted: &[u8]) {
+    assert_eq!(rt; bytes, wanted);
+}
+
+fn assert_write_fails<S: BlockStore>(rt: &impl Abort, store: &mut S, n: u32)
+    requires { n < (S.state store.old).size }
+{
+    assert_eq!(rt; store.write(n, &[0x44; 512]), Err(StoreError::Write));
+}
+
+fn assert_read_fails<S: BlockStore>(rt: &impl Abort, store: &mut S, n: u32, block: &mut [u8; 512])
+    requires { n < (S.state store.old).size }
+{
+    assert_eq!(rt; store.read(n, block), Err(StoreError::Read));
+}
+
 #[test]
 fn image_lengths(rt: HostRuntime) -> Result<(), Fail> {
     let none = MemImage::from_bytes(rt.alloc(), &[])?;
     assert_eq!(rt; none.size(), 0);
-    let long = MemImage::from_bytes(rt.alloc(), &[0x11; 513]);
-    assert_eq!(rt; long.err(), Some(ImageError::Length));
-    let large = MemImage::new(rt.alloc(), 891_073);
-    assert_eq!(rt; large.err(), Some(ImageError::TooLarge));
     let one = MemImage::from_bytes(rt.alloc(), &[0x11; 512])?;
-    assert_eq!(rt; one.bytes(), [0x11u8; 512].as_slice());
+    assert_bytes(&rt, one.bytes(), &[0x11; 512]);
     let zeros = MemImage::new(rt.alloc(), 2)?;
-    assert_eq!(rt; zeros.bytes(), [0u8; 1024].as_slice());
+    assert_bytes(&rt, zeros.bytes(), &[0; 1024]);
     Ok(())
 }
 
 #[test]
+fn images_that_cannot_be(rt: HostRuntime) {
+    let long = MemImage::from_bytes(rt.alloc(), &[0x11; 513]).err();
+    assert_eq!(rt; long, Some(ImageError::Length));
+    let large = MemImage::new(rt.alloc(), 891_073).err();
+    assert_eq!(rt; large, Some(ImageError::TooLarge));
+}
+
+#[test]
 fn error_numbers_and_texts(rt: HostRuntime) -> Result<(), Fail> {
-    assert_eq!(rt; ImageError::NoMemory as u8, 1);
-    assert_eq!(rt; ImageError::Open as u8, 2);
-    assert_eq!(rt; ImageError::Length as u8, 3);
-    assert_eq!(rt; ImageError::TooLarge as u8, 4);
+    for (error, number, text) in [
+        (ImageError::NoMemory, 1, "out of memory"),
+        (ImageError::Open, 2, "cannot open"),
+        (ImageError::Length, 3, "length is no multiple of 512"),
+        (ImageError::TooLarge, 4, "more than 891072 blocks"),
+    ] {
+        let written = format!(in rt.alloc(); "{} {error}", error as u8)?;
+        let wanted = format!(in rt.alloc(); "{number} {text}")?;
+        assert_eq!(rt; written.as_str(), wanted.as_str());
+    }
+    Ok(())
+}
+
+#[test]
+fn texts_of_store_errors(rt: HostRuntime) -> Result<(), Fail> {
     for (error, text) in [
-        (ImageError::NoMemory, "out of memory"),
-        (ImageError::Open, "cannot open"),
-        (ImageError::Length, "length is no multiple of 512"),
-        (ImageError::TooLarge, "more than 891072 blocks"),
+        (StoreError::Read, "a block could not be read"),
+        (StoreError::Write, "a block could not be written"),
     ] {
         let written = format!(in rt.alloc(); "{error}")?;
         assert_eq!(rt; written.as_str(), text);
     }
-    let read = format!(in rt.alloc(); "{}", StoreError::Read)?;
-    assert_eq!(rt; read.as_str(), "a block could not be read");
-    let write = format!(in rt.alloc(); "{}", StoreError::Write)?;
-    assert_eq!(rt; write.as_str(), "a block could not be written");
     Ok(())
 }
 
@@ -75,9 +108,9 @@ fn a_written_block_is_read(rt: HostRuntime) -> Result<(), Fail> {
     let mut image = MemImage::new(rt.alloc(), 8)?;
     let mut block = [0; 512];
     write_then_read(&mut image, 7, &[0x44; 512], &mut block)?;
-    assert_eq!(rt; block, [0x44; 512]);
+    assert_block(&rt, &block, 0x44);
     image.read(6, &mut block)?;
-    assert_eq!(rt; block, [0; 512]);
+    assert_block(&rt, &block, 0);
     Ok(())
 }
 
@@ -86,17 +119,17 @@ fn a_failing_write(rt: HostRuntime) -> Result<(), Fail> {
     let mut image = FailingImage::new(MemImage::new(rt.alloc(), 2)?, 2);
     let mut block = [0x11; 512];
     image.read(0, &mut block)?;
-    assert_eq!(rt; block, [0; 512]);
+    assert_block(&rt, &block, 0);
     assert_eq!(rt; image.write(1, &[0x44; 512]), Err(StoreError::Write));
     image.write(0, &[0x22; 512])?;
     image.read(1, &mut block)?;
     let (first, last) = block.split_at(256);
-    assert_eq!(rt; first, [0x44; 256].as_slice());
-    assert_eq!(rt; last, [0; 256].as_slice());
+    assert_bytes(&rt, first, &[0x44; 256]);
+    assert_bytes(&rt, last, &[0; 256]);
     let mut inner = image.into_inner();
     assert_eq!(rt; inner.size(), 2);
     inner.read(0, &mut block)?;
-    assert_eq!(rt; block, [0x22; 512]);
+    assert_block(&rt, &block, 0x22);
     Ok(())
 }
 
@@ -104,11 +137,11 @@ fn a_failing_write(rt: HostRuntime) -> Result<(), Fail> {
 fn a_failing_read(rt: HostRuntime) -> Result<(), Fail> {
     let mut image = FailingImage::new(MemImage::new(rt.alloc(), 2)?, 1);
     let mut block = [0x77; 512];
-    assert_eq!(rt; image.read(0, &mut block), Err(StoreError::Read));
-    assert_eq!(rt; block, [0x77; 512]);
+    assert_read_fails(&rt, &mut image, 0, &mut block);
+    assert_block(&rt, &block, 0x77);
     assert_eq!(rt; image.size(), 2);
     write_then_read(&mut image, 0, &[0x33; 512], &mut block)?;
-    assert_eq!(rt; block, [0x33; 512]);
+    assert_block(&rt, &block, 0x33);
     Ok(())
 }
 
@@ -119,7 +152,7 @@ fn no_call_fails(rt: HostRuntime) -> Result<(), Fail> {
     image.read(0, &mut block)?;
     image.read(1, &mut block)?;
     write_then_read(&mut image, 0, &[0x33; 512], &mut block)?;
-    assert_eq!(rt; block, [0x33; 512]);
+    assert_block(&rt, &block, 0x33);
     Ok(())
 }
 
@@ -127,6 +160,27 @@ fn no_call_fails(rt: HostRuntime) -> Result<(), Fail> {
 fn path_of(rt: &HostRuntime, word: &str) -> io::Result<PathBuf> {
     let name = format!(in rt.alloc(); "uda-image-{}-{word}", process::id(rt.process()))?;
     Ok(env::temp_dir(rt)?.join(rt.alloc(), name.as_str())?)
+}
+
+// The path of a new file with these bytes.
+fn file_of(rt: &HostRuntime, word: &str, bytes: &[u8]) -> io::Result<PathBuf> {
+    let path = path_of(rt, word)?;
+    fs::write(rt, path.as_path(), bytes)?;
+    Ok(path)
+}
+
+// The bytes of a file, which is then removed.
+fn take_file(rt: &HostRuntime, path: &PathBuf) -> io::Result<Vec<u8>> {
+    let bytes = fs::read(rt, path.as_path())?;
+    fs::remove_file(rt, path.as_path())?;
+    Ok(bytes)
+}
+
+// Leaves the first four blocks of a file, and removes its name.
+fn shorten(rt: &HostRuntime, path: &PathBuf) -> io::Result<()> {
+    let file = File::options().write(true).open(rt, path.as_path())?;
+    file.set_len(2048)?;
+    fs::remove_file(rt, path.as_path())
 }
 
 // The answer of opening a file of `len` zeros, which is removed again.
@@ -141,91 +195,81 @@ fn open_of(rt: &HostRuntime, word: &str, len: u64) -> io::Result<Result<u32, Ima
 
 #[test]
 fn files_by_length(rt: HostRuntime) -> Result<(), Fail> {
-    assert_eq!(rt; open_of(&rt, "empty", 0)?, Ok(0));
-    assert_eq!(rt; open_of(&rt, "one", 512)?, Ok(1));
-    assert_eq!(rt; open_of(&rt, "odd", 513)?, Err(ImageError::Length));
-    assert_eq!(rt; open_of(&rt, "most", 891_072 * 512)?, Ok(891_072));
-    assert_eq!(rt;
-        open_of(&rt, "large", 891_073 * 512)?,
-        Err(ImageError::TooLarge)
-    );
-    assert_eq!(rt;
-        open_of(&rt, "both", 891_073 * 512 + 1)?,
-        Err(ImageError::Length)
-    );
+    for (word, len, opened) in [
+        ("empty", 0, Ok(0)),
+        ("one", 512, Ok(1)),
+        ("odd", 513, Err(ImageError::Length)),
+        ("most", 891_072 * 512, Ok(891_072)),
+        ("large", 891_073 * 512, Err(ImageError::TooLarge)),
+        ("both", 891_073 * 512 + 1, Err(ImageError::Length)),
+    ] {
+        assert_eq!(rt; open_of(&rt, word, len)?, opened, "{word}");
+    }
     Ok(())
+}
+
+// Whether a path can't be opened.
+fn is_closed(rt: &HostRuntime, path: &str, writable: bool) -> bool {
+    FileImage::open(rt, path, writable).err() == Some(ImageError::Open)
 }
 
 #[test]
 fn no_plain_file(rt: HostRuntime) -> Result<(), Fail> {
     let missing = path_of(&rt, "missing")?;
-    assert_eq!(rt;
-        FileImage::open(&rt, missing.as_str(), false).err(),
-        Some(ImageError::Open)
-    );
-    assert_eq!(rt;
-        FileImage::open(&rt, missing.as_str(), true).err(),
-        Some(ImageError::Open)
-    );
+    assert!(rt; is_closed(&rt, missing.as_str(), false));
+    assert!(rt; is_closed(&rt, missing.as_str(), true));
     assert!(rt; !fs::exists(&rt, missing.as_path())?);
+    assert!(rt; is_closed(&rt, "/dev/null", true));
+    Ok(())
+}
+
+#[test]
+fn a_folder_is_no_image(rt: HostRuntime) -> Result<(), Fail> {
     let folder = path_of(&rt, "folder")?;
     fs::create_dir(&rt, folder.as_path())?;
-    let opened = FileImage::open(&rt, folder.as_str(), false);
+    let closed = is_closed(&rt, folder.as_str(), false);
     fs::remove_dir(&rt, folder.as_path())?;
-    assert_eq!(rt; opened.err(), Some(ImageError::Open));
-    assert_eq!(rt;
-        FileImage::open(&rt, "/dev/null", true).err(),
-        Some(ImageError::Open)
-    );
+    assert!(rt; closed);
     Ok(())
 }
 
 #[test]
 fn a_file_is_written_and_read(rt: HostRuntime) -> Result<(), Fail> {
-    let path = path_of(&rt, "written")?;
-    fs::write(&rt, path.as_path(), [0x11u8; 1024].as_slice())?;
+    let path = file_of(&rt, "written", &[0x11; 1024])?;
     let mut image = FileImage::open(&rt, path.as_str(), true)?;
     assert_eq!(rt; image.size(), 2);
     let mut block = [0; 512];
     write_then_read(&mut image, 1, &[0x44; 512], &mut block)?;
-    assert_eq!(rt; block, [0x44; 512]);
+    assert_block(&rt, &block, 0x44);
     image.read(0, &mut block)?;
-    assert_eq!(rt; block, [0x11; 512]);
-    let bytes = fs::read(&rt, path.as_path())?;
-    fs::remove_file(&rt, path.as_path())?;
-    assert_eq!(rt; bytes.len(), 1024);
+    assert_block(&rt, &block, 0x11);
+    assert_eq!(rt; take_file(&rt, &path)?.len(), 1024);
     Ok(())
 }
 
 // The file's own bytes are looked at, since no clause says what a file holds.
 #[test]
 fn a_file_opened_for_reading_stays(rt: HostRuntime) -> Result<(), Fail> {
-    let path = path_of(&rt, "locked")?;
-    fs::write(&rt, path.as_path(), [0x11u8; 1024].as_slice())?;
+    let path = file_of(&rt, "locked", &[0x11; 1024])?;
     let mut locked = FileImage::open(&rt, path.as_str(), false)?;
     assert_eq!(rt; locked.size(), 2);
-    assert_eq!(rt; locked.write(0, &[0x55; 512]), Err(StoreError::Write));
+    assert_write_fails(&rt, &mut locked, 0);
     let mut block = [0; 512];
     locked.read(0, &mut block)?;
-    assert_eq!(rt; block, [0x11; 512]);
-    let bytes = fs::read(&rt, path.as_path())?;
-    fs::remove_file(&rt, path.as_path())?;
-    assert_eq!(rt; bytes.as_slice(), [0x11u8; 1024].as_slice());
+    assert_block(&rt, &block, 0x11);
+    assert_bytes(&rt, &take_file(&rt, &path)?, &[0x11; 1024]);
     Ok(())
 }
 
 #[test]
 fn a_shortened_file(rt: HostRuntime) -> Result<(), Fail> {
-    let path = path_of(&rt, "shortened")?;
-    fs::write(&rt, path.as_path(), [0x11u8; 4096].as_slice())?;
+    let path = file_of(&rt, "shortened", &[0x11; 4096])?;
     let mut image = FileImage::open(&rt, path.as_str(), true)?;
-    let file = File::options().write(true).open(&rt, path.as_path())?;
-    file.set_len(2048)?;
-    fs::remove_file(&rt, path.as_path())?;
+    shorten(&rt, &path)?;
     assert_eq!(rt; image.size(), 8);
     let mut block = [0; 512];
-    assert_eq!(rt; image.read(6, &mut block), Err(StoreError::Read));
+    assert_read_fails(&rt, &mut image, 6, &mut block);
     image.read(3, &mut block)?;
-    assert_eq!(rt; block, [0x11; 512]);
+    assert_block(&rt, &block, 0x11);
     Ok(())
 }

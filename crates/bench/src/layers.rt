@@ -1,4 +1,5 @@
 //! The same commands through a port's rings, by a driver, and by the executor alone.
+use crate::measure::{Contest, by_turns};
 use crate::work::bring_online;
 use anyhow::{Result, bail};
 use std::alloc::Global;
@@ -14,28 +15,28 @@ use uda_port::{Port, Turn};
 const IMAGE: u32 = 1000;
 
 /// The commands of a round: no more than one run of a driver may have.
-pub const COMMANDS: u32 = 4096;
+const COMMANDS: u32 = 4096;
 
 /// Where the buffer of a Read begins in host memory, behind rings and texts.
 const BUFFER: u32 = 0x1000;
 
-/// What each command of a round asks for.
+// What each command of a round asks for.
 #[derive(Clone, Copy, Debug, PartialEq, Eq)]
-pub enum Errand {
-    /// So many blocks, 32 or 1.
+enum Errand {
+    // So many blocks, 32 or 1.
     Read(u32),
-    /// The unit's state.
+    // The unit's state.
     Status,
 }
 
 impl Errand {
-    /// The errand of these words.
-    pub fn named(work: &str, blocks: &str) -> Option<Errand> {
+    // The errand of these words.
+    fn named(work: &str, blocks: &str) -> Result<Errand> {
         match (work, blocks) {
-            ("read", "32") => Some(Errand::Read(32)),
-            ("read", "1") => Some(Errand::Read(1)),
-            ("status", "0") => Some(Errand::Status),
-            _ => None,
+            ("read", "32") => Ok(Errand::Read(32)),
+            ("read", "1") => Ok(Errand::Read(1)),
+            ("status", "0") => Ok(Errand::Status),
+            _ => bail!("the work is read of 32 blocks or 1, or status of 0"),
         }
     }
 
@@ -77,8 +78,8 @@ impl Errand {
         }
     }
 
-    /// A round's requests.
-    pub fn requests(self, alloc: Global) -> Result<Vec<Request>> {
+    // A round's requests.
+    fn requests(self, alloc: Global) -> Result<Vec<Request>> {
         let mut requests = Vec::new(alloc);
         for n in 0..COMMANDS {
             requests.push(self.request(n))?;
@@ -93,38 +94,90 @@ fn drives(alloc: Global) -> Result<[Option<Drive<MemImage>>; 4]> {
     Ok([Some(Drive { store, hard: false }), None, None, None])
 }
 
-/// Host memory with room for rings, texts and one buffer.
-pub fn memory(alloc: Global) -> Result<HostMemory> {
-    Ok(HostMemory::new(alloc, 32_768)?)
+/// The rounds through a port's rings.
+pub fn through_port(rt: &HostRuntime, work: &str, blocks: &str, rounds: u32) -> Result<()> {
+    let mut pair = ThroughPort::new(rt.alloc(), Errand::named(work, blocks)?)?;
+    by_turns(rt, &mut pair, rounds)
 }
 
-/// An executor whose unit 0 is online.
-pub fn executor(alloc: Global, memory: &mut HostMemory) -> Result<Exec<MemImage>> {
-    let mut exec = Exec::new(drives(alloc)?);
-    bring_online(&mut exec, memory)?;
-    Ok(exec)
+/// The rounds by a driver.
+pub fn through_driver(rt: &HostRuntime, work: &str, blocks: &str, rounds: u32) -> Result<()> {
+    let mut pair = ThroughDriver::new(rt.alloc(), Errand::named(work, blocks)?)?;
+    by_turns(rt, &mut pair, rounds)
 }
 
-/// A round by the executor alone.
-pub fn by_executor(
-    exec: &mut Exec<MemImage>,
-    memory: &mut HostMemory,
+// An executor whose unit 0 is online, and its host memory.
+#[derive(Drop)]
+struct Alone {
+    exec: Exec<MemImage>,
+    memory: HostMemory,
     errand: Errand,
-) -> Result<()> {
-    for n in 0..COMMANDS {
-        if exec.pending() < PENDING {
-            exec.accept(errand.command(n));
+}
+
+impl Alone {
+    fn new(alloc: Global, errand: Errand) -> Result<Alone> {
+        let mut memory = memory(alloc)?;
+        let mut exec = Exec::new(drives(alloc)?);
+        bring_online(&mut exec, &mut memory)?;
+        Ok(Alone {
+            exec,
+            memory,
+            errand,
+        })
+    }
+
+    // A round by the executor alone.
+    fn execute(&mut self) -> Result<()> {
+        for n in 0..COMMANDS {
+            self.execute_one(self.errand.command(n))?;
         }
-        match exec.execute_one(memory) {
-            Some(end) if end.status == 0 => {}
+        Ok(())
+    }
+
+    fn execute_one(&mut self, command: Command) -> Result<()> {
+        if self.exec.pending() < PENDING {
+            self.exec.accept(command);
+        }
+        match self.exec.execute_one(&mut self.memory) {
+            Some(end) if end.status == 0 => Ok(()),
             _ => bail!("no success"),
         }
     }
-    Ok(())
 }
 
-/// A driver whose unit 0 is online.
-pub fn driver(alloc: Global) -> Result<Driver<MemImage>> {
+// A driver whose unit 0 is online, with a round's requests.
+#[derive(Drop)]
+struct ThroughDriver {
+    driver: Driver<MemImage>,
+    requests: Vec<Request>,
+    alone: Alone,
+}
+
+impl ThroughDriver {
+    fn new(alloc: Global, errand: Errand) -> Result<ThroughDriver> {
+        let requests = errand.requests(alloc)?;
+        let driver = driver(alloc)?;
+        let alone = Alone::new(alloc, errand)?;
+        Ok(ThroughDriver {
+            driver,
+            requests,
+            alone,
+        })
+    }
+}
+
+impl Contest for ThroughDriver {
+    fn measured(&mut self) -> Result<()> {
+        by_driver(&mut self.driver, self.requests.as_slice())
+    }
+
+    fn compared(&mut self) -> Result<()> {
+        self.alone.execute()
+    }
+}
+
+// A driver whose unit 0 is online.
+fn driver(alloc: Global) -> Result<Driver<MemImage>> {
     let Ok(mut driver) = Driver::start(alloc, drives(alloc)?) else {
         bail!("no memory");
     };
@@ -136,8 +189,8 @@ pub fn driver(alloc: Global) -> Result<Driver<MemImage>> {
     Ok(driver)
 }
 
-/// Requests by a driver.
-pub fn by_driver(driver: &mut Driver<MemImage>, requests: &[Request]) -> Result<()> {
+// Requests by a driver.
+fn by_driver(driver: &mut Driver<MemImage>, requests: &[Request]) -> Result<()> {
     match driver.run(requests) {
         Ok(answers) if answers.iter().all(is_success) => Ok(()),
         _ => bail!("no success"),
@@ -153,18 +206,52 @@ fn is_success(answer: &Answer) -> bool {
     }
 }
 
-/// A running port with rings of one descriptor, whose unit 0 is online.
-pub fn port(alloc: Global, memory: &mut HostMemory) -> Result<Port<MemImage>> {
-    let exec = Exec::new(drives(alloc)?);
-    let Ok(mut port) = Port::new(alloc, exec) else {
+// A running port with rings of one descriptor, whose unit 0 is online, and its host memory.
+#[derive(Drop)]
+struct ThroughPort {
+    port: Port<MemImage>,
+    memory: HostMemory,
+    alone: Alone,
+}
+
+impl ThroughPort {
+    fn new(alloc: Global, errand: Errand) -> Result<ThroughPort> {
+        let mut memory = memory(alloc)?;
+        let port = port(alloc, &mut memory)?;
+        let alone = Alone::new(alloc, errand)?;
+        Ok(ThroughPort {
+            port,
+            memory,
+            alone,
+        })
+    }
+}
+
+impl Contest for ThroughPort {
+    // One command after the other: three turns each.
+    fn measured(&mut self) -> Result<()> {
+        let errand = self.alone.errand;
+        for n in 0..COMMANDS {
+            send(&mut self.port, &mut self.memory, &errand.command(n))?;
+        }
+        Ok(())
+    }
+
+    fn compared(&mut self) -> Result<()> {
+        self.alone.execute()
+    }
+}
+
+// Host memory with room for rings, texts and one buffer.
+fn memory(alloc: Global) -> Result<HostMemory> {
+    Ok(HostMemory::new(alloc, 32_768)?)
+}
+
+fn port(alloc: Global, memory: &mut HostMemory) -> Result<Port<MemImage>> {
+    let Ok(mut port) = Port::new(alloc, Exec::new(drives(alloc)?)) else {
         bail!("no memory");
     };
-    for word in [0x8000, 0x0008, 0x0000, 0x0001] {
-        port.write_sa(word, memory);
-    }
-    for (address, word) in [(0xfc, 48), (0x1fc, 48), (8, 0x100), (12, 0x200)] {
-        memory.write_word(address, word);
-    }
+    start_up(&mut port, memory);
     let online = Command {
         reference: 1,
         unit: 0,
@@ -174,29 +261,35 @@ pub fn port(alloc: Global, memory: &mut HostMemory) -> Result<Port<MemImage>> {
     Ok(port)
 }
 
-/// A round through the rings of a port, one command after the other: three turns each.
-pub fn by_port(port: &mut Port<MemImage>, memory: &mut HostMemory, errand: Errand) -> Result<()> {
-    for n in 0..COMMANDS {
-        send(port, memory, &errand.command(n))?;
+// Rings of one descriptor at 8 and 12, with the texts at 0x100 and 0x200.
+fn start_up(port: &mut Port<MemImage>, memory: &mut HostMemory) {
+    for word in [0x8000, 0x0008, 0x0000, 0x0001] {
+        port.write_sa(word, memory);
     }
-    Ok(())
+    for (address, word) in [(0xfc, 48), (0x1fc, 48), (8, 0x100), (12, 0x200)] {
+        memory.write_word(address, word);
+    }
 }
 
 // Posts a command, and lets the port take the turns that it needs.
 fn send(port: &mut Port<MemImage>, memory: &mut HostMemory, command: &Command) -> Result<()> {
-    if let Some(text) = memory.window_mut(0x200, 48) {
-        text.copy_from_slice(&encode_command(command));
-    }
-    memory.write_word(10, 0x8000);
-    memory.write_word(14, 0x8000);
+    post(memory, command);
     port.read_ip();
     for turn in [Turn::Fetched, Turn::Executed, Turn::Delivered] {
         if port.turn(memory) != turn {
-            bail!("another turn than {turn:?}");
+            bail!("another turn than was due");
         }
     }
     match memory.read_word(0x10a) {
         Some(0) => Ok(()),
         _ => bail!("no success"),
     }
+}
+
+fn post(memory: &mut HostMemory, command: &Command) {
+    if let Some(text) = memory.window_mut(0x200, 48) {
+        text.copy_from_slice(&encode_command(command));
+    }
+    memory.write_word(10, 0x8000);
+    memory.write_word(14, 0x8000);
 }

@@ -14,6 +14,17 @@ pub enum Direction {
     Write,
 }
 
+impl Direction {
+    fn work(self, blocks: u32, transfers: u32) -> Work {
+        Work {
+            direction: self,
+            blocks,
+            count: blocks.saturating_mul(512),
+            transfers,
+        }
+    }
+}
+
 /// 64 MB, moved by transfers of one length.
 #[derive(Clone, Copy, Debug, PartialEq, Eq)]
 pub struct Work {
@@ -29,26 +40,16 @@ pub struct Work {
 
 impl Work {
     /// The work of these words: `read` or `write`, and `32` or `1`.
-    pub fn named(direction: &str, blocks: &str) -> Option<Work> {
+    pub fn named(direction: &str, blocks: &str) -> Result<Work> {
         let direction = match direction {
             "read" => Direction::Read,
             "write" => Direction::Write,
-            _ => return None,
+            _ => bail!("the work is read or write"),
         };
         match blocks {
-            "32" => Some(Work {
-                direction,
-                blocks: 32,
-                count: 16_384,
-                transfers: 4096,
-            }),
-            "1" => Some(Work {
-                direction,
-                blocks: 1,
-                count: 512,
-                transfers: 131_072,
-            }),
-            _ => None,
+            "32" => Ok(direction.work(32, 4096)),
+            "1" => Ok(direction.work(1, 131_072)),
+            _ => bail!("a transfer has 32 blocks or 1"),
         }
     }
 

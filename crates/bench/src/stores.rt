@@ -1,0 +1,134 @@
+//! An executor over a store, beside a bare loop over blocks of the same kind.
+use crate::bare::{copy_blocks, move_file_blocks};
+use crate::measure::{Contest, by_turns};
+use crate::work::{Work, bring_online, execute_all};
+use anyhow::Result;
+use std::alloc::Global;
+use std::fs::{File, OpenOptions};
+use uda_exec::Exec;
+use uda_image::{BlockStore, Drive, FileImage, MemImage};
+use uda_mem::HostMemory;
+
+/// The blocks of the image in memory.
+const IMAGE: u32 = 1000;
+
+/// The bytes of host memory: as many as the longest transfer has.
+const ROOM: u32 = 16_384;
+
+// An executor with its host memory: unit 0, of `size` blocks, is online.
+#[derive(Drop)]
+struct OverStore<S: BlockStore> {
+    exec: Exec<S>,
+    memory: HostMemory,
+    size: u32,
+    work: Work,
+}
+
+impl<S: BlockStore + Drop> OverStore<S> {
+    fn new(alloc: Global, mut exec: Exec<S>, size: u32, work: Work) -> Result<OverStore<S>> {
+        let mut memory = HostMemory::new(alloc, ROOM)?;
+        bring_online(&mut exec, &mut memory)?;
+        Ok(OverStore {
+            exec,
+            memory,
+            size,
+            work,
+        })
+    }
+
+    fn execute(&mut self) -> Result<()> {
+        execute_all(&mut self.exec, &mut self.memory, self.work, self.size)
+    }
+}
+
+// An image in memory; the bare loop copies blocks of a like image.
+#[derive(Drop)]
+struct InMemory {
+    over: OverStore<MemImage>,
+    image: Vec<[u8; 512]>,
+    buffer: Vec<[u8; 512]>,
+}
+
+impl Contest for InMemory {
+    fn measured(&mut self) -> Result<()> {
+        self.over.execute()
+    }
+
+    fn compared(&mut self) -> Result<()> {
+        let work = self.over.work;
+        copy_blocks(self.image.as_mut_slice(), self.buffer.as_mut_slice(), work);
+        Ok(())
+    }
+}
+
+// An image file; the bare loop reads and writes the same file.
+#[derive(Drop)]
+struct InFile {
+    over: OverStore<FileImage>,
+    file: File,
+}
+
+impl Contest for InFile {
+    fn measured(&mut self) -> Result<()> {
+        self.over.execute()
+    }
+
+    fn compared(&mut self) -> Result<()> {
+        Ok(move_file_blocks(&mut self.file, self.over.work, self.over.size)?)
+    }
+}
+
+/// The rounds over an image in memory.
+pub fn over_memory(rt: &HostRuntime, work: &str, blocks: &str, rounds: u32) -> Result<()> {
+    let mut pair = in_memory(rt.alloc(), Work::named(work, blocks)?)?;
+    by_turns(rt, &mut pair, rounds)
+}
+
+fn in_memory(alloc: Global, work: Work) -> Result<InMemory> {
+    let over = OverStore::new(alloc, memory_drive(alloc)?, IMAGE, work)?;
+    let image = vec![in alloc; [0; 512]; 1000]?;
+    let buffer = vec![in alloc; [0; 512]; 32]?;
+    Ok(InMemory {
+        over,
+        image,
+        buffer,
+    })
+}
+
+// An executor with an image in memory as unit 0, and no other drive.
+fn memory_drive(alloc: Global) -> Result<Exec<MemImage>> {
+    let store = MemImage::new(alloc, IMAGE)?;
+    let drive = Some(Drive { store, hard: false });
+    Ok(Exec::new([drive, None, None, None]))
+}
+
+/// The rounds over an image file.
+pub fn over_file(
+    rt: &HostRuntime,
+    path: &str,
+    work: &str,
+    blocks: &str,
+    rounds: u32,
+) -> Result<()> {
+    let mut pair = in_file(rt, path, Work::named(work, blocks)?)?;
+    by_turns(rt, &mut pair, rounds)
+}
+
+fn in_file(rt: &HostRuntime, path: &str, work: Work) -> Result<InFile> {
+    let (exec, size) = file_drive(rt, path)?;
+    let over = OverStore::new(rt.alloc(), exec, size, work)?;
+    let file = opened(rt, path)?;
+    Ok(InFile { over, file })
+}
+
+// An executor with an image file as unit 0, and no other drive; and the file's blocks.
+fn file_drive(rt: &HostRuntime, path: &str) -> Result<(Exec<FileImage>, u32)> {
+    let store = FileImage::open(rt, path, true)?;
+    let size = store.size();
+    let drive = Some(Drive { store, hard: false });
+    Ok((Exec::new([drive, None, None, None]), size))
+}
+
+fn opened(rt: &HostRuntime, path: &str) -> Result<File> {
+    Ok(OpenOptions::new().read(true).write(true).open(rt, path)?)
+}

@@ -1,4 +1,5 @@
-//! The program by its words: what the tests share, and `probe`.
+//! Scripts by a driver, and the program by its words: what the tests share, and `probe`.
+mod batches;
 mod lines;
 mod runs;
 

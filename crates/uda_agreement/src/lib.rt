@@ -2,10 +2,5 @@
 //! plain program are compared.
 #![tactic(auto)]
 
-mod draw;
 #[cfg(test)]
 mod tests;
-mod text;
-
-pub use draw::Draw;
-pub use text::{Text, text_of};

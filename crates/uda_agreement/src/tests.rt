@@ -1,8 +1,12 @@
 //! The driver beside the plain program.
-use crate::{Draw, text_of};
+mod draw;
+mod text;
+
+use draw::Draw;
 use std::alloc::Global;
 use std::io::Write;
 use std::test::Fail;
+use text::text_of;
 use uda_batch::run_script;
 use uda_driver::Driver;
 use uda_grammar::parse;

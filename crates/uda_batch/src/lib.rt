@@ -5,8 +5,6 @@ mod growth;
 mod put;
 mod requests;
 mod script;
-#[cfg(test)]
-mod tests;
 mod texts;
 
 pub use script::run_script;

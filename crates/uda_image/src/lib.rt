@@ -7,8 +7,6 @@ mod file;
 mod length;
 mod memory;
 mod store;
-#[cfg(test)]
-mod tests;
 
 pub use error::ImageError;
 pub use failing::FailingImage;

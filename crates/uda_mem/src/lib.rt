@@ -4,7 +4,5 @@
 
 mod block;
 mod memory;
-#[cfg(test)]
-mod tests;
 
 pub use memory::{HostMemory, MEMORY_LIMIT, NoMemory};

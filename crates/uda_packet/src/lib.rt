@@ -32,5 +32,3 @@ pub use envelope::Envelope;
 pub use flags::{Modifiers, UnitFlags};
 pub use transfer::Transfer;
 
-#[cfg(test)]
-mod tests;

@@ -2,9 +2,9 @@
 ghost use Rattle.std.specs.Prelude.{◌≡◌, if◌then◌else◌};
 ghost use Rattle.uda_mem.specs.Put.{put};
 
-use crate::{HostMemory, MEMORY_LIMIT, NoMemory};
 use std::alloc::AllocError;
 use std::test::Fail;
+use uda_mem::{HostMemory, MEMORY_LIMIT, NoMemory};
 
 #[test]
 fn an_empty_memory_has_no_word(rt: HostRuntime) -> Result<(), Fail> {

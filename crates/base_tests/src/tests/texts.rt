@@ -2,8 +2,11 @@
 
 ghost use Rattle.std.specs.Prelude.{◌≡◌};
 
-use super::*;
 use std::test::Fail;
+use uda_packet::{
+    Bad, BadKind, Command, End, EndBody, Envelope, Flags, Kind, Modifiers, Op, Transfer, UnitFlags,
+    decode_command, decode_end, encode_command, encode_end, status,
+};
 
 // A command that is written and read again. The clause is the round trip, whatever the command.
 fn command_again(command: &Command) -> Result<Command, Bad>

@@ -2,13 +2,15 @@
 ghost use Rattle.std.specs.Prelude.{◌≡◌, ◌+◌, ◌<◌, true, IfOk, IsOk, slice_set, is_ok, if◌then◌else◌};
 ghost use Rattle.uda_image.specs.Store.{IsImage, KeepsNature};
 
-use crate::*;
 use std::alloc::Global;
 use std::fs::{File, OpenFile};
 use std::path::PathBuf;
 use std::process::Abort;
 use std::test::Fail;
 use std::{env, fs, io, process};
+use uda_image::{
+    BLOCK_LIMIT, BlockStore, Drive, FailingImage, FileImage, ImageError, MemImage, StoreError,
+};
 
 // Generic code over a store has only what the trait says.
 fn write_then_read<S: BlockStore>(

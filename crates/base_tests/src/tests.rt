@@ -1,0 +1,4 @@
+//! The three lowest crates, a module each.
+mod images;
+mod memory;
+mod texts;

@@ -31,4 +31,3 @@ pub use end::{End, EndBody, Kind};
 pub use envelope::Envelope;
 pub use flags::{Modifiers, UnitFlags};
 pub use transfer::Transfer;
-

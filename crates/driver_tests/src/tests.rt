@@ -138,7 +138,7 @@ fn assert_served(
 
 /// An image of eight blocks at least, of which block k is all of the k-th byte.
 fn image_of(alloc: Global, bytes: &[u8]) -> Result<MemImage, Fail> {
-    let mut image = MemImage::new(alloc, if bytes.len() > 8 { 10 } else { 8 })?;
+    let mut image = MemImage::new(alloc, bytes.len().max(8) as u32)?;
     for (k, byte) in (0..16).zip(bytes) {
         if k < image.size() {
             let _ = image.write(k, &[*byte; 512]);

@@ -1,4 +1,5 @@
-//! The machine of the tests: a port over four units, and a host's memory, laid out as a driver's.
+//! The machine of the tests: a port over four units, and a host's memory, with two rings from the
+//! address 8 on and behind them, from 0x100 on, the packets of responses and of commands.
 //!
 //! What the machine does has no contract, so that a test's proof carries none of the port's.
 
@@ -21,11 +22,12 @@ pub(crate) const START_UP: [u16; 4] = [0x9b00, 0x0008, 0x0000, 0x0001];
 /// The command ring of that start-up.
 pub(crate) const COMMANDS: u32 = 0x28;
 
-/// A port, and the memory of its host.
+/// A port, and the memory of its host, with rings of so many descriptors.
 #[derive(Drop)]
 pub(crate) struct Machine {
     port: Port<MemImage>,
     memory: HostMemory,
+    slots: u16,
 }
 
 /// A unit 0 of 8 blocks, block k all bytes k.
@@ -59,7 +61,22 @@ impl Machine {
     pub(crate) fn new(alloc: Global) -> Result<Machine, Fail> {
         let port = new_port(alloc)?;
         let memory = HostMemory::new(alloc, MEMORY)?;
-        Ok(Machine { port, memory })
+        Ok(Machine {
+            port,
+            memory,
+            slots: 8,
+        })
+    }
+
+    /// The same, with rings of 16 descriptors and the larger memory of the class driver.
+    pub(crate) fn of_sixteen(alloc: Global) -> Result<Machine, Fail> {
+        let port = new_port(alloc)?;
+        let memory = HostMemory::new(alloc, 249_856)?;
+        Ok(Machine {
+            port,
+            memory,
+            slots: 16,
+        })
     }
 
     /// The same, running.
@@ -151,7 +168,8 @@ impl Machine {
 
     /// Fills memory with one byte.
     pub(crate) fn fill(&mut self, byte: u8) {
-        if let Some(bytes) = self.memory.window_mut(0, MEMORY) {
+        let len = self.memory.len();
+        if let Some(bytes) = self.memory.window_mut(0, len) {
             bytes.fill(byte);
         }
     }
@@ -185,10 +203,10 @@ impl Machine {
 
     /// Posts a text as command i, with an envelope of 48 bytes.
     pub(crate) fn post(&mut self, rt: &impl Abort, i: u16, text: &[u8; 48]) {
-        assert!(rt; i < 8);
-        let low = 0x304 + 64 * i;
-        let envelope = 0x300 + 64 * u32::from(i);
-        let descriptor = COMMANDS + 4 * u32::from(i);
+        assert!(rt; i < self.slots && self.slots <= 16);
+        let low = 0x104 + 64 * (self.slots + i);
+        let envelope = 0x100 + 64 * u32::from(self.slots + i);
+        let descriptor = 8 + 4 * u32::from(self.slots + i);
         put(rt, &mut self.memory, envelope + 4, text);
         self.poke(rt, &[(envelope, 48), (envelope + 2, 0)]);
         self.poke(rt, &[(descriptor, low), (descriptor + 2, 0x8000)]);
@@ -206,7 +224,7 @@ impl Machine {
 
     /// Hands response descriptor i to the port, with a buffer of 60 bytes.
     pub(crate) fn open_response(&mut self, rt: &impl Abort, i: u16) {
-        assert!(rt; i < 8);
+        assert!(rt; i < 16);
         let low = 0x104 + 64 * i;
         let descriptor = 8 + 4 * u32::from(i);
         self.poke(rt, &[(0x100 + 64 * u32::from(i), 60)]);
@@ -215,7 +233,7 @@ impl Machine {
 
     /// The text of response i.
     pub(crate) fn response(&self, rt: &impl Abort, i: u16) -> [u8; 48] {
-        assert!(rt; i < 8);
+        assert!(rt; i < 16);
         let mut text = [0; 48];
         match self.memory.window(0x104 + 64 * u32::from(i), 48) {
             Some(bytes) => text.copy_from_slice(bytes),

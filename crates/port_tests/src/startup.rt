@@ -1,8 +1,10 @@
 //! The start-up, by the worked examples.
 
 use super::machine::{Machine, START_UP};
+use std::alloc::Global;
 use std::process::Abort;
 use std::test::Fail;
+use uda_packet::Op;
 use uda_port::{Fatal, Phase, Turn};
 
 /// Writes words to SA and asserts what SA shows after each.
@@ -43,6 +45,51 @@ fn start_up_words(rt: HostRuntime) -> Result<(), Fail> {
     // a port that runs ignores the next word
     write_words(&rt, &mut machine, &[(0xffff, 0x0000)]);
     assert!(rt; is_zero_there(&machine, 4, 72));
+    Ok(())
+}
+
+/// The words of a start-up with rings of 16 descriptors, and what SA shows after each.
+const FIFTEEN_CREDITS: [(u16, u16); 4] = [
+    (0xa400, 0x10a4),
+    (0x0008, 0x2000),
+    (0x0000, 0x4063),
+    (0x0001, 0x0000),
+];
+
+/// A machine whose port has delivered the ends of so many commands since that start-up.
+fn sixteen_after(rt: &impl Abort, alloc: Global, ends: u16) -> Result<Machine, Fail> {
+    let mut machine = Machine::of_sixteen(alloc)?;
+    machine.fill(0xff);
+    machine.assert_sa(rt, 0x0800);
+    write_words(rt, &mut machine, &FIFTEEN_CREDITS);
+    assert!(rt; is_zero_there(&machine, 4, 136));
+    for i in 0..ends {
+        machine.open_response(rt, i);
+        machine.post_command(rt, i, 0, Op::Status);
+        machine.take_turns(rt, &[Turn::Fetched, Turn::Executed, Turn::Delivered]);
+    }
+    Ok(machine)
+}
+
+#[test]
+fn fifteen_credit_start_up(rt: HostRuntime) -> Result<(), Fail> {
+    let machine = sixteen_after(&rt, rt.alloc(), 3)?;
+    machine.assert_words(&rt, &[(0x100, 0x0030), (0x102, 0x000f)]);
+    machine.assert_words(&rt, &[(0x140, 0x0030), (0x142, 0x0001)]);
+    machine.assert_words(&rt, &[(0x180, 0x0030), (0x182, 0x0001)]);
+    Ok(())
+}
+
+#[test]
+fn sixteenth_command(rt: HostRuntime) -> Result<(), Fail> {
+    let mut machine = sixteen_after(&rt, rt.alloc(), 1)?;
+    for i in 1..17 {
+        machine.post_command(&rt, i % 16, 0, Op::Status);
+    }
+    machine.take_turns(&rt, &[Turn::Fetched; 15]);
+    machine.assert_load(&rt, 15, 0);
+    machine.assert_turn(&rt, Turn::Dead);
+    machine.assert_sa(&rt, 0x800a);
     Ok(())
 }
 

@@ -49,12 +49,12 @@ fn read_one_block(rt: HostRuntime) -> Result<(), Fail> {
     machine.take_turns(&rt, &ONE_COMMAND);
     machine.assert_response(&rt, 1, &read_end());
     machine.assert_block(&rt, 0x1000, 5);
-    // the first end grants 8 credits, the next one 1; both descriptors are given back
+    // the first end grants 15 credits, the next one 1; both descriptors are given back
     machine.assert_words(
         &rt,
         &[
             (0x100, 48),
-            (0x102, 8),
+            (0x102, 15),
             (0x140, 48),
             (0x142, 1),
             (10, 0x4000),

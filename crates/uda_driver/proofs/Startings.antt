@@ -15,6 +15,7 @@ use Rattle.uda_packet.specs.declared.command.Op.TheVariants.{Controller}
 use Rattle.uda_packet.specs.declared.end.End.{End}
 use Rattle.uda_packet.specs.Written.{written_command}
 use Rattle.uda_packet.specs.Reading.{read_command}
+use Rattle.uda_exec.specs.Disks.{PENDING_LIMIT}
 use Rattle.uda_exec.specs.Execution.{Executes}
 use Rattle.uda_port.specs.declared.phase.Phase.{Phase}
 use Rattle.uda_port.specs.declared.phase.Phase.TheVariants.{Step1, Step2, Step3, Step4, Running}
@@ -24,7 +25,7 @@ use Rattle.uda_port.specs.declared.turn.Turn.TheVariants.{Fetched as TurnFetched
 use Rattle.uda_port.specs.Startup.{by_word, dead_port, has_area}
 use Rattle.uda_port.specs.Port.{PortState, CreditsAgree, next_grant, port_asked}
 use Rattle.uda_port.specs.Turn.{TurnGoes}
-use Rattle.uda_host.specs.Layout.{slots, memory_size, owner_word, response_descriptor, command_descriptor, command_ring_at, response_ring_at, response_packet, with_command, open_descriptor, IsFree, IsOpen, ResponseSide, memory_reopened}
+use Rattle.uda_host.specs.Layout.{rings_word, area_size, slots, memory_size, owner_word, response_descriptor, command_descriptor, command_ring_at, response_ring_at, response_packet, with_command, open_descriptor, IsFree, IsOpen, ResponseSide, memory_reopened}
 use Rattle.uda_host.specs.InStep.{IsSound, InStep}
 use Rattle.uda_driver.specs.Starting.{IsNew, port_running}
 use Rattle.uda_driver.specs.Underway.{AtRest}
@@ -36,19 +37,19 @@ use Rattle.uda_host.proofs.Steps.{StepFetches, StepExecutes, StepDelivers, StepG
 
 pub record Initialised (port port_after : PortState) (memory memory_after : List ℕ) : Type 0 where
   pub port_is : port_after ≡ port_running port
-  pub memory_is : memory_after ≡ put memory 4 (replicate 68 0)
+  pub memory_is : memory_after ≡ put memory 4 (replicate area_size 0)
 
 pub words_are : (p p1 p2 p3 p4 : PortState) (m m1 m2 m3 m4 : List ℕ) → p.phase ≡ Step1 → length m ≡ memory_size
-    → (p1, m1) ≡ by_word p.phase p m 39680 → (p2, m2) ≡ by_word p1.phase p1 m1 8 → (p3, m3) ≡ by_word p2.phase p2 m2 0 → (p4, m4) ≡ by_word p3.phase p3 m3 1 → Initialised p p4 m m4
+    → (p1, m1) ≡ by_word p.phase p m rings_word → (p2, m2) ≡ by_word p1.phase p1 m1 8 → (p3, m3) ≡ by_word p2.phase p2 m2 0 → (p4, m4) ≡ by_word p3.phase p3 m3 1 → Initialised p p4 m m4
 words_are p p1 p2 p3 p4 m m1 m2 m3 m4 is size h1 h2 h3 h4 =
     let W : Type 0 = PortState × List ℕ in
-    let q1 : W = (record p { phase = Step2 39680 }, m) in
-    let q2 : W = (record p { phase = Step3 39680 8 }, m) in
-    let q3 : W = (record p { phase = Step4; responses = response_ring_at 0; commands = command_ring_at 0 }, put m 4 (replicate 68 0)) in
-    let q4 : W = (record p { phase = Running; responses = response_ring_at 0; commands = command_ring_at 0 }, put m 4 (replicate 68 0)) in
-    let e1 : (p1, m1) ≡ q1 = h1 ∙ ap (λ (ph : Phase). by_word ph p m 39680) is in
+    let q1 : W = (record p { phase = Step2 rings_word }, m) in
+    let q2 : W = (record p { phase = Step3 rings_word 8 }, m) in
+    let q3 : W = (record p { phase = Step4; responses = response_ring_at 0; commands = command_ring_at 0 }, put m 4 (replicate area_size 0)) in
+    let q4 : W = (record p { phase = Running; responses = response_ring_at 0; commands = command_ring_at 0 }, put m 4 (replicate area_size 0)) in
+    let e1 : (p1, m1) ≡ q1 = h1 ∙ ap (λ (ph : Phase). by_word ph p m rings_word) is in
     let e2 : (p2, m2) ≡ q2 = h2 ∙ ap (λ (x : W). by_word x.0.phase x.0 x.1 8) e1 in
-    let G : ℕ → W = λ n. if has_area 39680 8 0 n then q3 else (dead_port q2.0 RingWrite, m) in
+    let G : ℕ → W = λ n. if has_area rings_word 8 0 n then q3 else (dead_port q2.0 RingWrite, m) in
     let e3 : (p3, m3) ≡ q3 = h3 ∙ ap (λ (x : W). by_word x.0.phase x.0 x.1 0) e2 ∙ ap G size in
     let e4 : (p4, m4) ≡ q4 = h4 ∙ ap (λ (x : W). by_word x.0.phase x.0 x.1 1) e3 in
     record { port_is = ap (λ (x : W). x.0) e4; memory_is = ap (λ (x : W). x.1) e4 }
@@ -67,13 +68,13 @@ word-zeros n k h =
     let is : part (replicate n 0) k 2 ≡ two = same_lists (part (replicate n 0) k 2) two size each in
     ap (little_number 2) is
 
-pub free-zeros : (memory : List ℕ) (k : ℕ) → length memory ≡ memory_size → k < slots → IsFree (put memory 4 (replicate 68 0)) k
+pub free-zeros : (memory : List ℕ) (k : ℕ) → length memory ≡ memory_size → k < slots → IsFree (put memory 4 (replicate area_size 0)) k
 free-zeros memory k size lt =
-    let long : length {A = ℕ} (replicate 68 0) ≡ 68 = length-replicate {A = ℕ} 68 0 in
-    let same = length-put memory 4 (replicate 68 0) in
-    let low : word_at (put memory 4 (replicate 68 0)) (command_descriptor k) ≡ 0 = word_at-put_inside memory 4 (replicate 68 0) (command_descriptor k) (omega arith) (omega arith) (omega arith) ∙ word-zeros 68 (40 + 4 * k - 4) (omega arith) in
-    let high : word_at (put memory 4 (replicate 68 0)) (40 + 4 * k + 2) ≡ 0 = word_at-put_inside memory 4 (replicate 68 0) (40 + 4 * k + 2) (omega arith) (omega arith) (omega arith) ∙ word-zeros 68 (40 + 4 * k + 2 - 4) (omega arith) in
-    record { descriptor = record { low = 0; high = 0 }; is = read (put memory 4 (replicate 68 0)) (command_descriptor k) (record { low = 0; high = 0 }) (omega arith) (record { low = low; high = high }); not_owned = refl }
+    let long : length {A = ℕ} (replicate area_size 0) ≡ area_size = length-replicate {A = ℕ} area_size 0 in
+    let same = length-put memory 4 (replicate area_size 0) in
+    let low : word_at (put memory 4 (replicate area_size 0)) (command_descriptor k) ≡ 0 = word_at-put_inside memory 4 (replicate area_size 0) (command_descriptor k) (omega arith) (omega arith) (omega arith) ∙ word-zeros area_size (command_descriptor k - 4) (omega arith) in
+    let high : word_at (put memory 4 (replicate area_size 0)) (command_descriptor k + 2) ≡ 0 = word_at-put_inside memory 4 (replicate area_size 0) (command_descriptor k + 2) (omega arith) (omega arith) (omega arith) ∙ word-zeros area_size (command_descriptor k + 2 - 4) (omega arith) in
+    record { descriptor = record { low = 0; high = 0 }; is = read (put memory 4 (replicate area_size 0)) (command_descriptor k) (record { low = 0; high = 0 }) (omega arith) (record { low = low; high = high }); not_owned = refl }
 
 -- ---- the responses are opened
 
@@ -162,7 +163,7 @@ in_step_new old memory new responses free = record {
   commands = record { size = responses.size; within = omega arith; few = omega arith; posted = λ k d low. absurd (omega arith); free = λ k from low. free ((0 + k) % slots) (omega arith) };
   responses = responses;
   agree = record {
-    credits = omega (arith, new.credits, new.fetches, ap (λ (d : ℕ). 1 + 8 * min d 1 + (d - 1)) new.deliveries);
+    credits = omega (arith, new.credits, new.fetches, ap (λ (d : ℕ). 1 + PENDING_LIMIT * min d 1 + (d - 1)) new.deliveries);
     conserved = omega (arith, new.fetches, new.deliveries, ap length new.nothing_pending, ap length new.nothing_waits);
     within = omega (arith, ap length new.nothing_pending, ap length new.nothing_waits);
   };
@@ -178,7 +179,7 @@ pub record Begun (old port : PortState) (held : ℕ) (memory : List ℕ) : Type 
 pub begun : (old started looking p1 p2 p3 : PortState) (m0 zeroed opened posted m1 m2 m3 left : List ℕ) (t1 t2 t3 : Turn) (held : ℕ)
     → IsNew old → length m0 ≡ memory_size
     → started ≡ port_running old
-    → zeroed ≡ put m0 4 (replicate 68 0) → ResponseSide opened → ((k : ℕ) → k < slots → IsFree zeroed k → IsFree opened k)
+    → zeroed ≡ put m0 4 (replicate area_size 0) → ResponseSide opened → ((k : ℕ) → k < slots → IsFree zeroed k → IsFree opened k)
     → posted ≡ with_command opened 0 characteristics → read_command (written_command characteristics) ≡ Ok characteristics
     → looking ≡ port_asked started.phase started
     → TurnGoes looking.phase looking posted t1 p1 m1 → CreditsAgree p1 → TurnGoes p1.phase p1 m1 t2 p2 m2 → CreditsAgree p2 → TurnGoes p2.phase p2 m2 t3 p3 m3 → CreditsAgree p3
@@ -215,9 +216,9 @@ begun old started looking p1 p2 p3 m0 zeroed opened posted m1 m2 m3 left t1 t2 t
     let h = third_turn t3 pending2 (turn_goes t3 p3 m3 x.in_step (omega (arith, ap length waiting2)) a3 g3) in
     let slot : p2.responses.place ≡ 0 = ap (λ (p : PortState). p.responses.place) p2_is in
     let deliveries : p2.deliveries ≡ 0 = ap (λ (p : PortState). p.deliveries) p2_is ∙ new.deliveries in
-    let grant : next_grant p2.deliveries ≡ slots = ap next_grant deliveries in
+    let grant : next_grant p2.deliveries ≡ PENDING_LIMIT = ap next_grant deliveries in
     let long : length m3 ≡ memory_size = sym (length-put m3 (response_descriptor p2.responses.place + 2) (word_bytes owner_word)) ∙ h.in_step.commands.size in
-    let all : held ≡ slots = held_is long ∙ ap (λ (k : ℕ). word_at m3 (response_packet k + 2)) (sym slot) ∙ h.there.second_word ∙ grant in
+    let all : held ≡ PENDING_LIMIT = held_is long ∙ ap (λ (k : ℕ). word_at m3 (response_packet k + 2)) (sym slot) ∙ h.there.second_word ∙ grant in
     let left_now : left ≡ memory_reopened m3 p2.responses.place = left_is long ∙ ap (memory_reopened m3) (sym slot) in
     record {
       rest = record {

@@ -17,7 +17,7 @@ use Rattle.uda_packet.specs.declared.command.Command.{Command}
 use Rattle.uda_packet.specs.declared.end.End.{End}
 use Rattle.uda_packet.specs.Written.{written_command}
 use Rattle.uda_packet.specs.Reading.{read_end, read_command}
-use Rattle.uda_exec.specs.Disks.{AreImages}
+use Rattle.uda_exec.specs.Disks.{AreImages, PENDING_LIMIT}
 use Rattle.uda_exec.specs.Commands.{address_of, room_of}
 use Rattle.uda_exec.specs.Order.{OrderIsFree}
 use Rattle.uda_exec.proofs.Units.{slice_get-set_other}
@@ -90,7 +90,7 @@ module _ {start : PortState} {requests : List CodeRequest} {n bound : ℕ} {out 
   out_counted = length-map out (posted_of the_asked)
 
   -- as many credits are held as are not out
-  pub under_held : desk.held + length out ≡ slots
+  pub under_held : desk.held + length out ≡ PENDING_LIMIT
   under_held = let step = U.driving.step in omega (arith, out_counted, many_out U.driving, step.credits, step.agree.credits, step.agree.conserved, U.begun)
 
   told_counted : length (take n the_asked) ≤ length the_told
@@ -473,7 +473,7 @@ command_for request o = command_of (request_value request) (o.place + 1) (buffer
 pub going_post : {start : PortState} {requests : List CodeRequest} {n : ℕ} {out : List Out} {answers : List CodeAnswer} {desk : Desk} {port : PortState} {memory : List ℕ}
     (request : CodeRequest) (seen : List Out) (new : Out) (items : List Out) (desk_after : Desk) (port_after : PortState) (memory_after : List ℕ)
     → n < length requests → request ≡ get_or requests n request → too_long (request_value request) ≡ false → seen ≡ out → WaitsFor requests seen desk request ≡ false
-    → new.place ≡ n → new.buffer < slots → (buffers : List Out) → buffers ≡ out → list_any (λ o. nat_eq o.buffer new.buffer) buffers ≡ false
+    → new.place ≡ n → new.buffer < PENDING_LIMIT → (buffers : List Out) → buffers ≡ out → list_any (λ o. nat_eq o.buffer new.buffer) buffers ≡ false
     → items ≡ out ++ new ∷ [] → desk_after ≡ posted_desk desk → IsWhole (request_value request) → read_command (written_command (command_for request new)) ≡ Ok (command_for request new)
     → memory_after ≡ with_command (put memory (buffer_address new.buffer) (bytes_brought (request_value request))) desk.command_place (command_for request new)
     → (port.phase ≡ Running → port_after ≡ record port { looking = true })
@@ -600,7 +600,7 @@ going_start requests answers out desk port memory rest images empty sized blank 
       deliveries = omega arith;
       load = omega arith;
     } in
-    let held : desk.held ≡ slots = omega (arith, under_held under) in
+    let held : desk.held ≡ PENDING_LIMIT = omega (arith, under_held under) in
     subst (λ (os : List Out). Going port requests 0 os answers desk port memory) (sym empty) (record {
       bound = 0;
       under = under;
@@ -669,9 +669,9 @@ drained {start} {requests} {out} {answers} {desk} {desk'} {port} {memory} {memor
 pub record InRange (out : List Out) (desk : Desk) (memory : List ℕ) : Type 0 where
   pub command : desk.command_place < slots
   pub response : desk.response_place < slots
-  pub held : desk.held ≤ slots
+  pub held : desk.held ≤ PENDING_LIMIT
   pub size : length memory ≡ memory_size
-  pub together : desk.held + length out ≡ slots
+  pub together : desk.held + length out ≡ PENDING_LIMIT
 
 pub in_range : {start : PortState} {requests : List CodeRequest} {n bound : ℕ} {out : List Out} {answers : List CodeAnswer} {desk : Desk} {port : PortState} {memory : List ℕ}
     → Underway start requests n bound out answers desk port memory → InRange out desk memory

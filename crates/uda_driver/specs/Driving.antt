@@ -1,6 +1,7 @@
 -- What a driver keeps between two turns of its port.
 use Rattle.std.specs.Prelude.{◌≡◌, ℕ, ◌+◌, ◌-◌, ◌%◌, ◌<◌, false, List, ◌++◌, length, All}
 use Rattle.uda_packet.specs.declared.command.Command.{Command}
+use Rattle.uda_exec.specs.Disks.{PENDING_LIMIT}
 use Rattle.uda_port.specs.Port.{PortState}
 use Rattle.uda_model.specs.Request.{Request, too_long}
 use Rattle.uda_model.specs.Answer.{Answer}
@@ -10,11 +11,11 @@ use Rattle.uda_host.specs.Layout.{slots, buffer_address}
 use Rattle.uda_host.specs.InStep.{InStep}
 use Rattle.uda_driver.specs.declared.desk.Desk.{Desk}
 
--- a request that may be posted: its buffer is one of the eight
+-- a request that may be posted: its buffer is one of those for which commands may be pending
 pub record IsOut (p : Posted) : Type 0 where
   pub short : too_long p.request ≡ false
   pub number : ℕ
-  pub within : number < slots
+  pub within : number < PENDING_LIMIT
   pub address_is : p.address ≡ buffer_address number
 
 -- it is one of the first so many requests

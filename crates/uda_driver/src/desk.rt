@@ -16,6 +16,6 @@ pub struct Desk {
 pub struct Out {
     /// The place in the list, counted from 0.
     pub place: u32,
-    /// The number of the buffer, less than 8.
+    /// The number of the buffer, less than 15.
     pub buffer: u8,
 }

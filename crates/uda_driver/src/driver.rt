@@ -55,7 +55,7 @@ impl<S: BlockStore> Driver<S> {
     /// one Set Controller Characteristics done.
     ///
     /// No store is called. Every unit with a drive is then available, without software protection, with
-    /// its blocks and hardware protection as given; nothing is out, and the driver holds eight credits.
+    /// its blocks and hardware protection as given; nothing is out, and the driver holds fifteen credits.
     /// Where `alloc` has no memory the answer is [`NoMemory`] with the drives as they were.
     ///
     /// UDA50 Programmer's Documentation Kit: initialisation, credits.
@@ -88,7 +88,7 @@ impl<S: BlockStore> Driver<S> {
 
     /// Has the requests done, and answers each.
     ///
-    /// Up to eight commands are out at once, and the controller does them in any order it chooses. Yet
+    /// Up to fifteen commands are out at once, and the controller does them in any order it chooses. Yet
     /// answers and disks are those of one plain array of blocks for each unit, served in order, where
     /// every store is faithful and none fails (`headline`); where stores fail, those of such a run with
     /// transfers lost, each loss told once (`losses`). Whatever the stores, each request has an answer of

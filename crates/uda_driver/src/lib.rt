@@ -1,4 +1,4 @@
-//! The class driver: a list of requests done by commands of which up to eight are out at once.
+//! The class driver: a list of requests done by commands of which up to fifteen are out at once.
 #![tactic(auto)]
 
 mod bring;

@@ -1,10 +1,10 @@
-//! A list of requests had done by commands, of which up to eight are out at once.
+//! A list of requests had done by commands, of which up to fifteen are out at once.
 ghost use Rattle.std.specs.Prelude.{◌≡◌, ◌≢◌, ℕ, ◌+◌, ◌*◌, ◌<◌, ◌≤◌, ◌||◌, ◌↔◌, nat_eq, true, false, length, map, slice_index_or, MatchOption, IfOk, IfErr, ◌∷◌, ◌++◌, [], Ok, Err};
 ghost use Rattle.std.specs.List.{list_any};
 ghost use Rattle.uda_mem.specs.Put.{put, part};
 ghost use Rattle.uda_packet.specs.Written.{written_command};
 ghost use Rattle.uda_packet.specs.Reading.{read_command};
-ghost use Rattle.uda_exec.specs.Disks.{AreImages};
+ghost use Rattle.uda_exec.specs.Disks.{AreImages, PENDING_LIMIT};
 ghost use Rattle.uda_exec.specs.Commands.{address_of, room_of};
 ghost use Rattle.uda_exec.specs.Execution.{natures_of};
 ghost use Rattle.uda_port.specs.declared.phase.Phase.TheVariants.{Running};
@@ -24,6 +24,7 @@ use crate::desk::{Desk, Out};
 use crate::driver::{REQUEST_LIMIT, RunError};
 use arrayvec::ArrayVec;
 use std::alloc::{AllocError, Global};
+use uda_exec::PENDING;
 use uda_exec::order::order_is_free;
 use uda_host::{BUFFER_SIZE, SLOTS, buffer_address, credits_at, end_at, reopen, write_command};
 use uda_image::BlockStore;
@@ -31,9 +32,6 @@ use uda_mem::HostMemory;
 use uda_model::{Answer, Request};
 use uda_packet::{End, EndBody};
 use uda_port::{Port, Turn};
-
-// How many requests may be out.
-const ROOM: usize = SLOTS as usize;
 
 // The answer that stands before a request is posted.
 fn blank(alloc: Global, request: &Request) -> Result<Answer, AllocError>
@@ -92,11 +90,11 @@ fn is_used(out: &[Out], buffer: u8) -> bool
 
 // A buffer that none has that is out.
 fn free_buffer(out: &[Out]) -> u8
-    requires { length out.now < slots }
-    ensures below { result < slots }
+    requires { length out.now < PENDING_LIMIT }
+    ensures below { result < PENDING_LIMIT }
     ensures free { list_any (λ o. nat_eq o.buffer result) out.now ≡ false }
 {
-    for buffer in 0..SLOTS as u8 {
+    for buffer in 0..PENDING as u8 {
         if !is_used(out, buffer) {
             return buffer;
         }
@@ -194,13 +192,13 @@ fn step<S: BlockStore>(
     port: &mut Port<S>,
     memory: &mut HostMemory,
     desk: &mut Desk,
-    out: &mut ArrayVec<Out, ROOM>,
+    out: &mut ArrayVec<Out, PENDING>,
     requests: &[Request],
     answers: &mut Vec<Answer>,
 )
     requires some { 0 < length out.old.items }
     requires slot { desk.old.response_place < slots }
-    requires held { desk.old.held ≤ slots }
+    requires held { desk.old.held ≤ PENDING_LIMIT }
     ensures { Onward requests.now out.old.items answers.old.items desk.old port.old memory.old out.new.items answers.new.items desk.new port.new memory.new }
 {
     // It does nothing: its contract is the law that whichever command goes, nothing is different.
@@ -227,14 +225,14 @@ fn post<S: BlockStore>(
     port: &mut Port<S>,
     memory: &mut HostMemory,
     desk: &mut Desk,
-    out: &mut ArrayVec<Out, ROOM>,
+    out: &mut ArrayVec<Out, PENDING>,
     new: Out,
     request: &Request,
 )
     requires few { new.place < request_limit }
-    requires buffer { new.buffer < slots }
+    requires buffer { new.buffer < PENDING_LIMIT }
     requires short { too_long (request_value request.now) ≡ false }
-    requires room { length out.old.items < slots }
+    requires room { length out.old.items < PENDING_LIMIT }
     requires credit { 0 < desk.old.held }
     requires slot { desk.old.command_place < slots }
     requires size { length memory.old ≡ memory_size }
@@ -313,7 +311,7 @@ fn drive<S: BlockStore>(
     requires blank { AreBlank (map request_value requests.now) 0 (map answer_value answers.items) }
     ensures { Ran port.old requests.now result.items desk.new port.new memory.new }
 {
-    let mut out: ArrayVec<Out, ROOM> = ArrayVec::new();
+    let mut out: ArrayVec<Out, PENDING> = ArrayVec::new();
     for n in 0..requests.len() {
         let request = &requests[n];
         if !request.is_too_long() {

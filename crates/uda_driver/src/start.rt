@@ -4,7 +4,7 @@ ghost use Rattle.uda_mem.specs.Put.{put};
 ghost use Rattle.uda_exec.specs.Disks.{AreImages};
 ghost use Rattle.uda_exec.specs.Drives.{drive_states, fresh_units, drives_in};
 ghost use Rattle.uda_port.specs.declared.phase.Phase.TheVariants.{Step1, Running};
-ghost use Rattle.uda_host.specs.Layout.{slots, memory_size, command_ring_at, response_ring_at, IsFree, ResponseSide};
+ghost use Rattle.uda_host.specs.Layout.{slots, area_size, memory_size, command_ring_at, response_ring_at, IsFree, ResponseSide};
 ghost use Rattle.uda_driver.specs.Starting.{IsNew, port_running};
 ghost use Rattle.uda_driver.specs.Underway.{AtRest};
 
@@ -12,16 +12,13 @@ use crate::desk::Desk;
 use std::alloc::Global;
 use uda_exec::Exec;
 use uda_host::{
-    MEMORY_SIZE, OWNER, PACKET_STEP, RESPONSE_PACKETS, RESPONSE_RING, SLOTS, credits_at, reopen,
-    write_command,
+    MEMORY_SIZE, OWNER, PACKET_STEP, RESPONSE_PACKETS, RESPONSE_RING, RINGS, SLOTS, credits_at,
+    reopen, write_command,
 };
 use uda_image::{BlockStore, Drive};
 use uda_mem::{HostMemory, NoMemory};
 use uda_packet::{Command, Op};
 use uda_port::Port;
-
-// The first word of the start-up: it is one, and each ring has 2 ^ 3 descriptors.
-const RINGS_OF_EIGHT: u16 = 0x9B00;
 
 // The last word of the start-up: the port may run.
 const GO: u16 = 1;
@@ -34,9 +31,9 @@ fn initialise<S: BlockStore>(port: &mut Port<S>, memory: &mut HostMemory)
     requires step { port.old.phase ≡ Step1 }
     requires size { length memory.old ≡ memory_size }
     ensures port { port.new ≡ port_running port.old }
-    ensures memory { memory.new ≡ put memory.old 4 (replicate 68 0) }
+    ensures memory { memory.new ≡ put memory.old 4 (replicate area_size 0) }
 {
-    port.write_sa(RINGS_OF_EIGHT, memory);
+    port.write_sa(RINGS, memory);
     port.write_sa(RESPONSE_RING as u16, memory);
     port.write_sa(0, memory);
     port.write_sa(GO, memory);

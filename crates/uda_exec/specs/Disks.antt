@@ -26,7 +26,7 @@ pub record UnitState : Type 0 where
 
 -- the most commands that may be pending at a time: as many as a host may have out
 abbrev pub PENDING_LIMIT : ℕ
-PENDING_LIMIT = 8
+PENDING_LIMIT = 15
 
 -- an executor: its units, and the commands that it has accepted and not done, oldest first
 pub record ExecState : Type 0 where

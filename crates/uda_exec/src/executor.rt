@@ -18,7 +18,7 @@ use uda_mem::HostMemory;
 use uda_packet::{Command, End, Op, status};
 
 /// The most commands that may be pending at a time: as many as a host may have out.
-pub const PENDING: usize = 8;
+pub const PENDING: usize = 15;
 
 /// Four units, numbered from 0, and the commands that were accepted and are not yet done.
 ///

@@ -1,5 +1,5 @@
 -- The command ring as the driver knows it.
-use Rattle.std.proofs.Common.{◌≡◌, ◌≢◌, ℕ, suc, ◌+◌, ◌%◌, ◌<◌, ◌≤◌, ◌⊎◌, inl, inr, List, [], ◌∷◌, ◌++◌, length, get_or, sym, ap, ◌∙◌, arith, subst}
+use Rattle.std.proofs.Common.{◌≡◌, ◌≢◌, ℕ, suc, ◌+◌, ◌-◌, ◌*◌, ◌%◌, ◌<◌, ◌≤◌, ◌⊎◌, inl, inr, List, [], ◌∷◌, ◌++◌, length, get_or, sym, ap, ◌∙◌, arith, subst}
 use Rattle.std.proofs.lemmas.Bool.{cases_lt, lt-leb}
 use Rattle.std.proofs.lemmas.List.{get_or_append_left, get_or_push, length_push}
 use Rattle.uda_mem.specs.Put.{put, Meet}
@@ -14,8 +14,8 @@ use Rattle.uda_host.proofs.Frames.{length-packet, length-two, descriptor-put, de
 
 -- a range apart from the command ring and the command texts
 pub record ClearOfCommands (at n : ℕ) : Type 0 where
-  pub ring : Meet at n 40 32 → ⊥
-  pub texts : Meet at n 768 512 → ⊥
+  pub ring : Meet at n (command_descriptor 0) (4 * slots) → ⊥
+  pub texts : Meet at n (command_packet 0) (64 * slots) → ⊥
 
 posted-put : (memory : List ℕ) (at : ℕ) (bytes : List ℕ) (i : ℕ) (c : Command) → (Meet at (length bytes) (command_descriptor i) 4 → ⊥) → (Meet at (length bytes) (command_packet i) 52 → ⊥)
     → IsPosted memory i c → IsPosted (put memory at bytes) i c
@@ -117,10 +117,10 @@ command_side-fetch memory place c queue high side low =
           let at : (place + suc k) % slots ≡ ((place + 1) % slots + k) % slots = omega arith in
           subst (λ (j : ℕ). IsPosted new j (get_or queue k d)) at
           (posted-put memory (command_descriptor place + 2) (word_bytes high) ((place + suc k) % slots) (get_or queue k d) (λ h. omega (arith, side.few, side.within)) (λ h. omega (arith, side.within)) (side.posted (suc k) d (omega arith)));
-      free = λ k le lt. free k le lt (cases_lt k 7);
+      free = λ k le lt. free k le lt (cases_lt k (slots - 1));
     }
   where
-    free : (k : ℕ) → length queue ≤ k → k < slots → (k < 7) ⊎ (7 ≤ k) → IsFree (put memory (command_descriptor place + 2) (word_bytes high)) (((place + 1) % slots + k) % slots)
+    free : (k : ℕ) → length queue ≤ k → k < slots → (k < slots - 1) ⊎ (slots - 1 ≤ k) → IsFree (put memory (command_descriptor place + 2) (word_bytes high)) (((place + 1) % slots + k) % slots)
     free k le lt (inl less) =
         let two = length-word_bytes high in
         let at : (place + suc k) % slots ≡ ((place + 1) % slots + k) % slots = omega arith in

@@ -1,5 +1,5 @@
 -- The response ring as the driver knows it.
-use Rattle.std.proofs.Common.{◌≡◌, ◌≢◌, ℕ, ◌^◌, ◌+◌, ◌<◌, ◌≤◌, ◌⊎◌, inl, inr, List, length, Some, sym, ◌∙◌, arith, subst}
+use Rattle.std.proofs.Common.{◌≡◌, ◌≢◌, ℕ, ◌^◌, ◌+◌, ◌*◌, ◌<◌, ◌≤◌, ◌⊎◌, inl, inr, List, length, Some, sym, ◌∙◌, arith, subst}
 use Rattle.std.proofs.lemmas.Bool.{cases_eq}
 use Rattle.uda_mem.specs.Put.{put, Meet}
 use Rattle.uda_mem.specs.Words.{word_at, word_bytes}
@@ -14,8 +14,8 @@ use Rattle.uda_host.proofs.Frames.{length-packet, descriptor-put, descriptor-put
 
 -- a range apart from the response ring and the response texts
 pub record ClearOfResponses (at n : ℕ) : Type 0 where
-  pub ring : Meet at n 8 32 → ⊥
-  pub texts : Meet at n 256 512 → ⊥
+  pub ring : Meet at n (response_descriptor 0) (4 * slots) → ⊥
+  pub texts : Meet at n (response_packet 0) (64 * slots) → ⊥
 
 pub open-put : (memory : List ℕ) (at : ℕ) (bytes : List ℕ) (i : ℕ) → (Meet at (length bytes) (response_descriptor i) 4 → ⊥) → (Meet at (length bytes) (response_packet i) 2 → ⊥)
     → IsOpen memory i → IsOpen (put memory at bytes) i

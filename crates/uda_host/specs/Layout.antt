@@ -14,20 +14,24 @@ use Rattle.uda_port.specs.Ring.{is_owned, descriptor_at, RingState}
 
 -- how many descriptors each ring has
 abbrev pub slots : ℕ
-slots = 8
+slots = 16
+
+-- the first word of a start-up with such rings
+abbrev pub rings_word : ℕ
+rings_word = 0xA400
 
 abbrev pub response_descriptor : ℕ → ℕ
 response_descriptor i = 8 + 4 * i
 
 abbrev pub command_descriptor : ℕ → ℕ
-command_descriptor i = 40 + 4 * i
+command_descriptor i = 72 + 4 * i
 
 -- the envelope of a packet; its text stands four bytes above
 abbrev pub response_packet : ℕ → ℕ
 response_packet i = 0x100 + 64 * i
 
 abbrev pub command_packet : ℕ → ℕ
-command_packet i = 0x300 + 64 * i
+command_packet i = 0x500 + 64 * i
 
 abbrev pub buffers_start : ℕ
 buffers_start = 0x1000
@@ -39,8 +43,12 @@ buffer_size = 0x4000
 abbrev pub buffer_address : ℕ → ℕ
 buffer_address n = buffers_start + buffer_size * n
 
+-- the communication area: four bytes below the ring base, and both rings
+abbrev pub area_size : ℕ
+area_size = 4 + 4 * slots + 4 * slots
+
 abbrev pub memory_size : ℕ
-memory_size = 135168
+memory_size = 249856
 
 -- a second word with the owner bit alone, and with the flag bit alone
 abbrev pub owner_word : ℕ

@@ -10,6 +10,6 @@
 mod ring;
 
 pub use ring::{
-    BUFFER_SIZE, MEMORY_SIZE, OWNER, PACKET_STEP, RESPONSE_PACKETS, RESPONSE_RING, SLOTS,
-    buffer_address, credits_at, end_at, reopen, write_command,
+    BUFFER_SIZE, COMMAND_PACKETS, COMMAND_RING, MEMORY_SIZE, OWNER, PACKET_STEP, RESPONSE_PACKETS,
+    RESPONSE_RING, RINGS, SLOTS, buffer_address, credits_at, end_at, reopen, write_command,
 };

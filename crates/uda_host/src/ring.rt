@@ -10,16 +10,25 @@ use uda_mem::HostMemory;
 use uda_packet::{Command, End, decode_end, encode_command};
 
 /// How many bytes the driver's memory has.
-pub const MEMORY_SIZE: u32 = 135_168;
+pub const MEMORY_SIZE: u32 = 249_856;
 
-/// How many descriptors each ring has, and so how many buffers there are.
-pub const SLOTS: u32 = 8;
+/// How many descriptors each ring has.
+pub const SLOTS: u32 = 16;
+
+/// The first word of a start-up with such rings: their exponent, 4, stands in it twice.
+pub const RINGS: u16 = 0xA400;
 
 /// The address of the response ring, which is the ring base.
 pub const RESPONSE_RING: u32 = 8;
 
+/// The address of the command ring, behind it.
+pub const COMMAND_RING: u32 = 72;
+
 /// The address of the packet of the first response descriptor.
 pub const RESPONSE_PACKETS: u32 = 0x100;
+
+/// The address of the packet of the first command descriptor.
+pub const COMMAND_PACKETS: u32 = 0x500;
 
 /// How many bytes lie between two packets.
 pub const PACKET_STEP: u32 = 64;
@@ -36,10 +45,6 @@ pub fn buffer_address(number: u8) -> u32
 
 /// How many bytes each buffer has: room for 32 blocks.
 pub const BUFFER_SIZE: u32 = 0x4000;
-
-const COMMAND_RING: u32 = 40;
-
-const COMMAND_PACKETS: u32 = 0x300;
 
 const BUFFERS: u32 = 0x1000;
 

@@ -106,9 +106,9 @@ failing_store : plain_as eight (
 unfolding put part
 failing_store = refl
 
--- the first eight of more are out together; a Read waits for a Write that it meets, and what is too long is passed over
-lead_of_ten : lead (map (λ k. ask.Read 0 k 1) (9 ∷ 8 ∷ 7 ∷ 6 ∷ 5 ∷ 4 ∷ 3 ∷ 2 ∷ 1 ∷ 0 ∷ [])) ≡ 8
-lead_of_ten = refl
+-- the first fifteen of more are out together; a Read waits for a Write that it meets, and what is too long is passed over
+lead_of_seventeen : lead (map (λ k. ask.Read 0 k 1) (16 ∷ 15 ∷ 14 ∷ 13 ∷ 12 ∷ 11 ∷ 10 ∷ 9 ∷ 8 ∷ 7 ∷ 6 ∷ 5 ∷ 4 ∷ 3 ∷ 2 ∷ 1 ∷ 0 ∷ [])) ≡ 15
+lead_of_seventeen = refl
 
 lead_to_a_clash : lead (ask.Online 0 false ∷ ask.Read 0 0 33 ∷ ask.Write 0 3 (of 0 ∷ of 0 ∷ []) ∷ ask.Read 0 4 1 ∷ ask.Read 0 0 1 ∷ []) ≡ 2
 lead_to_a_clash = refl

@@ -1,11 +1,12 @@
 -- Which requests may be out together. MSCP Basic Disk Functions Manual: command ordering.
 use Rattle.std.specs.Prelude.{ℕ, zero, suc, ◌+◌, min, max, Bool, ◌&&◌, ◌||◌, not, nat_lt, nat_eq, List, [], ◌∷◌, if◌then◌else◌}
 use Rattle.std.specs.List.{list_any, count_by}
+use Rattle.uda_exec.specs.Disks.{PENDING_LIMIT}
 use Rattle.uda_model.specs.Request.{Request, unit_of, is_moving, is_writing, first_of, count_of, too_long}
 
--- the most commands that a driver has out at a time
+-- the most commands that a driver has out at a time: as many as may be pending
 abbrev pub room : ℕ
-room = 8
+room = PENDING_LIMIT
 
 -- two transfers of one unit clash where some block lies in both ranges and one of them is a Write or an Erase
 abbrev pub clash : Request → Request → Bool

@@ -1,11 +1,11 @@
 -- What is always true of a port's fields.
 use Rattle.std.specs.Prelude.{◌≡◌, ◌+◌, ◌<◌, ◌↔◌, IsTrue, length}
-use Rattle.uda_exec.specs.Disks.{AreImages}
+use Rattle.uda_exec.specs.Disks.{AreImages, PENDING_LIMIT}
 use Rattle.uda_port.specs.Port.{credits_granted}
 use Rattle.uda_port.specs.declared.port.Port.TheInside.{Inside}
 
 pub record IsPort {S : Type 0} (p : Inside S) : Type 0 where
-  pub room : p.waiting.capacity ≡ 8
+  pub room : p.waiting.capacity ≡ PENDING_LIMIT
   pub credits : p.credits + p.fetches ≡ credits_granted p.deliveries
   pub conserved : p.fetches ≡ p.deliveries + (length p.exec.pending + length p.waiting.items)
   pub four : length p.exec.units ≡ 4

@@ -2,7 +2,7 @@
 -- UDA50 Programmer's Documentation Kit: port registers, initialisation, credits.
 use Rattle.std.specs.Prelude.{◌≡◌, ℕ, ◌+◌, ◌-◌, ◌*◌, ◌≤◌, min, Bool, true, false, List, [], length, map}
 use Rattle.uda_packet.specs.declared.end.End.{End}
-use Rattle.uda_exec.specs.Disks.{ExecState}
+use Rattle.uda_exec.specs.Disks.{ExecState, PENDING_LIMIT}
 use Rattle.uda_exec.specs.Drives.{reset_unit}
 use Rattle.uda_port.specs.declared.phase.Phase.{Phase}
 use Rattle.uda_port.specs.declared.phase.Phase.TheVariants.{Step1, Running}
@@ -47,20 +47,21 @@ port_at_start exec = record {
   load = 0;
 }
 
--- the credits that a host was given by then: 1 at start-up, 8 by the first end that is delivered, and 1 by each later one
+-- the credits that a host was given by then: 1 at start-up, as many as commands may be pending by the first end that is
+-- delivered, and 1 by each later one
 abbrev pub credits_granted : ℕ → ℕ
-credits_granted deliveries = 1 + 8 * min deliveries 1 + (deliveries - 1)
+credits_granted deliveries = 1 + PENDING_LIMIT * min deliveries 1 + (deliveries - 1)
 
 -- the credits that the next end grants
 abbrev pub next_grant : ℕ → ℕ
 next_grant deliveries = credits_granted (deliveries + 1) - credits_granted deliveries
 
 -- the credits left are those granted, less one for each command; each command that was fetched is pending, or its end waits or was
--- delivered; and no more than 8 are under way
+-- delivered; and no more are under way than may be pending
 pub record CreditsAgree (port : PortState) : Type 0 where
   pub credits : port.credits + port.fetches ≡ credits_granted port.deliveries
   pub conserved : port.fetches ≡ port.deliveries + (length port.exec.pending + length port.waiting)
-  pub within : length port.exec.pending + length port.waiting ≤ 8
+  pub within : length port.exec.pending + length port.waiting ≤ PENDING_LIMIT
 
 -- a port whose IP register is read begins to look, if it runs
 abbrev pub port_asked : Phase → PortState → PortState

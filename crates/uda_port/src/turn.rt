@@ -2,7 +2,7 @@
 //!
 //! UDA50 Programmer's Documentation Kit: command ring polling, message envelopes, credits.
 ghost use Rattle.std.specs.Prelude.{◌≡◌, ◌+◌, ◌<◌, ◌≤◌, slice_get, [], ◌∷◌, ◌++◌, length, Some};
-ghost use Rattle.uda_exec.specs.Disks.{AreImages};
+ghost use Rattle.uda_exec.specs.Disks.{AreImages, PENDING_LIMIT};
 ghost use Rattle.circular_buffer.specs.Buffer.{buffer};
 ghost use Rattle.uda_port.specs.Port.{CreditsAgree, next_grant};
 ghost use Rattle.uda_port.specs.Turn.{FetchLine, ExecuteLine, DeliverLine, RestGoes, LinesGo};
@@ -13,6 +13,7 @@ use crate::phase::{Fatal, Phase};
 use crate::port::Port;
 use crate::ring::RingFault;
 use circular_buffer::HeapCircularBuffer;
+use uda_exec::PENDING;
 use uda_image::BlockStore;
 use uda_mem::HostMemory;
 use uda_packet::{End, encode_end};
@@ -44,7 +45,7 @@ impl<S: BlockStore> Port<S> {
     /// 2. The port stops looking. A command is pending: one that may go is executed, and its end waits
     ///    last.
     /// 3. An end waits: where the next response descriptor is the port's, the text, then the envelope
-    ///    with its credits (8 with the first end since start-up, then 1), then the descriptor's second
+    ///    with its credits (15 with the first end since start-up, then 1), then the descriptor's second
     ///    word are written. The port dies where descriptor or buffer can't be used.
     /// 4. [`Turn::Idle`].
     ///
@@ -194,10 +195,10 @@ impl<S: BlockStore> Port<S> {
     // The credits that the next end grants.
     fn next_grant(&self) -> u8
         ensures grant { result ≡ next_grant self.now.deliveries }
-        ensures few { result ≤ 8 }
-        ensures room { self.now.credits + result ≤ 9 }
+        ensures few { result ≤ PENDING_LIMIT }
+        ensures room { self.now.credits + result ≤ PENDING_LIMIT + 1 }
     {
-        if self.begun { 1 } else { 8 }
+        if self.begun { 1 } else { PENDING as u8 }
     }
 }
 

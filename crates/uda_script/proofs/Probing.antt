@@ -13,7 +13,7 @@ use Rattle.uda_packet.specs.Written.{written_command, written_end}
 use Rattle.uda_packet.specs.Reading.{read_command}
 use Rattle.uda_packet.proofs.TextLaws.{command_is_read}
 use Rattle.uda_packet.proofs.WrittenLaws.{written_command_text, length-written_end}
-use Rattle.uda_exec.specs.Disks.{UnitState}
+use Rattle.uda_exec.specs.Disks.{PENDING_LIMIT, UnitState}
 use Rattle.uda_exec.specs.Effect.{Outcome, Done, Lost, end_of, verdict}
 use Rattle.uda_exec.specs.Execution.{EndsBy, Executes, world_of}
 use Rattle.uda_port.proofs.RingLaws.{descriptor_at-put_other}
@@ -30,43 +30,54 @@ use Rattle.uda_port.specs.Delivery.{Puts}
 use Rattle.uda_port.specs.Message.{IsSequential, message_in}
 use Rattle.uda_port.specs.Port.{PortState, port_asked}
 use Rattle.uda_port.specs.Turn.{port_turn_on, port_with_message, TurnGoes, RunningTurn, FetchLine, GoesOn, Fails, InFetch, InRest}
-use Rattle.uda_script.specs.Probe.{probing, probe_end, probe_text, started_memory, probe_memory, IsAvailable, started_port}
+use Rattle.uda_host.specs.Layout.{command_descriptor, response_descriptor, command_packet, response_packet, command_ring_at, response_ring_at, posted_descriptor, open_descriptor, memory_size, flag_word}
+use Rattle.uda_script.specs.Probe.{command_text, response_text, probing, probe_end, probe_text, started_memory, probe_memory, IsAvailable, started_port}
+
+-- the first two descriptors for commands, and the first for responses
+abbrev command_slot : ℕ
+command_slot = command_descriptor 0
+
+abbrev next_slot : ℕ
+next_slot = command_descriptor 1
+
+abbrev response_slot : ℕ
+response_slot = response_descriptor 0
 
 -- ---- what the host left in memory
 
-command_descriptor : descriptor_at probe_memory 40 ≡ Some (record { low = 0x0304; high = 0x8000 })
+command_stands : descriptor_at probe_memory command_slot ≡ Some (posted_descriptor 0)
 unfolding probe_memory started_memory put part word_at word_bytes written_command
-command_descriptor = refl
+command_stands = refl
 
-next_descriptor : descriptor_at probe_memory 44 ≡ Some (record { low = 0; high = 0 })
+next_stands : descriptor_at probe_memory next_slot ≡ Some (record { low = 0; high = 0 })
 unfolding probe_memory started_memory put part word_at word_bytes written_command
-next_descriptor = refl
+next_stands = refl
 
-response_descriptor : descriptor_at probe_memory 8 ≡ Some (record { low = 0x0104; high = 0x8000 })
+response_stands : descriptor_at probe_memory response_slot ≡ Some (open_descriptor 0)
 unfolding probe_memory started_memory put part word_at word_bytes written_command
-response_descriptor = refl
+response_stands = refl
 
-long : length probe_memory ≡ 135168
+long : length probe_memory ≡ memory_size
 unfolding probe_memory started_memory put part word_at word_bytes written_command
 long = refl
 
-text_length : word_at probe_memory 0x0300 ≡ 48
+text_length : word_at probe_memory (command_packet 0) ≡ 48
 unfolding probe_memory started_memory put part word_at word_bytes written_command
 text_length = refl
 
-text_grant : word_at probe_memory 0x0302 ≡ 0
+text_grant : word_at probe_memory (command_packet 0 + 2) ≡ 0
 unfolding probe_memory started_memory put part word_at word_bytes written_command
 text_grant = refl
 
-room_length : word_at probe_memory 0x0100 ≡ 48
+room_length : word_at probe_memory (response_packet 0) ≡ 48
 unfolding probe_memory started_memory put part word_at word_bytes written_command
 room_length = refl
 
-text : part probe_memory 0x0304 48 ≡ written_command probing
+text : part probe_memory command_text 48 ≡ written_command probing
 unfolding probe_memory started_memory put part word_at word_bytes written_command
 text = refl
 
-readable : HasPacket probe_memory 0x0304
+readable : HasPacket probe_memory command_text
 readable = record { even = refl; above = lit≤ tt; within = omega (arith, long) }
 
 -- ---- the port, turn by turn
@@ -78,7 +89,7 @@ abbrev pub fetched_port : List (Option UnitState) → PortState
 fetched_port units = record (looking_port units) {
   turns = 1;
   exec = record { units = units; pending = probing ∷ [] };
-  commands = record { base = 40; count = 8; place = 1 };
+  commands = command_ring_at 1;
   credits = 0;
   fetches = 1;
 }
@@ -94,24 +105,24 @@ executed_port units = record (fetched_port units) {
 
 -- memory after the fetch: the command's descriptor is given back, and nothing else changed
 abbrev pub fetched_memory : List ℕ
-fetched_memory = put probe_memory 42 (word_bytes 0x4000)
+fetched_memory = put probe_memory (command_slot + 2) (word_bytes flag_word)
 
-two : length (word_bytes 0x4000) ≡ 2
-two = length-word_bytes 0x4000
+two : length (word_bytes flag_word) ≡ 2
+two = length-word_bytes flag_word
 
-fetched_long : length fetched_memory ≡ 135168
-fetched_long = length-put probe_memory 42 (word_bytes 0x4000) ∙ long
+fetched_long : length fetched_memory ≡ memory_size
+fetched_long = length-put probe_memory (command_slot + 2) (word_bytes flag_word) ∙ long
 
-next_kept : descriptor_at fetched_memory 44 ≡ Some (record { low = 0; high = 0 })
-next_kept = descriptor_at-put_other probe_memory 40 44 0x4000 (inl (lit≤ tt)) ∙ next_descriptor
+next_kept : descriptor_at fetched_memory next_slot ≡ Some (record { low = 0; high = 0 })
+next_kept = descriptor_at-put_other probe_memory command_slot next_slot 0x4000 (inl (lit≤ tt)) ∙ next_stands
 
-response_kept : descriptor_at fetched_memory 8 ≡ Some (record { low = 0x0104; high = 0x8000 })
-response_kept = descriptor_at-put_other probe_memory 40 8 0x4000 (inr (lit≤ tt)) ∙ response_descriptor
+response_kept : descriptor_at fetched_memory response_slot ≡ Some (open_descriptor 0)
+response_kept = descriptor_at-put_other probe_memory command_slot response_slot 0x4000 (inr (lit≤ tt)) ∙ response_stands
 
-room : HasRoom fetched_memory 0x0104
+room : HasRoom fetched_memory response_text
 room = record {
   packet = record { even = refl; above = lit≤ tt; within = omega (arith, fetched_long) };
-  long = subst (λ n. 48 ≤ n) (sym (word_at-put_apart probe_memory 42 (word_bytes 0x4000) 0x0100 (λ meet. omega (arith, two)) ∙ room_length)) (lit≤ tt);
+  long = subst (λ n. 48 ≤ n) (sym (word_at-put_apart probe_memory (command_slot + 2) (word_bytes flag_word) (response_packet 0) (λ meet. omega (arith, two)) ∙ room_length)) (lit≤ tt);
 }
 
 -- a descriptor is one alone
@@ -127,14 +138,14 @@ not_none memory at a is none = let both = sym is ∙ none in absurd (cc)
 
 -- ---- the first turn: the command is fetched
 
-module _ (p : Fetched) (ring_after : RingState) (memory_after : List ℕ) (takes : Takes (record { base = 40; count = 8; place = 0 }) probe_memory p ring_after memory_after) where
-  first_is : takes.first ≡ record { low = 0x0304; high = 0x8000 }
-  first_is = same_descriptor probe_memory 40 _ _ takes.is_next command_descriptor
+module _ (p : Fetched) (ring_after : RingState) (memory_after : List ℕ) (takes : Takes (command_ring_at 0) probe_memory p ring_after memory_after) where
+  first_is : takes.first ≡ posted_descriptor 0
+  first_is = same_descriptor probe_memory command_slot _ _ takes.is_next command_stands
 
   memory_is : memory_after ≡ fetched_memory
-  memory_is = takes.written ∙ ap (λ (d : Descriptor). put probe_memory 42 (word_bytes (d.high % 0x4000 + 0x4000))) first_is
+  memory_is = takes.written ∙ ap (λ (d : Descriptor). put probe_memory (command_slot + 2) (word_bytes (d.high % 0x4000 + 0x4000))) first_is
 
-  packet_is : IsPacketAt probe_memory 0x0304 p
+  packet_is : IsPacketAt probe_memory command_text p
   packet_is = subst (λ (d : Descriptor). IsPacketAt probe_memory (address_of d) p) first_is takes.is_packet
 
   sequential : IsSequential p
@@ -150,8 +161,8 @@ module _ (p : Fetched) (ring_after : RingState) (memory_after : List ℕ) (takes
 -- the port doesn't fail to fetch it
 no_fatal_fetch : (cause : Fatal) (units : List (Option UnitState)) (new : PortState) (memory_after : List ℕ) → FetchLine (port_turn_on (looking_port units)) probe_memory (Err cause) new memory_after → ⊥
 no_fatal_fetch PacketRead units new memory_after line =
-    line.0.no_packet.unreadable (subst (λ (d : Descriptor). HasPacket probe_memory (address_of d)) (same_descriptor probe_memory 40 _ _ command_descriptor line.0.no_packet.is_next) readable)
-no_fatal_fetch RingRead units new memory_after line = not_none probe_memory 40 _ command_descriptor line.0.no_descriptor
+    line.0.no_packet.unreadable (subst (λ (d : Descriptor). HasPacket probe_memory (address_of d)) (same_descriptor probe_memory command_slot _ _ command_stands line.0.no_packet.is_next) readable)
+no_fatal_fetch RingRead units new memory_after line = not_none probe_memory command_slot _ command_stands line.0.no_descriptor
 no_fatal_fetch CreditsExceeded units new memory_after line = let none = line.no_credit in absurd (omega (arith, none))
 no_fatal_fetch WrongEnvelope units new memory_after line = line.not_sequential (sequential line.packet new.commands memory_after line.taken.takes)
 no_fatal_fetch PacketWrite units new memory_after line = line
@@ -162,8 +173,8 @@ pub record Leads (port : PortState) (memory : List ℕ) (new : PortState) (memor
   pub port_is : new ≡ port
   pub memory_is : memory_after ≡ memory
 
-no_rest : (units : List (Option UnitState)) → (true ≡ true → FindsNone (record { base = 40; count = 8; place = 0 }) probe_memory) → ⊥
-no_rest units finds = let none = finds refl in owned_not probe_memory 40 _ none.next command_descriptor none.is_next refl none.not_owned
+no_rest : (units : List (Option UnitState)) → (true ≡ true → FindsNone (command_ring_at 0) probe_memory) → ⊥
+no_rest units finds = let none = finds refl in owned_not probe_memory command_slot _ none.next command_stands none.is_next refl none.not_owned
 
 pub fetch_turn : (units : List (Option UnitState)) (turn : Turn) (new : PortState) (memory_after : List ℕ) → RunningTurn (looking_port units) probe_memory turn new memory_after → Leads (fetched_port units) fetched_memory new memory_after
 fetch_turn units TurnFetched new memory_after goes =
@@ -204,10 +215,10 @@ end_of_execution units units_after memory memory_after e available executes =
     ends_as units units_after memory memory_after e takes.outcome available takes.ends
 
 no_fatal_again : (cause : Fatal) (units : List (Option UnitState)) (new : PortState) (memory_after : List ℕ) → FetchLine (port_turn_on (fetched_port units)) fetched_memory (Err cause) new memory_after → ⊥
-no_fatal_again PacketRead units new memory_after line = owned_not fetched_memory 44 _ _ line.0.no_packet.is_next next_kept line.0.no_packet.owned refl
-no_fatal_again RingRead units new memory_after line = not_none fetched_memory 44 _ next_kept line.0.no_descriptor
-no_fatal_again CreditsExceeded units new memory_after line = owned_not fetched_memory 44 _ _ line.taken.takes.is_next next_kept line.taken.takes.owned refl
-no_fatal_again WrongEnvelope units new memory_after line = owned_not fetched_memory 44 _ _ line.taken.takes.is_next next_kept line.taken.takes.owned refl
+no_fatal_again PacketRead units new memory_after line = owned_not fetched_memory next_slot _ _ line.0.no_packet.is_next next_kept line.0.no_packet.owned refl
+no_fatal_again RingRead units new memory_after line = not_none fetched_memory next_slot _ next_kept line.0.no_descriptor
+no_fatal_again CreditsExceeded units new memory_after line = owned_not fetched_memory next_slot _ _ line.taken.takes.is_next next_kept line.taken.takes.owned refl
+no_fatal_again WrongEnvelope units new memory_after line = owned_not fetched_memory next_slot _ _ line.taken.takes.is_next next_kept line.taken.takes.owned refl
 no_fatal_again PacketWrite units new memory_after line = line
 no_fatal_again RingWrite units new memory_after line = line
 no_fatal_again StartUpWord units new memory_after line = line
@@ -217,7 +228,7 @@ some_pending is = absurd (cc)
 
 pub execute_turn : (units : List (Option UnitState)) (turn : Turn) (new : PortState) (memory_after : List ℕ) → IsAvailable units → RunningTurn (fetched_port units) fetched_memory turn new memory_after
     → Leads (executed_port new.exec.units) fetched_memory new memory_after
-execute_turn units TurnFetched new memory_after available goes = absurd (owned_not fetched_memory 44 _ _ goes.takes.is_next next_kept goes.takes.owned refl)
+execute_turn units TurnFetched new memory_after available goes = absurd (owned_not fetched_memory next_slot _ _ goes.takes.is_next next_kept goes.takes.owned refl)
 execute_turn units Executed new memory_after available goes =
     let one = goes.rest.1 in
     let taken = one.executes.taken in
@@ -251,20 +262,20 @@ none_stands : (j : ℕ) (c : Command) → slice_get no_commands j ≡ Some c →
 none_stands zero c stands = absurd (cc stands)
 none_stands (suc j) c stands = absurd (cc stands)
 
-delivered_text : (d : Descriptor) (memory_after : List ℕ) → d ≡ record { low = 0x0104; high = 0x8000 }
-    → memory_after ≡ put (put (put (put fetched_memory (address_of d) probe_text) (address_of d - 4) (word_bytes 48)) (address_of d - 2) (word_bytes 8)) 10 (word_bytes (d.high % 0x4000 + 0x4000)) → part memory_after 0x0104 48 ≡ probe_text
+delivered_text : (d : Descriptor) (memory_after : List ℕ) → d ≡ open_descriptor 0
+    → memory_after ≡ put (put (put (put fetched_memory (address_of d) probe_text) (address_of d - 4) (word_bytes 48)) (address_of d - 2) (word_bytes PENDING_LIMIT)) 10 (word_bytes (d.high % 0x4000 + 0x4000)) → part memory_after response_text 48 ≡ probe_text
 delivered_text d memory_after is written =
     let size : length probe_text ≡ 48 = length-written_end _ in
-    let m1 = put fetched_memory 0x0104 probe_text in
-    let m2 = put m1 0x0100 (word_bytes 48) in
-    let m3 = put m2 0x0102 (word_bytes 8) in
-    let whole : memory_after ≡ put m3 10 (word_bytes 0x4000) =
-    written ∙ ap (λ (d : Descriptor). put (put (put (put fetched_memory (address_of d) probe_text) (address_of d - 4) (word_bytes 48)) (address_of d - 2) (word_bytes 8)) 10 (word_bytes (d.high % 0x4000 + 0x4000))) is in
-    ap (λ (m : List ℕ). part m 0x0104 48) whole
-    ∙ part-put_apart m3 10 (word_bytes 0x4000) 0x0104 48 (λ meet. omega (arith, two))
-    ∙ part-put_apart m2 0x0102 (word_bytes 8) 0x0104 48 (λ meet. omega (arith, length-word_bytes 8))
-    ∙ part-put_apart m1 0x0100 (word_bytes 48) 0x0104 48 (λ meet. omega (arith, length-word_bytes 48))
-    ∙ part-put_at fetched_memory 0x0104 48 probe_text (omega (arith, fetched_long, size)) (sym size)
+    let m1 = put fetched_memory response_text probe_text in
+    let m2 = put m1 (response_packet 0) (word_bytes 48) in
+    let m3 = put m2 (response_packet 0 + 2) (word_bytes PENDING_LIMIT) in
+    let whole : memory_after ≡ put m3 (response_slot + 2) (word_bytes flag_word) =
+    written ∙ ap (λ (d : Descriptor). put (put (put (put fetched_memory (address_of d) probe_text) (address_of d - 4) (word_bytes 48)) (address_of d - 2) (word_bytes PENDING_LIMIT)) 10 (word_bytes (d.high % 0x4000 + 0x4000))) is in
+    ap (λ (m : List ℕ). part m response_text 48) whole
+    ∙ part-put_apart m3 (response_slot + 2) (word_bytes flag_word) response_text 48 (λ meet. omega (arith, two))
+    ∙ part-put_apart m2 (response_packet 0 + 2) (word_bytes PENDING_LIMIT) response_text 48 (λ meet. omega (arith, length-word_bytes PENDING_LIMIT))
+    ∙ part-put_apart m1 (response_packet 0) (word_bytes 48) response_text 48 (λ meet. omega (arith, length-word_bytes 48))
+    ∙ part-put_at fetched_memory response_text 48 probe_text (omega (arith, fetched_long, size)) (sym size)
 
 no_fatal_look : (cause : Fatal) (units : List (Option UnitState)) (new : PortState) (memory_after : List ℕ) → FetchLine (port_turn_on (executed_port units)) fetched_memory (Err cause) new memory_after → ⊥
 no_fatal_look PacketRead units new memory_after line = no_look line.0.looks
@@ -276,10 +287,10 @@ no_fatal_look RingWrite units new memory_after line = line
 no_fatal_look StartUpWord units new memory_after line = line
 
 no_fatal_delivery : (cause : Fatal) (units : List (Option UnitState)) (new : PortState) (memory_after : List ℕ) → GoesOn (port_turn_on (executed_port units)) fetched_memory (Err cause) new memory_after → ⊥
-no_fatal_delivery RingRead units new memory_after goes = not_none fetched_memory 8 _ response_kept goes.rest.1.0.no_descriptor
+no_fatal_delivery RingRead units new memory_after goes = not_none fetched_memory response_slot _ response_kept goes.rest.1.0.no_descriptor
 no_fatal_delivery PacketWrite units new memory_after goes =
     let lost = goes.rest.1.0.no_room in
-    lost.no_room (subst (λ (d : Descriptor). HasRoom fetched_memory (address_of d)) (same_descriptor fetched_memory 8 _ _ response_kept lost.is_next) room)
+    lost.no_room (subst (λ (d : Descriptor). HasRoom fetched_memory (address_of d)) (same_descriptor fetched_memory response_slot _ _ response_kept lost.is_next) room)
 no_fatal_delivery PacketRead units new memory_after goes = goes.rest.1
 no_fatal_delivery CreditsExceeded units new memory_after goes = goes.rest.1
 no_fatal_delivery WrongEnvelope units new memory_after goes = goes.rest.1
@@ -289,17 +300,17 @@ no_fatal_delivery StartUpWord units new memory_after goes = goes.rest.1
 first_end : (e : End) (rest : List End) → (probe_end ∷ []) ≡ e ∷ rest → e ≡ probe_end
 first_end e rest is = cc
 
-pub deliver_turn : (units : List (Option UnitState)) (turn : Turn) (new : PortState) (memory_after : List ℕ) → RunningTurn (executed_port units) fetched_memory turn new memory_after → part memory_after 0x0104 48 ≡ probe_text
+pub deliver_turn : (units : List (Option UnitState)) (turn : Turn) (new : PortState) (memory_after : List ℕ) → RunningTurn (executed_port units) fetched_memory turn new memory_after → part memory_after response_text 48 ≡ probe_text
 deliver_turn units TurnFetched new memory_after goes = absurd (no_look goes.looks)
 deliver_turn units Executed new memory_after goes = absurd (none_stands goes.rest.0 goes.rest.1.executes.command goes.rest.1.executes.taken.stands)
 deliver_turn units Delivered new memory_after goes =
     let delivers = goes.rest.1 in
     let end = first_end delivers.end new.waiting delivers.first in
-    let puts : Puts (record { base = 8; count = 8; place = 0 }) fetched_memory 8 probe_text new.responses memory_after =
-    subst (λ (e : End). Puts (record { base = 8; count = 8; place = 0 }) fetched_memory 8 (written_end e) new.responses memory_after) end delivers.puts in
-    delivered_text puts.first memory_after (same_descriptor fetched_memory 8 _ _ puts.is_next response_kept) puts.written
+    let puts : Puts (response_ring_at 0) fetched_memory PENDING_LIMIT probe_text new.responses memory_after =
+    subst (λ (e : End). Puts (response_ring_at 0) fetched_memory PENDING_LIMIT (written_end e) new.responses memory_after) end delivers.puts in
+    delivered_text puts.first memory_after (same_descriptor fetched_memory response_slot _ _ puts.is_next response_kept) puts.written
 deliver_turn units Idle new memory_after goes =
-    let finds = goes.rest.1.0 probe_end refl in absurd (owned_not fetched_memory 8 _ _ response_kept finds.is_next refl finds.not_owned)
+    let finds = goes.rest.1.0 probe_end refl in absurd (owned_not fetched_memory response_slot _ _ response_kept finds.is_next refl finds.not_owned)
 deliver_turn units Dead new memory_after goes = absurd (no_death goes.fails)
   where
     no_death : Fails goes.cause (port_turn_on (executed_port units)) fetched_memory goes.before memory_after → ⊥
@@ -309,7 +320,7 @@ deliver_turn units Dead new memory_after goes = absurd (no_death goes.fails)
 -- ---- the three turns
 
 pub served : (units : List (Option UnitState)) (p0 p1 p2 p3 p4 : PortState) (m0 m1 m2 m3 : List ℕ) (t1 t2 t3 : Turn) → IsAvailable units → p0 ≡ started_port units → m0 ≡ probe_memory → p1 ≡ port_asked p0.phase p0
-    → TurnGoes p1.phase p1 m0 t1 p2 m1 → TurnGoes p2.phase p2 m1 t2 p3 m2 → TurnGoes p3.phase p3 m2 t3 p4 m3 → part m3 0x0104 48 ≡ probe_text
+    → TurnGoes p1.phase p1 m0 t1 p2 m1 → TurnGoes p2.phase p2 m1 t2 p3 m2 → TurnGoes p3.phase p3 m2 t3 p4 m3 → part m3 response_text 48 ≡ probe_text
 served units p0 p1 p2 p3 p4 m0 m1 m2 m3 t1 t2 t3 available is memory asked one two three =
     let looking : p1 ≡ looking_port units = asked ∙ ap (λ (p : PortState). port_asked p.phase p) is in
     let first = fetch_turn units t1 p2 m1 (subst (λ (p : PortState). TurnGoes p.phase p probe_memory t1 p2 m1) looking (subst (λ (m : List ℕ). TurnGoes p1.phase p1 m t1 p2 m1) memory one)) in

@@ -1,48 +1,34 @@
-//! One Get Unit Status through the rings of a port.
+//! One Get Unit Status through the rings of a port, in the layout of the class driver.
 //!
 //! UDA50 Programmer's Documentation Kit: initialisation, command and response rings.
 
 ghost use Rattle.std.specs.Prelude.{◌≡◌, ◌%◌, ◌^◌, ◌<◌, ◌≤◌, length, replicate, IfOk};
 ghost use Rattle.uda_mem.specs.Put.{part};
+ghost use Rattle.uda_host.specs.Layout.{memory_size};
 ghost use Rattle.uda_script.specs.Probe.{IsNew, IsStarted, started_memory, posted_at};
-ghost use Rattle.uda_script.specs.Probe.{probe_memory, probe_text};
+ghost use Rattle.uda_script.specs.Probe.{probe_memory, probe_text, response_text};
 
 use std::alloc::Global;
 use uda_exec::Exec;
+use uda_host::{
+    COMMAND_PACKETS, COMMAND_RING, MEMORY_SIZE, OWNER, RESPONSE_PACKETS, RESPONSE_RING, RINGS,
+};
 use uda_image::{Drive, MemImage};
 use uda_mem::{HostMemory, NoMemory};
 use uda_packet::{Command, Envelope, Op, encode_command};
 use uda_port::Port;
 
-/// The bytes of host memory.
-const MEMORY: u32 = 135_168;
-
-/// The first word of the start-up: two rings of eight descriptors.
-const FIRST_WORD: u16 = 0x9b00;
-
-/// The second: the response ring begins at the address 8.
-const SECOND_WORD: u16 = 0x0008;
-
-/// The third: the high part of that address.
+/// The third word of the start-up: the high part of the ring base.
 const THIRD_WORD: u16 = 0x0000;
 
 /// The fourth: go.
 const GO: u16 = 0x0001;
 
-/// The response ring, of eight descriptors of four bytes.
-const RESPONSE_RING: u32 = 8;
-
-/// The command ring, behind it.
-const COMMAND_RING: u32 = 40;
-
 /// The text of the first response.
-const RESPONSE_TEXT: u16 = 0x0104;
+const RESPONSE_TEXT: u16 = RESPONSE_PACKETS as u16 + 4;
 
 /// The text of the first command.
-const COMMAND_TEXT: u16 = 0x0304;
-
-/// The second word of a descriptor that the port owns.
-const OWNED: u16 = 0x8000;
+const COMMAND_TEXT: u16 = COMMAND_PACKETS as u16 + 4;
 
 /// The envelope of a text of 48 bytes: a sequential message of MSCP.
 const ENVELOPE: Envelope = Envelope {
@@ -58,7 +44,7 @@ const ENVELOPE: Envelope = Envelope {
 pub fn probe(alloc: Global) -> Result<[u8; 48], NoMemory>
     ensures { IfOk result (λ text. text ≡ probe_text) }
 {
-    let mut memory = HostMemory::new(alloc, MEMORY)?;
+    let mut memory = HostMemory::new(alloc, MEMORY_SIZE)?;
     let mut port = new_port(alloc)?;
     start_up(&mut port, &mut memory);
     set_up(&mut memory);
@@ -87,12 +73,12 @@ fn new_port(alloc: Global) -> Result<Port<MemImage>, NoMemory>
 // The four steps of the start-up.
 fn start_up(port: &mut Port<MemImage>, memory: &mut HostMemory)
     requires port { IsNew port.old }
-    requires memory { memory.old ≡ replicate MEMORY 0 }
+    requires memory { memory.old ≡ replicate memory_size 0 }
     ensures port { IsStarted port.new }
     ensures memory { memory.new ≡ started_memory }
 {
-    port.write_sa(FIRST_WORD, memory);
-    port.write_sa(SECOND_WORD, memory);
+    port.write_sa(RINGS, memory);
+    port.write_sa(RESPONSE_RING as u16, memory);
     port.write_sa(THIRD_WORD, memory);
     port.write_sa(GO, memory);
 }
@@ -132,14 +118,14 @@ fn post(memory: &mut HostMemory, descriptor: u32, text: u16)
     memory.put_word(address - 4, length);
     memory.put_word(address - 2, grant);
     memory.put_word(descriptor, text);
-    memory.put_word(descriptor + 2, OWNED);
+    memory.put_word(descriptor + 2, OWNER);
 }
 
 // Makes the port look, and lets it fetch the command, execute it and deliver its end.
 fn serve(port: &mut Port<MemImage>, memory: &mut HostMemory)
     requires port { IsStarted port.old }
     requires memory { memory.old ≡ probe_memory }
-    ensures text { part memory.new RESPONSE_TEXT 48 ≡ probe_text }
+    ensures text { part memory.new response_text 48 ≡ probe_text }
 {
     port.read_ip();
     port.turn(memory);

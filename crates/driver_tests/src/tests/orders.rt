@@ -136,6 +136,35 @@ fn reads_out_of_order(rt: HostRuntime) -> Result<(), Fail> {
     assert_calls(&rt, rt.alloc(), &blocks, &requests, &[0, 1, 5, 9])
 }
 
+/// Online, and then Reads of one block each, at 13 and down to 0.
+fn online_and_fourteen(alloc: Global) -> Result<Vec<Request>, Fail> {
+    let mut requests = vec![in alloc; ONLINE]?;
+    for k in 0..14 {
+        requests.push(read(13 - k, 1))?;
+    }
+    Ok(requests)
+}
+
+/// Their answers.
+fn answers_of_online_and_fourteen(alloc: Global) -> Result<Vec<Answer>, Fail> {
+    let mut told = vec![in alloc; online(16)]?;
+    for k in 0..14 {
+        told.push(data(alloc, 13 - k, 512)?)?;
+    }
+    Ok(told)
+}
+
+#[test]
+fn fifteen_out(rt: HostRuntime) -> Result<(), Fail> {
+    let blocks = [0, 1, 2, 3, 4, 5, 6, 7, 8, 9, 10, 11, 12, 13, 14, 15];
+    let calls = [0, 1, 2, 3, 4, 5, 6, 7, 8, 9, 10, 11, 12, 13];
+    let requests = online_and_fourteen(rt.alloc())?;
+    let told = answers_of_online_and_fourteen(rt.alloc())?;
+    let (answers, _) = serve(rt.alloc(), image_of(rt.alloc(), &blocks)?, &requests)?;
+    assert_answers(&rt, &answers, &told);
+    assert_calls(&rt, rt.alloc(), &blocks, &requests, &calls)
+}
+
 #[test]
 fn several_kept_out(rt: HostRuntime) -> Result<(), Fail> {
     let write = write(rt.alloc(), 5, 0x33, 1)?;

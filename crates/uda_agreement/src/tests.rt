@@ -6,86 +6,145 @@ use draw::Draw;
 use std::alloc::Global;
 use std::io::Write;
 use std::test::Fail;
-use text::text_of;
+use text::{Text, text_of};
 use uda_batch::run_script;
 use uda_driver::Driver;
 use uda_grammar::parse;
 use uda_image::{Drive, MemImage};
-use uda_model::Answer;
+use uda_model::{Answer, Request};
 use uda_plain::{PlainDisk, PlainUnits};
 
 /// How many lists are compared.
 const LISTS: u64 = 300;
 
 /// The same blocks for both: a drive of the driver's, and a disk of the plain program's.
-fn twins(
-    alloc: Global,
-    blocks: Vec<[u8; 512]>,
-    hard: bool,
-) -> Result<(Drive<MemImage>, PlainDisk), Fail> {
-    let mut bytes: Vec<u8> = Vec::new(alloc);
-    for block in &blocks {
+#[derive(Drop)]
+struct Twins {
+    drive: Drive<MemImage>,
+    disk: PlainDisk,
+}
+
+/// The bytes of blocks, one after the other.
+fn joined(alloc: Global, blocks: &[[u8; 512]]) -> Result<Vec<u8>, Fail> {
+    let mut bytes = Vec::new(alloc);
+    for block in blocks {
         bytes.extend_from_slice(block)?;
     }
+    Ok(bytes)
+}
+
+/// A drive of these blocks.
+fn drive_of(alloc: Global, blocks: &[[u8; 512]], hard: bool) -> Result<Drive<MemImage>, Fail> {
+    let bytes = joined(alloc, blocks)?;
     let store = MemImage::from_bytes(alloc, &bytes)?;
+    Ok(Drive { store, hard })
+}
+
+/// Twins of blocks that are drawn, protected once in so many times.
+fn drawn_twins(alloc: Global, draw: &mut Draw, times: u32) -> Result<Twins, Fail> {
+    let blocks = draw.blocks(alloc)?;
+    let hard = draw.once_in(times);
+    let drive = drive_of(alloc, &blocks, hard)?;
     let disk = PlainDisk::new(blocks, hard).ok_or("too many blocks")?;
-    Ok((Drive { store, hard }, disk))
+    Ok(Twins { drive, disk })
+}
+
+/// A driver and the plain program, over the same units.
+#[derive(Drop)]
+struct Pair {
+    driver: Driver<MemImage>,
+    plain: PlainUnits,
+}
+
+/// A driver over these drives.
+fn started(
+    alloc: Global,
+    first: Drive<MemImage>,
+    second: Drive<MemImage>,
+) -> Result<Driver<MemImage>, Fail> {
+    match Driver::start(alloc, [Some(first), Some(second), None, None]) {
+        Ok(driver) => Ok(driver),
+        Err(_) => Err("no memory".into()),
+    }
+}
+
+impl Pair {
+    /// A pair over two units of drawn blocks.
+    fn new(alloc: Global, draw: &mut Draw) -> Result<Pair, Fail> {
+        let first = drawn_twins(alloc, draw, 8)?;
+        let second = drawn_twins(alloc, draw, 4)?;
+        let driver = started(alloc, first.drive, second.drive)?;
+        let plain = PlainUnits::new([Some(first.disk), Some(second.disk), None, None]);
+        Ok(Pair { driver, plain })
+    }
+
+    /// Whether both answer these requests alike.
+    fn answers_alike(&mut self, alloc: Global, requests: &[Request]) -> Result<bool, Fail> {
+        let Ok(answers) = self.driver.run(requests) else {
+            return Err("not run".into());
+        };
+        let plain = self.plain.run(alloc, requests)?;
+        Ok(answers == plain)
+    }
+
+    /// Whether both leave the same blocks, protected alike.
+    fn leaves_alike(self) -> bool {
+        let drives = self.driver.into_stores();
+        drives
+            .iter()
+            .zip(self.plain.disks())
+            .all(|(drive, disk)| agree(drive, disk))
+    }
 }
 
 /// Whether a drive holds a disk's blocks, and is protected as it is.
 fn agree(drive: &Option<Drive<MemImage>>, disk: &Option<PlainDisk>) -> bool {
     match (drive, disk) {
         (None, None) => true,
-        (Some(drive), Some(disk)) => {
-            drive.hard == disk.mode().hard
-                && drive
-                    .store
-                    .bytes()
-                    .chunks_exact(512)
-                    .eq(disk.blocks().iter().map(|block| block.as_slice()))
-        }
+        (Some(drive), Some(disk)) => drive.hard == disk.mode().hard && holds(&drive.store, disk),
         _ => false,
     }
 }
 
+/// Whether an image holds a disk's blocks.
+fn holds(image: &MemImage, disk: &PlainDisk) -> bool {
+    image
+        .bytes()
+        .chunks_exact(512)
+        .eq(disk.blocks().iter().map(|block| block.as_slice()))
+}
+
 /// A list drawn from this seed has the same answers from both, and leaves the same blocks.
-fn agree_on(rt: &HostRuntime, seed: u64) -> Result<bool, Fail> {
-    let alloc = rt.alloc();
+fn agree_on(alloc: Global, seed: u64) -> Result<bool, Fail> {
     let mut draw = Draw::new(seed);
-    let (first, second) = (draw.blocks(alloc)?, draw.blocks(alloc)?);
-    let (first, plain_first) = twins(alloc, first, draw.once_in(8))?;
-    let (second, plain_second) = twins(alloc, second, draw.once_in(4))?;
-    let drives = [Some(first), Some(second), None, None];
-    let mut driver = Driver::start(alloc, drives).map_err(|_| "no memory")?;
-    let mut plain = PlainUnits::new([Some(plain_first), Some(plain_second), None, None]);
+    let mut pair = Pair::new(alloc, &mut draw)?;
     for count in [20, 60] {
         let requests = draw.requests(alloc, count)?;
-        let Ok(answers) = driver.run(&requests) else {
-            return Err("not run".into());
-        };
-        if answers.as_slice() != plain.run(alloc, &requests)?.as_slice() {
+        if !pair.answers_alike(alloc, &requests)? {
             return Ok(false);
         }
     }
-    let drives = driver.into_stores();
-    Ok(
-        drives
-            .iter()
-            .zip(plain.disks())
-            .all(|(drive, disk)| agree(drive, disk)),
-    )
+    Ok(pair.leaves_alike())
 }
 
 #[test]
 fn driver_and_plain_program_agree(rt: HostRuntime) -> Result<(), Fail> {
     for seed in 0..LISTS {
-        assert!(rt; agree_on(&rt, seed)?, "list {seed}");
+        let is_alike = agree_on(rt.alloc(), seed)?;
+        assert!(rt; is_alike, "list {seed}");
     }
     Ok(())
 }
 
-// What a script's run prints of these answers: the bytes that were read, and a line each.
-fn printed(alloc: Global, answers: &[Answer]) -> Result<(Vec<u8>, Vec<u8>), Fail> {
+/// What a script's run prints.
+#[derive(Drop, PartialEq)]
+struct Printed {
+    out: Vec<u8>,
+    report: Vec<u8>,
+}
+
+/// What it prints of these answers: the bytes that were read, and a line each.
+fn expected(alloc: Global, answers: &[Answer]) -> Result<Printed, Fail> {
     let (mut out, mut report) = (Vec::new(alloc), Vec::new(alloc));
     for (n, answer) in answers.iter().enumerate() {
         if let Answer::Data { bytes, .. } = answer {
@@ -93,42 +152,43 @@ fn printed(alloc: Global, answers: &[Answer]) -> Result<(Vec<u8>, Vec<u8>), Fail
         }
         writeln!(report, "{} {answer}", n.saturating_add(1))?;
     }
-    Ok((out, report))
+    Ok(Printed { out, report })
 }
 
-/// A script drawn from this seed prints what the plain program answers its requests, and takes all its data.
-fn prints_alike(rt: &HostRuntime, seed: u64) -> Result<bool, Fail> {
-    let alloc = rt.alloc();
-    let mut draw = Draw::new(seed);
-    let blocks = draw.blocks(alloc)?;
-    let (drive, plain) = twins(alloc, blocks, false)?;
-    let mut driver = Driver::start(alloc, [Some(drive), None, None, None]).map_err(
-        |_| "no memory",
-    )?;
-    let mut plain = PlainUnits::new([Some(plain), None, None, None]);
-    let requests = draw.script(alloc, 40)?;
-    let text = text_of(alloc, &requests)?;
-    let Ok(script) = parse(alloc, text.script.as_bytes()) else {
-        return Ok(false);
-    };
+/// What a run of this script prints; None where the script is refused, or leaves some of its data.
+fn run(alloc: Global, driver: &mut Driver<MemImage>, text: &Text) -> Option<Printed> {
+    let script = parse(alloc, text.script.as_bytes()).ok()?;
     let mut data = text.data.as_slice();
     let (mut out, mut report) = (Vec::new(alloc), Vec::new(alloc));
-    let done = run_script(
-        alloc,
-        &script,
-        &mut data,
-        &mut out,
-        &mut report,
-        &mut driver,
-    );
-    let (expected_out, expected_report) = printed(alloc, &plain.run(alloc, &requests)?)?;
-    Ok(done.is_ok() && data.is_empty() && out == expected_out && report == expected_report)
+    let done = run_script(alloc, &script, &mut data, &mut out, &mut report, driver);
+    let is_whole = done.is_ok() && data.is_empty();
+    Some(Printed { out, report }).filter(|_| is_whole)
+}
+
+impl Pair {
+    /// Whether a script of these requests prints what the plain program answers them, and takes all its data.
+    fn prints_alike(&mut self, alloc: Global, requests: &[Request]) -> Result<bool, Fail> {
+        let text = text_of(alloc, requests)?;
+        let told = run(alloc, &mut self.driver, &text);
+        let answers = self.plain.run(alloc, requests)?;
+        let wanted = expected(alloc, &answers)?;
+        Ok(told == Some(wanted))
+    }
+}
+
+/// A script drawn from this seed prints what the plain program answers its requests.
+fn prints_alike(alloc: Global, seed: u64) -> Result<bool, Fail> {
+    let mut draw = Draw::new(seed);
+    let mut pair = Pair::new(alloc, &mut draw)?;
+    let requests = draw.script(alloc, 40)?;
+    pair.prints_alike(alloc, &requests)
 }
 
 #[test]
 fn scripts_and_plain_program_agree(rt: HostRuntime) -> Result<(), Fail> {
     for seed in 0..LISTS {
-        assert!(rt; prints_alike(&rt, seed)?, "script {seed}");
+        let is_alike = prints_alike(rt.alloc(), seed)?;
+        assert!(rt; is_alike, "script {seed}");
     }
     Ok(())
 }

@@ -136,9 +136,14 @@ fn assert_served(
     Ok(())
 }
 
-/// An image of eight blocks at least, of which block k is all of the k-th byte.
+/// An image of 8, 10 or 16 blocks, of which block k is all of the k-th byte.
 fn image_of(alloc: Global, bytes: &[u8]) -> Result<MemImage, Fail> {
-    let mut image = MemImage::new(alloc, bytes.len().max(8) as u32)?;
+    let blocks = match bytes.len() {
+        0..=8 => 8,
+        9..=10 => 10,
+        _ => 16,
+    };
+    let mut image = MemImage::new(alloc, blocks)?;
     for (k, byte) in (0..16).zip(bytes) {
         if k < image.size() {
             let _ = image.write(k, &[*byte; 512]);

@@ -69,10 +69,10 @@ impl Errand {
 
     fn request(self, n: u32) -> Request {
         match self {
-            Errand::Read(count) => Request::Read {
+            Errand::Read(blocks) => Request::Read {
                 unit: 0,
                 lbn: self.block(n),
-                count,
+                bytes: 512 * u64::from(blocks),
             },
             Errand::Status => Request::Status { unit: 0 },
         }

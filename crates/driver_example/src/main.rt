@@ -25,10 +25,10 @@ fn main(rt: HostRuntime) -> Result<()> {
         .run(&[
             online(0),
             online(1),
-            write(alloc, 0, 8, 2)?,
-            write(alloc, 1, 0, 1)?,
-            read(0, 9, 2),
-            read(0, 9, 1),
+            write(alloc, 0, 8, 1024)?,
+            write(alloc, 1, 0, 512)?,
+            read(0, 9, 1024),
+            read(0, 9, 512),
         ])
         .map_err(|_| anyhow!("no memory"))?;
     for answer in &answers {
@@ -44,12 +44,12 @@ fn online(unit: u16) -> Request {
     }
 }
 
-fn read(unit: u16, lbn: u32, count: u32) -> Request {
-    Request::Read { unit, lbn, count }
+fn read(unit: u16, lbn: u32, bytes: u64) -> Request {
+    Request::Read { unit, lbn, bytes }
 }
 
-// A Write of blocks of which each byte is 0x55.
+// A Write of so many bytes 0x55.
 fn write(alloc: Global, unit: u16, lbn: u32, count: usize) -> Result<Request> {
-    let blocks = Vec::from_elem(alloc, [0x55; 512], count)?;
-    Ok(Request::Write { unit, lbn, blocks })
+    let payload = Vec::from_elem(alloc, 0x55, count)?;
+    Ok(Request::Write { unit, lbn, payload })
 }

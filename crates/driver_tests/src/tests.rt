@@ -15,20 +15,25 @@ const ONLINE: Request = Request::Online {
     protect: false,
 };
 
+/// A Read of blocks.
 fn read(lbn: u32, count: u32) -> Request {
+    read_bytes(lbn, 512 * u64::from(count))
+}
+
+fn read_bytes(lbn: u32, bytes: u64) -> Request {
     Request::Read {
         unit: 0,
         lbn,
-        count,
+        bytes,
     }
 }
 
-/// A Write of blocks of which each byte is this one.
+/// A Write of so many bytes, all this one.
 fn write(alloc: Global, lbn: u32, byte: u8, count: usize) -> Result<Request, Fail> {
     Ok(Request::Write {
         unit: 0,
         lbn,
-        blocks: Vec::from_elem(alloc, [byte; 512], count)?,
+        payload: Vec::from_elem(alloc, byte, count)?,
     })
 }
 

@@ -50,14 +50,14 @@ fn requests(alloc: Global) -> Result<Vec<Request>, AllocError> {
         requests.push(Request::Write {
             unit: 0,
             lbn: u32::from(k),
-            blocks: Vec::from_elem(alloc, [k; 512], 1)?,
+            payload: Vec::from_elem(alloc, k, 512)?,
         })?;
     }
     for lbn in 0..10 {
         requests.push(Request::Read {
             unit: 0,
             lbn,
-            count: 1,
+            bytes: 512,
         })?;
     }
     Ok(requests)

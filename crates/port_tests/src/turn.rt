@@ -87,7 +87,6 @@ fn refused_transfers(rt: HostRuntime) -> Result<(), Fail> {
     for (address, count, status) in [
         (0x1001, 512, 0x0029),
         (0x1000, 513, 0x0049),
-        (0x1000, 514, 0x0c01),
         (0x21000, 512, 0x0069),
     ] {
         let mut machine = Machine::running(rt.alloc())?;

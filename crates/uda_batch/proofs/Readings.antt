@@ -1,11 +1,10 @@
 -- What is made of data that is read piece by piece.
-use Rattle.std.proofs.Common.{◌≡◌, ℕ, suc, ◌+◌, ◌-◌, ◌*◌, ◌<◌, ◌≤◌, List, [], ◌∷◌, ◌++◌, arith, length, drop, get_or, refl, sym, ap, ◌∙◌, append_assoc, append-nil, length-append, drop-cons, add-one}
+use Rattle.std.proofs.Common.{◌≡◌, ℕ, suc, ◌+◌, ◌-◌, ◌<◌, ◌≤◌, List, [], ◌∷◌, ◌++◌, arith, length, drop, get_or, refl, sym, ap, ◌∙◌, append_assoc, append-nil, length-append, drop-cons, add-one}
 use Rattle.std.specs.Prelude.{Option, None, Some, nat_lt, if◌then◌else◌, true, false, Bool}
 use Rattle.std.proofs.lemmas.List.{take_at, drop_at}
 use Rattle.std.proofs.lemmas.List.Sums.{sum_by-cons}
 use Rattle.std.proofs.Math.ListN.{drop_of_length-le}
 use Rattle.std.proofs.lemmas.Bool.Decides.{nat_tests}
-use Rattle.std.specs.Simd.{first_chunks}
 use Rattle.std.specs.Io.KnownBytes.{Consumes}
 use Rattle.std.proofs.KnownBytes.{Consumes-nil, Consumes-trans}
 use Rattle.uda_grammar.specs.declared.error.ScriptError.{ScriptError}
@@ -13,7 +12,7 @@ use Rattle.uda_grammar.specs.declared.error.ScriptError.TheVariants.{NoMemory, S
 use Rattle.uda_grammar.specs.declared.script.Line.{Line}
 use Rattle.uda_model.specs.Request.{Request}
 use Rattle.uda_batch.specs.Requests.{bytes_taken, taken, request_of, requests, first_short}
-use Rattle.uda_batch.specs.Reading.{ReadsAs, ReadsRequest, ReadsRequests, IsUnread, AreUnread}
+use Rattle.uda_batch.specs.Reading.{ReadsAs, ReadsBytes, ReadsRequest, ReadsRequests, IsUnread, AreUnread}
 
 -- so many bytes were read; of what f makes these items are made, and `rest` makes the others of what follows
 pub record ReadsPart {A : Type 0} (f rest : List ℕ → List A) (count : ℕ) (left now : Option (List ℕ)) (made : List A) : Type 0 where
@@ -54,31 +53,9 @@ reads_whole {A} f rest n k left now made so_far size done = record {
   is_made = λ later. so_far.is_made later ∙ ap (λ (t : List A). made ++ t) (done later) ∙ append-nil made;
 }
 
--- ---- blocks
-
--- the first chunk is a piece of its size
-chunk_is : (size k : ℕ) (block later : List ℕ) → length block ≡ size → first_chunks size (suc k) (block ++ later) ≡ block ∷ first_chunks size k later
-chunk_is size k block later h =
-    ap (λ (t : List ℕ). t ∷ first_chunks size k (drop size (block ++ later))) (take_at block later size h)
-    ∙ ap (λ (t : List ℕ). block ∷ first_chunks size k t) (drop_at block later size h)
-
--- of so many blocks this many are left
-pub block_next : (size count i : ℕ) (block : List ℕ) → i < count → length block ≡ size → (later : List ℕ) → first_chunks size (count - i) (block ++ later) ≡ block ∷ first_chunks size (count - (i + 1)) later
-block_next size count i block h e later =
-    let less : count - i ≡ suc (count - (i + 1)) = omega arith in
-    ap (λ (k : ℕ). first_chunks size k (block ++ later)) less ∙ chunk_is size (count - (i + 1)) block later e
-
--- the blocks before place i, and one more
-pub block_more : (count i : ℕ) (block : List ℕ) (left now after : Option (List ℕ)) (made : List (List ℕ)) → i < count → length block ≡ 512
-    → ReadsPart (first_chunks 512 count) (first_chunks 512 (count - i)) (512 * i) left now made → Consumes now after block
-    → ReadsPart (first_chunks 512 count) (first_chunks 512 (count - (i + 1))) (512 * (i + 1)) left after (made ++ block ∷ [])
-block_more count i block left now after made h size so_far read =
-    let total : 512 * i + 512 ≡ 512 * (i + 1) = omega arith in
-    reads_more (first_chunks 512 count) (first_chunks 512 (count - i)) (first_chunks 512 (count - (i + 1))) (512 * i) 512 (512 * (i + 1)) left now after made block block so_far size read
-    (block_next 512 count i block h size) total
-
-pub blocks_done : (size count : ℕ) (later : List ℕ) → first_chunks size (count - count) later ≡ []
-blocks_done size count later = let none : count - count ≡ 0 = omega arith in ap (λ (k : ℕ). first_chunks size k later) none
+-- bytes that were read, whatever follows them
+pub reads_bytes : (count : ℕ) (bytes : List ℕ) (left now : Option (List ℕ)) → length bytes ≡ count → Consumes left now bytes → ReadsBytes count left now bytes
+reads_bytes count bytes left now size read = record { bytes = bytes; counted = size; consumed = read; is_made = λ later. take_at bytes later count size }
 
 -- ---- errors
 
@@ -152,7 +129,7 @@ lines_whole lines k left now made h so_far =
     let none : drop k lines ≡ [] = drop_of_length-le lines h in
     reads_whole (requests lines) (requests (drop k lines)) so_far.count (taken lines) left now made so_far.part (let rest = ap taken none in omega (arith, so_far.counts, rest)) (λ later. ap (λ (xs : List Line). requests xs later) none)
 
--- data that doesn't hold a line's blocks makes it the short one
+-- data that doesn't hold a line's bytes makes it the short one
 pub lines_unread : (lines : List Line) (k : ℕ) (line other : Line) (left now : Option (List ℕ)) (made : List Request) (e : ScriptError) → k < length lines → line ≡ get_or lines k other
     → ReadsLines lines k left now made → IsUnread (bytes_taken line) line now e → AreUnread lines left e
 lines_unread lines k line other left now made NoMemory h is so_far unread = tt

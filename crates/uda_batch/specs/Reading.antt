@@ -1,6 +1,5 @@
 -- How requests are made of data that is read, and why they may not be.
-use Rattle.std.specs.Prelude.{◌≡◌, ℕ, ◌*◌, ◌<◌, List, ◌++◌, length, Option, Some, IfSome}
-use Rattle.std.specs.Simd.{first_chunks}
+use Rattle.std.specs.Prelude.{◌≡◌, ℕ, ◌<◌, List, ◌++◌, length, take, Option, Some, IfSome}
 use Rattle.std.specs.Io.KnownBytes.{Consumes}
 use Rattle.uda_grammar.specs.declared.error.ScriptError.{ScriptError}
 use Rattle.uda_grammar.specs.declared.error.ScriptError.TheVariants.{NoMemory, ShortData, Read}
@@ -15,9 +14,9 @@ pub record ReadsAs {A : Type 0} (f : List ℕ → A) (count : ℕ) (left left_af
   pub consumed : Consumes left left_after bytes
   pub is_made : (later : List ℕ) → f (bytes ++ later) ≡ made
 
--- so many blocks were read
-abbrev pub ReadsBlocks : ℕ → Option (List ℕ) → Option (List ℕ) → List (List ℕ) → Type 0
-ReadsBlocks count left left_after blocks = ReadsAs (first_chunks 512 count) (512 * count) left left_after blocks
+-- these are so many bytes that were read
+abbrev pub ReadsBytes : ℕ → Option (List ℕ) → Option (List ℕ) → List ℕ → Type 0
+ReadsBytes count left left_after bytes = ReadsAs (take count) count left left_after bytes
 
 -- a line's request was made of the data that it takes
 abbrev pub ReadsRequest : Line → Option (List ℕ) → Option (List ℕ) → Request → Type 0
@@ -34,7 +33,7 @@ IsUnread wanted line left Read = Unit {0}
 IsUnread wanted line left (ShortData number) = (number ≡ line.number) × IfSome left (λ bytes. length bytes < wanted)
 IsUnread wanted line left _ = ⊥
 
--- why the lines' data wasn't read: no memory was left, a read failed, or this is the first line whose blocks the data doesn't hold
+-- why the lines' data wasn't read: no memory was left, a read failed, or this is the first line whose bytes the data doesn't hold
 abbrev pub AreUnread : List Line → Option (List ℕ) → ScriptError → Type 0
 AreUnread lines left NoMemory = Unit {0}
 AreUnread lines left Read = Unit {0}

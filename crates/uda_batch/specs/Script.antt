@@ -58,7 +58,7 @@ pub record NothingDone (before after : Streams) (driver driver_after : DriverSta
   pub out_stays : after.out ≡ before.out
   pub report_stays : after.report ≡ before.report
 
--- what an error says: a write failed after the run, or nothing was done. ShortData names the first line whose blocks the
+-- what an error says: a write failed after the run, or nothing was done. ShortData names the first line whose bytes the
 -- data doesn't hold; a script that was read never is Syntax or TooManyLines
 abbrev pub EndsInError : List Line → Streams → Streams → DriverState → DriverState → ScriptError → Type 0
 EndsInError lines before after driver driver_after NoMemory = NothingDone before after driver driver_after

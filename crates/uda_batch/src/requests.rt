@@ -2,23 +2,21 @@
 
 ghost use Rattle.std.specs.Prelude.{◌≡◌, ◌*◌, length, replicate, OnOk, IfOk, IfErr};
 ghost use Rattle.std.specs.Io.KnownBytes.{Consumes};
+ghost use Rattle.uda_grammar.specs.Amounts.{bytes_in};
 ghost use Rattle.uda_model.specs.Values.{request_value, request_values};
 ghost use Rattle.uda_batch.specs.Requests.{bytes_taken, taken};
-ghost use Rattle.uda_batch.specs.Reading.{ReadsBlocks, ReadsRequest, ReadsRequests, IsUnread, AreUnread};
+ghost use Rattle.uda_batch.specs.Reading.{ReadsBytes, ReadsRequest, ReadsRequests, IsUnread, AreUnread};
 
 use crate::growth::{push, with_room};
 use std::alloc::Global;
 use std::io::{ErrorKind, Read};
-use uda_grammar::{Line, ScriptError, Statement};
+use uda_grammar::{Amount, Line, ScriptError, Statement};
 use uda_model::Request;
 
-/// The bytes of a block.
-const BLOCK: usize = 512;
-
-/// Makes the requests of the lines, in order. Each `write` takes its blocks from `input`, and nothing
-/// else does.
+/// Makes the requests of the lines, in order. Each `write` and `writeb` takes its bytes from `input`, and
+/// nothing else does.
 ///
-/// Where the data ends before a line's blocks are whole the answer is [`ScriptError::ShortData`] with
+/// Where the data ends before a line has its bytes the answer is [`ScriptError::ShortData`] with
 /// that line's number; where a read fails, [`ScriptError::Read`]; and where a growth is refused,
 /// [`ScriptError::NoMemory`]. A read that is interrupted is tried again.
 pub fn read_requests<R: Read>(
@@ -50,12 +48,24 @@ fn read_request<R: Read>(alloc: Global, line: &Line, input: &mut R) -> Result<Re
         Statement::Online { unit, protect } => Ok(Request::Online { unit, protect }),
         Statement::Available { unit } => Ok(Request::Available { unit }),
         Statement::Status { unit } => Ok(Request::Status { unit }),
-        Statement::Read { unit, lbn, count } => Ok(Request::Read { unit, lbn, count }),
-        Statement::Access { unit, lbn, count } => Ok(Request::Access { unit, lbn, count }),
-        Statement::Erase { unit, lbn, count } => Ok(Request::Erase { unit, lbn, count }),
-        Statement::Write { unit, lbn, count } => {
-            let blocks = read_blocks(alloc, line, count, input)?;
-            Ok(Request::Write { unit, lbn, blocks })
+        Statement::Read { unit, lbn, amount } => Ok(Request::Read {
+            unit,
+            lbn,
+            bytes: amount.bytes(),
+        }),
+        Statement::Access { unit, lbn, amount } => Ok(Request::Access {
+            unit,
+            lbn,
+            bytes: amount.bytes(),
+        }),
+        Statement::Erase { unit, lbn, amount } => Ok(Request::Erase {
+            unit,
+            lbn,
+            bytes: amount.bytes(),
+        }),
+        Statement::Write { unit, lbn, amount } => {
+            let payload = read_bytes(alloc, line, amount, input)?;
+            Ok(Request::Write { unit, lbn, payload })
         }
         Statement::Fill {
             unit,
@@ -63,57 +73,50 @@ fn read_request<R: Read>(alloc: Global, line: &Line, input: &mut R) -> Result<Re
             count,
             byte,
         } => {
-            let blocks = filled_blocks(alloc, count, byte)?;
-            Ok(Request::Write { unit, lbn, blocks })
+            let payload = repeat_byte(alloc, byte, 512 * u64::from(count))?;
+            Ok(Request::Write { unit, lbn, payload })
         }
     }
 }
 
-// So many blocks of one byte.
-fn filled_blocks(alloc: Global, count: u32, byte: u8) -> Result<Vec<[u8; BLOCK]>, ScriptError>
-    ensures blocks { IfOk result (λ blocks. blocks.items ≡ replicate count (replicate BLOCK byte)) }
+// So many bytes, all this one.
+fn repeat_byte(alloc: Global, byte: u8, count: u64) -> Result<Vec<u8>, ScriptError>
+    ensures bytes { IfOk result (λ bytes. bytes.items ≡ replicate count byte) }
     ensures error { IfErr result (λ e. e ≡ ScriptError.NoMemory) }
 {
-    let mut blocks = with_room(alloc, count as usize)?;
-    for _ in 0..count {
-        push(&mut blocks, [byte; BLOCK])?;
-    }
-    Ok(blocks)
+    Vec::from_elem(alloc, byte, count as usize).map_err(|_| ScriptError::NoMemory)
 }
 
-// The next blocks of the data, so many, for a line.
-fn read_blocks<R: Read>(
+// The next bytes of the data, so many, for a line.
+fn read_bytes<R: Read>(
     alloc: Global,
     line: &Line,
-    count: u32,
+    amount: Amount,
     input: &mut R,
-) -> Result<Vec<[u8; BLOCK]>, ScriptError>
-    ensures blocks { IfOk result (λ blocks. ReadsBlocks count (R.remaining input.old)
-        (R.remaining input.new) blocks.items) }
-    ensures error { IfErr result (IsUnread (512 * count) line.now (R.remaining input.old)) }
-    ensures idle { count ≡ 0 → input.new ≡ input.old }
+) -> Result<Vec<u8>, ScriptError>
+    ensures bytes { IfOk result (λ bytes. ReadsBytes (bytes_in amount) (R.remaining input.old)
+        (R.remaining input.new) bytes.items) }
+    ensures error { IfErr result (IsUnread (bytes_in amount) line.now (R.remaining input.old)) }
+    ensures idle { bytes_in amount ≡ 0 → input.new ≡ input.old }
 {
-    let mut blocks = with_room(alloc, count as usize)?;
-    for _ in 0..count {
-        let mut block = [0; BLOCK];
-        fill_block(line, &mut block, input)?;
-        push(&mut blocks, block)?;
-    }
-    Ok(blocks)
+    let mut bytes = repeat_byte(alloc, 0, amount.bytes())?;
+    read_whole(line, &mut bytes, input)?;
+    Ok(bytes)
 }
 
-// Reads until the block is full.
-fn fill_block<R: Read>(line: &Line, block: &mut [u8], input: &mut R) -> Result<(), ScriptError>
+// Reads until these bytes are full.
+fn read_whole<R: Read>(line: &Line, bytes: &mut [u8], input: &mut R) -> Result<(), ScriptError>
     ensures whole { OnOk result
-        (Consumes (R.remaining input.old) (R.remaining input.new) block.new) }
-    ensures error { IfErr result (IsUnread (length block.old) line.now (R.remaining input.old)) }
+        (Consumes (R.remaining input.old) (R.remaining input.new) bytes.new) }
+    ensures error { IfErr result (IsUnread (length bytes.old) line.now (R.remaining input.old)) }
+    ensures idle { length bytes.old ≡ 0 → input.new ≡ input.old }
 {
     let mut filled = 0;
     for _ in 0..u64::MAX {
-        if filled >= block.len() {
+        if filled >= bytes.len() {
             return Ok(());
         }
-        match input.read(&mut block[filled..]) {
+        match input.read(&mut bytes[filled..]) {
             Ok(0) => return Err(ScriptError::ShortData { line: line.number }),
             Ok(count) => filled += count,
             Err(error) => {

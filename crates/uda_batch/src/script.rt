@@ -21,14 +21,14 @@ use uda_model::{Answer, Request};
 
 /// Runs a script: has the requests that its lines make done by the driver, and tells what came of them.
 ///
-/// The `write` lines take their blocks from `input`, one after the other. Exactly these bytes are read,
+/// The `write` and `writeb` lines take their bytes from `input`, one after the other. Exactly these are read,
 /// and where there are none the reader isn't called; a read that is interrupted is tried again. `out`
 /// gets the bytes of all `Data` answers in the order of the requests, and is flushed; then `report` gets
 /// a line a request, its number from 1, a space and its answer, and is flushed. Reader and writers are
 /// lent, so that what they have left and hold afterwards can be said.
 ///
 /// All memory is taken before the driver runs. [`ScriptError::NoMemory`], [`ScriptError::ShortData`]
-/// (the data ends inside the blocks of that line) and [`ScriptError::Read`] come before a request is
+/// (the data ends inside the bytes of that line) and [`ScriptError::Read`] come before a request is
 /// posted: then driver and writers are as they were, and some data may have been read. After
 /// [`ScriptError::Write`] the run has been done, and a beginning of the texts was written.
 pub fn run_script<S: BlockStore, R: Read, W: Write, V: Write>(

@@ -20,7 +20,7 @@ use Rattle.uda_port.specs.declared.turn.Turn.{Turn}
 use Rattle.uda_port.specs.declared.turn.Turn.TheVariants.{Fetched as TurnFetched, Executed, Delivered, Idle, Dead}
 use Rattle.uda_port.specs.Port.{PortState, CreditsAgree, next_grant}
 use Rattle.uda_port.specs.Turn.{TurnGoes}
-use Rattle.uda_model.specs.Request.{Request, too_long, IsWhole}
+use Rattle.uda_model.specs.Request.{Request, too_long}
 use Rattle.uda_model.specs.Answer.{Answer, TooLong}
 use Rattle.uda_model.specs.Clash.{clash}
 use Rattle.uda_model.specs.Posting.{Posted, posted_command, commands_in, answer_of, buffer_of, bytes_brought}
@@ -295,19 +295,19 @@ module _ {start : Units} {requests : List Request} {out : List Posted} {answers 
     before = still_before r;
   }
 
-  pub driving_post : (p : Posted) → 0 < desk.held → p.place ≡ length requests → IsOut p → IsWhole p.request → read_command (written_command (posted_command p)) ≡ Ok (posted_command p)
+  pub driving_post : (p : Posted) → 0 < desk.held → p.place ≡ length requests → IsOut p → read_command (written_command (posted_command p)) ≡ Ok (posted_command p)
       → All (λ q. q.address ≢ p.address) out → All (λ q. clash p.request q.request ≡ false) out
       → Driving start (requests ++ p.request ∷ []) (out ++ p ∷ []) answers (posted_desk desk) (record port { looking = true }) (with_command (put memory p.address (bytes_brought p.request)) desk.command_place (posted_command p))
-  driving_post p credit last is whole legible other clear =
+  driving_post p credit last is legible other clear =
       let c = posted_command p in let i = desk.command_place in
       let bytes = bytes_brought p.request in
       let brought = put memory p.address bytes in
       let in_ring : i < slots = omega (arith, D.posts_next) in
       let size = D.step.commands.size in
       -- memory
-      let fits = (bytes_fit p.request p.address whole).fits in let buffer = buffer-at p.request p.address is.short in
+      let fits = (bytes_fit p.request p.address).fits in let buffer = buffer-at p.request p.address is.short in
       let misses : All (λ q. Misses p.address (length bytes) (posted_command q)) out = λ k d low. misses_other p (get_or out k d) p.address (length bytes) is (D.buffered k d low) (λ same. other k d low (sym same)) refl (omega arith) in
-      let ready = ready-put p memory is.short whole (omega (arith, is.address_is)) (omega (arith, is.address_is, is.within)) in
+      let ready = ready-put p memory is.short (omega (arith, is.address_is)) (omega (arith, is.address_is, is.within)) in
       let text = length-packet 0 (written_command c) (length-written_command c) in let four = length-two (command_packet i + 4) owner_word in
       -- what is out
       let apart : All (λ q. Apart (posted_command q) c) out = λ k d low. apart_from p (get_or out k d) is (D.buffered k d low) (other k d low) (clear k d low) in

@@ -1,5 +1,4 @@
 pub mod Buffers
-pub mod Posts
 pub mod Drives
 pub mod Drivings
 pub mod Underways

@@ -28,7 +28,7 @@ use Rattle.uda_port.specs.declared.turn.Turn.TheVariants.{Fetched as TurnFetched
 use Rattle.uda_port.specs.Port.{PortState, CreditsAgree, next_grant}
 use Rattle.uda_port.specs.Turn.{TurnGoes}
 use Rattle.uda_model.specs.Request as ask
-use Rattle.uda_model.specs.Request.{Request, too_long, IsWhole}
+use Rattle.uda_model.specs.Request.{Request, too_long}
 use Rattle.uda_model.specs.Answer.{Answer, TooLong}
 use Rattle.uda_model.specs.Clash.{clash, lead_from, lead, is_short, posted_count}
 use Rattle.uda_model.specs.Posting.{Posted, posted_command, commands_in, op_of, command_of, answer_of, buffer_of, bytes_brought}
@@ -474,11 +474,11 @@ pub going_post : {start : PortState} {requests : List CodeRequest} {n : ℕ} {ou
     (request : CodeRequest) (seen : List Out) (new : Out) (items : List Out) (desk_after : Desk) (port_after : PortState) (memory_after : List ℕ)
     → n < length requests → request ≡ get_or requests n request → too_long (request_value request) ≡ false → seen ≡ out → WaitsFor requests seen desk request ≡ false
     → new.place ≡ n → new.buffer < PENDING_LIMIT → (buffers : List Out) → buffers ≡ out → list_any (λ o. nat_eq o.buffer new.buffer) buffers ≡ false
-    → items ≡ out ++ new ∷ [] → desk_after ≡ posted_desk desk → IsWhole (request_value request) → read_command (written_command (command_for request new)) ≡ Ok (command_for request new)
+    → items ≡ out ++ new ∷ [] → desk_after ≡ posted_desk desk → read_command (written_command (command_for request new)) ≡ Ok (command_for request new)
     → memory_after ≡ with_command (put memory (buffer_address new.buffer) (bytes_brought (request_value request))) desk.command_place (command_for request new)
     → (port.phase ≡ Running → port_after ≡ record port { looking = true })
     → Going start requests n out answers desk port memory → Going start requests (n + 1) items answers desk_after port_after memory_after
-going_post {start} {requests} {n} {out} {answers} {desk} {port} {memory} request seen new items desk_after port_after memory_after lt is short same waits place few buffers same_buffers free items_are desk_is whole legible memory_is port_is G =
+going_post {start} {requests} {n} {out} {answers} {desk} {port} {memory} request seen new items desk_after port_after memory_after lt is short same waits place few buffers same_buffers free items_are desk_is legible memory_is port_is G =
     let rs = request_values requests in
     let f = posted_of rs in
     let r = request_value request in
@@ -499,7 +499,7 @@ going_post {start} {requests} {n} {out} {answers} {desk} {port} {memory} request
     let own : IsOut q = record { number = new.buffer; within = few; address_is = refl; short = short } in
     let port' : PortState = record port { looking = true } in
     let memory' = with_command (put memory (buffer_address new.buffer) (bytes_brought r)) desk.command_place (command_for request new) in
-    let posted = driving_post D q credit (place ∙ sym w.counted) own whole legible apart clear in
+    let posted = driving_post D q credit (place ∙ sym w.counted) own legible apart clear in
     let outs_are : outs_of requests out ++ q ∷ [] ≡ outs_of requests (out ++ new ∷ []) = ap (λ (x : Posted). outs_of requests out ++ x ∷ []) (sym q_is) ∙ sym (map_push f out new) in
     let driving = subst₂ (λ (qs : List Request) (ps : List Posted). Driving start.exec.units qs ps (answer_values answers) (posted_desk desk) port' memory') w.more outs_are posted in
     let Fit : Posted → Type 0 = IsPrepared (answer_values answers) in

@@ -42,8 +42,8 @@ triangle (suc n) = suc n + triangle n
 
 -- an answer that has room for the bytes that a Read brings
 abbrev pub Prepared : Request → Answer → Type 0
-Prepared (ask.Read unit first count) (tell.Data status bytes) = 512 * count ≤ length bytes
-Prepared (ask.Read unit first count) answer = ⊥
+Prepared (ask.Read unit first bytes) (tell.Data status held) = bytes ≤ length held
+Prepared (ask.Read unit first bytes) answer = ⊥
 Prepared r answer = Unit {0}
 
 -- the answer that stands before a request is posted

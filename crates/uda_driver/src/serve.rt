@@ -9,7 +9,7 @@ ghost use Rattle.uda_exec.specs.Commands.{address_of, room_of};
 ghost use Rattle.uda_exec.specs.Execution.{natures_of};
 ghost use Rattle.uda_port.specs.declared.phase.Phase.TheVariants.{Running};
 ghost use Rattle.uda_port.specs.Port.{port_asked};
-ghost use Rattle.uda_model.specs.Request.{too_long, IsWhole, Status};
+ghost use Rattle.uda_model.specs.Request.{too_long, Status};
 ghost use Rattle.uda_model.specs.Clash.{clash};
 ghost use Rattle.uda_model.specs.Posting.{op_of, command_of, answer_of, bytes_brought};
 ghost use Rattle.uda_model.specs.Keeping.{AllFaithful};
@@ -39,9 +39,9 @@ fn blank(alloc: Global, request: &Request) -> Result<Answer, AllocError>
     ensures room { IfOk result (λ a. too_long (request_value request.now) ≡ false → Prepared (request_value request.now) (answer_value a)) }
 {
     match request {
-        Request::Read { count, .. } if !request.is_too_long() => Ok(Answer::Data {
+        Request::Read { bytes, .. } if !request.is_too_long() => Ok(Answer::Data {
             status: 0,
-            bytes: Vec::from_elem(alloc, 0, 512 * *count as usize)?,
+            bytes: Vec::from_elem(alloc, 0, *bytes as usize)?,
         }),
         _ => Ok(Answer::TooLong),
     }
@@ -144,8 +144,8 @@ fn answer_for(
         },
         Request::Available { .. } => Answer::Plain { status },
         Request::Status { .. } => Answer::Status { status, flags },
-        Request::Read { count, .. } => {
-            let buffer = memory.window(address, 512 * *count).unwrap();
+        Request::Read { bytes, .. } => {
+            let buffer = memory.window(address, *bytes as u32).unwrap();
             let told = buffer.len().min(moved as usize);
             match blank {
                 Answer::Data { mut bytes, .. } => {
@@ -238,7 +238,6 @@ fn post<S: BlockStore>(
     requires size { length memory.old ≡ memory_size }
     ensures out { out.new.items ≡ out.old.items ++ new ∷ [] }
     ensures desk { desk.new ≡ posted_desk desk.old }
-    ensures whole { IsWhole (request_value request.now) }
     ensures legible { read_command (written_command (command_of (request_value request.now) (new.place + 1) (buffer_address new.buffer))) ≡ Ok (command_of (request_value request.now) (new.place + 1) (buffer_address new.buffer)) }
     ensures memory { memory.new ≡ with_command (put memory.old (buffer_address new.buffer) (bytes_brought (request_value request.now))) desk.old.command_place (command_of (request_value request.now) (new.place + 1) (buffer_address new.buffer)) }
     ensures port { port.old.phase ≡ Running → port.new ≡ record port.old { looking = true } }

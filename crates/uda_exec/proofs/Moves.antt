@@ -1,12 +1,11 @@
 -- One block of a transfer, for each kind of transfer.
-use Rattle.std.proofs.Common.{◌≡◌, ℕ, zero, suc, ◌+◌, ◌*◌, ◌<◌, List, [], ◌∷◌, length, get_or, refl, sym, ap, ◌∙◌, arith, add-one, Result, Ok, Err}
+use Rattle.std.proofs.Common.{◌≡◌, ℕ, zero, suc, ◌+◌, ◌-◌, ◌*◌, ◌<◌, ◌≤◌, List, [], ◌∷◌, length, get_or, refl, sym, ap, ◌∙◌, arith, add-one, Result, Ok, Err}
 use Rattle.std.specs.Prelude.{MatchResult, true, false, slice_set}
-use Rattle.std.specs.Simd.{first_chunks}
 use Rattle.std.proofs.lemmas.List.{take_all}
 use Rattle.std.proofs.lemmas.Option.{get_or_from_slice_get}
-use Rattle.uda_mem.proofs.PutLaws.{put-nil}
-use Rattle.uda_exec.proofs.Words.{put, part, changes_blocks, Transfer, StoreError, StoreState, Reads, Writes, block_count, changes_memory, blocks_due, bytes_landing, MovesBlock, LosesBlock}
-use Rattle.uda_exec.proofs.Blocks.{get_or-first_chunks, part-part}
+use Rattle.uda_mem.proofs.PutLaws.{put-nil, length-part-le}
+use Rattle.uda_exec.proofs.Words.{put, part, changes_blocks, Transfer, StoreError, StoreState, Reads, Writes, block_count, changes_memory, in_blocks, first_block, blocks_due, bytes_landing_of, MovesBlock, LosesBlock}
+use Rattle.uda_exec.proofs.Blocks.{get_or-in_blocks, part-part}
 
 -- what one block's move may end in
 abbrev pub EndsBlock : Transfer → ℕ → StoreState → List ℕ → StoreState → List ℕ → Result Unit StoreError → Type 0
@@ -22,7 +21,7 @@ set-put (y ∷ ys) (suc n) x = let rest = set-put ys n x in rw add-one (ap (λ (
 module _ (t : Transfer) (k : ℕ) (old : StoreState) (memory : List ℕ) (new : StoreState) where
   -- the store reads into memory itself, whether it fails or not
   pub reads_block : changes_blocks t.kind ≡ false → (to memory_after : List ℕ) (result : Result Unit StoreError) → length to ≡ 512
-      → get_or (blocks_due t old.blocks memory) k [] ≡ get_or old.blocks (t.block + k) [] → memory_after ≡ put memory (t.buffer + 512 * k) (bytes_landing t (to ∷ []))
+      → get_or (blocks_due t old.blocks memory) k [] ≡ get_or old.blocks (t.block + k) [] → memory_after ≡ put memory (t.buffer + 512 * k) (bytes_landing_of t k to)
       → Reads old (t.block + k) new to result → EndsBlock t k old memory new memory_after result
   reads_block keeps to memory_after (Ok u) whole due e h = record {
     stands = record {
@@ -54,6 +53,11 @@ module _ (t : Transfer) (k : ℕ) (old : StoreState) (memory : List ℕ) (new : 
     counted = ap (λ (s : StoreState). s.failures) h.written;
   }
 
--- the block that is due at place k
-pub due-Write : (t : Transfer) (k : ℕ) (memory from : List ℕ) → k < block_count t → from ≡ part memory (t.buffer + 512 * k) 512 → get_or (first_chunks 512 (block_count t) (part memory t.buffer t.count)) k [] ≡ from
-due-Write t k memory from inside was = get_or-first_chunks (block_count t) (part memory t.buffer t.count) k inside ∙ part-part memory t.buffer t.count (512 * k) 512 (omega arith) ∙ sym was
+-- the block that a Write's buffer fills at place k
+pub due-Write : (t : Transfer) (k : ℕ) (memory : List ℕ) → k < block_count t → t.buffer + t.count ≤ length memory
+    → get_or (in_blocks (block_count t) (part memory t.buffer t.count)) k [] ≡ first_block (part memory (t.buffer + 512 * k) (t.count - 512 * k))
+due-Write t k memory inside room =
+    let rest : ℕ = t.count - 512 * k in
+    let size = length-part-le memory t.buffer t.count room in
+    get_or-in_blocks (block_count t) k rest (part memory t.buffer t.count) inside (omega (arith, size)) (omega (arith, size))
+    ∙ ap first_block (part-part memory t.buffer t.count (512 * k) rest (omega arith))

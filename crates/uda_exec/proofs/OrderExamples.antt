@@ -71,11 +71,11 @@ pub of_three : OfThree
 unfolding put part
 of_three = record { first = refl; second = refl; third = refl; second_is_lost = refl }
 
--- memory of 135,168 bytes, and a unit of eight blocks of which block 5 is bytes 55
+-- memory of 135,168 bytes, and a unit of eight blocks of which block 5 is bytes 55 and block 6 bytes 66
 abbrev large : World
 large = record {
   memory = replicate 135168 0;
-  disks = Some (record { blocks = replicate 5 (replicate 512 0) ++ replicate 512 55 ∷ replicate 2 (replicate 512 0); size = 8; mode = record { online = true; hard = false; soft = false } }) ∷ None ∷ None ∷ None ∷ [];
+  disks = Some (record { blocks = replicate 5 (replicate 512 0) ++ replicate 512 55 ∷ replicate 512 66 ∷ replicate 512 0 ∷ []; size = 8; mode = record { online = true; hard = false; soft = false } }) ∷ None ∷ None ∷ None ∷ [];
 }
 
 abbrev reads : ℕ → ℕ → Command
@@ -89,12 +89,14 @@ pub record OfLarge : Type 0 where
   -- to address 0x1000: it succeeds, and the block stands there
   success : (effect Done (reads 512 0x1000) large).0 ≡ moved 0 512
   bytes : part (effect Done (reads 512 0x1000) large).1.memory 0x1000 512 ≡ replicate 512 55
-  -- refused for an odd address, an odd count, a count of no whole blocks, a buffer past the end of memory: nothing changes
+  -- the part block behind it: its first two bytes stand there too, and no more
+  part_block : (effect Done (reads 514 0x1000) large).0 ≡ moved 0 514
+  part_bytes : part (effect Done (reads 514 0x1000) large).1.memory 0x1000 516 ≡ replicate 512 55 ++ 66 ∷ 66 ∷ 0 ∷ 0 ∷ []
+  -- refused for an odd address, an odd count, a buffer past the end of memory: nothing changes
   address : effect Done (reads 512 0x1001) large ≡ (moved 0x0029 0, large)
   odd_count : effect Done (reads 513 0x1000) large ≡ (moved 0x0049 0, large)
-  count : effect Done (reads 514 0x1000) large ≡ (moved 0x0C01 0, large)
   memory : effect Done (reads 512 0x21000) large ≡ (moved 0x0069 0, large)
 
 pub of_large : OfLarge
 unfolding put part
-of_large = record { success = refl; bytes = refl; address = refl; odd_count = refl; count = refl; memory = refl }
+of_large = record { success = refl; bytes = refl; part_block = refl; part_bytes = refl; address = refl; odd_count = refl; memory = refl }

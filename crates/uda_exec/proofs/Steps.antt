@@ -1,25 +1,26 @@
 -- A transfer block by block: what the first k blocks leave, one block more, and the end.
-use Rattle.std.proofs.Common.{◌≡◌, ℕ, suc, ◌+◌, ◌*◌, ◌<◌, ◌≤◌, Bool, true, false, List, [], ◌∷◌, ◌++◌, length, get_or, take, replicate, refl, sym, ap, ◌∙◌, arith, add-one}
+use Rattle.std.proofs.Common.{◌≡◌, ℕ, suc, ◌+◌, ◌-◌, ◌*◌, ◌<◌, ◌≤◌, Bool, true, false, List, [], ◌∷◌, ◌++◌, length, get_or, take, replicate, refl, sym, ap, ◌∙◌, arith, add-one, append-nil}
 use Rattle.std.specs.Prelude.{if◌then◌else◌}
 use Rattle.std.specs.List.{concat}
-use Rattle.std.proofs.lemmas.List.{take_more, length-take-le, length-replicate}
+use Rattle.std.proofs.lemmas.List.{take_more, take_all, length-take-le, length-replicate}
 use Rattle.std.proofs.lemmas.List.Folds.{concat-append}
 use Rattle.std.proofs.lemmas.List.Elements.{All-replicate}
+use lib.Seq.{take-append-add}
 use Rattle.uda_mem.proofs.PutLaws.{put-nil, put-put_next, length-part, length-part-le}
 use Rattle.uda_packet.specs.declared.end.Kind.TheVariants.{Erase, Write}
-use Rattle.uda_image.specs.StoreLaws.{length-first_chunks, All-first_chunks}
-use Rattle.uda_exec.proofs.Words.{put, part, Kind, Transfer, changes_blocks, StoreState, KeepsNature, IsImage, block_count, room_in, changes_memory, ChangesAt, due_by, blocks_due, bytes_landing, blocks_stored, Stands, MovesBlock, LosesBlock, Progress, StopsAt}
-use Rattle.uda_exec.proofs.Blocks.{AreBlocks, AreBlocks-part, AreBlocks-take, length-concat_blocks}
+use Rattle.uda_image.specs.StoreLaws.{length-first_chunks}
+use Rattle.uda_exec.proofs.Words.{put, part, Kind, Transfer, changes_blocks, StoreState, KeepsNature, IsImage, block_count, room_in, changes_memory, ChangesAt, due_by, blocks_due, bytes_landing, bytes_landing_of, blocks_stored, Stands, MovesBlock, LosesBlock, Progress, StopsAt}
+use Rattle.uda_exec.proofs.Blocks.{AreBlocks, AreBlocks-part, AreBlocks-take, AreBlocks-in_blocks, length-concat_blocks}
 
 module _ (t : Transfer) (blocks : List (List ℕ)) (memory : List ℕ) where
   pub length-due_by : t.block + block_count t ≤ length blocks → (kind : Kind) → length (due_by kind t blocks memory) ≡ block_count t
   length-due_by on_unit Erase = length-replicate (block_count t) (replicate 512 0)
-  length-due_by on_unit Write = length-first_chunks (block_count t) (part memory t.buffer t.count)
+  length-due_by on_unit Write = length-first_chunks (block_count t) (part memory t.buffer t.count ++ replicate 512 0)
   length-due_by on_unit _ = length-part-le blocks t.block (block_count t) on_unit
 
   pub length-due_le : (kind : Kind) → length (due_by kind t blocks memory) ≤ block_count t
   length-due_le Erase = let all : length (due_by Erase t blocks memory) ≡ block_count t = length-replicate (block_count t) (replicate 512 0) in omega arith
-  length-due_le Write = omega (arith, length-first_chunks (block_count t) (part memory t.buffer t.count))
+  length-due_le Write = omega (arith, length-first_chunks (block_count t) (part memory t.buffer t.count ++ replicate 512 0))
   length-due_le _ = omega (arith, length-part blocks t.block (block_count t))
 
   -- where the unit's blocks are whole, if there are any to move, and the buffer lies in memory
@@ -27,7 +28,7 @@ module _ (t : Transfer) (blocks : List (List ℕ)) (memory : List ℕ) where
   AreBlocks-due_by are Erase is room = All-replicate (λ b. length b ≡ 512) (block_count t) (replicate 512 0) refl
   AreBlocks-due_by are Write is room =
       let within : t.buffer + t.count ≤ length memory = rw is at room in
-      All-first_chunks (block_count t) (part memory t.buffer t.count) (omega (arith, length-part-le memory t.buffer t.count within))
+      AreBlocks-in_blocks (block_count t) (part memory t.buffer t.count) (omega (arith, length-part-le memory t.buffer t.count within))
   AreBlocks-due_by are _ is room = AreBlocks-part blocks t.block (block_count t) are
 
   pub AreBlocks-due : (0 < block_count t → AreBlocks blocks) → t.buffer + room_in t ≤ length memory → AreBlocks (blocks_due t blocks memory)
@@ -46,6 +47,17 @@ more_behind : {A : Type 0} (b : Bool) (xs : List A) (at n : ℕ) (front more : L
 more_behind true xs at n front more size = put-put_next xs at front more (at + n) (omega arith)
 more_behind false xs at n front more size = put-nil _ _
 
+-- and so with bytes of which no more than the count are put
+landing_behind : (b : Bool) (memory : List ℕ) (at count n : ℕ) (front more : List ℕ) → length front ≡ n → n ≤ count
+    → put (put memory at (if b then take count front else [])) (at + n) (if b then take (count - n) more else []) ≡ put memory at (if b then take count (front ++ more) else [])
+landing_behind true memory at count n front more size fits =
+    let rest : List ℕ = take (count - n) more in
+    let reach : count ≡ length front + (count - n) = omega (arith, size, fits) in
+    let before : take count front ≡ front = take_all count front (omega (arith, size, fits)) in
+    let both : take count (front ++ more) ≡ front ++ rest = ap (λ (i : ℕ). take i (front ++ more)) reach ∙ take-append-add front more (count - n) in
+    ap (λ (z : List ℕ). put (put memory at z) (at + n) rest) before ∙ put-put_next memory at front rest (at + n) (omega (arith, size)) ∙ ap (λ (z : List ℕ). put memory at z) (sym both)
+landing_behind false memory at count n front more size fits = put-nil _ _
+
 module _ (t : Transfer) (k : ℕ) (old : StoreState) (memory : List ℕ) (now : StoreState) (memory_now : List ℕ)
     (image : IsImage old.size old.blocks) (on_unit : t.block + block_count t ≤ old.size) (in_memory : t.buffer + room_in t ≤ length memory) (inside : k < block_count t) (h : Progress t k old memory now memory_now) where
   abbrev front : List (List ℕ)
@@ -60,8 +72,9 @@ module _ (t : Transfer) (k : ℕ) (old : StoreState) (memory : List ℕ) (now : 
   joins x new memory_after s =
       let size : length front ≡ k = length-take-le k (blocks_due t old.blocks memory) (omega (arith, all_due)) in
       let bytes = length-concat_blocks front (AreBlocks-take (blocks_due t old.blocks memory) k (AreBlocks-due t old.blocks memory (λ some. image.whole) in_memory)) in
-      let bytes_are : length (concat front) ≡ 512 * k = bytes ∙ ap (λ i. 512 * i) size in (
-        s.in_memory ∙ ap (λ (m : List ℕ). put m (t.buffer + 512 * k) (bytes_landing t (x ∷ []))) h.stand.in_memory ∙ rw (concat-append front (x ∷ [])) (more_behind (changes_memory t.kind) memory t.buffer (512 * k) (concat front) (concat (x ∷ [])) bytes_are),
+      let bytes_are : length (concat front) ≡ 512 * k = bytes ∙ ap (λ i. 512 * i) size in
+      let joined : concat (front ++ x ∷ []) ≡ concat front ++ x = concat-append front (x ∷ []) ∙ ap (λ (z : List ℕ). concat front ++ z) (append-nil x) in (
+        s.in_memory ∙ ap (λ (m : List ℕ). put m (t.buffer + 512 * k) (bytes_landing_of t k x)) h.stand.in_memory ∙ rw joined (landing_behind (changes_memory t.kind) memory t.buffer t.count (512 * k) (concat front) x bytes_are (omega arith)),
         s.in_store ∙ ap (λ (b : List (List ℕ)). put b (t.block + k) (blocks_stored t (x ∷ []))) h.stand.in_store ∙ more_behind (changes_blocks t.kind) old.blocks t.block k front (x ∷ []) size,
       )
 
@@ -69,7 +82,7 @@ module _ (t : Transfer) (k : ℕ) (old : StoreState) (memory : List ℕ) (now : 
   progress_next new memory_after m =
       let piece = get_or (blocks_due t old.blocks memory) k [] in
       let same : blocks_due t now.blocks memory_now ≡ blocks_due t old.blocks memory =
-      rw (h.stand.in_store, h.stand.in_memory) (due_by-stays t.kind t old.blocks memory (concat front) front t.buffer t.block) in
+      rw (h.stand.in_store, h.stand.in_memory) (due_by-stays t.kind t old.blocks memory (take t.count (concat front)) front t.buffer t.block) in
       let stands : Stands t k piece now memory_now new memory_after = rw same at m.stands in
       let both = joins piece new memory_after stands in
       let below : k < length (blocks_due t old.blocks memory) = omega (arith, all_due) in
@@ -90,9 +103,13 @@ nothing_put : {A : Type 0} (b : Bool) (xs : List A) (at : ℕ) → xs ≡ put xs
 nothing_put true xs at = sym (put-nil xs at)
 nothing_put _ xs at = sym (put-nil xs at)
 
+nothing_landed : (b : Bool) (memory : List ℕ) (at count : ℕ) → memory ≡ put memory at (if b then take count [] else [])
+nothing_landed true memory at count = let none : take count [] ≡ [] = take_all {A = ℕ} count [] (omega arith) in rw none (sym (put-nil memory at))
+nothing_landed _ memory at count = sym (put-nil memory at)
+
 pub progress_none : (t : Transfer) (old : StoreState) (memory : List ℕ) → Progress t 0 old memory old memory
 progress_none t old memory = record {
-  stand = record { in_memory = nothing_put (changes_memory t.kind) memory t.buffer; in_store = nothing_put (changes_blocks t.kind) old.blocks t.block };
+  stand = record { in_memory = nothing_landed (changes_memory t.kind) memory t.buffer t.count; in_store = nothing_put (changes_blocks t.kind) old.blocks t.block };
   failures_stay = refl;
 }
 

@@ -1,16 +1,16 @@
 -- Two commands that may pass and are apart: done in either order, each has the same end, and the world is the same.
-use Rattle.std.proofs.Common.{◌≡◌, ◌≢◌, ℕ, suc, ◌/◌, ◌≤◌, Bool, true, false, List, [], length, set, take, replicate, Option, Some, None, refl, sym, ap, ap₂, ◌∙◌, arith, length-set, length-take, zero-le}
+use Rattle.std.proofs.Common.{◌≡◌, ◌≢◌, ℕ, suc, ◌≤◌, Bool, true, false, List, [], ◌++◌, length, set, take, replicate, Option, Some, None, refl, sym, ap, ap₂, ◌∙◌, arith, length-set, length-take, zero-le}
 use Rattle.std.specs.Prelude.{slice_get, nat_eq, ◌&&◌, ◌||◌, not, if◌then◌else◌, is_some}
-use Rattle.std.specs.Simd.{first_chunks}
+use Rattle.std.specs.List.{concat}
 use Rattle.std.proofs.lemmas.List.{set_comm, set-set, length-replicate}
 use Rattle.std.proofs.Math.Bool.{or-true}
 use Rattle.std.proofs.lemmas.Bool.{eq-eqb, eqb-true, both_ways, false≢true}
 use Rattle.std.proofs.lemmas.Option.{slice_get_within}
 use Rattle.uda_mem.proofs.PutLaws.{length-put, part-put_apart, put-put_comm}
-use Rattle.uda_packet.specs.declared.command.Op.TheVariants.{Status, Erase, Read, Write}
+use Rattle.uda_packet.specs.declared.command.Op.TheVariants.{Erase, Read, Write}
 use Rattle.uda_exec.specs.declared.refusal.Refusal.TheVariants.{UnitUnknown, NoVolume}
 use Rattle.uda_image.specs.StoreLaws.{length-first_chunks}
-use Rattle.uda_exec.proofs.Words.{put, part, Meet, Command, Op, End, Transfer, transfer_of, Mode, Refusal, Disk, Disks, is_controller, is_transfer, is_changing, first_block_of, blocks_of, address_of, room_of, World, Outcome, Done, Lost, blocks_moved, bytes_put, blocks_put, refusal_of, Verdict, OfController, Refused, ActsOn, is_acting, verdict_of, verdict_at, verdict, mode_after, end_of, disk_after, world_after, may_pass, Apart, FixedCommand, effect_of, data_of}
+use Rattle.uda_exec.proofs.Words.{put, part, Meet, Command, Op, End, Transfer, transfer_of, Mode, Refusal, Disk, Disks, is_controller, is_transfer, is_changing, first_block_of, blocks_for, blocks_of, in_blocks, address_of, room_of, World, Outcome, Done, Lost, blocks_moved, bytes_put, blocks_put, refusal_of, Verdict, OfController, Refused, ActsOn, is_acting, verdict_of, verdict_at, verdict, mode_after, end_of, disk_after, world_after, may_pass, Apart, FixedCommand, effect_of, data_of}
 use Rattle.uda_exec.proofs.Transferred.{mode_after-transfer, speaks}
 use Rattle.uda_exec.proofs.Units.{slice_get-set_same, slice_get-set_other, world_after-idle}
 
@@ -21,12 +21,12 @@ length-blocks_moved (Lost k left) blocks = omega (arith, length-set (take (suc k
 
 module _ (o : Outcome) where
   pub length-bytes_put : (op : Op) (blocks : List (List ℕ)) (memory : List ℕ) → length (bytes_put o (transfer_of op) blocks memory) ≤ room_of op
-  length-bytes_put Status blocks memory = omega arith
-  length-bytes_put _ blocks memory = omega (arith, length-take {A = ℕ})
+  length-bytes_put (Read count address block) blocks memory = omega (arith, length-take count (concat (blocks_moved o (part blocks block (blocks_for count)))))
+  length-bytes_put _ blocks memory = zero-le
 
   pub length-blocks_put : (op : Op) (blocks : List (List ℕ)) (memory : List ℕ) → length (blocks_put o (transfer_of op) blocks memory) ≤ blocks_of op
-  length-blocks_put (Erase count block) blocks memory = let zeros : List ℕ = replicate 512 0 in omega (arith, length-blocks_moved o (replicate (count / 512) zeros), length-replicate (count / 512) zeros)
-  length-blocks_put (Write count address block) blocks memory = omega (arith, length-blocks_moved o (first_chunks 512 (count / 512) (part memory address count)), length-first_chunks (count / 512) (part memory address count))
+  length-blocks_put (Erase count block) blocks memory = let zeros : List ℕ = replicate 512 0 in omega (arith, length-blocks_moved o (replicate (blocks_for count) zeros), length-replicate (blocks_for count) zeros)
+  length-blocks_put (Write count address block) blocks memory = omega (arith, length-blocks_moved o (in_blocks (blocks_for count) (part memory address count)), length-first_chunks (blocks_for count) (part memory address count ++ replicate 512 0))
   length-blocks_put _ blocks memory = zero-le
 
   -- a command that changes no block puts none

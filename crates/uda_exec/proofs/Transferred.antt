@@ -1,9 +1,7 @@
 -- A transfer takes effect, done, lost or refused; and so does a command that moves no blocks.
-use Rattle.std.proofs.Common.{◌≡◌, ℕ, suc, ◌+◌, ◌*◌, ◌%◌, ◌<◌, ◌≤◌, zero-le, Bool, true, false, List, [], ◌∷◌, ◌++◌, length, get_or, take, set, refl, sym, ap, ap₂, ◌∙◌, arith, add-one, add-zero, length-append, length-take, Some, None}
+use Rattle.std.proofs.Common.{◌≡◌, ℕ, suc, ◌+◌, ◌*◌, ◌<◌, ◌≤◌, zero-le, Bool, true, false, List, [], ◌∷◌, ◌++◌, length, get_or, take, set, refl, sym, ap, ap₂, ◌∙◌, arith, add-one, add-zero, Some, None}
 use Rattle.std.specs.Prelude.{if◌then◌else◌, nat_lt, unwrap_or}
-use Rattle.std.specs.List.{concat}
 use Rattle.std.proofs.lemmas.List.{take_all, take_more, set_at, length-take-le}
-use Rattle.std.proofs.lemmas.List.Elements.{All-push}
 use Rattle.std.proofs.lemmas.Bool.Decides.{nat_tests}
 use Rattle.uda_mem.proofs.PutLaws.{put-nil}
 use Rattle.uda_packet.specs.declared.command.Op.TheVariants.{Status, Controller, Available, Online}
@@ -12,8 +10,7 @@ use Rattle.uda_packet.specs.Opcode.{answered_opcode, blank_body}
 use Rattle.uda_exec.specs.Status.{SUCCESS, DRIVE_ERROR}
 use Rattle.uda_exec.proofs.Words.{put, Command, Op, EndBody, Transfer, transfer_of, StoreState, KeepsNature, IsImage, Mode, Refusal, Disk, UnitState, disk_of, is_controller, block_count, room_in, count_of, changes_memory, refusal_status, transfer_refusal, ChangesAt, blocks_due, bytes_landing, blocks_stored, Progress, StopsAt, Outcome, Done, Lost, blocks_moved, ActsOn, verdict_on, mode_after, mode_body, reply, plain_body, with_bytes_moved, transfer_status, transfer_bytes, is_lost, Fits, end_of, bytes_of, IsBodyOf, Answers, TakesEffectOn, calls_store, ServesUnit}
 use Rattle.uda_exec.proofs.Changes.{changes_nothing}
-use Rattle.uda_exec.proofs.Blocks.{AreBlocks, AreBlocks-take, length-concat_blocks}
-use Rattle.uda_exec.proofs.Steps.{length-due_by, length-due_le, AreBlocks-due}
+use Rattle.uda_exec.proofs.Steps.{length-due_by, length-due_le}
 
 -- ---- the ends
 
@@ -72,12 +69,11 @@ serves_mode c unit memory is = record {
 
 -- what a transfer that passes its checks is known of
 pub record Passes (t : Transfer) (memory size : ℕ) : Type 0 where
-  pub whole : t.count % 512 ≡ 0
   pub on_unit : t.block + block_count t ≤ size
   pub in_memory : t.buffer + room_in t ≤ memory
 
 pub passes_if : (t : Transfer) (memory size : ℕ) (mode : Mode) → transfer_refusal t memory size mode ≡ None → Passes t memory size
-passes_if t memory size mode h = record { whole = grind (arith, nat_tests); on_unit = grind (arith, nat_tests); in_memory = grind (arith, nat_tests) }
+passes_if t memory size mode h = record { on_unit = grind (arith, nat_tests); in_memory = grind (arith, nat_tests) }
 
 -- a transfer speaks of a unit, and leaves its mode
 pub speaks : (op : Op) (t : Transfer) → transfer_of op ≡ Some t → is_controller op ≡ false
@@ -94,10 +90,6 @@ blocks_moved-lost : (k : ℕ) (left : List ℕ) (blocks : List (List ℕ)) → k
 blocks_moved-lost k left blocks h =
     let more : take (suc k) blocks ≡ take k blocks ++ get_or blocks k [] ∷ [] = rw (← add-one) (take_more blocks k [] h) in
     ap (λ (b : List (List ℕ)). set b k left) more ∙ set_at (take k blocks) (get_or blocks k []) [] left k (length-take-le k blocks (omega arith))
-
-length-landing : (b : Bool) (blocks : List (List ℕ)) (n : ℕ) → AreBlocks blocks → 512 * length blocks ≤ n → length (if b then concat blocks else []) ≤ n
-length-landing true blocks n are h = omega (arith, length-concat_blocks blocks are)
-length-landing false blocks n are h = zero-le
 
 module _ (c : Command) (t : Transfer) (unit : UnitState) (memory : List ℕ) (is : transfer_of c.op ≡ Some t) where
   -- a transfer that fails a check is refused, and changes nothing
@@ -149,30 +141,24 @@ module _ (c : Command) (t : Transfer) (unit : UnitState) (memory : List ℕ) (is
       abbrev due : List (List ℕ)
       due = blocks_due t unit.store.blocks memory
 
-      are_due : AreBlocks due
-      are_due = AreBlocks-due t unit.store.blocks memory (λ some. (image some).whole) bounds.in_memory
-
       short : length due ≤ block_count t
       short = length-due_le t unit.store.blocks memory t.kind
 
       -- whatever the outcome: where the blocks and bytes stand as it says, the transfer takes effect
-      takes : (o : Outcome) (front : List (List ℕ)) → blocks_moved o due ≡ front → AreBlocks front → length front ≤ block_count t
-          → Fits o c.op (ActsOn (disk_of unit))
+      takes : (o : Outcome) (front : List (List ℕ)) → blocks_moved o due ≡ front → Fits o c.op (ActsOn (disk_of unit))
           → memory_left ≡ put memory t.buffer (bytes_landing t front)
           → new.blocks ≡ put unit.store.blocks t.block (blocks_stored t front)
           → new.failures ≡ unit.store.failures + (if is_lost o then 1 else 0)
           → (unit.store.never_fails ≡ true → o ≡ Done)
           → TakesEffectOn c unit memory (reply c (transfer_status o) (plain_body c.op (transfer_bytes o t.count))) (record { store = new; mode = unit.mode }) memory_left
-      takes o front moved are few fits in_memory in_store failed sure =
-          let room : length (bytes_landing t front) ≤ t.count = length-landing (changes_memory t.kind) front t.count are (omega (arith, bounds.whole)) in
-          let all : take t.count (bytes_landing t (blocks_moved o due)) ≡ bytes_landing t front = rw moved (take_all t.count (bytes_landing t front) room) in
+      takes o front moved fits in_memory in_store failed sure =
           let make : List (List ℕ) → ℕ → Disk = λ b n. record { blocks = b; size = n; mode = unit.mode } in
           let mode : mode_after c.op unit.mode ≡ unit.mode = mode_after-transfer c.op t unit.mode is in
           record {
             outcome = o;
             fits = rw acts fits;
             end_is = rw (is, passed, is) refl;
-            memory_is = rw (is, passed, is) (in_memory ∙ ap (λ (b : List ℕ). put memory t.buffer b) (sym all));
+            memory_is = rw (is, passed, is) (in_memory ∙ ap (λ (b : List (List ℕ)). put memory t.buffer (bytes_landing t b)) (sym moved));
             disk_is = rw (is, passed, is, mode) (ap₂ make (in_store ∙ ap (λ (b : List (List ℕ)). put unit.store.blocks t.block (blocks_stored t b)) (sym moved)) nature.size_stays);
             failures_are = failed;
             sure = sure;
@@ -183,14 +169,11 @@ module _ (c : Command) (t : Transfer) (unit : UnitState) (memory : List ℕ) (is
       takes_done h =
           let all : take (block_count t) due ≡ due = take_all _ _ short in
           let stand = rw all at h.stand in
-          takes Done due refl are_due short tt stand.in_memory stand.in_store (h.failures_stay ∙ sym (add-zero unit.store.failures)) (λ never. refl)
+          takes Done due refl tt stand.in_memory stand.in_store (h.failures_stay ∙ sym (add-zero unit.store.failures)) (λ never. refl)
 
       pub takes_lost : (k : ℕ) → k < block_count t → (unit.store.never_fails ≡ true → ⊥) → StopsAt t k unit.store memory new memory_left
           → TakesEffectOn c unit memory (reply c DRIVE_ERROR (plain_body c.op (512 * k))) (record { store = new; mode = unit.mode }) memory_left
       takes_lost k inside unsure h =
           let here : length due ≡ block_count t = length-due_by t unit.store.blocks memory (rw (image (omega arith)).counted bounds.on_unit) t.kind in
-          let front = take k due in
-          let front_are : AreBlocks front = AreBlocks-take due k are_due in
-          let few : length (front ++ h.left ∷ []) ≤ block_count t = omega (arith, length-append front (h.left ∷ []), length-take k due) in
-          takes (Lost k h.left) (front ++ h.left ∷ []) (blocks_moved-lost k h.left due (omega arith)) (All-push (λ b. length b ≡ 512) front h.left front_are h.whole) few
+          takes (Lost k h.left) (take k due ++ h.left ∷ []) (blocks_moved-lost k h.left due (omega arith))
           (record { passes = refl; within = rw is inside; whole = h.whole }) h.stand.in_memory h.stand.in_store h.counted (λ never. absurd (unsure never))

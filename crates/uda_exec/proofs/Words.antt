@@ -10,8 +10,8 @@ pub use Rattle.uda_packet.specs.declared.end.End.{End}
 pub use Rattle.uda_packet.specs.declared.end.EndBody.{EndBody}
 pub use Rattle.uda_image.specs.declared.store.StoreError.{StoreError}
 pub use Rattle.uda_image.specs.Store.{StoreState, Reads, Writes, KeepsNature, IsImage}
-pub use Rattle.uda_exec.specs.Commands.{landing_of, room_of, block_count, changes_memory, room_in, is_controller, count_of, is_transfer, is_changing, first_block_of, blocks_of, address_of}
-pub use Rattle.uda_exec.specs.Transfers.{ChangesAt, blocks_due, bytes_landing, MovesBlock, LosesBlock, due_by, blocks_stored, Stands, Progress, StopsAt}
+pub use Rattle.uda_exec.specs.Commands.{landing_of, room_of, blocks_for, block_count, changes_memory, room_in, is_controller, count_of, is_transfer, is_changing, first_block_of, blocks_of, address_of}
+pub use Rattle.uda_exec.specs.Transfers.{ChangesAt, in_blocks, first_block, blocks_due, bytes_landing, bytes_landing_of, ReadsInto, MovesBlock, LosesBlock, due_by, blocks_stored, Stands, Progress, StopsAt}
 pub use Rattle.uda_exec.specs.declared.mode.Mode.{Mode}
 pub use Rattle.uda_exec.specs.declared.refusal.Refusal.{Refusal}
 pub use Rattle.uda_exec.specs.Disks.{Disk, UnitState, disk_of, Disks, disks_of, HoldsImage, AreImages}

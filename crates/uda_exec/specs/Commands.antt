@@ -1,6 +1,6 @@
 -- What a command names: the blocks of its range and the bytes of its buffer.
 -- MSCP Basic Disk Functions Manual: transfer commands.
-use Rattle.std.specs.Prelude.{ℕ, ◌/◌, Bool, true, false, is_some, if◌then◌else◌}
+use Rattle.std.specs.Prelude.{ℕ, ◌+◌, ◌/◌, ◌%◌, min, Bool, true, false, is_some, if◌then◌else◌}
 use Rattle.std.specs.Option.{option_map_or}
 use Rattle.uda_packet.specs.declared.command.Op.{Op}
 use Rattle.uda_packet.specs.declared.command.Op.TheVariants.{Controller}
@@ -9,9 +9,13 @@ use Rattle.uda_packet.specs.declared.end.Kind.TheVariants.{Read}
 use Rattle.uda_packet.specs.declared.transfer.Transfer.{Transfer}
 use Rattle.uda_packet.specs.Transfer.{transfer_of, changes_blocks, has_buffer}
 
+-- how many blocks so many bytes take: the last of them may be a part block
+abbrev pub blocks_for : ℕ → ℕ
+blocks_for bytes = bytes / 512 + min 1 (bytes % 512)
+
 -- how many blocks a transfer's range has, and how many bytes its buffer
 abbrev pub block_count : Transfer → ℕ
-block_count t = t.count / 512
+block_count t = blocks_for t.count
 
 abbrev pub room_in : Transfer → ℕ
 room_in t = if has_buffer t.kind then t.count else 0

@@ -71,10 +71,10 @@ abbrev pub blocks_moved : Outcome → List (List ℕ) → List (List ℕ)
 blocks_moved Done blocks = blocks
 blocks_moved (Lost k left) blocks = slice_set (take (suc k) blocks) k left
 
--- the bytes that a command puts in memory, no more than its count, and the blocks that it puts on the unit
+-- the bytes that a command puts in memory, and the blocks that it puts on the unit
 abbrev pub bytes_put : Outcome → Option Transfer → List (List ℕ) → List ℕ → List ℕ
 bytes_put outcome None blocks memory = []
-bytes_put outcome (Some t) blocks memory = take t.count (bytes_landing t (blocks_moved outcome (blocks_due t blocks memory)))
+bytes_put outcome (Some t) blocks memory = bytes_landing t (blocks_moved outcome (blocks_due t blocks memory))
 
 abbrev pub blocks_put : Outcome → Option Transfer → List (List ℕ) → List ℕ → List (List ℕ)
 blocks_put outcome None blocks memory = []
@@ -86,7 +86,8 @@ mode_after Available mode = record mode { online = false; soft = false }
 mode_after (Online soft) mode = if mode.online then mode else record mode { online = true; soft = unwrap_or soft false }
 mode_after _ mode = mode
 
--- the status of a transfer that passed its checks, and the bytes of the whole blocks that it moved
+-- the status of a transfer that passed its checks, and the bytes that it moved: all, or those of the blocks before the one
+-- that was lost
 abbrev pub transfer_status : Outcome → ℕ
 transfer_status Done = SUCCESS
 transfer_status (Lost k left) = DRIVE_ERROR

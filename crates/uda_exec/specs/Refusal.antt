@@ -4,7 +4,7 @@ use Rattle.uda_packet.specs.declared.transfer.Transfer.{Transfer}
 use Rattle.uda_packet.specs.Transfer.{changes_blocks}
 use Rattle.uda_exec.specs.declared.mode.Mode.{Mode}
 use Rattle.uda_exec.specs.declared.refusal.Refusal.{Refusal}
-use Rattle.uda_exec.specs.declared.refusal.Refusal.TheVariants.{UnitUnknown, NoVolume, NotOnline, OddAddress, OddCount, PartBlock, BlockPastEnd, RangePastEnd, HardwareProtected, SoftwareProtected, NoSuchMemory}
+use Rattle.uda_exec.specs.declared.refusal.Refusal.TheVariants.{UnitUnknown, NoVolume, NotOnline, OddAddress, OddCount, BlockPastEnd, RangePastEnd, HardwareProtected, SoftwareProtected, NoSuchMemory}
 use Rattle.uda_exec.specs.Status.{UNIT_UNKNOWN, NO_VOLUME, AVAILABLE, ODD_ADDRESS, ODD_COUNT, INVALID_COUNT, INVALID_BLOCK, HARDWARE_PROTECTED, SOFTWARE_PROTECTED, NO_SUCH_MEMORY}
 use Rattle.uda_exec.specs.Commands.{block_count, room_in}
 
@@ -15,7 +15,6 @@ refusal_status NoVolume = NO_VOLUME
 refusal_status NotOnline = AVAILABLE
 refusal_status OddAddress = ODD_ADDRESS
 refusal_status OddCount = ODD_COUNT
-refusal_status PartBlock = INVALID_COUNT
 refusal_status BlockPastEnd = INVALID_BLOCK
 refusal_status RangePastEnd = INVALID_COUNT
 refusal_status HardwareProtected = HARDWARE_PROTECTED
@@ -28,7 +27,6 @@ transfer_refusal t memory size mode =
     if not mode.online then Some NotOnline else
     if not (nat_eq (t.buffer % 2) 0) then Some OddAddress else
     if not (nat_eq (t.count % 2) 0) then Some OddCount else
-    if not (nat_eq (t.count % 512) 0) then Some PartBlock else
     if nat_le size t.block then Some BlockPastEnd else
     if nat_lt size (t.block + block_count t) then Some RangePastEnd else
     if changes_blocks t.kind && mode.hard then Some HardwareProtected else

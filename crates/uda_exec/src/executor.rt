@@ -120,15 +120,19 @@ impl<S: BlockStore> Exec<S> {
     /// - 0x0003 for a unit of 4 or more and 0x0023 for one without a drive (but Set Controller
     ///   Characteristics speaks of no unit and succeeds);
     /// - for a transfer that of the first check that fails: 0x0004 unit not online, 0x0029 odd address,
-    ///   0x0049 odd byte count, 0x0C01 byte count no multiple of 512, 0x1C01 first block not below the
-    ///   unit's size, 0x0C01 range past its end, 0x2006 hardware and 0x1006 software protection of what a
-    ///   Write or an Erase would change, 0x0069 buffer not wholly in memory. Addresses, counts and blocks
-    ///   are judged as whole numbers, so no sum wraps.
+    ///   0x0049 odd byte count, 0x1C01 first block not below the unit's size, 0x0C01 range past its end,
+    ///   0x2006 hardware and 0x1006 software protection of what a Write or an Erase would change, 0x0069
+    ///   buffer not wholly in memory. Addresses, counts and blocks are judged as whole numbers, so no sum
+    ///   wraps.
+    ///
+    /// A byte count that is no multiple of 512 ends in a part block. A Read reads it whole and puts its
+    /// first bytes in the buffer, a Write writes its bytes with zeros behind them, an Erase and an Access
+    /// take it whole.
     ///
     /// A transfer that passes calls the store once a block, in rising order: `read` for Access and Read,
     /// `write` for Erase and Write. The first call that errs ends it with status 0x000B and the byte count
-    /// of the whole blocks before. That block of a Write's or an Erase's range, or those 512 bytes of a
-    /// Read's buffer, may then hold anything, and what lies behind them is as it was. No other command
+    /// of the blocks before. That block of a Write's or an Erase's range, or the bytes of a Read's buffer
+    /// that are its, may then hold anything, and what lies behind them is as it was. No other command
     /// calls a store, but for its size.
     ///
     /// MSCP Basic Disk Functions Manual: commands and end messages, status and event codes, command

@@ -19,4 +19,5 @@ mod reply;
 
 pub use executor::{Exec, PENDING};
 pub use mode::Mode;
+pub use movement::first_block;
 pub use refusal::Refusal;

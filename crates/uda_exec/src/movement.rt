@@ -1,10 +1,11 @@
-//! Blocks moved between host memory and a store, with nothing between the two.
+//! Blocks moved between host memory and a store. Between the two nothing stands but for a part block.
 //!
 //! MSCP Basic Disk Functions Manual: transfer commands, logical blocks.
 ghost use Rattle.std.specs.Prelude.{◌≡◌, ◌+◌, ◌<◌, ◌≤◌, ◌^◌, true, length, IsOk, MatchResult, IfErr, if◌then◌else◌};
-ghost use Rattle.uda_image.specs.Store.{KeepsNature};
+ghost use Rattle.uda_mem.specs.Put.{part};
+ghost use Rattle.uda_image.specs.Store.{KeepsNature, Writes};
 ghost use Rattle.uda_exec.specs.Commands.{block_count, room_in, changes_memory};
-ghost use Rattle.uda_exec.specs.Transfers.{ChangesAt, MovesBlock, LosesBlock, Progress, StopsAt};
+ghost use Rattle.uda_exec.specs.Transfers.{ChangesAt, ReadsInto, first_block, MovesBlock, LosesBlock, Progress, StopsAt};
 
 use uda_image::{BlockStore, StoreError};
 use uda_mem::HostMemory;
@@ -20,8 +21,72 @@ pub struct Lost {
     pub block: u32,
 }
 
-// Moves block `k` of a transfer's range, counted from 0: its store reads into memory itself, and writes
-// from it. An Access has a block of its own to read into, and an Erase one of zeros to write.
+/// How many blocks a transfer's range has: the last may be a part block.
+pub fn block_count(t: Transfer) -> u32
+    ensures { result ≡ block_count t }
+{
+    t.count.div_ceil(BLOCK)
+}
+
+/// The first block of these bytes; where they end before it does, the rest is zeros.
+pub fn first_block(bytes: &[u8]) -> [u8; 512]
+    ensures { result ≡ first_block bytes.now }
+{
+    let mut block = [0; 512];
+    let count = bytes.len().min(512);
+    block[..count].copy_from_slice(&bytes[..count]);
+    block
+}
+
+// Reads block `n` for so many bytes of memory. A whole block the store reads into memory itself; of a part
+// block the first bytes are copied, and none where the store fails.
+fn read_block<S: BlockStore>(
+    store: &mut S,
+    n: u32,
+    memory: &mut HostMemory,
+    address: u32,
+    bytes: u32,
+) -> Result<(), StoreError>
+    requires on_unit { n < (S.state store.old).size }
+    requires in_memory { address + bytes ≤ length memory.old }
+    ensures nature { KeepsNature (S.state store.old) (S.state store.new) }
+    ensures sure { (S.state store.old).never_fails ≡ true → IsOk result }
+    ensures reads { ReadsInto n address bytes (S.state store.old) memory.old (S.state store.new) memory.new result }
+{
+    if bytes >= BLOCK {
+        return store.read(n, memory.block_within(address));
+    }
+    let mut block = [0; 512];
+    store.read(n, &mut block)?;
+    memory
+        .within(address, bytes)
+        .copy_from_slice(&block[..bytes as usize]);
+    Ok(())
+}
+
+// Writes so many bytes of memory to block `n`: a whole block the store writes from memory itself, and
+// behind a part block stand zeros.
+fn write_block<S: BlockStore>(
+    store: &mut S,
+    n: u32,
+    memory: &HostMemory,
+    address: u32,
+    bytes: u32,
+) -> Result<(), StoreError>
+    requires on_unit { n < (S.state store.old).size }
+    requires in_memory { address + bytes ≤ length memory.now }
+    ensures nature { KeepsNature (S.state store.old) (S.state store.new) }
+    ensures sure { (S.state store.old).never_fails ≡ true → IsOk result }
+    ensures writes { (S.state store.old).faithful ≡ true → Writes (S.state store.old) n (S.state store.new) (first_block (part memory.now address bytes)) result }
+{
+    if bytes >= BLOCK {
+        return store.write(n, memory.block_at(address));
+    }
+    store.write(n, &first_block(memory.window(address, bytes).unwrap()))
+}
+
+// Moves block `k` of a transfer's range, counted from 0. An Access has a block of its own to read into, and
+// an Erase one of zeros to write.
 #[tactic(auto, using(crate::proofs::Changes::changes_nothing))]
 fn move_block<S: BlockStore>(
     t: Transfer,
@@ -41,16 +106,17 @@ fn move_block<S: BlockStore>(
         (λ _. LosesBlock t k (S.state store.old) memory.old (S.state store.new) memory.new) }
 {
     let n = t.block + k;
+    let before = BLOCK * k;
     match t.kind {
         Kind::Access => store.read(n, &mut [0; 512]),
         Kind::Erase => store.write(n, &[0; 512]),
-        Kind::Read => store.read(n, memory.block_within(t.buffer + BLOCK * k)),
-        Kind::Write => store.write(n, memory.block_at(t.buffer + BLOCK * k)),
+        Kind::Read => read_block(store, n, memory, t.buffer + before, t.count - before),
+        Kind::Write => write_block(store, n, memory, t.buffer + before, t.count - before),
     }
 }
 
 // Moves the blocks of a transfer's range in rising order, up to the first at which the store fails; that
-// block, or its 512 bytes of a Read's buffer, may then hold anything. A transfer without blocks doesn't
+// block, or its bytes of a Read's buffer, may then hold anything. A transfer without blocks doesn't
 // call the store. The range lies on the unit and the buffer in memory, which the caller checks.
 pub fn move_blocks<S: BlockStore>(
     t: Transfer,
@@ -68,7 +134,7 @@ pub fn move_blocks<S: BlockStore>(
         (λ _. Progress t (block_count t) (S.state store.old) memory.old (S.state store.new) memory.new)
         (λ lost. StopsAt t lost.block (S.state store.old) memory.old (S.state store.new) memory.new) }
 {
-    for k in 0..t.count / BLOCK {
+    for k in 0..block_count(t) {
         let Ok(()) = move_block(t, k, store, memory) else {
             return Err(Lost { block: k });
         };

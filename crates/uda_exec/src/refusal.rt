@@ -6,6 +6,7 @@ ghost use Rattle.uda_exec.specs.Commands.{room_in};
 ghost use Rattle.uda_exec.specs.Refusal.{refusal_status, transfer_refusal};
 
 use crate::mode::Mode;
+use crate::movement::block_count;
 use uda_packet::{Transfer, status};
 
 /// Why a command is refused. A refused command changes nothing.
@@ -23,8 +24,6 @@ pub enum Refusal {
     OddAddress,
     /// The byte count is odd.
     OddCount,
-    /// The byte count is no multiple of 512.
-    PartBlock,
     /// The first block isn't below the unit's size.
     BlockPastEnd,
     /// The range ends behind the unit's last block.
@@ -48,7 +47,6 @@ impl Refusal {
             Refusal::NotOnline => status::AVAILABLE,
             Refusal::OddAddress => status::ODD_ADDRESS,
             Refusal::OddCount => status::ODD_COUNT,
-            Refusal::PartBlock => status::INVALID_COUNT,
             Refusal::BlockPastEnd => status::INVALID_BLOCK,
             Refusal::RangePastEnd => status::INVALID_COUNT,
             Refusal::HardwareProtected => status::HARDWARE_PROTECTED,
@@ -82,13 +80,10 @@ pub(crate) fn transfer_refusal(t: Transfer, memory: u32, size: u32, mode: Mode) 
     if t.count % 2 != 0 {
         return Some(Refusal::OddCount);
     }
-    if t.count % 512 != 0 {
-        return Some(Refusal::PartBlock);
-    }
     if block >= u64::from(size) {
         return Some(Refusal::BlockPastEnd);
     }
-    if block + u64::from(t.count / 512) > u64::from(size) {
+    if block + u64::from(block_count(t)) > u64::from(size) {
         return Some(Refusal::RangePastEnd);
     }
     if changes && mode.hard {

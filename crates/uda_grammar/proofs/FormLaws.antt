@@ -19,7 +19,10 @@ use Rattle.uda_grammar.specs.declared.transfer.Transfer.{Transfer}
 use Rattle.uda_grammar.specs.declared.statement.Statement.{Statement}
 use Rattle.uda_grammar.specs.declared.statement.Statement.TheVariants as form
 use Rattle.uda_grammar.specs.Words.{verb_of, most_number, number_of, unit_of, byte_of}
-use Rattle.uda_grammar.specs.Forms.{most_written, with_numbers, with_byte, only_unit, transfer_of, online_of, fill_of, statement_behind, statement_of}
+use Rattle.uda_grammar.specs.declared.statement.Measure.TheVariants.{Blocks, Bytes}
+use Rattle.uda_grammar.specs.declared.statement.Amount.TheVariants as amount
+use Rattle.uda_grammar.specs.Amounts.{most_written}
+use Rattle.uda_grammar.specs.Forms.{with_numbers, with_byte, only_unit, transfer_of, online_of, fill_of, statement_behind, statement_of}
 use Rattle.uda_grammar.specs.Texts.{hexadecimal, transfer_words, words_in, text_of, IsTransfer, Fits, OneText}
 use Rattle.uda_grammar.proofs.WordLaws.{own, Told-number_of, number_of-decimal, byte_of-hexadecimal, hexadecimal-byte_of}
 
@@ -28,10 +31,14 @@ abbrev name_of : Verb → List ℕ
 name_of verb.Online = codes "online"
 name_of verb.Available = codes "available"
 name_of verb.Status = codes "status"
-name_of verb.Read = codes "read"
-name_of verb.Access = codes "access"
-name_of verb.Erase = codes "erase"
-name_of verb.Write = codes "write"
+name_of (verb.Read Blocks) = codes "read"
+name_of (verb.Read Bytes) = codes "readb"
+name_of (verb.Access Blocks) = codes "access"
+name_of (verb.Access Bytes) = codes "accessb"
+name_of (verb.Erase Blocks) = codes "erase"
+name_of (verb.Erase Bytes) = codes "eraseb"
+name_of (verb.Write Blocks) = codes "write"
+name_of (verb.Write Bytes) = codes "writeb"
 name_of verb.Fill = codes "fill"
 
 -- one test of a chain of them
@@ -49,11 +56,15 @@ name-verb_of word v =
     step word verb.Online v _
     (step word verb.Available v _
     (step word verb.Status v _
-    (step word verb.Read v _
-    (step word verb.Access v _
-    (step word verb.Erase v _
-    (step word verb.Write v _
-    (step word verb.Fill v None (λ e. absurd (cc)))))))))
+    (step word (verb.Read Blocks) v _
+    (step word (verb.Read Bytes) v _
+    (step word (verb.Access Blocks) v _
+    (step word (verb.Access Bytes) v _
+    (step word (verb.Erase Blocks) v _
+    (step word (verb.Erase Bytes) v _
+    (step word (verb.Write Blocks) v _
+    (step word (verb.Write Bytes) v _
+    (step word verb.Fill v None (λ e. absurd (cc)))))))))))))
 
 -- what stands in an option that was worked on
 mapped : {T U : Type 0} (f : T → U) (o : Option T) (y : U) → option_map f o ≡ Some y → (x : T) × (o ≡ Some x) × (f x ≡ y)
@@ -141,8 +152,8 @@ fill-told (u ∷ []) s e = absurd (cc)
 fill-told (u ∷ l ∷ []) s e = absurd (cc)
 fill-told (u ∷ l ∷ n ∷ []) s e = absurd (cc)
 fill-told (u ∷ l ∷ n ∷ x ∷ []) s e =
-    let a = byte-told (transfer_of most_written (u ∷ l ∷ n ∷ [])) (byte_of x) s e in
-    let t = transfer_of-told most_written (omega arith) (u ∷ l ∷ n ∷ []) a.0 a.2 in
+    let a = byte-told (transfer_of (most_written Blocks) (u ∷ l ∷ n ∷ [])) (byte_of x) s e in
+    let t = transfer_of-told (most_written Blocks) (omega arith) (u ∷ l ∷ n ∷ []) a.0 a.2 in
     let byte = hexadecimal-byte_of x a.1 a.3 in
     subst (λ made. Reads (codes "fill" ∷ u ∷ l ∷ n ∷ x ∷ []) made) a.4 ((t.0, byte.0), five u l n x _ _ _ _ t.1 byte.1)
   where
@@ -154,10 +165,14 @@ behind-told : (v : Verb) (words : List (List ℕ)) (s : Statement) → statement
 behind-told verb.Online words s e = online-told words s e
 behind-told verb.Available words s e = unit-told (codes "available") (λ unit. form.Available unit) (λ unit fits. (fits, refl)) words s e
 behind-told verb.Status words s e = unit-told (codes "status") (λ unit. form.Status unit) (λ unit fits. (fits, refl)) words s e
-behind-told verb.Read words s e = transfer-told most_number (omega arith) (codes "read") (λ t. form.Read t.unit t.lbn t.count) (λ t fits. (fits, refl)) words s e
-behind-told verb.Access words s e = transfer-told most_number (omega arith) (codes "access") (λ t. form.Access t.unit t.lbn t.count) (λ t fits. (fits, refl)) words s e
-behind-told verb.Erase words s e = transfer-told most_number (omega arith) (codes "erase") (λ t. form.Erase t.unit t.lbn t.count) (λ t fits. (fits, refl)) words s e
-behind-told verb.Write words s e = transfer-told most_written (omega arith) (codes "write") (λ t. form.Write t.unit t.lbn t.count) (λ t fits. (fits, refl)) words s e
+behind-told (verb.Read Blocks) words s e = transfer-told most_number (omega arith) (codes "read") (λ t. form.Read t.unit t.lbn (amount.Blocks t.count)) (λ t fits. (fits, refl)) words s e
+behind-told (verb.Read Bytes) words s e = transfer-told most_number (omega arith) (codes "readb") (λ t. form.Read t.unit t.lbn (amount.Bytes t.count)) (λ t fits. (fits, refl)) words s e
+behind-told (verb.Access Blocks) words s e = transfer-told most_number (omega arith) (codes "access") (λ t. form.Access t.unit t.lbn (amount.Blocks t.count)) (λ t fits. (fits, refl)) words s e
+behind-told (verb.Access Bytes) words s e = transfer-told most_number (omega arith) (codes "accessb") (λ t. form.Access t.unit t.lbn (amount.Bytes t.count)) (λ t fits. (fits, refl)) words s e
+behind-told (verb.Erase Blocks) words s e = transfer-told most_number (omega arith) (codes "erase") (λ t. form.Erase t.unit t.lbn (amount.Blocks t.count)) (λ t fits. (fits, refl)) words s e
+behind-told (verb.Erase Bytes) words s e = transfer-told most_number (omega arith) (codes "eraseb") (λ t. form.Erase t.unit t.lbn (amount.Bytes t.count)) (λ t fits. (fits, refl)) words s e
+behind-told (verb.Write Blocks) words s e = transfer-told (most_written Blocks) (omega arith) (codes "write") (λ t. form.Write t.unit t.lbn (amount.Blocks t.count)) (λ t fits. (fits, refl)) words s e
+behind-told (verb.Write Bytes) words s e = transfer-told (most_written Bytes) (omega arith) (codes "writeb") (λ t. form.Write t.unit t.lbn (amount.Bytes t.count)) (λ t fits. (fits, refl)) words s e
 behind-told verb.Fill words s e = fill-told words s e
 
 told : (words : List (List ℕ)) (s : Statement) → statement_of words ≡ Some s → Reads words s
@@ -184,12 +199,16 @@ reread (form.Online unit false) fits = ap (option_map (λ n. form.Online n false
 reread (form.Online unit true) fits = ap (option_map (λ n. form.Online n true)) (number_of-decimal 65535 unit (omega arith) fits)
 reread (form.Available unit) fits = ap (option_map (λ n. form.Available n)) (number_of-decimal 65535 unit (omega arith) fits)
 reread (form.Status unit) fits = ap (option_map (λ n. form.Status n)) (number_of-decimal 65535 unit (omega arith) fits)
-reread (form.Read u l n) fits = ap (option_map (λ t. form.Read t.unit t.lbn t.count)) (transfer_of-words most_number u l n (omega arith) fits)
-reread (form.Access u l n) fits = ap (option_map (λ t. form.Access t.unit t.lbn t.count)) (transfer_of-words most_number u l n (omega arith) fits)
-reread (form.Erase u l n) fits = ap (option_map (λ t. form.Erase t.unit t.lbn t.count)) (transfer_of-words most_number u l n (omega arith) fits)
-reread (form.Write u l n) fits = ap (option_map (λ t. form.Write t.unit t.lbn t.count)) (transfer_of-words most_written u l n (omega arith) fits)
+reread (form.Read u l (amount.Blocks n)) fits = ap (option_map (λ t. form.Read t.unit t.lbn (amount.Blocks t.count))) (transfer_of-words most_number u l n (omega arith) fits)
+reread (form.Read u l (amount.Bytes n)) fits = ap (option_map (λ t. form.Read t.unit t.lbn (amount.Bytes t.count))) (transfer_of-words most_number u l n (omega arith) fits)
+reread (form.Access u l (amount.Blocks n)) fits = ap (option_map (λ t. form.Access t.unit t.lbn (amount.Blocks t.count))) (transfer_of-words most_number u l n (omega arith) fits)
+reread (form.Access u l (amount.Bytes n)) fits = ap (option_map (λ t. form.Access t.unit t.lbn (amount.Bytes t.count))) (transfer_of-words most_number u l n (omega arith) fits)
+reread (form.Erase u l (amount.Blocks n)) fits = ap (option_map (λ t. form.Erase t.unit t.lbn (amount.Blocks t.count))) (transfer_of-words most_number u l n (omega arith) fits)
+reread (form.Erase u l (amount.Bytes n)) fits = ap (option_map (λ t. form.Erase t.unit t.lbn (amount.Bytes t.count))) (transfer_of-words most_number u l n (omega arith) fits)
+reread (form.Write u l (amount.Blocks n)) fits = ap (option_map (λ t. form.Write t.unit t.lbn (amount.Blocks t.count))) (transfer_of-words (most_written Blocks) u l n (omega arith) fits)
+reread (form.Write u l (amount.Bytes n)) fits = ap (option_map (λ t. form.Write t.unit t.lbn (amount.Bytes t.count))) (transfer_of-words (most_written Bytes) u l n (omega arith) fits)
 reread (form.Fill u l n byte) fits =
-    ap (λ t. with_byte t (byte_of (hexadecimal byte))) (transfer_of-words most_written u l n (omega arith) fits.0)
+    ap (λ t. with_byte t (byte_of (hexadecimal byte))) (transfer_of-words (most_written Blocks) u l n (omega arith) fits.0)
     ∙ ap (with_byte (Some (made_of u l n))) (byte_of-hexadecimal byte fits.1)
 
 -- ---- the words of a line
@@ -255,12 +274,16 @@ words_of-text_of (form.Online unit false) fits = words_of-joined _ _ refl (numbe
 words_of-text_of (form.Online unit true) fits = words_of-joined _ _ refl (number 65535 unit (omega arith) fits, (refl, tt))
 words_of-text_of (form.Available unit) fits = words_of-joined _ _ refl (number 65535 unit (omega arith) fits, tt)
 words_of-text_of (form.Status unit) fits = words_of-joined _ _ refl (number 65535 unit (omega arith) fits, tt)
-words_of-text_of (form.Read u l n) fits = words_of-joined _ _ refl (of_transfer most_number u l n (omega arith) fits)
-words_of-text_of (form.Access u l n) fits = words_of-joined _ _ refl (of_transfer most_number u l n (omega arith) fits)
-words_of-text_of (form.Erase u l n) fits = words_of-joined _ _ refl (of_transfer most_number u l n (omega arith) fits)
-words_of-text_of (form.Write u l n) fits = words_of-joined _ _ refl (of_transfer most_written u l n (omega arith) fits)
+words_of-text_of (form.Read u l (amount.Blocks n)) fits = words_of-joined _ _ refl (of_transfer most_number u l n (omega arith) fits)
+words_of-text_of (form.Read u l (amount.Bytes n)) fits = words_of-joined _ _ refl (of_transfer most_number u l n (omega arith) fits)
+words_of-text_of (form.Access u l (amount.Blocks n)) fits = words_of-joined _ _ refl (of_transfer most_number u l n (omega arith) fits)
+words_of-text_of (form.Access u l (amount.Bytes n)) fits = words_of-joined _ _ refl (of_transfer most_number u l n (omega arith) fits)
+words_of-text_of (form.Erase u l (amount.Blocks n)) fits = words_of-joined _ _ refl (of_transfer most_number u l n (omega arith) fits)
+words_of-text_of (form.Erase u l (amount.Bytes n)) fits = words_of-joined _ _ refl (of_transfer most_number u l n (omega arith) fits)
+words_of-text_of (form.Write u l (amount.Blocks n)) fits = words_of-joined _ _ refl (of_transfer (most_written Blocks) u l n (omega arith) fits)
+words_of-text_of (form.Write u l (amount.Bytes n)) fits = words_of-joined _ _ refl (of_transfer (most_written Bytes) u l n (omega arith) fits)
 words_of-text_of (form.Fill u l n byte) fits =
-    let h = of_transfer most_written u l n (omega arith) fits.0 in
+    let h = of_transfer (most_written Blocks) u l n (omega arith) fits.0 in
     words_of-joined _ _ refl (h.0, (h.1.0, (h.1.1.0, (hexadecimal_has_no_space byte, tt))))
 
 pub one_text : OneText

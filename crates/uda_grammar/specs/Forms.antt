@@ -3,13 +3,13 @@ use Rattle.std.specs.Prelude.{ℕ, true, false, List, [], ◌∷◌, codes, Opti
 use Rattle.std.specs.Prelude.{if◌then◌else◌}
 use Rattle.std.specs.Option.{option_map, option_and_then}
 use Rattle.std.specs.Str.{bytes_eq}
-use Rattle.uda_packet.specs.declared.end.Kind.TheVariants as kind
-use Rattle.uda_model.specs.Request.{limit_of}
 use Rattle.uda_grammar.specs.declared.verb.Verb.{Verb}
 use Rattle.uda_grammar.specs.declared.verb.Verb.TheVariants as verb
 use Rattle.uda_grammar.specs.declared.transfer.Transfer.{Transfer}
+use Rattle.uda_grammar.specs.declared.statement.Measure.TheVariants.{Blocks}
 use Rattle.uda_grammar.specs.declared.statement.Statement.{Statement}
 use Rattle.uda_grammar.specs.declared.statement.Statement.TheVariants as form
+use Rattle.uda_grammar.specs.Amounts.{amount_of, most_written}
 use Rattle.uda_grammar.specs.Words.{verb_of, most_number, number_of, unit_of, byte_of}
 
 -- one word: a unit
@@ -23,15 +23,11 @@ with_numbers (Some unit) (Some lbn) (Some count) =
     Some (record { unit = unit; lbn = lbn; count = count })
 with_numbers _ _ _ = None
 
--- three words: a unit, a first block, and how many blocks, at most so many
+-- three words: a unit, a first block, and how many, at most so many
 abbrev pub transfer_of : ℕ → List (List ℕ) → Option Transfer
 transfer_of most (u ∷ l ∷ n ∷ []) =
     with_numbers (unit_of u) (number_of most_number l) (number_of most n)
 transfer_of most _ = None
-
--- the most blocks that a line can have written: those of one command
-abbrev pub most_written : ℕ
-most_written = limit_of kind.Write
 
 -- a unit, and whether to protect it
 abbrev pub online_of : List (List ℕ) → Option Statement
@@ -47,7 +43,7 @@ with_byte (Some t) (Some byte) = Some (form.Fill t.unit t.lbn t.count byte)
 with_byte _ _ = None
 
 abbrev pub fill_of : List (List ℕ) → Option Statement
-fill_of (u ∷ l ∷ n ∷ x ∷ []) = with_byte (transfer_of most_written (u ∷ l ∷ n ∷ [])) (byte_of x)
+fill_of (u ∷ l ∷ n ∷ x ∷ []) = with_byte (transfer_of (most_written Blocks) (u ∷ l ∷ n ∷ [])) (byte_of x)
 fill_of _ = None
 
 -- what a line asks for by the words behind its first
@@ -55,14 +51,14 @@ abbrev pub statement_behind : Verb → List (List ℕ) → Option Statement
 statement_behind verb.Online words = online_of words
 statement_behind verb.Available words = option_map (λ unit. form.Available unit) (only_unit words)
 statement_behind verb.Status words = option_map (λ unit. form.Status unit) (only_unit words)
-statement_behind verb.Read words =
-    option_map (λ t. form.Read t.unit t.lbn t.count) (transfer_of most_number words)
-statement_behind verb.Access words =
-    option_map (λ t. form.Access t.unit t.lbn t.count) (transfer_of most_number words)
-statement_behind verb.Erase words =
-    option_map (λ t. form.Erase t.unit t.lbn t.count) (transfer_of most_number words)
-statement_behind verb.Write words =
-    option_map (λ t. form.Write t.unit t.lbn t.count) (transfer_of most_written words)
+statement_behind (verb.Read measure) words =
+    option_map (λ t. form.Read t.unit t.lbn (amount_of measure t.count)) (transfer_of most_number words)
+statement_behind (verb.Access measure) words =
+    option_map (λ t. form.Access t.unit t.lbn (amount_of measure t.count)) (transfer_of most_number words)
+statement_behind (verb.Erase measure) words =
+    option_map (λ t. form.Erase t.unit t.lbn (amount_of measure t.count)) (transfer_of most_number words)
+statement_behind (verb.Write measure) words =
+    option_map (λ t. form.Write t.unit t.lbn (amount_of measure t.count)) (transfer_of (most_written measure) words)
 statement_behind verb.Fill words = fill_of words
 
 -- what a line asks for by its words, where they are of one of the forms

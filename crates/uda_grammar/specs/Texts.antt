@@ -4,9 +4,14 @@ use Rattle.std.specs.Fmt.{decimal, digit_glyph}
 use Rattle.std.specs.List.{join_with_byte}
 use Rattle.uda_grammar.specs.declared.statement.Statement.{Statement}
 use Rattle.uda_grammar.specs.declared.statement.Statement.TheVariants as form
+use Rattle.uda_grammar.specs.declared.statement.Measure.{Measure}
+use Rattle.uda_grammar.specs.declared.statement.Measure.TheVariants as measure
+use Rattle.uda_grammar.specs.declared.statement.Amount.{Amount}
+use Rattle.uda_grammar.specs.declared.statement.Amount.TheVariants.{Blocks, Bytes}
+use Rattle.uda_grammar.specs.Amounts.{most_written}
 use Rattle.uda_grammar.specs.Parts.{words_of}
 use Rattle.uda_grammar.specs.Words.{most_number}
-use Rattle.uda_grammar.specs.Forms.{most_written, statement_of}
+use Rattle.uda_grammar.specs.Forms.{statement_of}
 
 -- two hexadecimal digits in lower case
 abbrev pub hexadecimal : ℕ → List ℕ
@@ -22,29 +27,43 @@ words_in (form.Online unit false) = codes "online" ∷ decimal unit ∷ []
 words_in (form.Online unit true) = codes "online" ∷ decimal unit ∷ codes "protect" ∷ []
 words_in (form.Available unit) = codes "available" ∷ decimal unit ∷ []
 words_in (form.Status unit) = codes "status" ∷ decimal unit ∷ []
-words_in (form.Read unit lbn count) = codes "read" ∷ transfer_words unit lbn count
-words_in (form.Access unit lbn count) = codes "access" ∷ transfer_words unit lbn count
-words_in (form.Erase unit lbn count) = codes "erase" ∷ transfer_words unit lbn count
-words_in (form.Write unit lbn count) = codes "write" ∷ transfer_words unit lbn count
+words_in (form.Read unit lbn (Blocks count)) = codes "read" ∷ transfer_words unit lbn count
+words_in (form.Read unit lbn (Bytes count)) = codes "readb" ∷ transfer_words unit lbn count
+words_in (form.Access unit lbn (Blocks count)) = codes "access" ∷ transfer_words unit lbn count
+words_in (form.Access unit lbn (Bytes count)) = codes "accessb" ∷ transfer_words unit lbn count
+words_in (form.Erase unit lbn (Blocks count)) = codes "erase" ∷ transfer_words unit lbn count
+words_in (form.Erase unit lbn (Bytes count)) = codes "eraseb" ∷ transfer_words unit lbn count
+words_in (form.Write unit lbn (Blocks count)) = codes "write" ∷ transfer_words unit lbn count
+words_in (form.Write unit lbn (Bytes count)) = codes "writeb" ∷ transfer_words unit lbn count
 words_in (form.Fill unit lbn count byte) =
     codes "fill" ∷ transfer_words unit lbn count ++ hexadecimal byte ∷ []
 
--- the numbers of a transfer, of at most so many blocks
+-- the numbers of a transfer, of at most so many blocks or bytes
 pub record IsTransfer (most unit lbn count : ℕ) : Type 0 where
   pub unit_fits : unit ≤ 65535
   pub lbn_fits : lbn ≤ most_number
   pub count_fits : count ≤ most
+
+-- how many, in whatever measure
+abbrev pub number_in : Amount → ℕ
+number_in (Blocks count) = count
+number_in (Bytes count) = count
+
+-- in what they are counted
+abbrev pub measure_in : Amount → Measure
+measure_in (Blocks count) = measure.Blocks
+measure_in (Bytes count) = measure.Bytes
 
 -- what the numbers of a statement may be
 abbrev pub Fits : Statement → Type 0
 Fits (form.Online unit protect) = unit ≤ 65535
 Fits (form.Available unit) = unit ≤ 65535
 Fits (form.Status unit) = unit ≤ 65535
-Fits (form.Read unit lbn count) = IsTransfer most_number unit lbn count
-Fits (form.Access unit lbn count) = IsTransfer most_number unit lbn count
-Fits (form.Erase unit lbn count) = IsTransfer most_number unit lbn count
-Fits (form.Write unit lbn count) = IsTransfer most_written unit lbn count
-Fits (form.Fill unit lbn count byte) = IsTransfer most_written unit lbn count × (byte ≤ 255)
+Fits (form.Read unit lbn amount) = IsTransfer most_number unit lbn (number_in amount)
+Fits (form.Access unit lbn amount) = IsTransfer most_number unit lbn (number_in amount)
+Fits (form.Erase unit lbn amount) = IsTransfer most_number unit lbn (number_in amount)
+Fits (form.Write unit lbn amount) = IsTransfer (most_written (measure_in amount)) unit lbn (number_in amount)
+Fits (form.Fill unit lbn count byte) = IsTransfer (most_written measure.Blocks) unit lbn count × (byte ≤ 255)
 
 -- the text of a statement: its words, with a space between two
 abbrev pub text_of : Statement → List ℕ

@@ -7,6 +7,7 @@ use Rattle.std.specs.Option.{option_map, option_and_then}
 use Rattle.std.specs.Str.{bytes_eq}
 use Rattle.uda_grammar.specs.declared.verb.Verb.{Verb}
 use Rattle.uda_grammar.specs.declared.verb.Verb.TheVariants as verb
+use Rattle.uda_grammar.specs.declared.statement.Measure.TheVariants.{Blocks, Bytes}
 
 -- what a line's first word asks for
 abbrev pub verb_of : List ℕ → Option Verb
@@ -14,10 +15,14 @@ verb_of word =
     if bytes_eq word (codes "online") then Some verb.Online else
     if bytes_eq word (codes "available") then Some verb.Available else
     if bytes_eq word (codes "status") then Some verb.Status else
-    if bytes_eq word (codes "read") then Some verb.Read else
-    if bytes_eq word (codes "access") then Some verb.Access else
-    if bytes_eq word (codes "erase") then Some verb.Erase else
-    if bytes_eq word (codes "write") then Some verb.Write else
+    if bytes_eq word (codes "read") then Some (verb.Read Blocks) else
+    if bytes_eq word (codes "readb") then Some (verb.Read Bytes) else
+    if bytes_eq word (codes "access") then Some (verb.Access Blocks) else
+    if bytes_eq word (codes "accessb") then Some (verb.Access Bytes) else
+    if bytes_eq word (codes "erase") then Some (verb.Erase Blocks) else
+    if bytes_eq word (codes "eraseb") then Some (verb.Erase Bytes) else
+    if bytes_eq word (codes "write") then Some (verb.Write Blocks) else
+    if bytes_eq word (codes "writeb") then Some (verb.Write Bytes) else
     if bytes_eq word (codes "fill") then Some verb.Fill else None
 
 -- a number in decimal: digits, of which the first is no zero where there are more

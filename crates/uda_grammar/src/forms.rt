@@ -1,15 +1,26 @@
 //! The forms of a line that makes a request.
 ghost use Rattle.std.specs.Prelude.{◌≡◌, ◌<◌, [], ◌∷◌, length, IfSome, IfNone};
 ghost use Rattle.std.specs.Option.{option_copied};
+ghost use Rattle.uda_grammar.specs.Amounts.{most_written};
 ghost use Rattle.uda_grammar.specs.Parts.{words_of, parts_behind};
 ghost use Rattle.uda_grammar.specs.Forms.{only_unit, transfer_of, online_of, fill_of, statement_of};
 
 use crate::cut::cut;
 use crate::number::{byte, number, unit};
-use crate::statement::Statement;
+use crate::statement::{Measure, Statement};
 use crate::transfer::Transfer;
 use crate::verb::Verb;
-use uda_model::BUFFER_BLOCKS;
+use uda_model::BUFFER_BYTES;
+
+// The most that a line can have written, in this measure: as much as one command.
+fn most_written(measure: Measure) -> u32
+    ensures most { result ≡ most_written measure }
+{
+    match measure {
+        Measure::Blocks => BUFFER_BYTES / 512,
+        Measure::Bytes => BUFFER_BYTES,
+    }
+}
 
 // What parts the words of a line.
 const SPACE: u8 = b' ';
@@ -53,7 +64,7 @@ impl<'a> Fields<'a> {
         })
     }
 
-    // The numbers that the three words are, of at most so many blocks.
+    // The numbers that the three words are, of at most so many.
     fn transfer(&self, most: u32) -> Option<Transfer>
         ensures transfer { result
             ≡ transfer_of most (self.now.unit.now ∷ self.now.lbn.now ∷ self.now.count.now ∷ []) }
@@ -73,7 +84,7 @@ fn unit_alone(words: &[u8]) -> Option<u16>
     unit(only_word(words)?)
 }
 
-// `U L N`, of at most so many blocks
+// `U L N`, of at most so many
 #[tactic(auto, using(crate::proofs::Fields::transfer_of_more, crate::proofs::Cutting::behind_nonempty))]
 fn transfer_alone(words: &[u8], most: u32) -> Option<Transfer>
     ensures transfer { result ≡ transfer_of most (words_of words.now) }
@@ -109,7 +120,7 @@ fn fill(words: &[u8]) -> Option<Statement>
 {
     let fields = Fields::of_words(words)?;
     let byte = byte(only_word(fields.rest?)?)?;
-    let Transfer { unit, lbn, count } = fields.transfer(BUFFER_BLOCKS)?;
+    let Transfer { unit, lbn, count } = fields.transfer(most_written(Measure::Blocks))?;
     Some(Statement::Fill {
         unit,
         lbn,
@@ -132,21 +143,25 @@ pub(crate) fn statement_in(line: &[u8]) -> Option<Statement>
         Verb::Status => Statement::Status {
             unit: unit_alone(words)?,
         },
-        Verb::Read => {
+        Verb::Read(measure) => {
             let Transfer { unit, lbn, count } = transfer_alone(words, u32::MAX)?;
-            Statement::Read { unit, lbn, count }
+            let amount = measure.amount(count);
+            Statement::Read { unit, lbn, amount }
         }
-        Verb::Access => {
+        Verb::Access(measure) => {
             let Transfer { unit, lbn, count } = transfer_alone(words, u32::MAX)?;
-            Statement::Access { unit, lbn, count }
+            let amount = measure.amount(count);
+            Statement::Access { unit, lbn, amount }
         }
-        Verb::Erase => {
+        Verb::Erase(measure) => {
             let Transfer { unit, lbn, count } = transfer_alone(words, u32::MAX)?;
-            Statement::Erase { unit, lbn, count }
+            let amount = measure.amount(count);
+            Statement::Erase { unit, lbn, amount }
         }
-        Verb::Write => {
-            let Transfer { unit, lbn, count } = transfer_alone(words, BUFFER_BLOCKS)?;
-            Statement::Write { unit, lbn, count }
+        Verb::Write(measure) => {
+            let Transfer { unit, lbn, count } = transfer_alone(words, most_written(measure))?;
+            let amount = measure.amount(count);
+            Statement::Write { unit, lbn, amount }
         }
         Verb::Fill => fill(words)?,
     })

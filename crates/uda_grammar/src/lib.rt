@@ -16,4 +16,4 @@ pub use error::ScriptError;
 pub use law::one_text;
 pub use parsing::parse;
 pub use script::{Line, SCRIPT_LIMIT, Script};
-pub use statement::Statement;
+pub use statement::{Amount, Statement};

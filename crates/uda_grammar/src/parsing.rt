@@ -60,12 +60,14 @@ fn read_line(lines: &mut Vec<Line>, number: u64, line: &[u8]) -> Result<(), Scri
 /// ```text
 /// online U        online U protect        available U        status U
 /// read U L N      access U L N            erase U L N
-/// write U L N     fill U L N XX
+/// readb U L B     accessb U L B           eraseb U L B
+/// write U L N     writeb U L B            fill U L N XX
 /// ```
 ///
-/// `U` is a unit's number, at most 65,535; `L` the first logical block and `N` how many, at most
-/// 4,294,967,295 and of `write` and `fill` at most 32. They are in decimal without leading zeros.
-/// `XX` is a byte as two hexadecimal digits in lower case.
+/// `U` is a unit's number, at most 65,535; `L` the first logical block, `N` how many and `B` how many
+/// bytes, at most 4,294,967,295; of `write` and `fill` `N` is at most 32, and of `writeb` `B` at most
+/// 16,384. They are in decimal without leading zeros. `XX` is a byte as two hexadecimal digits in lower
+/// case.
 ///
 /// # Errors
 ///

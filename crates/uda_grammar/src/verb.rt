@@ -1,6 +1,8 @@
 //! The first word of a line.
 ghost use Rattle.std.specs.Prelude.{◌≡◌};
 
+use crate::statement::Measure;
+
 /// What the first word of a line asks for.
 #[derive(Clone, Copy)]
 pub(crate) enum Verb {
@@ -10,14 +12,14 @@ pub(crate) enum Verb {
     Available,
     /// `status`
     Status,
-    /// `read`
-    Read,
-    /// `access`
-    Access,
-    /// `erase`
-    Erase,
-    /// `write`
-    Write,
+    /// `read` and `readb`
+    Read(Measure),
+    /// `access` and `accessb`
+    Access(Measure),
+    /// `erase` and `eraseb`
+    Erase(Measure),
+    /// `write` and `writeb`
+    Write(Measure),
     /// `fill`
     Fill,
 }
@@ -33,10 +35,14 @@ impl Verb {
             b"online" => Some(Verb::Online),
             b"available" => Some(Verb::Available),
             b"status" => Some(Verb::Status),
-            b"read" => Some(Verb::Read),
-            b"access" => Some(Verb::Access),
-            b"erase" => Some(Verb::Erase),
-            b"write" => Some(Verb::Write),
+            b"read" => Some(Verb::Read(Measure::Blocks)),
+            b"readb" => Some(Verb::Read(Measure::Bytes)),
+            b"access" => Some(Verb::Access(Measure::Blocks)),
+            b"accessb" => Some(Verb::Access(Measure::Bytes)),
+            b"erase" => Some(Verb::Erase(Measure::Blocks)),
+            b"eraseb" => Some(Verb::Erase(Measure::Bytes)),
+            b"write" => Some(Verb::Write(Measure::Blocks)),
+            b"writeb" => Some(Verb::Write(Measure::Bytes)),
             b"fill" => Some(Verb::Fill),
             _ => None,
         }

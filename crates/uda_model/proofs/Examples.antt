@@ -32,10 +32,10 @@ answers disks requests = (plain disks requests).0
 empty_run : plain eight [] ≡ ([], eight)
 empty_run = refl
 
-read_while_available : answers eight (ask.Read 0 0 1 ∷ []) ≡ Data 0x0004 [] ∷ []
+read_while_available : answers eight (ask.Read 0 0 512 ∷ []) ≡ Data 0x0004 [] ∷ []
 read_while_available = refl
 
-read_last_block : answers (alone false (zeros 7 ++ of 0x37 ∷ []) 8) (ask.Online 0 false ∷ ask.Read 0 7 1 ∷ []) ≡ Online 0 0 8 ∷ Data 0 (of 0x37) ∷ []
+read_last_block : answers (alone false (zeros 7 ++ of 0x37 ∷ []) 8) (ask.Online 0 false ∷ ask.Read 0 7 512 ∷ []) ≡ Online 0 0 8 ∷ Data 0 (of 0x37) ∷ []
 unfolding put part
 read_last_block = refl
 
@@ -43,26 +43,26 @@ first_block_past_end : answers eight (ask.Online 0 false ∷ ask.Read 0 8 0 ∷ 
 unfolding put
 first_block_past_end = refl
 
-range_past_end : answers eight (ask.Online 0 false ∷ ask.Read 0 7 2 ∷ []) ≡ Online 0 0 8 ∷ Data 0x0C01 [] ∷ []
+range_past_end : answers eight (ask.Online 0 false ∷ ask.Read 0 7 1024 ∷ []) ≡ Online 0 0 8 ∷ Data 0x0C01 [] ∷ []
 unfolding put
 range_past_end = refl
 
-software_protection : answers eight (ask.Online 0 true ∷ ask.Write 0 0 (of 0x5A ∷ []) ∷ ask.Read 0 0 1 ∷ []) ≡ Online 0 0x1000 8 ∷ Moved 0x1006 0 ∷ Data 0 (of 0) ∷ []
+software_protection : answers eight (ask.Online 0 true ∷ ask.Write 0 0 (of 0x5A) ∷ ask.Read 0 0 512 ∷ []) ≡ Online 0 0x1000 8 ∷ Moved 0x1006 0 ∷ Data 0 (of 0) ∷ []
 unfolding put part
 software_protection = refl
 
-hardware_protection : answers (alone true (zeros 8) 8) (ask.Online 0 true ∷ ask.Erase 0 0 1 ∷ []) ≡ Online 0 0x3000 8 ∷ Moved 0x2006 0 ∷ []
+hardware_protection : answers (alone true (zeros 8) 8) (ask.Online 0 true ∷ ask.Erase 0 0 512 ∷ []) ≡ Online 0 0x3000 8 ∷ Moved 0x2006 0 ∷ []
 unfolding put
 hardware_protection = refl
 
 more_than_eight : answers (alone false (zeros 10) 10)
-    (ask.Online 0 false ∷ (map (λ k. ask.Write 0 k (of k ∷ [])) (0 ∷ 1 ∷ 2 ∷ 3 ∷ 4 ∷ 5 ∷ 6 ∷ 7 ∷ 8 ∷ 9 ∷ [])
-    ++ map (λ k. ask.Read 0 k 1) (0 ∷ 1 ∷ 2 ∷ 3 ∷ 4 ∷ 5 ∷ 6 ∷ 7 ∷ 8 ∷ 9 ∷ [])))
+    (ask.Online 0 false ∷ (map (λ k. ask.Write 0 k (of k)) (0 ∷ 1 ∷ 2 ∷ 3 ∷ 4 ∷ 5 ∷ 6 ∷ 7 ∷ 8 ∷ 9 ∷ [])
+    ++ map (λ k. ask.Read 0 k 512) (0 ∷ 1 ∷ 2 ∷ 3 ∷ 4 ∷ 5 ∷ 6 ∷ 7 ∷ 8 ∷ 9 ∷ [])))
     ≡ Online 0 0 10 ∷ (replicate 10 (Moved 0 512) ++ map (λ block. Data 0 block) numbered)
 unfolding put part
 more_than_eight = refl
 
-overlapping_writes : plain eight (ask.Online 0 false ∷ ask.Write 0 3 (of 0x11 ∷ of 0x11 ∷ of 0x11 ∷ []) ∷ ask.Read 0 5 1 ∷ ask.Write 0 5 (of 0x22 ∷ []) ∷ ask.Read 0 5 1 ∷ [])
+overlapping_writes : plain eight (ask.Online 0 false ∷ ask.Write 0 3 (replicate 1536 0x11) ∷ ask.Read 0 5 512 ∷ ask.Write 0 5 (of 0x22) ∷ ask.Read 0 5 512 ∷ [])
     ≡ (
       Online 0 0 8 ∷ Moved 0 1536 ∷ Data 0 (of 0x11) ∷ Moved 0 512 ∷ Data 0 (of 0x22) ∷ [],
       Some (record { blocks = zeros 3 ++ (of 0x11 ∷ of 0x11 ∷ of 0x22 ∷ zeros 2); size = 8; mode = record { online = true; hard = false; soft = false } }) ∷ None ∷ None ∷ None ∷ [],
@@ -70,11 +70,11 @@ overlapping_writes : plain eight (ask.Online 0 false ∷ ask.Write 0 3 (of 0x11 
 unfolding put part
 overlapping_writes = refl
 
-thirty_three_blocks : answers (alone false (zeros 40) 40) (ask.Online 0 false ∷ ask.Read 0 0 33 ∷ ask.Read 0 0 32 ∷ []) ≡ Online 0 0 40 ∷ TooLong ∷ Data 0 (replicate 16384 0) ∷ []
+thirty_three_blocks : answers (alone false (zeros 40) 40) (ask.Online 0 false ∷ ask.Read 0 0 16896 ∷ ask.Read 0 0 16384 ∷ []) ≡ Online 0 0 40 ∷ TooLong ∷ Data 0 (replicate 16384 0) ∷ []
 unfolding put part
 thirty_three_blocks = refl
 
-reads_out_of_order : answers (alone false numbered 10) (ask.Online 0 false ∷ map (λ k. ask.Read 0 k 1) (9 ∷ 0 ∷ 5 ∷ 1 ∷ []))
+reads_out_of_order : answers (alone false numbered 10) (ask.Online 0 false ∷ map (λ k. ask.Read 0 k 512) (9 ∷ 0 ∷ 5 ∷ 1 ∷ []))
     ≡ Online 0 0 10 ∷ Data 0 (of 9) ∷ Data 0 (of 0) ∷ Data 0 (of 5) ∷ Data 0 (of 1) ∷ []
 unfolding put part
 reads_out_of_order = refl
@@ -92,13 +92,29 @@ no_blocks : answers (alone false [] 0) (ask.Online 0 false ∷ ask.Read 0 0 0 �
 unfolding put
 no_blocks = refl
 
+part_block : answers eight (ask.Online 0 false ∷ ask.Write 0 2 (replicate 514 0x66) ∷ ask.Read 0 2 1024 ∷ ask.Read 0 3 4 ∷ [])
+    ≡ Online 0 0 8 ∷ Moved 0 514 ∷ Data 0 (replicate 514 0x66 ++ replicate 510 0) ∷ Data 0 (0x66 ∷ 0x66 ∷ 0 ∷ 0 ∷ []) ∷ []
+unfolding put part
+part_block = refl
+
+-- what a part block held before is gone
+part_block_again : answers eight (ask.Online 0 false ∷ ask.Write 0 2 (of 0x66) ∷ ask.Write 0 2 (0x77 ∷ 0x77 ∷ []) ∷ ask.Read 0 2 4 ∷ ask.Erase 0 2 2 ∷ ask.Read 0 2 4 ∷ [])
+    ≡ Online 0 0 8 ∷ Moved 0 512 ∷ Moved 0 2 ∷ Data 0 (0x77 ∷ 0x77 ∷ 0 ∷ 0 ∷ []) ∷ Moved 0 2 ∷ Data 0 (replicate 4 0) ∷ []
+unfolding put part
+part_block_again = refl
+
+odd_counts_and_limits : answers eight (ask.Online 0 false ∷ ask.Read 0 7 514 ∷ ask.Read 0 7 2 ∷ ask.Read 0 8 2 ∷ ask.Read 0 0 3 ∷ ask.Read 0 0 16386 ∷ ask.Access 0 0 4294967294 ∷ ask.Access 0 0 4294967296 ∷ [])
+    ≡ Online 0 0 8 ∷ Data 0x0C01 [] ∷ Data 0 (0 ∷ 0 ∷ []) ∷ Data 0x1C01 [] ∷ Data 0x0049 [] ∷ TooLong ∷ Moved 0x0C01 0 ∷ TooLong ∷ []
+unfolding put part
+odd_counts_and_limits = refl
+
 -- a Write of three blocks is lost at its second, which is half written then; what stands before it is there, and what comes behind it is not
 abbrev half : List ℕ
 half = replicate 256 0x44 ++ replicate 256 0
 
 failing_store : plain_as eight (
-    record { request = ask.Online 0 false; outcome = Done } ∷ record { request = ask.Write 0 0 (of 0x44 ∷ of 0x44 ∷ of 0x44 ∷ []); outcome = Lost 1 half }
-    ∷ record { request = ask.Read 0 0 1; outcome = Done } ∷ [])
+    record { request = ask.Online 0 false; outcome = Done } ∷ record { request = ask.Write 0 0 (replicate 1536 0x44); outcome = Lost 1 half }
+    ∷ record { request = ask.Read 0 0 512; outcome = Done } ∷ [])
     ≡ (
       Online 0 0 8 ∷ Moved 0x000B 512 ∷ Data 0 (of 0x44) ∷ [],
       Some (record { blocks = of 0x44 ∷ half ∷ zeros 6; size = 8; mode = record { online = true; hard = false; soft = false } }) ∷ None ∷ None ∷ None ∷ [],
@@ -107,8 +123,12 @@ unfolding put part
 failing_store = refl
 
 -- the first fifteen of more are out together; a Read waits for a Write that it meets, and what is too long is passed over
-lead_of_seventeen : lead (map (λ k. ask.Read 0 k 1) (16 ∷ 15 ∷ 14 ∷ 13 ∷ 12 ∷ 11 ∷ 10 ∷ 9 ∷ 8 ∷ 7 ∷ 6 ∷ 5 ∷ 4 ∷ 3 ∷ 2 ∷ 1 ∷ 0 ∷ [])) ≡ 15
+lead_of_seventeen : lead (map (λ k. ask.Read 0 k 512) (16 ∷ 15 ∷ 14 ∷ 13 ∷ 12 ∷ 11 ∷ 10 ∷ 9 ∷ 8 ∷ 7 ∷ 6 ∷ 5 ∷ 4 ∷ 3 ∷ 2 ∷ 1 ∷ 0 ∷ [])) ≡ 15
 lead_of_seventeen = refl
 
-lead_to_a_clash : lead (ask.Online 0 false ∷ ask.Read 0 0 33 ∷ ask.Write 0 3 (of 0 ∷ of 0 ∷ []) ∷ ask.Read 0 4 1 ∷ ask.Read 0 0 1 ∷ []) ≡ 2
+lead_to_a_clash : lead (ask.Online 0 false ∷ ask.Read 0 0 16896 ∷ ask.Write 0 3 (replicate 514 0) ∷ ask.Read 0 4 512 ∷ ask.Read 0 0 512 ∷ []) ≡ 2
 lead_to_a_clash = refl
+
+-- a part block is of the range
+lead_to_a_part_block : lead (ask.Write 0 3 (replicate 514 0) ∷ ask.Read 0 4 2 ∷ []) ≡ 1
+lead_to_a_part_block = refl

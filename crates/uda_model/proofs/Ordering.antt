@@ -68,7 +68,7 @@ order_of_requests order_is_free fixed j f w ready apart goes at images fit =
     let beside' : AllPairs Beside (commands_in (posted_of others)) = subst (AllPairs Beside) names (all_pairs_remove Beside (commands_in ps) j (slice_get_within (commands_in ps) j c command_at) beside) in
     let ready_before : All (λ (q : Posted). Ready q w.memory) (posted_of others) = subst (All (λ (q : Posted). Ready q w.memory)) (sym (map-remove (λ (x : FixedPosted). x.posted) fixed j)) (All-remove (λ (q : Posted). Ready q w.memory) ps j ready) in
     let ready' = all_ready-effect o c w (posted_of others) beside_c ready_before in
-    let images' : HaveImages now.1.disks = subst HaveImages (sym s.disks) (images-step o p.request w.disks own.whole fits images) in
+    let images' : HaveImages now.1.disks = subst HaveImages (sym s.disks) (images-step o p.request w.disks fits images) in
     let fit' : All FitsRequest (map fixed_request others) = subst (All FitsRequest) (sym (map-remove fixed_request fixed j)) (All-remove FitsRequest (map fixed_request fixed) j fit) in
     let rest = serves_all others now.1 ready' beside' images' fit' in
     -- the law

@@ -27,8 +27,8 @@ pub record MovesSame (r : Request) (address : ℕ) : Type 0 where
   pub count : blocks_of (op_of r address) ≡ count_of r
 
 pub moves_same : (r : Request) (address : ℕ) → MovesSame r address
-moves_same (Read unit first count) address = record { moving = refl; writing = refl; first = refl; count = omega arith }
-moves_same _ address = record { moving = refl; writing = refl; first = refl; count = omega arith }
+moves_same (Read unit first bytes) address = record { moving = refl; writing = refl; first = refl; count = refl }
+moves_same _ address = record { moving = refl; writing = refl; first = refl; count = refl }
 
 pub fits-count : (o : Outcome) (r : Request) (a : ℕ) (v : Verdict) → Fits o (op_of r a) v → FitsCount (count_of r) o
 fits-count Done r a v f = tt

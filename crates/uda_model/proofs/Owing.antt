@@ -195,7 +195,7 @@ module _ {start : Units} {requests : List Request} {due : List Posted} {told : L
         record {
           ledger = subst₂ (λ (answer : Answer) (disks : Disks). Ledger (disks_of start) requests (remove due j) (slice_set told p.place answer) disks) (sym answer_is) (sym disks_are)
               (ledger_execute order_is_free (disks_of start) requests due told w j p o owes.ready owes.apart owes.in_order goes stands before.images fits before.ledger);
-          images = subst HaveImages (sym disks_are) (images-step o r w.disks own_ready.whole fits before.images);
+          images = subst HaveImages (sym disks_are) (images-step o r w.disks fits before.images);
           errors = λ u.
               let more : failures_at (slice_get after u) ≡ failures_at (slice_get units u) + tells_error u r a = one_failure u (unit_of r) (is_error a) (is_lost o) units after lost x.others_stay t.failures_are in
               omega (arith, before.errors u, errors-set u requests told p.place r a own_request own_blank);

@@ -12,13 +12,14 @@ use Rattle.uda_packet.specs.declared.command.Op.{Op}
 use Rattle.uda_packet.specs.declared.end.End.{End}
 use Rattle.uda_exec.specs.declared.refusal.Refusal.{Refusal}
 use Rattle.uda_exec.specs.Disks.{Disk, Disks}
-use Rattle.uda_exec.specs.Commands.{address_of, room_of}
 use Rattle.uda_packet.specs.Transfer.{transfer_of}
 use Rattle.uda_exec.specs.Effect.{World, Outcome, bytes_put, Verdict, OfController, Refused, ActsOn, verdict, world_after, effect}
 use Rattle.uda_exec.specs.Order.{FixedCommand, effects, effect_of, IsBeside, data_of}
-use Rattle.uda_exec.proofs.Blocks.{AreBlocks}
+use Rattle.uda_exec.specs.Commands.{address_of, room_of, blocks_for}
+use Rattle.uda_exec.specs.Transfers.{in_blocks}
+use Rattle.uda_exec.proofs.Blocks.{AreBlocks, AreBlocks-in_blocks}
 use Rattle.uda_exec.proofs.Swap.{length-bytes_put, length-world_after, data_of-put}
-use Rattle.uda_model.specs.Request.{Request, Write, Erase, unit_of, extent_of, first_of, count_of, too_long, IsWhole}
+use Rattle.uda_model.specs.Request.{Request, Write, Erase, unit_of, extent_of, first_of, count_of, too_long}
 use Rattle.uda_model.specs.declared.extent.Extent.{Extent}
 use Rattle.uda_model.specs.Answer.{Answer, TooLong}
 use Rattle.uda_model.specs.Plain.{extent_refusal, Bar, Barred, Free, bar_of, bar_on, bar_at, bar, blocks_brought, disk_left, disks_by, answer_by, step_as, plain_as, FitsCount, FitsRequest, HasImage, HaveImages}
@@ -61,7 +62,7 @@ length-effects (act ∷ rest) w = ap suc (length-effects rest (effect_of act w).
 -- ---- what is ready stays ready, and images stay images
 
 pub ready-in : (p : Posted) (memory other : List ℕ) → length other ≡ length memory → data_of (posted_command p).op other ≡ data_of (posted_command p).op memory → Ready p memory → Ready p other
-ready-in p memory other size same r = record { short = r.short; whole = r.whole; even = r.even; within = omega (arith, r.within, size); held = same ∙ r.held }
+ready-in p memory other size same r = record { short = r.short; even = r.even; within = omega (arith, r.within, size); held = same ∙ r.held }
 
 ready-effect : (o : Outcome) (c : Command) (w : World) (p : Posted) → Beside c (posted_command p) → Ready p w.memory → Ready p (effect o c w).1.memory
 ready-effect o c w p h r = ready-in p w.memory _ (length-effect o c w) (data-after o c (verdict c w) w (posted_command p).op h) r
@@ -80,12 +81,15 @@ AreBlocks-put blocks at new h g =
     let P : List ℕ → Type 0 = λ block. length block ≡ 512 in
     All-take P (length blocks) (take at blocks ++ (new ++ drop (at + length new) blocks)) (All-append P (take at blocks) (new ++ drop (at + length new) blocks) (All-take P at blocks h) (All-append P new (drop (at + length new) blocks) g (All-drop P (at + length new) blocks h)))
 
-brought_blocks : (o : Outcome) (r : Request) → IsWhole r → FitsCount (count_of r) o → AreBlocks (blocks_brought o r)
-brought_blocks o (Write unit first blocks) g f = AreBlocks-moved o (length blocks) blocks g f
-brought_blocks o (Erase unit first n) g f =
+brought_blocks : (o : Outcome) (r : Request) → FitsCount (count_of r) o → AreBlocks (blocks_brought o r)
+brought_blocks o (Write unit first payload) f =
+    let n = blocks_for (length payload) in
+    AreBlocks-moved o n (in_blocks n payload) (AreBlocks-in_blocks n payload (omega arith)) f
+brought_blocks o (Erase unit first bytes) f =
+    let n = blocks_for bytes in
     let zeros : List ℕ = replicate 512 0 in
     AreBlocks-moved o n (replicate n zeros) (All-replicate (λ block. length block ≡ 512) n zeros (length-replicate {A = ℕ} 512 0)) f
-brought_blocks o _ g f = All-nil (λ block. length block ≡ 512)
+brought_blocks o _ f = All-nil (λ block. length block ≡ 512)
 
 -- where a request is free, its unit has that disk
 freed-by : (found : Option Refusal) (d disk : Disk) → bar_of found d ≡ Free disk → d ≡ disk
@@ -101,25 +105,25 @@ freed r None disk h = absurd (cc)
 freed r (Some None) disk h = absurd (cc)
 freed r (Some (Some d)) disk h = ap (λ (x : Disk). Some (Some x)) (freed-on (extent_of r) d disk h)
 
-image-left : (o : Outcome) (r : Request) (disk : Disk) → IsWhole r → FitsCount (count_of r) o → IsImage disk.size disk.blocks → HasImage (Some (disk_left o r disk))
-image-left o r disk g f image = record {
+image-left : (o : Outcome) (r : Request) (disk : Disk) → FitsCount (count_of r) o → IsImage disk.size disk.blocks → HasImage (Some (disk_left o r disk))
+image-left o r disk f image = record {
   counted = length-put disk.blocks (first_of r) (blocks_brought o r) ∙ image.counted;
-  whole = AreBlocks-put disk.blocks (first_of r) (blocks_brought o r) image.whole (brought_blocks o r g f);
+  whole = AreBlocks-put disk.blocks (first_of r) (blocks_brought o r) image.whole (brought_blocks o r f);
 }
 
-images-by : (o : Outcome) (r : Request) (disks : Disks) (b : Bar) → bar disks r ≡ b → IsWhole r → FitsCount (count_of r) o → HaveImages disks → HaveImages (disks_by o r b disks)
-images-by o r disks (Barred refusal) is g f images = images
-images-by o r disks (Free disk) is g f images =
+images-by : (o : Outcome) (r : Request) (disks : Disks) (b : Bar) → bar disks r ≡ b → FitsCount (count_of r) o → HaveImages disks → HaveImages (disks_by o r b disks)
+images-by o r disks (Barred refusal) is f images = images
+images-by o r disks (Free disk) is f images =
     let here : slice_get disks (unit_of r) ≡ Some (Some disk) = freed r (slice_get disks (unit_of r)) disk is in
     let image : IsImage disk.size disk.blocks = subst HasImage (get_or_from_slice_get disks (unit_of r) (Some disk) None here) (images (unit_of r) None (slice_get_within disks (unit_of r) (Some disk) here)) in
-    All-set HasImage disks (unit_of r) (Some (disk_left o r disk)) (image-left o r disk g f image) images
+    All-set HasImage disks (unit_of r) (Some (disk_left o r disk)) (image-left o r disk f image) images
 
-pub images-step : (o : Outcome) (r : Request) (disks : Disks) → IsWhole r → FitsCount (count_of r) o → HaveImages disks → HaveImages (step_as o disks r).1
-images-step o r disks g f images = by (too_long r)
+pub images-step : (o : Outcome) (r : Request) (disks : Disks) → FitsCount (count_of r) o → HaveImages disks → HaveImages (step_as o disks r).1
+images-step o r disks f images = by (too_long r)
   where
     by : (b : Bool) → HaveImages (let x : Answer × Disks = if b then (TooLong, disks) else (answer_by o r (bar disks r), disks_by o r (bar disks r) disks) in x.1)
     by true = images
-    by false = images-by o r disks (bar disks r) refl g f images
+    by false = images-by o r disks (bar disks r) refl f images
 
 -- ---- a list of commands
 
@@ -155,7 +159,7 @@ serves_all (f ∷ fs) w ready apart images fit =
     let s = serves o p w own images fits in
     let w' = (effect o (posted_command p) w).1 in
     let later = effects (map fixed_command fs) w' in
-    let images' : HaveImages w'.disks = subst HaveImages (sym s.disks) (images-step o r w.disks own.whole fits images) in
+    let images' : HaveImages w'.disks = subst HaveImages (sym s.disks) (images-step o r w.disks fits images) in
     let ready' = all_ready-effect o (posted_command p) w ps beside (All-tail (λ (q : Posted). Ready q w.memory) p ps ready) in
     let induction = serves_all fs w' ready' (pairs_rest Beside (posted_command p) (commands_in ps) apart) images' (All-tail FitsRequest (fixed_request f) (map fixed_request fs) fit) in
     let answer : answer_of r (effect o (posted_command p) w).0 (buffer_of p later.1.memory) ≡ (step_as o w.disks r).0 =

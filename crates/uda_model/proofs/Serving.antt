@@ -1,8 +1,6 @@
 -- The command of a request does to its unit what the request does, and its end and its buffer tell the request's answer.
-use Rattle.std.proofs.Common.{◌≡◌, ℕ, ◌+◌, ◌*◌, ◌/◌, ◌%◌, ◌≤◌, zero-le, Bool, true, false, List, length, take, Option, Some, None, refl, sym, ap, ◌∙◌, arith, subst, replicate}
+use Rattle.std.proofs.Common.{◌≡◌, ℕ, ◌+◌, ◌%◌, ◌≤◌, zero-le, Bool, true, false, List, length, Option, Some, None, refl, sym, ap, ◌∙◌, arith, subst}
 use Rattle.std.specs.Prelude.{slice_get, slice_set, nat_eq, if◌then◌else◌}
-use Rattle.std.specs.List.{concat}
-use Rattle.std.specs.Simd.{first_chunks}
 use Rattle.std.proofs.lemmas.Bool.{eq-eqb, le-ltb}
 use Rattle.std.proofs.lemmas.Bool.Decides.{nat_tests}
 use Rattle.std.proofs.lemmas.Option.{slice_get_within, get_or_from_slice_get}
@@ -13,16 +11,17 @@ use Rattle.uda_packet.specs.declared.end.Kind.TheVariants as kind
 use Rattle.uda_packet.specs.Transfer.{transfer_of}
 use Rattle.uda_exec.specs.Disks.{Disk, Disks}
 use Rattle.uda_exec.specs.declared.refusal.Refusal.{Refusal}
-use Rattle.uda_exec.specs.Commands.{is_controller, address_of, room_of}
+use Rattle.uda_exec.specs.Commands.{is_controller, address_of, room_of, blocks_for}
+use Rattle.uda_exec.specs.Transfers.{in_blocks}
 use Rattle.uda_exec.specs.Effect.{World, Outcome, blocks_moved, transfer_status, refusal_of, Verdict, OfController, Refused, ActsOn, verdict_of, verdict_at, verdict, end_of, disk_after, world_after, effect}
 use Rattle.uda_exec.specs.Order.{data_of}
 use Rattle.uda_exec.proofs.Blocks.{AreBlocks-part}
-use Rattle.uda_model.specs.Request.{Request, Online, Read, Access, Write, Erase, unit_of, extent_of, count_of, too_long, IsWhole}
+use Rattle.uda_model.specs.Request.{Request, Online, Read, Access, Write, Erase, unit_of, extent_of, count_of, too_long}
 use Rattle.uda_model.specs.declared.extent.Extent.{Extent}
-use Rattle.uda_model.specs.Answer.{Answer, TooLong, Moved, Data}
-use Rattle.uda_model.specs.Plain.{extent_refusal, Bar, Barred, Free, bar_of, bar_on, bar_at, bar, disk_left, disks_by, whole_count, answer_on, answer_by, step_as, FitsCount, HasImage, HaveImages}
+use Rattle.uda_model.specs.Answer.{Answer, TooLong, Data}
+use Rattle.uda_model.specs.Plain.{extent_refusal, Bar, Barred, Free, bar_of, bar_on, bar_at, bar, disk_left, disks_by, answer_on, answer_by, step_as, FitsCount, HasImage, HaveImages}
 use Rattle.uda_model.specs.Posting.{op_of, command_of, answer_of, bytes_brought, Posted, posted_command, buffer_of, Ready}
-use Rattle.uda_model.proofs.Bytes.{first_chunks-concat, transfer_bytes-whole, read_back}
+use Rattle.uda_model.proofs.Bytes.{read_back}
 
 -- ---- a command is refused where its request is barred
 
@@ -30,15 +29,6 @@ use Rattle.uda_model.proofs.Bytes.{first_chunks-concat, transfer_bytes-whole, re
 abbrev pub verdict_by : Bar → Verdict
 verdict_by (Barred refusal) = Refused refusal
 verdict_by (Free disk) = ActsOn disk
-
-even_count : (n : ℕ) → nat_eq ((512 * n) % 2) 0 ≡ true
-even_count n = eq-eqb _ _ (omega arith)
-
-whole_blocks : (n : ℕ) → nat_eq ((512 * n) % 512) 0 ≡ true
-whole_blocks n = eq-eqb _ _ (omega arith)
-
-quotient : (n : ℕ) → 512 * n / 512 ≡ n
-quotient n = omega arith
 
 even_address : (a : ℕ) → a % 2 ≡ 0 → nat_eq (a % 2) 0 ≡ true
 even_address a e = eq-eqb _ _ e
@@ -50,10 +40,10 @@ extent_bar (Some e) disk = extent_refusal e disk
 
 refusal-extent : (r : Request) (a m : ℕ) (disk : Disk) → address_of (op_of r a) % 2 ≡ 0 → address_of (op_of r a) + room_of (op_of r a) ≤ m
     → refusal_of (transfer_of (op_of r a)) m disk.size disk.mode ≡ extent_bar (extent_of r) disk
-refusal-extent (Read unit f n) a m disk e h = simp (even_address a e, even_count n, whole_blocks n, quotient n, le-ltb m (a + 512 * n) h)
-refusal-extent (Access unit f n) a m disk e h = simp (even_count n, whole_blocks n, quotient n, le-ltb m 0 zero-le)
-refusal-extent (Write unit f blocks) a m disk e h = simp (even_address a e, even_count (length blocks), whole_blocks (length blocks), quotient (length blocks), le-ltb m (a + 512 * length blocks) h)
-refusal-extent (Erase unit f n) a m disk e h = simp (even_count n, whole_blocks n, quotient n, le-ltb m 0 zero-le)
+refusal-extent (Read unit f n) a m disk e h = simp (even_address a e, le-ltb m (a + n) h)
+refusal-extent (Access unit f n) a m disk e h = simp (le-ltb m 0 zero-le)
+refusal-extent (Write unit f payload) a m disk e h = simp (even_address a e, le-ltb m (a + length payload) h)
+refusal-extent (Erase unit f n) a m disk e h = simp (le-ltb m 0 zero-le)
 refusal-extent _ a m disk e h = refl
 
 no_controller : (r : Request) (a : ℕ) → is_controller (op_of r a) ≡ false
@@ -86,20 +76,15 @@ none_if : (found : Option Refusal) (disk : Disk) → bar_of found disk ≡ Free 
 none_if None disk h = refl
 none_if (Some refusal) disk h = absurd (cc)
 
-in_range : (e : Extent) (disk : Disk) → extent_refusal e disk ≡ None → e.first + e.count ≤ disk.size
+in_range : (e : Extent) (disk : Disk) → extent_refusal e disk ≡ None → e.first + blocks_for e.bytes ≤ disk.size
 in_range e disk h = grind (arith, nat_tests)
 
-disk_after-left : (o : Outcome) (r : Request) (a : ℕ) (memory : List ℕ) (disk : Disk) → IsWhole r → data_of (op_of r a) memory ≡ bytes_brought r
+disk_after-left : (o : Outcome) (r : Request) (a : ℕ) (memory : List ℕ) (disk : Disk) → data_of (op_of r a) memory ≡ bytes_brought r
     → disk_after o (op_of r a) memory disk ≡ disk_left o r disk
-disk_after-left o (Write unit f blocks) a memory disk g h =
-    let make : List (List ℕ) → Disk = λ bs. record { blocks = put disk.blocks f (blocks_moved o bs); size = disk.size; mode = disk.mode } in
-    ap (λ (k : ℕ). make (first_chunks 512 k (part memory a (512 * length blocks)))) (quotient (length blocks))
-    ∙ ap (λ (bytes : List ℕ). make (first_chunks 512 (length blocks) bytes)) h ∙ ap make (first_chunks-concat blocks g)
-disk_after-left o (Erase unit f n) a memory disk g h =
-    let zeros : List ℕ = replicate 512 0 in
-    let make : ℕ → Disk = λ k. record { blocks = put disk.blocks f (blocks_moved o (replicate k zeros)); size = disk.size; mode = disk.mode } in
-    ap make (quotient n)
-disk_after-left o _ a memory disk g h = refl
+disk_after-left o (Write unit f payload) a memory disk h =
+    let n = blocks_for (length payload) in
+    ap (λ (bytes : List ℕ). record { blocks = put disk.blocks f (blocks_moved o (in_blocks n bytes)); size = disk.size; mode = disk.mode }) h
+disk_after-left o _ a memory disk h = refl
 
 abbrev buffer_at : Request → ℕ → List ℕ → List ℕ
 buffer_at r a memory = part memory (address_of (op_of r a)) (room_of (op_of r a))
@@ -112,14 +97,10 @@ answers-free : (o : Outcome) (r : Request) (k a : ℕ) (w : World) (disk : Disk)
     → address_of (op_of r a) + room_of (op_of r a) ≤ length w.memory
     → answer_of r (end_of o (command_of r k a) (ActsOn disk)) (buffer_at r a (world_after o (command_of r k a) (ActsOn disk) w).memory) ≡ answer_on o r disk
 answers-free o (Read unit first n) k a w disk image free f l =
-    let there : first + n ≤ length disk.blocks = omega (arith, in_range (record { kind = kind.Read; first = first; count = n }) disk (none_if _ disk free), image.counted) in
-    let tell : List ℕ → Answer = λ bytes. Data (transfer_status o) bytes in
-    ap (λ (i : ℕ). tell (take i (part (put w.memory a (take (512 * n) (concat (blocks_moved o (part disk.blocks first (512 * n / 512)))))) a (512 * n)))) (transfer_bytes-whole o n)
-    ∙ ap (λ (i : ℕ). tell (take (512 * whole_count o n) (part (put w.memory a (take (512 * n) (concat (blocks_moved o (part disk.blocks first i))))) a (512 * n)))) (quotient n)
-    ∙ ap tell (read_back o n a w.memory (part disk.blocks first n) (AreBlocks-part disk.blocks first n (λ some. image.whole)) (length-part-le disk.blocks first n there) f l)
-answers-free o (Access unit first n) k a w disk image free f l = ap (λ (i : ℕ). Moved (transfer_status o) i) (transfer_bytes-whole o n)
-answers-free o (Write unit first blocks) k a w disk image free f l = ap (λ (i : ℕ). Moved (transfer_status o) i) (transfer_bytes-whole o (length blocks))
-answers-free o (Erase unit first n) k a w disk image free f l = ap (λ (i : ℕ). Moved (transfer_status o) i) (transfer_bytes-whole o n)
+    let blocks = blocks_for n in
+    let there : first + blocks ≤ length disk.blocks = omega (arith, in_range (record { kind = kind.Read; first = first; bytes = n }) disk (none_if _ disk free), image.counted) in
+    ap (λ (bytes : List ℕ). Data (transfer_status o) bytes)
+    (read_back o n a w.memory (part disk.blocks first blocks) (AreBlocks-part disk.blocks first blocks (λ some. image.whole)) (length-part-le disk.blocks first blocks there) f l)
 answers-free o _ k a w disk image free f l = refl
 
 -- ---- one request
@@ -139,7 +120,7 @@ agrees-barred o p w refusal = record { disks = refl; answer = answers-barred o p
 
 agrees-free : (o : Outcome) (p : Posted) (w : World) (disk : Disk) → bar_on (extent_of p.request) disk ≡ Free disk → Ready p w.memory → IsImage disk.size disk.blocks → FitsCount (count_of p.request) o → Agrees o p w (Free disk)
 agrees-free o p w disk free ready image f = record {
-  disks = ap (λ (d : Disk). slice_set w.disks (unit_of p.request) (Some d)) (disk_after-left o p.request p.address w.memory disk ready.whole ready.held);
+  disks = ap (λ (d : Disk). slice_set w.disks (unit_of p.request) (Some d)) (disk_after-left o p.request p.address w.memory disk ready.held);
   answer = answers-free o p.request (p.place + 1) p.address w disk image free f ready.within;
 }
 

@@ -16,10 +16,10 @@ abbrev pub blank_answer : Request → ℕ → Answer
 blank_answer (ask.Online unit protect) status = Online status 0 0
 blank_answer (ask.Available unit) status = Plain status
 blank_answer (ask.Status unit) status = Status status 0
-blank_answer (ask.Read unit first count) status = Data status []
-blank_answer (ask.Access unit first count) status = Moved status 0
-blank_answer (ask.Write unit first blocks) status = Moved status 0
-blank_answer (ask.Erase unit first count) status = Moved status 0
+blank_answer (ask.Read unit first bytes) status = Data status []
+blank_answer (ask.Access unit first bytes) status = Moved status 0
+blank_answer (ask.Write unit first payload) status = Moved status 0
+blank_answer (ask.Erase unit first bytes) status = Moved status 0
 
 -- the status of an answer; TooLong tells none
 abbrev pub status_of : Answer → ℕ

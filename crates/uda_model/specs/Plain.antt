@@ -1,17 +1,19 @@
 -- One plain array of blocks for each unit, and requests done on it one at a time.
 -- MSCP Basic Disk Functions Manual: the commands, unit states, write protection.
-use Rattle.std.specs.Prelude.{◌≡◌, ℕ, ◌+◌, ◌*◌, ◌<◌, true, false, ◌&&◌, not, nat_lt, nat_le, nat_eq, List, [], ◌∷◌, length, take, replicate, map, All, Option, Some, None, slice_get, slice_set, if◌then◌else◌}
+use Rattle.std.specs.Prelude.{◌≡◌, ℕ, ◌+◌, ◌%◌, ◌<◌, true, false, ◌&&◌, not, nat_lt, nat_le, nat_eq, List, [], ◌∷◌, length, take, replicate, map, All, Option, Some, None, slice_get, slice_set, if◌then◌else◌}
 use Rattle.std.specs.List.{concat}
 use Rattle.uda_mem.specs.Put.{part, put}
 use Rattle.uda_image.specs.Store.{IsImage}
 use Rattle.uda_packet.specs.Transfer.{changes_blocks}
 use Rattle.uda_exec.specs.declared.mode.Mode.{Mode}
 use Rattle.uda_exec.specs.declared.refusal.Refusal.{Refusal}
-use Rattle.uda_exec.specs.declared.refusal.Refusal.TheVariants.{UnitUnknown, NoVolume, NotOnline, BlockPastEnd, RangePastEnd, HardwareProtected, SoftwareProtected}
+use Rattle.uda_exec.specs.declared.refusal.Refusal.TheVariants.{UnitUnknown, NoVolume, NotOnline, OddCount, BlockPastEnd, RangePastEnd, HardwareProtected, SoftwareProtected}
 use Rattle.uda_exec.specs.Disks.{Disk, Disks, flags_of}
 use Rattle.uda_exec.specs.Status.{SUCCESS, ALREADY_ONLINE, AVAILABLE, DRIVE_ERROR}
 use Rattle.uda_exec.specs.Refusal.{refusal_status}
-use Rattle.uda_exec.specs.Effect.{Outcome, Done, Lost, blocks_moved, transfer_status}
+use Rattle.uda_exec.specs.Commands.{blocks_for}
+use Rattle.uda_exec.specs.Transfers.{in_blocks}
+use Rattle.uda_exec.specs.Effect.{Outcome, Done, Lost, blocks_moved, transfer_status, transfer_bytes}
 use Rattle.uda_model.specs.Request as ask
 use Rattle.uda_model.specs.Request.{Request, unit_of, extent_of, first_of, count_of, too_long}
 use Rattle.uda_model.specs.declared.extent.Extent.{Extent}
@@ -23,8 +25,9 @@ use Rattle.uda_model.specs.Answer.{Answer, TooLong, Plain, Online, Status, Moved
 abbrev pub extent_refusal : Extent → Disk → Option Refusal
 extent_refusal e disk =
     if not disk.mode.online then Some NotOnline else
+    if not (nat_eq (e.bytes % 2) 0) then Some OddCount else
     if nat_le disk.size e.first then Some BlockPastEnd else
-    if nat_lt disk.size (e.first + e.count) then Some RangePastEnd else
+    if nat_lt disk.size (e.first + blocks_for e.bytes) then Some RangePastEnd else
     if changes_blocks e.kind && disk.mode.hard then Some HardwareProtected else
     if changes_blocks e.kind && disk.mode.soft then Some SoftwareProtected else None
 
@@ -57,10 +60,11 @@ mode_left (ask.Available unit) mode = record mode { online = false; soft = false
 mode_left (ask.Online unit protect) mode = if mode.online then mode else record mode { online = true; soft = protect }
 mode_left _ mode = mode
 
--- the blocks that a request puts at the start of its range: all, or those before the one that was lost and what is left there
+-- the blocks that a request puts at the start of its range, of which the last is zeros behind the bytes of a Write: all, or
+-- those before the one that was lost and what is left there
 abbrev pub blocks_brought : Outcome → Request → List (List ℕ)
-blocks_brought outcome (ask.Write unit first blocks) = blocks_moved outcome blocks
-blocks_brought outcome (ask.Erase unit first count) = blocks_moved outcome (replicate count (replicate 512 0))
+blocks_brought outcome (ask.Write unit first payload) = blocks_moved outcome (in_blocks (blocks_for (length payload)) payload)
+blocks_brought outcome (ask.Erase unit first bytes) = blocks_moved outcome (replicate (blocks_for bytes) (replicate 512 0))
 blocks_brought outcome _ = []
 
 abbrev pub disk_left : Outcome → Request → Disk → Disk
@@ -70,21 +74,16 @@ disk_left outcome r disk = record {
   mode = mode_left r disk.mode;
 }
 
--- of n blocks that were to be moved, how many were moved whole
-abbrev pub whole_count : Outcome → ℕ → ℕ
-whole_count Done n = n
-whole_count (Lost k left) n = k
-
 -- the answer of a request that acts on a disk
 abbrev pub answer_on : Outcome → Request → Disk → Answer
 answer_on outcome (ask.Online unit protect) disk =
     Online (if disk.mode.online then ALREADY_ONLINE else SUCCESS) (flags_of (mode_left (ask.Online unit protect) disk.mode)) disk.size
 answer_on outcome (ask.Available unit) disk = Plain SUCCESS
 answer_on outcome (ask.Status unit) disk = Status (if disk.mode.online then SUCCESS else AVAILABLE) (flags_of disk.mode)
-answer_on outcome (ask.Read unit first count) disk = Data (transfer_status outcome) (concat (take (whole_count outcome count) (part disk.blocks first count)))
-answer_on outcome (ask.Access unit first count) disk = Moved (transfer_status outcome) (512 * whole_count outcome count)
-answer_on outcome (ask.Write unit first blocks) disk = Moved (transfer_status outcome) (512 * whole_count outcome (length blocks))
-answer_on outcome (ask.Erase unit first count) disk = Moved (transfer_status outcome) (512 * whole_count outcome count)
+answer_on outcome (ask.Read unit first bytes) disk = Data (transfer_status outcome) (take (transfer_bytes outcome bytes) (concat (part disk.blocks first (blocks_for bytes))))
+answer_on outcome (ask.Access unit first bytes) disk = Moved (transfer_status outcome) (transfer_bytes outcome bytes)
+answer_on outcome (ask.Write unit first payload) disk = Moved (transfer_status outcome) (transfer_bytes outcome (length payload))
+answer_on outcome (ask.Erase unit first bytes) disk = Moved (transfer_status outcome) (transfer_bytes outcome bytes)
 
 abbrev pub answer_by : Outcome → Request → Bar → Answer
 answer_by outcome r (Barred refusal) = blank_answer r (refusal_status refusal)

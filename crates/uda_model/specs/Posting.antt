@@ -1,6 +1,5 @@
 -- How a request is had done by a command, and what the command's end tells. MSCP Basic Disk Functions Manual: the commands.
-use Rattle.std.specs.Prelude.{◌≡◌, ℕ, ◌+◌, ◌*◌, ◌%◌, ◌≤◌, false, List, [], length, take, map, Some}
-use Rattle.std.specs.List.{concat}
+use Rattle.std.specs.Prelude.{◌≡◌, ℕ, ◌+◌, ◌%◌, ◌≤◌, false, List, [], length, take, map, Some}
 use Rattle.uda_mem.specs.Put.{part}
 use Rattle.uda_packet.specs.declared.command.Command.{Command}
 use Rattle.uda_packet.specs.declared.command.Op.{Op}
@@ -11,7 +10,7 @@ use Rattle.uda_packet.specs.declared.end.EndBody.TheVariants as body
 use Rattle.uda_exec.specs.Commands.{address_of, room_of}
 use Rattle.uda_exec.specs.Execution.{bytes_of}
 use Rattle.uda_exec.specs.Order.{data_of}
-use Rattle.uda_model.specs.Request.{Request, Online, Available, Status, Read, Access, Write, Erase, unit_of, too_long, IsWhole}
+use Rattle.uda_model.specs.Request.{Request, Online, Available, Status, Read, Access, Write, Erase, unit_of, too_long}
 use Rattle.uda_model.specs.Answer as tell
 use Rattle.uda_model.specs.Answer.{Answer}
 
@@ -20,10 +19,10 @@ abbrev pub op_of : Request → ℕ → Op
 op_of (Online unit protect) address = op.Online (Some protect)
 op_of (Available unit) address = op.Available
 op_of (Status unit) address = op.Status
-op_of (Read unit first count) address = op.Read (512 * count) address first
-op_of (Access unit first count) address = op.Access (512 * count) first
-op_of (Write unit first blocks) address = op.Write (512 * length blocks) address first
-op_of (Erase unit first count) address = op.Erase (512 * count) first
+op_of (Read unit first bytes) address = op.Read bytes address first
+op_of (Access unit first bytes) address = op.Access bytes first
+op_of (Write unit first payload) address = op.Write (length payload) address first
+op_of (Erase unit first bytes) address = op.Erase bytes first
 
 abbrev pub command_of : Request → ℕ → ℕ → Command
 command_of r reference address = record { reference = reference; unit = unit_of r; op = op_of r address }
@@ -43,14 +42,14 @@ abbrev pub answer_of : Request → End → List ℕ → Answer
 answer_of (Online unit protect) e buffer = tell.Online e.status (flags_of_body e.body) (size_of_body e.body)
 answer_of (Available unit) e buffer = tell.Plain e.status
 answer_of (Status unit) e buffer = tell.Status e.status (flags_of_body e.body)
-answer_of (Read unit first count) e buffer = tell.Data e.status (take (bytes_of e.body) buffer)
-answer_of (Access unit first count) e buffer = tell.Moved e.status (bytes_of e.body)
-answer_of (Write unit first blocks) e buffer = tell.Moved e.status (bytes_of e.body)
-answer_of (Erase unit first count) e buffer = tell.Moved e.status (bytes_of e.body)
+answer_of (Read unit first bytes) e buffer = tell.Data e.status (take (bytes_of e.body) buffer)
+answer_of (Access unit first bytes) e buffer = tell.Moved e.status (bytes_of e.body)
+answer_of (Write unit first payload) e buffer = tell.Moved e.status (bytes_of e.body)
+answer_of (Erase unit first bytes) e buffer = tell.Moved e.status (bytes_of e.body)
 
 -- the bytes that a request brings
 abbrev pub bytes_brought : Request → List ℕ
-bytes_brought (Write unit first blocks) = concat blocks
+bytes_brought (Write unit first payload) = payload
 bytes_brought _ = []
 
 -- a request that was posted: its place in the list, counted from 0, and the address of its buffer
@@ -73,7 +72,6 @@ buffer_of p memory = part memory (address_of (posted_command p).op) (room_of (po
 -- a request can be done by its command: its buffer lies in memory at an even address, and holds what the request brings
 pub record Ready (p : Posted) (memory : List ℕ) : Type 0 where
   pub short : too_long p.request ≡ false
-  pub whole : IsWhole p.request
   pub even : address_of (posted_command p).op % 2 ≡ 0
   pub within : address_of (posted_command p).op + room_of (posted_command p).op ≤ length memory
   pub held : data_of (posted_command p).op memory ≡ bytes_brought p.request

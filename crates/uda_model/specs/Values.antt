@@ -11,10 +11,10 @@ abbrev pub request_value : Request → ask.Request
 request_value (Online unit protect) = ask.Online unit protect
 request_value (Available unit) = ask.Available unit
 request_value (Status unit) = ask.Status unit
-request_value (Read unit lbn count) = ask.Read unit lbn count
-request_value (Access unit lbn count) = ask.Access unit lbn count
-request_value (Write unit lbn blocks) = ask.Write unit lbn blocks.items
-request_value (Erase unit lbn count) = ask.Erase unit lbn count
+request_value (Read unit lbn bytes) = ask.Read unit lbn bytes
+request_value (Access unit lbn bytes) = ask.Access unit lbn bytes
+request_value (Write unit lbn payload) = ask.Write unit lbn payload.items
+request_value (Erase unit lbn bytes) = ask.Erase unit lbn bytes
 
 abbrev pub answer_value : Answer → tell.Answer
 answer_value answer.TooLong = tell.TooLong

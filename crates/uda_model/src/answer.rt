@@ -10,7 +10,7 @@ use std::fmt;
 /// MSCP Basic Disk Functions Manual: end messages, status and event codes.
 #[derive(Debug, Drop, PartialEq, Eq)]
 pub enum Answer {
-    /// The request names more blocks than one command of the driver may have. It was never posted.
+    /// The request names more bytes than one command of the driver may have. It was never posted.
     TooLong,
     /// Of an Available.
     Plain {
@@ -37,14 +37,14 @@ pub enum Answer {
     Moved {
         /// The status word.
         status: u16,
-        /// The bytes of the whole blocks that were moved.
+        /// How many bytes were moved: all, or those of the blocks before the one that was lost.
         bytes: u32,
     },
     /// Of a Read.
     Data {
         /// The status word.
         status: u16,
-        /// The bytes of the whole blocks that were read.
+        /// The bytes that were read: all, or those of the blocks before the one that was lost.
         bytes: Vec<u8>,
     },
 }

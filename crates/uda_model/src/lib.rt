@@ -14,5 +14,5 @@ mod extent;
 mod request;
 
 pub use answer::Answer;
-pub use extent::{BUFFER_BLOCKS, Extent};
+pub use extent::{BUFFER_BYTES, Extent};
 pub use request::Request;

@@ -10,7 +10,9 @@ use uda_packet::{Command, Kind, Op};
 
 /// What a driver is asked to do with one unit.
 ///
-/// The last four are transfers: they name a first block and how many, or the blocks themselves.
+/// The last four are transfers: from the start of a first block on so many bytes, or these. A count that is
+/// no multiple of 512 ends in a part block: a Read brings its first bytes, a Write puts zeros behind its own,
+/// an Access and an Erase take it whole. An odd count is refused.
 ///
 /// MSCP Basic Disk Functions Manual: Access, Available, Erase, Get Unit Status, Online, Read and Write
 /// commands.
@@ -33,14 +35,14 @@ pub enum Request {
         /// The unit's number.
         unit: u16,
     },
-    /// Reads blocks.
+    /// Reads bytes.
     Read {
         /// The unit's number.
         unit: u16,
         /// The first logical block.
         lbn: u32,
-        /// How many blocks.
-        count: u32,
+        /// How many bytes.
+        bytes: u64,
     },
     /// Reads blocks and brings nothing of them.
     Access {
@@ -48,17 +50,17 @@ pub enum Request {
         unit: u16,
         /// The first logical block.
         lbn: u32,
-        /// How many blocks.
-        count: u32,
+        /// How many bytes.
+        bytes: u64,
     },
-    /// Writes blocks.
+    /// Writes bytes.
     Write {
         /// The unit's number.
         unit: u16,
         /// The first logical block.
         lbn: u32,
-        /// The blocks.
-        blocks: Vec<[u8; 512]>,
+        /// The bytes.
+        payload: Vec<u8>,
     },
     /// Writes zeros.
     Erase {
@@ -66,8 +68,8 @@ pub enum Request {
         unit: u16,
         /// The first logical block.
         lbn: u32,
-        /// How many blocks.
-        count: u32,
+        /// How many bytes.
+        bytes: u64,
     },
 }
 
@@ -91,17 +93,17 @@ impl Request {
     pub fn extent(&self) -> Option<Extent>
         ensures extent { result ≡ extent_of (request_value self.now) }
     {
-        let (kind, first, count) = match self {
-            Request::Read { lbn, count, .. } => (Kind::Read, *lbn, u64::from(*count)),
-            Request::Access { lbn, count, .. } => (Kind::Access, *lbn, u64::from(*count)),
-            Request::Write { lbn, blocks, .. } => (Kind::Write, *lbn, blocks.len() as u64),
-            Request::Erase { lbn, count, .. } => (Kind::Erase, *lbn, u64::from(*count)),
+        let (kind, first, bytes) = match self {
+            Request::Read { lbn, bytes, .. } => (Kind::Read, *lbn, *bytes),
+            Request::Access { lbn, bytes, .. } => (Kind::Access, *lbn, *bytes),
+            Request::Write { lbn, payload, .. } => (Kind::Write, *lbn, payload.len() as u64),
+            Request::Erase { lbn, bytes, .. } => (Kind::Erase, *lbn, *bytes),
             _ => return None,
         };
-        Some(Extent { kind, first, count })
+        Some(Extent { kind, first, bytes })
     }
 
-    /// Whether the request names more blocks than one command of a driver may have.
+    /// Whether the request names more bytes than one command of a driver may have.
     pub fn is_too_long(&self) -> bool
         ensures long { result ≡ too_long (request_value self.now) }
     {
@@ -139,22 +141,22 @@ impl Request {
             },
             Request::Available { .. } => Op::Available,
             Request::Status { .. } => Op::Status,
-            Request::Read { lbn, count, .. } => Op::Read {
-                count: 512 * *count,
+            Request::Read { lbn, bytes, .. } => Op::Read {
+                count: *bytes as u32,
                 address,
                 block: *lbn,
             },
-            Request::Access { lbn, count, .. } => Op::Access {
-                count: 512 * *count,
+            Request::Access { lbn, bytes, .. } => Op::Access {
+                count: *bytes as u32,
                 block: *lbn,
             },
-            Request::Write { lbn, blocks, .. } => Op::Write {
-                count: 512 * blocks.len() as u32,
+            Request::Write { lbn, payload, .. } => Op::Write {
+                count: payload.len() as u32,
                 address,
                 block: *lbn,
             },
-            Request::Erase { lbn, count, .. } => Op::Erase {
-                count: 512 * *count,
+            Request::Erase { lbn, bytes, .. } => Op::Erase {
+                count: *bytes as u32,
                 block: *lbn,
             },
         };

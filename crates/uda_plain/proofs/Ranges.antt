@@ -36,7 +36,12 @@ put-next xs now after at k y was is =
     ∙ put-put_next xs at (replicate k y) (y ∷ []) (at + k) place
     ∙ ap (put xs at) (replicate-append-replicate k 1 y)
 
--- a range that is read whole
-pub part-whole : {A : Type 0} → (xs : List A) (at n k : ℕ) → k ≡ n → take k (drop at xs) ≡ take n (part xs at n)
-unfolding part
-part-whole xs at n k e = ap (λ m. take m (drop at xs)) e ∙ sym (take_all n (take n (drop at xs)) (simp length-take (omega arith)))
+-- one more of a list of which k were put
+pub put-more : {A : Type 0} → (xs now after ys : List A) (at k : ℕ) (y d : A) → k < length ys → y ≡ get_or ys k d → now ≡ put xs at (take k ys) → after ≡ put now (at + k) (y ∷ []) → after ≡ put xs at (take (k + 1) ys)
+put-more xs now after ys at k y d low own was is =
+    let place : at + k ≡ at + length (take k ys) = omega (arith, length-take k ys) in
+    let next : suc k ≡ k + 1 = omega arith in
+    is ∙ ap (λ l. put l (at + k) (y ∷ [])) was
+    ∙ put-put_next xs at (take k ys) (y ∷ []) (at + k) place
+    ∙ ap (λ x. put xs at (take k ys ++ x ∷ [])) own
+    ∙ ap (put xs at) (sym (take-suc ys k d low) ∙ ap (λ n. take n ys) next)

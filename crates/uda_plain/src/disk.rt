@@ -1,9 +1,11 @@
 //! One unit's blocks and mode.
-ghost use Rattle.std.specs.Prelude.{◌≡◌, ℕ, Some, ◌≤◌, ◌<◌, ◌+◌, ◌*◌, ◌^◌, ◌↔◌, false, None, length, replicate, IfOk, IfErr, IfSome, IsNone};
+ghost use Rattle.std.specs.Prelude.{◌≡◌, ℕ, Some, ◌≤◌, ◌<◌, ◌+◌, ◌↔◌, false, None, length, replicate, IfOk, IfErr, IfSome, IsNone};
 ghost use Rattle.std.specs.List.{concat};
 ghost use Rattle.uda_mem.specs.Put.{part, put};
 ghost use Rattle.uda_image.specs.declared.store.TheConstants.{BLOCK_LIMIT};
 ghost use Rattle.uda_exec.specs.Disks.{Disk};
+ghost use Rattle.uda_exec.specs.Commands.{blocks_for};
+ghost use Rattle.uda_exec.specs.Transfers.{in_blocks};
 ghost use Rattle.uda_exec.specs.Effect.{Done, mode_after};
 ghost use Rattle.uda_packet.specs.declared.command.Op.TheVariants.{Available as AvailableOp, Online as OnlineOp};
 ghost use Rattle.uda_model.specs.Request as ask;
@@ -17,7 +19,7 @@ ghost use Rattle.uda_model.specs.Values.{request_value, answer_value};
 
 use std::alloc::Global;
 use std::marker::Model;
-use uda_exec::{Mode, Refusal};
+use uda_exec::{Mode, Refusal, first_block};
 use uda_image::BLOCK_LIMIT;
 use uda_mem::NoMemory;
 use uda_model::{Answer, Extent, Request};
@@ -59,6 +61,16 @@ fn overwrite(blocks: &mut [[u8; 512]], first: usize, from: &[[u8; 512]])
     ensures blocks { blocks.new ≡ put blocks.old first from.now }
 {
     blocks[first..first + from.len()].copy_from_slice(from);
+}
+
+/// Writes bytes over the blocks from `first` on; behind them the last is zeros.
+fn write_bytes(blocks: &mut [[u8; 512]], first: usize, bytes: &[u8])
+    requires inside { first + blocks_for (length bytes.now) ≤ length blocks.old }
+    ensures blocks { blocks.new ≡ put blocks.old first (in_blocks (blocks_for (length bytes.now)) bytes.now) }
+{
+    for k in 0..bytes.len().div_ceil(512) {
+        overwrite(blocks, first + k, &[first_block(&bytes[512 * k..])]);
+    }
 }
 
 /// Writes zeros over so many blocks from `first` on.
@@ -123,9 +135,11 @@ impl PlainDisk {
         let changes = extent.kind.changes_blocks();
         if !self.mode.online {
             Some(Refusal::NotOnline)
+        } else if extent.bytes % 2 != 0 {
+            Some(Refusal::OddCount)
         } else if size <= first {
             Some(Refusal::BlockPastEnd)
-        } else if size - first < extent.count {
+        } else if size - first < extent.blocks() {
             Some(Refusal::RangePastEnd)
         } else if changes && self.mode.hard {
             Some(Refusal::HardwareProtected)
@@ -177,30 +191,36 @@ impl PlainDisk {
         }
     }
 
-    fn read(&self, alloc: Global, first: u32, count: u32) -> Result<Answer, NoMemory>
-        requires inside { first + count ≤ self.now.size }
-        ensures answer { IfOk result (λ answer. (unit : ℕ) → answer_value answer ≡ answer_on Done (ask.Read unit first count) self.now) }
+    fn read(&self, alloc: Global, first: u32, bytes: u32) -> Result<Answer, NoMemory>
+        requires inside { first + blocks_for bytes ≤ self.now.size }
+        ensures answer { IfOk result (λ answer. (unit : ℕ) → answer_value answer ≡ answer_on Done (ask.Read unit first bytes) self.now) }
     {
         let first = first as usize;
-        let bytes = joined(alloc, &self.blocks[first..first + count as usize])?;
+        let count = bytes.div_ceil(512) as usize;
+        let mut data = joined(alloc, &self.blocks[first..first + count])?;
+        data.truncate(bytes as usize);
         Ok(Answer::Data {
             status: status::SUCCESS,
-            bytes,
+            bytes: data,
         })
     }
 
-    fn write(&mut self, first: u32, blocks: &[[u8; 512]])
-        requires inside { first + length blocks.now ≤ self.old.size }
-        ensures blocks { self.new ≡ record self.old { blocks = put self.old.blocks first blocks.now } }
+    fn write(&mut self, first: u32, payload: &[u8])
+        requires inside { first + blocks_for (length payload.now) ≤ self.old.size }
+        ensures blocks { self.new ≡ record self.old { blocks = put self.old.blocks first (in_blocks (blocks_for (length payload.now)) payload.now) } }
     {
-        overwrite(&mut self.blocks, first as usize, blocks);
+        write_bytes(&mut self.blocks, first as usize, payload);
     }
 
-    fn erase(&mut self, first: u32, count: u32)
-        requires inside { first + count ≤ self.old.size }
-        ensures blocks { self.new ≡ record self.old { blocks = put self.old.blocks first (replicate count (replicate 512 0)) } }
+    fn erase(&mut self, first: u32, bytes: u32)
+        requires inside { first + blocks_for bytes ≤ self.old.size }
+        ensures blocks { self.new ≡ record self.old { blocks = put self.old.blocks first (replicate (blocks_for bytes) (replicate 512 0)) } }
     {
-        clear(&mut self.blocks, first as usize, count as usize);
+        clear(
+            &mut self.blocks,
+            first as usize,
+            bytes.div_ceil(512) as usize,
+        );
     }
 
     // Does a request that nothing bars.
@@ -215,15 +235,15 @@ impl PlainDisk {
             Request::Online { protect, .. } => self.online(*protect),
             Request::Available { .. } => self.available(),
             Request::Status { .. } => self.status(),
-            Request::Read { lbn, count, .. } => self.read(alloc, *lbn, *count)?,
-            Request::Access { count, .. } => moved(*count),
-            Request::Write { lbn, blocks, .. } => {
-                self.write(*lbn, blocks);
-                moved(blocks.len() as u32)
+            Request::Read { lbn, bytes, .. } => self.read(alloc, *lbn, *bytes as u32)?,
+            Request::Access { bytes, .. } => moved(*bytes as u32),
+            Request::Write { lbn, payload, .. } => {
+                self.write(*lbn, payload);
+                moved(payload.len() as u32)
             }
-            Request::Erase { lbn, count, .. } => {
-                self.erase(*lbn, *count);
-                moved(*count)
+            Request::Erase { lbn, bytes, .. } => {
+                self.erase(*lbn, *bytes as u32);
+                moved(*bytes as u32)
             }
         })
     }
@@ -274,12 +294,11 @@ pub(crate) fn refused(alloc: Global, request: &Request, refusal: Refusal) -> Ans
     }
 }
 
-fn moved(blocks: u32) -> Answer
-    requires short { 512 * blocks < 2 ^ 32 }
-    ensures answer { answer_value result ≡ Moved SUCCESS (512 * blocks) }
+fn moved(bytes: u32) -> Answer
+    ensures answer { answer_value result ≡ Moved SUCCESS bytes }
 {
     Answer::Moved {
         status: status::SUCCESS,
-        bytes: 512 * blocks,
+        bytes,
     }
 }

@@ -7,7 +7,7 @@ use uda_image::StoreError;
 fn ten_and_ten(alloc: Global) -> Result<Vec<Request>, Fail> {
     let mut requests = vec![in alloc; ONLINE]?;
     for k in 0..10 {
-        requests.push(write(alloc, k, k as u8, 1)?)?;
+        requests.push(write(alloc, k, k as u8, 512)?)?;
     }
     for k in 0..10 {
         requests.push(read(k, 1))?;
@@ -39,8 +39,8 @@ fn more_than_eight(rt: HostRuntime) -> Result<(), Fail> {
 
 /// A Write of three blocks and one of the last of them, each followed by a Read of that block.
 fn overlapping(alloc: Global) -> Result<[Request; 5], Fail> {
-    let older = write(alloc, 3, 0x11, 3)?;
-    let newer = write(alloc, 5, 0x22, 1)?;
+    let older = write(alloc, 3, 0x11, 1536)?;
+    let newer = write(alloc, 5, 0x22, 512)?;
     Ok([ONLINE, older, read(5, 1), newer, read(5, 1)])
 }
 
@@ -167,7 +167,7 @@ fn fifteen_out(rt: HostRuntime) -> Result<(), Fail> {
 
 #[test]
 fn several_kept_out(rt: HostRuntime) -> Result<(), Fail> {
-    let write = write(rt.alloc(), 5, 0x33, 1)?;
+    let write = write(rt.alloc(), 5, 0x33, 512)?;
     let requests = [ONLINE, write, read(5, 1), read(1, 1), read(7, 1)];
     assert_calls(&rt, rt.alloc(), &[0; 8], &requests, &[5, 5, 7, 1])
 }

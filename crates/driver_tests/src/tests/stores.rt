@@ -73,7 +73,7 @@ fn assert_failure(
     told: Option<Block>,
     blocks: [Block; 3],
 ) -> Result<(), Fail> {
-    let requests = [ONLINE, write(alloc, 0, 0x44, 3)?, read(0, 1)];
+    let requests = [ONLINE, write(alloc, 0, 0x44, 1536)?, read(0, 1)];
     let zeros = MemImage::new(alloc, 8)?;
     let (answers, image) = serve_failing(alloc, zeros, at, &requests)?;
     let read = read_answer(alloc, told)?;
@@ -106,7 +106,7 @@ fn a_failing_access(rt: HostRuntime) -> Result<(), Fail> {
     let access = Request::Access {
         unit: 0,
         lbn: 0,
-        count: 3,
+        bytes: 1536,
     };
     let image = image_of(alloc, &[7; 8])?;
     let (answers, image) = serve_failing(alloc, image, 2, &[ONLINE, access])?;

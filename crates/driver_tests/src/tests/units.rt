@@ -72,7 +72,7 @@ fn online_with(flags: u16) -> Answer {
     }
 }
 
-/// A Write of so many blocks is refused, an empty one too.
+/// A Write of so many bytes is refused, an empty one too.
 fn assert_protected_by_software(rt: &impl Abort, alloc: Global, count: usize) -> Result<(), Fail> {
     let requests = [PROTECTED, write(alloc, 0, 0x5a, count)?, read(0, 1)];
     let told = [online_with(0x1000), moved(0x1006, 0), data(alloc, 0, 512)?];
@@ -84,7 +84,7 @@ fn assert_protected_by_the_drive(rt: &impl Abort, alloc: Global) -> Result<(), F
     let erase = Request::Erase {
         unit: 0,
         lbn: 0,
-        count: 1,
+        bytes: 512,
     };
     let image = image_of(alloc, &[1; 8])?;
     let (answers, image) = serve_drive(alloc, image, true, &[PROTECTED, erase])?;
@@ -95,7 +95,7 @@ fn assert_protected_by_the_drive(rt: &impl Abort, alloc: Global) -> Result<(), F
 
 #[test]
 fn protected_units(rt: HostRuntime) -> Result<(), Fail> {
-    for count in [1, 0] {
+    for count in [512, 0] {
         assert_protected_by_software(&rt, rt.alloc(), count)?;
     }
     assert_protected_by_the_drive(&rt, rt.alloc())
@@ -113,6 +113,70 @@ fn ranges(rt: HostRuntime) -> Result<(), Fail> {
         let (answers, _) = serve(alloc, image, &[ONLINE, request])?;
         assert_answers(&rt, &answers, &[online(8), answer]);
     }
+    Ok(())
+}
+
+#[test]
+fn part_block(rt: HostRuntime) -> Result<(), Fail> {
+    let alloc = rt.alloc();
+    let requests = [
+        ONLINE,
+        write(alloc, 2, 0x66, 514)?,
+        read_bytes(2, 1024),
+        read_bytes(3, 4),
+    ];
+    let image = image_of(alloc, &[0x77; 8])?;
+    let (answers, _) = serve(alloc, image, &requests)?;
+    let told = [
+        online(8),
+        moved(0, 514),
+        data_of(alloc, 514, 510)?,
+        data_of(alloc, 2, 2)?,
+    ];
+    assert_answers(&rt, &answers, &told);
+    Ok(())
+}
+
+/// A Read's answer: so many bytes 0x66, and so many zeros.
+fn data_of(alloc: Global, written: usize, zeros: usize) -> Result<Answer, Fail> {
+    let mut bytes = Vec::from_elem(alloc, 0x66, written)?;
+    bytes.extend_from_slice(&Vec::from_elem(alloc, 0, zeros)?)?;
+    Ok(Answer::Data { status: 0, bytes })
+}
+
+fn access(bytes: u64) -> Request {
+    Request::Access {
+        unit: 0,
+        lbn: 0,
+        bytes,
+    }
+}
+
+#[test]
+fn odd_counts_and_limits(rt: HostRuntime) -> Result<(), Fail> {
+    let alloc = rt.alloc();
+    let requests = [
+        ONLINE,
+        read_bytes(7, 514),
+        read_bytes(7, 2),
+        read_bytes(8, 2),
+        read_bytes(0, 3),
+        read_bytes(0, 16_386),
+        access(4_294_967_294),
+        access(4_294_967_296),
+    ];
+    let (answers, _) = serve(alloc, MemImage::new(alloc, 8)?, &requests)?;
+    let told = [
+        online(8),
+        no_data(alloc, 0x0c01),
+        data(alloc, 0, 2)?,
+        no_data(alloc, 0x1c01),
+        no_data(alloc, 0x0049),
+        Answer::TooLong,
+        moved(0x0c01, 0),
+        Answer::TooLong,
+    ];
+    assert_answers(&rt, &answers, &told);
     Ok(())
 }
 
@@ -162,7 +226,7 @@ fn too_many_requests(rt: HostRuntime) -> Result<(), Fail> {
 fn two_runs_of_one_driver(rt: HostRuntime) -> Result<(), Fail> {
     let alloc = rt.alloc();
     let mut driver = started(alloc, MemImage::new(alloc, 8)?, false)?;
-    let answers = run(&mut driver, &[ONLINE, write(alloc, 2, 0x21, 1)?])?;
+    let answers = run(&mut driver, &[ONLINE, write(alloc, 2, 0x21, 512)?])?;
     assert_answers(&rt, &answers, &[online(8), moved(0, 512)]);
     let available = Request::Available { unit: 0 };
     let answers = run(&mut driver, &[read(2, 1), available, read(2, 1)])?;

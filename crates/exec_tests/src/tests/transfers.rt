@@ -37,7 +37,7 @@ fn order_of_checks(rt: HostRuntime) -> Result<(), Fail> {
     for (hard, soft, op, status, count) in [
         (true, true, write(0x1001, 513, 0), 0x0029, 0),
         (true, true, write(0x1000, 513, 0), 0x0049, 0),
-        (true, true, write(0x1000, 514, 0), 0x0c01, 0),
+        (true, true, write(0x1000, 514, 0), 0x2006, 0),
         (true, true, write(0x1000, 0, 8), 0x1c01, 0),
         (true, true, write(0x1000, 1024, 7), 0x0c01, 0),
         (true, true, write(0x1000, 512, 0), 0x2006, 0),
@@ -101,11 +101,44 @@ fn refused_transfers(rt: HostRuntime) -> Result<(), Fail> {
     let transfers = [
         (read(0x1001, 512, 5), 0x0029, 0),
         (read(0x1000, 513, 5), 0x0049, 0),
-        (read(0x1000, 514, 5), 0x0c01, 0),
         (read(0x2_1000, 512, 5), 0x0069, 0),
     ];
     bench.assert_moved(&rt, &transfers);
     bench.assert_filled(&rt, 0x1000, 1024, 0);
+    Ok(())
+}
+
+#[test]
+fn part_block_read(rt: HostRuntime) -> Result<(), Fail> {
+    let mut bench = bench_of_eight(rt.alloc(), 135_168, false)?;
+    bench.execute(0, online(None));
+    bench.assert_moved(&rt, &[(read(0x1000, 514, 5), 0, 514)]);
+    bench.assert_filled(&rt, 0x1000, 512, 0x35);
+    bench.assert_filled(&rt, 0x1200, 2, 0x36);
+    bench.assert_filled(&rt, 0x1202, 0x1000, 0);
+    Ok(())
+}
+
+#[test]
+fn part_block_written(rt: HostRuntime) -> Result<(), Fail> {
+    let mut bench = bench_of_eight(rt.alloc(), 4096, false)?;
+    bench.execute(0, online(None));
+    bench.fill(0, 4096, 0x66);
+    let transfers = [
+        (write(0, 514, 2), 0, 514),
+        (erase(2, 5), 0, 2),
+        (access(1026, 5), 0, 1026),
+        (read(0x400, 1024, 2), 0, 1024),
+        (erase(2, 8), 0x1c01, 0),
+        (erase(514, 7), 0x0c01, 0),
+    ];
+    bench.assert_moved(&rt, &transfers);
+    bench.assert_filled(&rt, 0x400, 514, 0x66);
+    bench.assert_filled(&rt, 0x602, 510, 0);
+    let mut image = blocks_of([0x30, 0x31, 0x66, 0, 0x34, 0, 0x36, 0x37]);
+    image[1536..1538].fill(0x66);
+    let store = first_of(bench.into_drives()).ok_or("no drive")?;
+    assert_eq!(rt; store.bytes(), image.as_slice());
     Ok(())
 }
 
@@ -271,6 +304,12 @@ fn store_calls(rt: HostRuntime) -> Result<(), Fail> {
         ),
         (write(512, 1024, 6), 8, 0, 1024, none, [6, 7].as_slice()),
         (erase(1536, 1), 8, 0, 1536, none, [1, 2, 3].as_slice()),
+        // a part block is one call like any other: none reads before it writes
+        (access(1026, 2), 8, 0, 1026, [2, 3, 4].as_slice(), none),
+        (read(0, 2, 3), 8, 0, 2, [3].as_slice(), none),
+        (write(0, 514, 6), 8, 0, 514, none, [6, 7].as_slice()),
+        (erase(2, 1), 8, 0, 2, none, [1].as_slice()),
+        (write(0, 514, 6), 7, 0x000b, 512, none, [6, 7].as_slice()),
         // up to the first that fails
         (access(2048, 2), 4, 0x000b, 1024, [2, 3, 4].as_slice(), none),
         (read(0, 4096, 0), 0, 0x000b, 0, [0].as_slice(), none),
@@ -357,5 +396,17 @@ fn dirty_failing_read(rt: HostRuntime) -> Result<(), Fail> {
     bench.assert_filled(&rt, 0x1000, 512, 0x11);
     bench.assert_filled(&rt, 0x1200, 256, 0xee);
     bench.assert_filled(&rt, 0x1300, 768, 0x77);
+    Ok(())
+}
+
+#[test]
+fn dirty_failing_part_read(rt: HostRuntime) -> Result<(), Fail> {
+    let drives = alone(DirtyReader { reads: 0 }, false);
+    let mut bench = Bench::new(memory(rt.alloc(), 8192)?, drives);
+    bench.fill(0x1000, 1536, 0x77);
+    bench.execute(0, online(None));
+    bench.assert_moved(&rt, &[(read(0x1000, 514, 0), 0x000b, 512)]);
+    bench.assert_filled(&rt, 0x1000, 512, 0x11);
+    bench.assert_filled(&rt, 0x1202, 1022, 0x77);
     Ok(())
 }

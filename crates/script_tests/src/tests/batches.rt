@@ -143,6 +143,51 @@ fn each_form_of_answer_has_its_line(rt: HostRuntime) -> Result<(), Fail> {
     Ok(())
 }
 
+// A driver of eight blocks of 0x11 as unit 0.
+fn driver_of_eleven(alloc: Global) -> Option<Driver<MemImage>> {
+    let store = MemImage::from_bytes(alloc, &[0x11; 4096]).ok()?;
+    let drive = Some(Drive { store, hard: false });
+    Driver::start(alloc, [drive, None, None, None]).ok()
+}
+
+// The store of unit 0.
+fn first_of<S: Drop>(drives: [Option<Drive<S>>; 4]) -> Option<S> {
+    let [first, _, _, _] = drives;
+    first.map(|drive| drive.store)
+}
+
+// Eight blocks of 0x11 and of these the second zeros.
+fn one_of_zeros() -> [u8; 4096] {
+    let mut bytes = [0x11; 4096];
+    bytes[512..1024].fill(0);
+    bytes
+}
+
+#[test]
+fn byte_script(rt: HostRuntime) -> Result<(), Fail> {
+    let alloc = rt.alloc();
+    let text = b"online 0\neraseb 0 1 2\nwriteb 0 2 3\nreadb 0 1 4\n";
+    let script = parse(alloc, text).ok().ok_or("no script")?;
+    let mut driver = driver_of_eleven(alloc).ok_or("no driver")?;
+    let mut input = [7; 3].as_slice();
+    let (mut out, mut report) = (Vec::new(alloc), Vec::new(alloc));
+    let done = run_script(
+        alloc,
+        &script,
+        &mut input,
+        &mut out,
+        &mut report,
+        &mut driver,
+    );
+    assert!(rt; done == Ok(()) && input.is_empty());
+    assert_bytes(&rt, &out, &[0; 4]);
+    let lines = "1 0000 0000 8\n2 0000 2\n3 0049 0\n4 0000 4\n";
+    assert_bytes(&rt, &report, lines.as_bytes());
+    let image = first_of(driver.into_stores()).ok_or("no drive")?;
+    assert_bytes(&rt, image.bytes(), &one_of_zeros());
+    Ok(())
+}
+
 #[test]
 fn a_writer_that_is_full_is_told(rt: HostRuntime) -> Result<(), Fail> {
     for room in [0, 511, 512] {

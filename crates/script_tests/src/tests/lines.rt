@@ -2,7 +2,7 @@
 use std::alloc::Global;
 use std::process::Abort;
 use std::test::Fail;
-use uda_grammar::{Line, ScriptError, Statement, parse};
+use uda_grammar::{Amount, Line, ScriptError, Statement, parse};
 
 // What the one line of a text asks for.
 fn one(alloc: Global, text: &str) -> Option<Statement> {
@@ -60,20 +60,39 @@ fn lines_of_one_unit(rt: HostRuntime) {
 #[test]
 fn lines_of_transfers(rt: HostRuntime) {
     let alloc = rt.alloc();
-    let (unit, lbn, count) = (1, 20, 4_294_967_295);
-    let read = Statement::Read { unit, lbn, count };
+    let (unit, lbn, amount) = (1, 20, Amount::Blocks(4_294_967_295));
+    let read = Statement::Read { unit, lbn, amount };
     assert_one(&rt, alloc, "read 1 20 4294967295\n", read);
-    let access = Statement::Access { unit, lbn, count };
+    let access = Statement::Access { unit, lbn, amount };
     assert_one(&rt, alloc, "access 1 20 4294967295\n", access);
-    let erase = Statement::Erase { unit, lbn, count };
+    let erase = Statement::Erase { unit, lbn, amount };
     assert_one(&rt, alloc, "erase 1 20 4294967295\n", erase);
+}
+
+#[test]
+fn lines_in_bytes(rt: HostRuntime) {
+    let alloc = rt.alloc();
+    let (unit, lbn, amount) = (1, 20, Amount::Bytes(4_294_967_295));
+    let read = Statement::Read { unit, lbn, amount };
+    assert_one(&rt, alloc, "readb 1 20 4294967295\n", read);
+    let access = Statement::Access { unit, lbn, amount };
+    assert_one(&rt, alloc, "accessb 1 20 4294967295\n", access);
+    let erase = Statement::Erase { unit, lbn, amount };
+    assert_one(&rt, alloc, "eraseb 1 20 4294967295\n", erase);
+    let amount = Amount::Bytes(16_384);
+    let write = Statement::Write { unit, lbn, amount };
+    assert_one(&rt, alloc, "writeb 1 20 16384", write);
+    for bad in ["writeb 1 20 16385", "readb 1 20 02", "fillb 1 20 2 a5"] {
+        assert_bad(&rt, alloc, bad, 1);
+    }
 }
 
 #[test]
 fn lines_with_blocks(rt: HostRuntime) {
     let alloc = rt.alloc();
     let (unit, lbn, count, byte) = (3, 4_294_967_295, 32, 0xa5);
-    let write = Statement::Write { unit, lbn, count };
+    let amount = Amount::Blocks(count);
+    let write = Statement::Write { unit, lbn, amount };
     assert_one(&rt, alloc, "write 3 4294967295 32\n", write);
     let fill = Statement::Fill {
         unit,

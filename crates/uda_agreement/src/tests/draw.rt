@@ -31,12 +31,12 @@ impl Draw {
         self.filled(alloc, count)
     }
 
-    /// So many requests that a script can ask for: none writes more than 32 blocks.
+    /// So many requests that a script can ask for: none writes more than a command may.
     pub fn script(&mut self, alloc: Global, count: u32) -> Result<Vec<Request>, NoMemory> {
         let mut requests = self.requests(alloc, count)?;
         for request in requests.iter_mut() {
-            if let Request::Write { blocks, .. } = request {
-                blocks.truncate(32);
+            if let Request::Write { payload, .. } = request {
+                payload.truncate(16_384);
             }
         }
         Ok(requests)
@@ -66,21 +66,21 @@ impl Draw {
             3 => Request::Available { unit },
             4 => Request::Status { unit },
             5..9 => {
-                let count = self.count(32);
-                Request::Read { unit, lbn, count }
+                let bytes = self.count(16_384);
+                Request::Read { unit, lbn, bytes }
             }
             9 => {
-                let count = self.count(8_388_607);
-                Request::Access { unit, lbn, count }
+                let bytes = self.count(u32::MAX);
+                Request::Access { unit, lbn, bytes }
             }
             10..15 => {
-                let count = self.count(32);
-                let blocks = self.filled(alloc, count)?;
-                Request::Write { unit, lbn, blocks }
+                let bytes = self.count(16_384);
+                let payload = self.payload(alloc, bytes)?;
+                Request::Write { unit, lbn, payload }
             }
             _ => {
-                let count = self.count(8_388_607);
-                Request::Erase { unit, lbn, count }
+                let bytes = self.count(u32::MAX);
+                Request::Erase { unit, lbn, bytes }
             }
         })
     }
@@ -97,13 +97,33 @@ impl Draw {
         }
     }
 
-    // A few blocks, and now and then as many as a request may have, or one more.
-    fn count(&mut self, most: u32) -> u32 {
+    // The bytes of a few blocks, often with a part of one more, and now and then as many as a request may
+    // have, or one more.
+    fn count(&mut self, most: u32) -> u64 {
+        let part = match self.rng.next_u32() % 16 {
+            0 => 511,
+            few => few.saturating_sub(8).saturating_mul(64),
+        };
         match self.rng.next_u32() % 32 {
-            0 => most.saturating_add(1),
-            1 => most,
-            few => few % 6,
+            0 => u64::from(most).saturating_add(1),
+            1 => u64::from(most),
+            few => u64::from((few % 6).saturating_mul(512).saturating_add(part)),
         }
+    }
+
+    // So many bytes, those of a block of one byte.
+    fn payload(&mut self, alloc: Global, count: u64) -> Result<Vec<u8>, NoMemory> {
+        let mut payload = Vec::new(alloc);
+        let mut byte = 0;
+        for n in 0..count {
+            if n % 512 == 0 {
+                [byte, ..] = self.rng.next_u32().to_le_bytes();
+            }
+            let Ok(()) = payload.push(byte) else {
+                return Err(NoMemory);
+            };
+        }
+        Ok(payload)
     }
 
     // So many blocks, each of a byte of its own.

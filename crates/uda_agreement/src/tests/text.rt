@@ -3,17 +3,17 @@
 use std::alloc::{AllocError, Global};
 use uda_model::Request;
 
-/// A script, and the data that its `write` lines take.
+/// A script, and the data that its `write` and `writeb` lines take.
 #[derive(Drop)]
 pub struct Text {
     /// The script's lines.
     pub script: String,
-    /// The blocks of the `write` lines, one after the other.
+    /// The bytes of these lines, one after the other.
     pub data: Vec<u8>,
 }
 
-/// The script that asks for these requests: a Write is a `fill` where all its bytes are the same, and else
-/// a `write`.
+/// The script that asks for these requests: a Write of whole blocks is a `fill` where all its bytes are the
+/// same, and any other a `write` or a `writeb`.
 pub fn text_of(alloc: Global, requests: &[Request]) -> Result<Text, AllocError> {
     let mut text = Text {
         script: String::new(alloc),
@@ -36,20 +36,25 @@ impl Text {
             Request::Online { unit, .. } => format!(in alloc; "online {unit}")?,
             Request::Available { unit } => format!(in alloc; "available {unit}")?,
             Request::Status { unit } => format!(in alloc; "status {unit}")?,
-            Request::Read { unit, lbn, count } => format!(in alloc; "read {unit} {lbn} {count}")?,
-            Request::Access { unit, lbn, count } => {
-                format!(in alloc; "access {unit} {lbn} {count}")?
+            Request::Read { unit, lbn, bytes } => {
+                let (b, count) = counted(*bytes);
+                format!(in alloc; "read{b} {unit} {lbn} {count}")?
             }
-            Request::Erase { unit, lbn, count } => format!(in alloc; "erase {unit} {lbn} {count}")?,
-            Request::Write { unit, lbn, blocks } => {
-                let count = blocks.len();
-                match uniform(blocks) {
+            Request::Access { unit, lbn, bytes } => {
+                let (b, count) = counted(*bytes);
+                format!(in alloc; "access{b} {unit} {lbn} {count}")?
+            }
+            Request::Erase { unit, lbn, bytes } => {
+                let (b, count) = counted(*bytes);
+                format!(in alloc; "erase{b} {unit} {lbn} {count}")?
+            }
+            Request::Write { unit, lbn, payload } => {
+                let (b, count) = counted(payload.len() as u64);
+                match uniform(payload) {
                     Some(byte) => format!(in alloc; "fill {unit} {lbn} {count} {byte:02x}")?,
                     None => {
-                        for block in blocks {
-                            self.data.extend_from_slice(block)?;
-                        }
-                        format!(in alloc; "write {unit} {lbn} {count}")?
+                        self.data.extend_from_slice(payload)?;
+                        format!(in alloc; "write{b} {unit} {lbn} {count}")?
                     }
                 }
             }
@@ -58,12 +63,21 @@ impl Text {
     }
 }
 
-// The one byte that all blocks are made of.
-fn uniform(blocks: &[[u8; 512]]) -> Option<u8> {
-    let (first, rest) = blocks.split_first()?;
-    let [byte, ..] = *first;
-    if rest.iter().all(|block| block == first) {
-        Some(byte)
+// What stands behind the first word of a line for so many bytes, and how many it counts: blocks, or bytes
+// where the last is a part block.
+fn counted(bytes: u64) -> (&'static str, u64) {
+    if bytes % 512 == 0 {
+        ("", bytes / 512)
+    } else {
+        ("b", bytes)
+    }
+}
+
+// The one byte that whole blocks are made of.
+fn uniform(payload: &[u8]) -> Option<u8> {
+    let (first, rest) = payload.split_first()?;
+    if payload.len() % 512 == 0 && rest.iter().all(|byte| byte == first) {
+        Some(*first)
     } else {
         None
     }

@@ -1,33 +1,22 @@
-use Rattle.std.proofs.Common.{◌≡◌, List, [], ℕ, refl, sym, ap, ◌∙◌, Vec, Global}
+use Rattle.std.proofs.Common.{◌≡◌, [], ℕ, refl, sym, ap, ◌∙◌, Vec, Global}
 use Rattle.uda_mem.specs.Put.{put}
 use Rattle.uda_mem.proofs.PutLaws.{put-nil}
-use Rattle.uda_model.specs.Request.{IsWhole}
 use Rattle.uda_model.specs.Posting.{bytes_brought}
 use Rattle.uda_model.specs.Values.{request_value}
 use Rattle.uda_model.specs.declared.request.Request.{Request}
 use Rattle.uda_model.specs.declared.request.Request.TheVariants.{Online, Available, Status, Read, Access, Write, Erase}
 use Rattle.uda_driver.proofs.bring.bring.Goals as goal
 
-bytes_brought-nothing : (r : Request) → ((x : ℕ) (y : ℕ) (z : Vec (List ℕ) Global) → r ≡ Write x y z → ⊥) → bytes_brought (request_value r) ≡ []
+bytes_brought-nothing : (r : Request) → ((x : ℕ) (y : ℕ) (z : Vec ℕ Global) → r ≡ Write x y z → ⊥) → bytes_brought (request_value r) ≡ []
 bytes_brought-nothing (Online unit protect) h = refl
 bytes_brought-nothing (Available unit) h = refl
 bytes_brought-nothing (Status unit) h = refl
-bytes_brought-nothing (Read unit lbn count) h = refl
-bytes_brought-nothing (Access unit lbn count) h = refl
-bytes_brought-nothing (Write unit lbn blocks) h = absurd (h unit lbn blocks refl)
-bytes_brought-nothing (Erase unit lbn count) h = refl
-
-whole-nothing : (r : Request) → ((x : ℕ) (y : ℕ) (z : Vec (List ℕ) Global) → r ≡ Write x y z → ⊥) → IsWhole (request_value r)
-whole-nothing (Online unit protect) h = tt
-whole-nothing (Available unit) h = tt
-whole-nothing (Status unit) h = tt
-whole-nothing (Read unit lbn count) h = tt
-whole-nothing (Access unit lbn count) h = tt
-whole-nothing (Write unit lbn blocks) h = absurd (h unit lbn blocks refl)
-whole-nothing (Erase unit lbn count) h = tt
+bytes_brought-nothing (Read unit lbn bytes) h = refl
+bytes_brought-nothing (Access unit lbn bytes) h = refl
+bytes_brought-nothing (Write unit lbn payload) h = absurd (h unit lbn payload refl)
+bytes_brought-nothing (Erase unit lbn bytes) h = refl
 
 pub returns-in_default : goal.returns-in_default
 returns-in_default c = record {
   memory = sym (ap (put c.args.memory.now c.args.address) (bytes_brought-nothing c.args.request.now c.in_default.not-Write) ∙ put-nil c.args.memory.now c.args.address);
-  whole = whole-nothing c.args.request.now c.in_default.not-Write;
 }

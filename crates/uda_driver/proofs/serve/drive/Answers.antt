@@ -46,7 +46,7 @@ loop-n-preserved g c = elim c.if-not-is_too_long.branch [
       let posted = w.post.ensures in
       let next = going_post c.index-requests-n.result w.deref.result.now new w.post.new.out.items w.post.new.desk w.post.new.port w.post.new.memory c.loop-n-test.true c.index-requests-n.is short
       w.deref.ensures.0 (sym w.loop-port-test.ensures) refl w.free_buffer.ensures.below w.deref-then-not-is_too_long.result.now w.deref-then-not-is_too_long.ensures.0 w.free_buffer.ensures.free
-      posted.out posted.desk posted.whole posted.legible posted.memory posted.port w.loop-port.invariant in
+      posted.out posted.desk posted.legible posted.memory posted.port w.loop-port.invariant in
       rw (w.port-is, w.memory-is, w.desk-is, w.answers-is, w.out-is) next
   | else-not-is_too_long w ↦
       let long = sym c.is_too_long.ensures.long ∙ w.if-not-is_too_long.false in

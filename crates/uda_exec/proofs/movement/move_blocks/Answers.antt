@@ -19,7 +19,7 @@ returns-in_default-clause-changes g c = changes_again _ _ _ _ _ c.loop-k.invaria
 pub returns-in_default-clause-moves : goal.returns-in_default-clause-moves
 returns-in_default-clause-moves g c called =
     let faithful = called (omega arith) in let way = c.loop-k.invariant in
-    progress_stops _ _ _ _ _ _ (g.met.S.BlockStore.is_image c.args.store.now faithful) c.requires.on_unit c.requires.in_memory c.loop-k-test.true (way.moves called) _ _
+    progress_stops _ _ _ _ _ _ (g.met.S.BlockStore.is_image c.args.store.now faithful) c.requires.on_unit c.requires.in_memory (rw c.block_count-k-end.ensures at c.loop-k-test.true) (way.moves called) _ _
     (c.in_default.ensures.moves (way.nature.faithful_stays ∙ faithful))
 
 pub loop-k-preserved : goal.loop-k-preserved
@@ -30,6 +30,6 @@ loop-k-preserved g c =
       changes = changes_again _ _ _ _ _ c.loop-k.invariant.changes c.move_block.ensures.changes;
       moves = λ called.
           let faithful = called (omega arith) in
-          rw add-one (progress_next _ _ _ _ _ _ (g.met.S.BlockStore.is_image c.args.store.now faithful) c.requires.on_unit c.requires.in_memory c.loop-k-test.true (c.loop-k.invariant.moves called) _ _
+          rw add-one (progress_next _ _ _ _ _ _ (g.met.S.BlockStore.is_image c.args.store.now faithful) c.requires.on_unit c.requires.in_memory (rw c.block_count-k-end.ensures at c.loop-k-test.true) (c.loop-k.invariant.moves called) _ _
           (c.in-Ok.ensures.moves (was.faithful_stays ∙ faithful)));
     }

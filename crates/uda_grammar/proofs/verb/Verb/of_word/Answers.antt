@@ -21,3 +21,18 @@ pub returns-in-available : goal.returns-in-available
 returns-in-available c =
     let e : c.args.word.now ≡ codes "available" = text_from_reads _ _ (omega arith) (search rules) in
     rw e (record { verb = refl })
+
+pub returns-in-accessb : goal.returns-in-accessb
+returns-in-accessb c =
+    let e : c.args.word.now ≡ codes "accessb" = text_from_reads _ _ (omega arith) (search rules) in
+    rw e (record { verb = refl })
+
+pub returns-in-eraseb : goal.returns-in-eraseb
+returns-in-eraseb c =
+    let e : c.args.word.now ≡ codes "eraseb" = text_from_reads _ _ (omega arith) (search rules) in
+    rw e (record { verb = refl })
+
+pub returns-in-writeb : goal.returns-in-writeb
+returns-in-writeb c =
+    let e : c.args.word.now ≡ codes "writeb" = text_from_reads _ _ (omega arith) (search rules) in
+    rw e (record { verb = refl })

@@ -1,4 +1,4 @@
-use Rattle.std.proofs.Common.{◌*◌, refl, sym, ap, ◌∙◌}
+use Rattle.std.proofs.Common.{refl, sym, ap, ◌∙◌}
 use Rattle.uda_exec.specs.Effect.{Done}
 use Rattle.uda_exec.specs.Status.{SUCCESS}
 use Rattle.uda_model.specs.Request.{Online, Available, Status, Read, Access, Write}
@@ -19,7 +19,7 @@ returns-clause-answer c =
       | in-Status w ↦ ap answer_value w.result-is ∙ w.status.ensures.answer w.in-Status.unit ∙ ap asked (sym w.in-Status.is)
       | in-Read+in_ok-read-in-Read w ↦ ap answer_value w.result-is ∙ w.in_ok-read-in-Read.ensures.answer w.in-Read.unit ∙ ap asked (sym w.in-Read.is)
       | in-Access w ↦ ap answer_value w.result-is ∙ w.moved.ensures.answer ∙ ap asked (sym w.in-Access.is)
-      | in-Write w ↦ ap answer_value w.result-is ∙ w.moved-in-Write.ensures.answer ∙ ap (λ n. Moved SUCCESS (512 * n)) (w.len.ensures ∙ w.in-Write.blocks.ok.0) ∙ ap asked (sym w.in-Write.is)
+      | in-Write w ↦ ap answer_value w.result-is ∙ w.moved-in-Write.ensures.answer ∙ ap (λ n. Moved SUCCESS n) (w.len.ensures ∙ w.in-Write.payload.ok.0) ∙ ap asked (sym w.in-Write.is)
       | in-Erase w ↦ ap answer_value w.result-is ∙ w.moved-in-Erase.ensures.answer ∙ ap asked (sym w.in-Erase.is)
     ]
 
@@ -30,8 +30,8 @@ returns-clause-disk c =
       | in-Online w ↦ w.self-is ∙ w.online.ensures.disk ∙ disk_left-mode (Online w.in-Online.unit w.in-Online.protect) c.args.self.now _ refl refl ∙ ap left (sym w.in-Online.is)
       | in-Available w ↦ w.self-is ∙ w.available.ensures.disk ∙ disk_left-mode (Available w.in-Available.unit) c.args.self.now _ refl refl ∙ ap left (sym w.in-Available.is)
       | in-Status w ↦ w.self-is ∙ disk_left-mode (Status w.in-Status.unit) c.args.self.now _ refl refl ∙ ap left (sym w.in-Status.is)
-      | in-Read+in_ok-read-in-Read w ↦ w.self-is ∙ disk_left-mode (Read w.in-Read.unit w.in-Read.lbn w.in-Read.count) c.args.self.now _ refl refl ∙ ap left (sym w.in-Read.is)
-      | in-Access w ↦ w.self-is ∙ disk_left-mode (Access w.in-Access.unit w.in-Access.lbn w.in-Access.count) c.args.self.now _ refl refl ∙ ap left (sym w.in-Access.is)
-      | in-Write w ↦ w.self-is ∙ w.write.ensures.blocks ∙ ap (λ blocks. disk_left Done (Write w.in-Write.unit w.in-Write.lbn blocks) c.args.self.now) w.deref.ensures.value ∙ ap left (sym w.in-Write.is)
+      | in-Read+in_ok-read-in-Read w ↦ w.self-is ∙ disk_left-mode (Read w.in-Read.unit w.in-Read.lbn w.in-Read.bytes) c.args.self.now _ refl refl ∙ ap left (sym w.in-Read.is)
+      | in-Access w ↦ w.self-is ∙ disk_left-mode (Access w.in-Access.unit w.in-Access.lbn w.in-Access.bytes) c.args.self.now _ refl refl ∙ ap left (sym w.in-Access.is)
+      | in-Write w ↦ w.self-is ∙ w.write.ensures.blocks ∙ ap (λ payload. disk_left Done (Write w.in-Write.unit w.in-Write.lbn payload) c.args.self.now) w.deref.ensures.value ∙ ap left (sym w.in-Write.is)
       | in-Erase w ↦ w.self-is ∙ w.erase.ensures.blocks ∙ ap left (sym w.in-Erase.is)
     ]

@@ -28,7 +28,10 @@ pub fn block_count(t: Transfer) -> u32
     t.count.div_ceil(BLOCK)
 }
 
-/// The first block of these bytes; where they end before it does, the rest is zeros.
+/// The first block of these bytes; where they end before it does, the rest is zeros. So the last block of a
+/// Write is made, whose byte count needn't be a multiple of 512.
+///
+/// MSCP Basic Disk Functions Manual: transfer commands, logical blocks.
 pub fn first_block(bytes: &[u8]) -> [u8; 512]
     ensures { result ≡ first_block bytes.now }
 {

@@ -12,6 +12,9 @@ use crate::transfer::Transfer;
 use crate::verb::Verb;
 use uda_model::BUFFER_BYTES;
 
+// What parts the words of a line.
+const SPACE: u8 = b' ';
+
 // The most that a line can have written, in this measure: as much as one command.
 fn most_written(measure: Measure) -> u32
     ensures most { result ≡ most_written measure }
@@ -21,9 +24,6 @@ fn most_written(measure: Measure) -> u32
         Measure::Bytes => BUFFER_BYTES,
     }
 }
-
-// What parts the words of a line.
-const SPACE: u8 = b' ';
 
 // The word, where there is only one.
 fn only_word(words: &[u8]) -> Option<&[u8]>

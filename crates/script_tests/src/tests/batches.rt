@@ -144,7 +144,7 @@ fn each_form_of_answer_has_its_line(rt: HostRuntime) -> Result<(), Fail> {
 }
 
 // A driver of eight blocks of 0x11 as unit 0.
-fn driver_of_eleven(alloc: Global) -> Option<Driver<MemImage>> {
+fn driver_of_ones(alloc: Global) -> Option<Driver<MemImage>> {
     let store = MemImage::from_bytes(alloc, &[0x11; 4096]).ok()?;
     let drive = Some(Drive { store, hard: false });
     Driver::start(alloc, [drive, None, None, None]).ok()
@@ -168,7 +168,7 @@ fn byte_script(rt: HostRuntime) -> Result<(), Fail> {
     let alloc = rt.alloc();
     let text = b"online 0\neraseb 0 1 2\nwriteb 0 2 3\nreadb 0 1 4\n";
     let script = parse(alloc, text).ok().ok_or("no script")?;
-    let mut driver = driver_of_eleven(alloc).ok_or("no driver")?;
+    let mut driver = driver_of_ones(alloc).ok_or("no driver")?;
     let mut input = [7; 3].as_slice();
     let (mut out, mut report) = (Vec::new(alloc), Vec::new(alloc));
     let done = run_script(

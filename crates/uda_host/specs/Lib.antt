@@ -1,2 +1,6 @@
 pub mod Layout
 pub mod InStep
+pub mod Posted
+pub mod Host
+pub mod IsHost
+pub mod Starting

@@ -7,8 +7,12 @@
 //! UDA50 Programmer's Documentation Kit: communication area, ring descriptors, message envelopes, credits.
 #![tactic(auto)]
 
+mod host;
+mod posted;
 mod ring;
+mod start;
 
+pub use host::Host;
 pub use ring::{
     BUFFER_SIZE, COMMAND_PACKETS, COMMAND_RING, MEMORY_SIZE, OWNER, PACKET_STEP, RESPONSE_PACKETS,
     RESPONSE_RING, RINGS, SLOTS, buffer_address, credits_at, end_at, reopen, write_command,

@@ -1,0 +1,53 @@
+//! How a host starts its port up.
+ghost use Rattle.std.specs.Prelude.{◌≡◌, ℕ, ◌+◌, ◌-◌, ◌*◌, ◌<◌, ◌≤◌, length, replicate, IfOk};
+ghost use Rattle.uda_mem.specs.Put.{put};
+ghost use Rattle.uda_port.specs.declared.phase.Phase.TheVariants.{Step1};
+ghost use Rattle.uda_host.specs.Layout.{slots, area_size, memory_size, IsFree, ResponseSide};
+ghost use Rattle.uda_host.specs.Starting.{port_running};
+
+use crate::ring::{MEMORY_SIZE, OWNER, PACKET_STEP, RESPONSE_PACKETS, RESPONSE_RING, RINGS, SLOTS};
+use std::alloc::Global;
+use uda_image::BlockStore;
+use uda_mem::{HostMemory, NoMemory};
+use uda_port::Port;
+
+// The last word of the start-up: the port may run.
+const GO: u16 = 1;
+
+// How many bytes the text of a message has.
+const TEXT_SIZE: u16 = 48;
+
+/// The start-up's four words.
+pub(crate) fn initialise<S: BlockStore>(port: &mut Port<S>, memory: &mut HostMemory)
+    requires step { port.old.phase ≡ Step1 }
+    requires size { length memory.old ≡ memory_size }
+    ensures port { port.new ≡ port_running port.old }
+    ensures memory { memory.new ≡ put memory.old 4 (replicate area_size 0) }
+{
+    port.write_sa(RINGS, memory);
+    port.write_sa(RESPONSE_RING as u16, memory);
+    port.write_sa(0, memory);
+    port.write_sa(GO, memory);
+}
+
+/// Gives the port every response descriptor.
+pub(crate) fn open_all(memory: &mut HostMemory)
+    requires size { length memory.old ≡ memory_size }
+    ensures responses { ResponseSide memory.new }
+    ensures commands { (k : ℕ) → k < slots → IsFree memory.old k → IsFree memory.new k }
+{
+    for i in 0..SLOTS {
+        let packet = RESPONSE_PACKETS + PACKET_STEP * i;
+        let descriptor = RESPONSE_RING + 4 * i;
+        memory.put_word(packet, TEXT_SIZE);
+        memory.put_word(descriptor, (packet + 4) as u16);
+        memory.put_word(descriptor + 2, OWNER);
+    }
+}
+
+/// The memory, of which only the length is told: a list of so many zeros makes later searches long.
+pub(crate) fn host_memory(alloc: Global) -> Result<HostMemory, NoMemory>
+    ensures size { IfOk result (λ m. length m ≡ memory_size) }
+{
+    HostMemory::new(alloc, MEMORY_SIZE)
+}

@@ -1,3 +1,2 @@
-pub mod Probe
 pub mod Hexadecimal
 pub mod Statuses

@@ -5,7 +5,6 @@ mod entry;
 mod fault;
 mod files;
 mod hexadecimal;
-mod probe;
 mod run;
 mod words;
 

@@ -1,0 +1,13 @@
+-- The probe: one Get Unit Status. MSCP Basic Disk Functions Manual: Get Unit Status, end messages.
+use Rattle.std.specs.Prelude.{ℕ, List}
+use Rattle.uda_packet.specs.declared.end.End.{End}
+use Rattle.uda_packet.specs.declared.end.EndBody.TheVariants.{Status}
+use Rattle.uda_packet.specs.Status.{AVAILABLE}
+use Rattle.uda_packet.specs.Written.{written_end}
+
+-- the end of a Get Unit Status of unit 0 with reference 1, where that unit is available and no protection is on
+abbrev pub probe_end : End
+probe_end = record { reference = 1; unit = 0; status = AVAILABLE; body = Status 0 }
+
+abbrev pub probe_text : List ℕ
+probe_text = written_end probe_end

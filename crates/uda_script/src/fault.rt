@@ -15,6 +15,9 @@ pub enum Fault {
     /// A growth was refused.
     #[error("uda: out of memory")]
     NoMemory,
+    /// Nothing can be opened that would stand in a closed standard stream's place.
+    #[error("uda: standard streams: cannot open")]
+    Streams,
     /// A unit's image can't be used: it can't be opened, its length is no multiple of 512, or it has
     /// more than 891,072 blocks.
     #[error("uda: unit {unit}: {error}")]
@@ -51,6 +54,12 @@ pub enum Fault {
     /// Standard output or standard error could not be written.
     #[error("uda: write failed")]
     Write,
+    /// What was written to a unit's image isn't on its medium.
+    #[error("uda: unit {unit}: cannot be written out")]
+    NotWrittenOut {
+        /// The unit's number.
+        unit: usize,
+    },
 }
 
 impl Fault {

@@ -1,6 +1,7 @@
 //! The faults of the program, whose texts are the lines that it prints.
 
 use std::alloc::AllocError;
+use std::io::Write;
 use thiserror::Error;
 use uda_grammar::ScriptError;
 use uda_image::ImageError;
@@ -72,6 +73,11 @@ impl Fault {
             ImageError::NoMemory => Fault::NoMemory,
             error => Fault::Image { unit, error },
         }
+    }
+
+    /// Prints the fault's line, once; one that can't be written is left out.
+    pub fn print<V: Write>(&self, report: &mut V) {
+        let _ = writeln!(report, "{self}");
     }
 
     /// The program's exit status.

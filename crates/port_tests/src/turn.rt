@@ -207,10 +207,7 @@ const CAUSES: [(Fatal, &str); 7] = [
     (Fatal::PacketRead, "a command packet can't be read"),
     (Fatal::PacketWrite, "a response packet can't be written"),
     (Fatal::RingRead, "a descriptor can't be read"),
-    (
-        Fatal::RingWrite,
-        "the communication area can't be written",
-    ),
+    (Fatal::RingWrite, "the communication area can't be written"),
     (Fatal::CreditsExceeded, "the host exceeded its credits"),
     (
         Fatal::WrongEnvelope,

@@ -324,7 +324,10 @@ fn the_longest_line(rt: HostRuntime) -> Result<(), Fail> {
     let left = run(&rt, &script, b"", path.as_str())?;
     fs::remove_file(&rt, path.as_path())?;
     assert_eq!(rt; left.status, 0);
-    assert!(rt; left.report.ends_with(b"\n999 0000\n1000 0000 1000 891072\n"));
+    assert!(rt;
+        left.report
+            .ends_with(b"\n999 0000\n1000 0000 1000 891072\n")
+    );
     Ok(())
 }
 

@@ -62,7 +62,7 @@ pub fn unreadable_words<V: Write + Drop>(error: &io::Error, mut report: V) -> u8
 fn tell<V: Write>(fault: &Fault, report: &mut V) -> u8
     ensures { result ≡ status_of fault.now }
 {
-    let _ = writeln!(report, "{fault}");
+    fault.print(report);
     fault.status()
 }
 

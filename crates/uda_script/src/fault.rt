@@ -1,6 +1,7 @@
 //! The faults of the program, whose texts are the lines that it prints.
 
 use std::alloc::AllocError;
+use std::io::Write;
 use thiserror::Error;
 use uda_grammar::ScriptError;
 use uda_image::ImageError;
@@ -15,6 +16,9 @@ pub enum Fault {
     /// A growth was refused.
     #[error("uda: out of memory")]
     NoMemory,
+    /// Nothing can be opened that would stand in a closed standard stream's place.
+    #[error("uda: standard streams: cannot open")]
+    Streams,
     /// A unit's image can't be used: it can't be opened, its length is no multiple of 512, or it has
     /// more than 891,072 blocks.
     #[error("uda: unit {unit}: {error}")]
@@ -51,6 +55,12 @@ pub enum Fault {
     /// Standard output or standard error could not be written.
     #[error("uda: write failed")]
     Write,
+    /// What was written to a unit's image isn't on its medium.
+    #[error("uda: unit {unit}: cannot be written out")]
+    NotWrittenOut {
+        /// The unit's number.
+        unit: usize,
+    },
 }
 
 impl Fault {
@@ -63,6 +73,11 @@ impl Fault {
             ImageError::NoMemory => Fault::NoMemory,
             error => Fault::Image { unit, error },
         }
+    }
+
+    /// Prints the fault's line, once; one that can't be written is left out.
+    pub fn print<V: Write>(&self, report: &mut V) {
+        let _ = writeln!(report, "{self}");
     }
 
     /// The program's exit status.

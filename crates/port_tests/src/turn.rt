@@ -93,9 +93,9 @@ fn refused_transfers(rt: HostRuntime) -> Result<(), Fail> {
         machine.put_online(&rt);
         machine.open_response(&rt, 1);
         let read = Op::Read {
-            count,
+            bytes: count,
             address,
-            block: 5,
+            lbn: 5,
         };
         machine.post_command(&rt, 1, 0, read);
         machine.take_turns(&rt, &ONE_COMMAND);

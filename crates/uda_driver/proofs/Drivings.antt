@@ -1,7 +1,8 @@
 -- The steps of a driver: those of the ring protocol and those of what is owed, together.
-use Rattle.std.proofs.Common.{◌≡◌, ◌≢◌, ℕ, ◌+◌, ◌%◌, ◌<◌, ◌≤◌, false, true, List, [], ◌∷◌, ◌++◌, length, map, get_or, Some, refl, sym, ap, ap₂, ◌∙◌, arith, subst, subst₂, length-append}
-use Rattle.std.specs.Prelude.{slice_get, slice_set, remove, All, AllPairs, Ok}
+use Rattle.std.proofs.Common.{◌≡◌, ◌≢◌, ℕ, min, max, Bool, ◌+◌, ◌%◌, ◌<◌, ◌≤◌, false, true, List, [], ◌∷◌, ◌++◌, length, map, get_or, Some, refl, sym, ap, ap₂, ◌∙◌, arith, subst, subst₂, length-append}
+use Rattle.std.specs.Prelude.{slice_get, slice_set, remove, All, AllPairs, Ok, nat_eq, nat_lt, ◌&&◌, ◌||◌}
 use Rattle.std.proofs.Math.Bool.{and_comm, or_comm}
+use Rattle.std.proofs.lemmas.Bool.Decides.{nat_tests}
 use Rattle.std.proofs.lemmas.List.{length-map, map_push, append_assoc, length_push, nil_from_length}
 use Rattle.std.proofs.lemmas.List.Edits.{length-remove}
 use Rattle.std.proofs.lemmas.List.Elements.{All-head, All-push, All-weaker, All-map}
@@ -13,26 +14,26 @@ use Rattle.uda_packet.specs.declared.end.End.{End}
 use Rattle.uda_packet.specs.Written.{written_command, written_end}
 use Rattle.uda_packet.specs.Reading.{read_command, read_end}
 use Rattle.uda_packet.proofs.WrittenLaws.{length-written_command, length-written_end}
-use Rattle.uda_exec.specs.Commands.{is_transfer, is_changing}
-use Rattle.uda_exec.specs.Order.{Apart, Clash, OrderIsFree}
 use Rattle.uda_port.specs.declared.phase.Phase.TheVariants.{Running}
 use Rattle.uda_port.specs.declared.turn.Turn.{Turn}
 use Rattle.uda_port.specs.declared.turn.Turn.TheVariants.{Fetched as TurnFetched, Executed, Delivered, Idle, Dead}
 use Rattle.uda_port.specs.Port.{PortState, CreditsAgree, next_grant}
 use Rattle.uda_port.specs.Turn.{TurnGoes}
-use Rattle.uda_model.specs.Request.{Request, too_long}
-use Rattle.uda_model.specs.Answer.{Answer, TooLong}
-use Rattle.uda_model.specs.Clash.{clash}
-use Rattle.uda_model.specs.Posting.{Posted, posted_command, commands_in, answer_of, buffer_of, bytes_brought}
-use Rattle.uda_model.specs.Keeping.{Units, Misses, IsNotAt, Owes, Ended, answer_now, Keeps, HasEnded, RefersBack, AreTwo, Outs}
+use Rattle.uda_disk.specs.Request.{Request, is_moving, is_writing, lbn_of, blocks_named}
+use Rattle.uda_disk.specs.Order.{clash, NoClash}
+use Rattle.uda_disk.specs.PlainRun.{too_long}
+use Rattle.uda_disk.specs.Answer.{Answer, TooLong}
+use Rattle.uda_posting.specs.Posting.{Posted, posted_command, commands_in, answer_of, buffer_of, bytes_brought}
+use Rattle.uda_disk.specs.Units.{Units}
+use Rattle.uda_posting.specs.Keeping.{Misses, Beside, IsNotAt, Owes, Ended, answer_now, Keeps, HasEnded, RefersBack, AreTwo, Outs, IsBefore}
 use Rattle.uda_host.specs.Layout.{slots, buffers_start, flag_word, response_descriptor, response_packet, command_packet, command_descriptor, owner_word, packet, HoldsPacket, with_command, memory_reopened}
 use Rattle.uda_host.specs.InStep.{IsAbove}
-use Rattle.uda_driver.specs.Driving.{IsOut, IsBefore, Driving, posted_desk}
+use Rattle.uda_driver.specs.Driving.{IsOut, Driving, posted_desk}
 use Rattle.uda_driver.specs.declared.desk.Desk.{Desk}
 use Rattle.uda_model.proofs.Lists.{All-remove, All-at}
-use Rattle.uda_model.proofs.Apartness.{buffer-at, bytes_fit, ready-put, no_clash}
-use Rattle.uda_model.proofs.Ending.{keeps_put, keeps_skip, keeps_post, Ends, keeps_execute, keeps_deliver, keeps_end}
-use Rattle.uda_model.proofs.Outs.{outs_post, outs_execute, outs_deliver}
+use Rattle.uda_posting.proofs.Posts.{buffer-at, bytes_fit, ready-put}
+use Rattle.uda_posting.proofs.Ending.{keeps_put, keeps_skip, keeps_post, Ends, keeps_execute, keeps_deliver, keeps_end}
+use Rattle.uda_posting.proofs.Outs.{outs_post, outs_execute, outs_deliver}
 use Rattle.uda_host.proofs.Frames.{length-packet, length-two}
 use Rattle.uda_host.proofs.Steps.{StepFetches, StepExecutes, StepDelivers, StepGoes, turns_left, step_goes, step_post, step_put}
 
@@ -80,7 +81,7 @@ module _ (start : Units) (requests : List Request) (out : List Posted) (answers 
     pub legible : read_end (written_end end) ≡ Some end
     pub some : IsOneOf out end
     pub taken : (i : ℕ) (q : Posted) → slice_get out i ≡ Some q → q.place + 1 ≡ end.reference
-        → Driving start requests (remove out i) (slice_set answers q.place (answer_of q.request end (buffer_of q given_back))) (taken_desk desk (next_grant port.deliveries)) new given_back
+        → Driving start requests (remove out i) (slice_set answers q.place (answer_of q.request.act end (buffer_of q given_back))) (taken_desk desk (next_grant port.deliveries)) new given_back
     pub turns : new.turns ≡ port.turns + 1
     pub load : new.load ≡ port.load
     pub deliveries : new.deliveries ≡ port.deliveries + 1
@@ -93,26 +94,31 @@ module _ (start : Units) (requests : List Request) (out : List Posted) (answers 
   DrivesOn Delivered = Brings
   DrivesOn _ = ⊥
 
+-- two requests clash either way
+clash_turned : (r s : Request) → clash r s ≡ false → clash s r ≡ false
+clash_turned r s h =
+    let units : nat_eq s.unit r.unit ≡ nat_eq r.unit s.unit = grind (arith, nat_tests) in
+    let starts : max (lbn_of s.act) (lbn_of r.act) ≡ max (lbn_of r.act) (lbn_of s.act) = omega arith in
+    let ends : min (lbn_of s.act + blocks_named s.act) (lbn_of r.act + blocks_named r.act) ≡ min (lbn_of r.act + blocks_named r.act) (lbn_of s.act + blocks_named s.act) = omega arith in
+    let joined : Bool → Bool → Bool → ℕ → ℕ → Bool = λ moving one writing low high. moving && one && writing && nat_lt low high in
+    ap (λ (b : Bool). joined b (nat_eq s.unit r.unit) (is_writing s.act || is_writing r.act) (max (lbn_of s.act) (lbn_of r.act)) (min (lbn_of s.act + blocks_named s.act) (lbn_of r.act + blocks_named r.act))) (and_comm (is_moving s.act) (is_moving r.act))
+    ∙ ap (λ (b : Bool). joined (is_moving r.act && is_moving s.act) b (is_writing s.act || is_writing r.act) (max (lbn_of s.act) (lbn_of r.act)) (min (lbn_of s.act + blocks_named s.act) (lbn_of r.act + blocks_named r.act))) units
+    ∙ ap (λ (b : Bool). joined (is_moving r.act && is_moving s.act) (nat_eq r.unit s.unit) b (max (lbn_of s.act) (lbn_of r.act)) (min (lbn_of s.act + blocks_named s.act) (lbn_of r.act + blocks_named r.act))) (or_comm (is_writing s.act) (is_writing r.act))
+    ∙ ap₂ (joined (is_moving r.act && is_moving s.act) (nat_eq r.unit s.unit) (is_writing r.act || is_writing s.act)) starts ends ∙ h
+
 -- ---- buffers
 
 is_above : (p : Posted) → IsOut p → IsAbove (posted_command p)
-is_above p is meet = let buffer = buffer-at p.request p.address is.short in omega (arith, buffer.here (omega arith), is.address_is)
+is_above p is meet = let buffer = buffer-at p.request.unit p.request.act p.address is.short in omega (arith, buffer.here (omega arith), is.address_is)
 
 -- what lies in one of two buffers misses the other
 misses_other : (p q : Posted) (at size : ℕ) → IsOut p → IsOut q → p.address ≢ q.address → at ≡ p.address → size ≤ 16384 → Misses at size (posted_command q)
 misses_other p q at size is that other here small meet =
-    let buffer = buffer-at q.request q.address that.short in other (omega (arith, buffer.small, buffer.here (omega arith), is.address_is, that.address_is))
+    let buffer = buffer-at q.request.unit q.request.act q.address that.short in other (omega (arith, buffer.small, buffer.here (omega arith), is.address_is, that.address_is))
 
--- commands with two buffers of requests that don't clash are apart
-apart_from : (p q : Posted) → IsOut p → IsOut q → q.address ≢ p.address → clash p.request q.request ≡ false → Apart (posted_command q) (posted_command p)
-apart_from p q is that other clear =
-    let c = (posted_command p).op in let d = (posted_command q).op in
-    record {
-      no_clash = λ both.
-          let turned : Clash (posted_command p) (posted_command q) = record { transfers = and_comm (is_transfer c) (is_transfer d) ∙ both.transfers; one_unit = sym both.one_unit; changes = or_comm (is_changing c) (is_changing d) ∙ both.changes; meet = let m = both.meet in omega arith } in
-          no_clash p q clear turned;
-      no_overlap = λ meet. let buffer = buffer-at q.request q.address that.short in misses_other q p _ _ that is other (buffer.here (omega arith)) buffer.small meet;
-    }
+-- commands with two buffers are beside one another
+beside_from : (p q : Posted) → IsOut p → IsOut q → q.address ≢ p.address → Beside (posted_command q) (posted_command p)
+beside_from p q is that other meet = let buffer = buffer-at q.request.unit q.request.act q.address that.short in misses_other q p _ _ that is other (buffer.here (omega arith)) buffer.small meet
 
 -- what is so of all that are out is so of those that are due and of those that have ended
 module _ {out due : List Posted} {ended : List Ended} {waiting : List End} (outs : Outs out due ended waiting) where
@@ -184,12 +190,12 @@ module _ {start : Units} {requests : List Request} {out : List Posted} {answers 
           waiting = ap (λ (p : PortState). length p.waiting) is;
         }
 
-    driving_execute : OrderIsFree → StepExecutes memory port D.unfetched desk.held new after → Does start requests out answers desk port new after
-    driving_execute order_is_free x =
+    driving_execute : StepExecutes memory port D.unfetched desk.held new after → Does start requests out answers desk port new after
+    driving_execute x =
         let is = x.port_is in
         let none = ap length x.none_unfetched in
         let are_due : port.exec.pending ++ [] ≡ commands_in D.due = ap (λ (cs : List Command). port.exec.pending ++ cs) (sym x.none_unfetched) ∙ D.are_due in
-        let t : Ends start requests D.due D.ended answers x.place x.end new.exec [] after = keeps_execute order_is_free [] are_due x.executes D.keeps in
+        let t : Ends start requests D.due D.ended answers x.place x.end new.exec [] after = keeps_execute [] are_due x.executes D.keeps in
         let waiting : new.waiting ≡ port.waiting ++ x.end ∷ [] = ap (λ (p : PortState). p.waiting) is in
         let distinct : AllPairs AreTwo D.due = λ i j d before within same. omega (arith, D.keeps.owes.in_order i j d before within) in
         let taken = x.executes.taken in
@@ -239,9 +245,9 @@ module _ {start : Units} {requests : List Request} {out : List Posted} {answers 
           some = record { index = own.0; posted = split.first.posted; stands = own.1; refers = omega (arith, All-head RefersBack split.first split.later outs.refer) };
           taken = λ k q stands refers.
               let back = outs_deliver outs k q stands refers in
-              let told : answer_now final split.first ≡ answer_of q.request e (buffer_of q final) = ap₂ (λ (p : Posted) (x : End). answer_of p.request x (buffer_of p final)) (sym back.same) split.end_is in
+              let told : answer_now final split.first ≡ answer_of q.request.act e (buffer_of q final) = ap₂ (λ (p : Posted) (x : End). answer_of p.request.act x (buffer_of p final)) (sym back.same) split.end_is in
               let answers_are = ap₂ (slice_set answers) (ap (λ (p : Posted). p.place) (sym back.same)) told in
-              let now : Driving start requests (remove out k) (slice_set answers q.place (answer_of q.request e (buffer_of q final))) (record desk { response_place = (desk.response_place + 1) % slots; held = desk.held + credits }) new final = record {
+              let now : Driving start requests (remove out k) (slice_set answers q.place (answer_of q.request.act e (buffer_of q final))) (record desk { response_place = (desk.response_place + 1) % slots; held = desk.held + credits }) new final = record {
                 unfetched = [];
                 due = D.due;
                 ended = split.later;
@@ -254,7 +260,7 @@ module _ {start : Units} {requests : List Request} {out : List Posted} {answers 
                 buffered = All-remove IsOut out k D.buffered;
                 before = All-remove (IsBefore (length requests)) out k D.before;
               } in
-              subst (λ (s : ℕ). Driving start requests (remove out k) (slice_set answers q.place (answer_of q.request e (buffer_of q (memory_reopened after s)))) (taken_desk desk credits) new (memory_reopened after s)) slot now;
+              subst (λ (s : ℕ). Driving start requests (remove out k) (slice_set answers q.place (answer_of q.request.act e (buffer_of q (memory_reopened after s)))) (taken_desk desk credits) new (memory_reopened after s)) slot now;
           turns = ap (λ (p : PortState). p.turns) is;
           load = ap (λ (p : PortState). p.load) is;
           deliveries = ap (λ (p : PortState). p.deliveries) is;
@@ -262,15 +268,15 @@ module _ {start : Units} {requests : List Request} {out : List Posted} {answers 
           waiting = sym (ap length h.waited ∙ omega arith);
         }
 
-    pub driving_turn : (turn : Turn) → OrderIsFree → length requests ≤ length answers → 0 < length out → CreditsAgree new → TurnGoes Running port memory turn new after → DrivesOn start requests out answers desk port new after turn
-    driving_turn turn order_is_free room some agree goes = by turn (step_goes turn new after D.step left agree goes)
+    pub driving_turn : (turn : Turn) → length requests ≤ length answers → 0 < length out → CreditsAgree new → TurnGoes Running port memory turn new after → DrivesOn start requests out answers desk port new after turn
+    driving_turn turn room some agree goes = by turn (step_goes turn new after D.step left agree goes)
       where
         left : 0 < turns_left port D.unfetched
         left = omega (arith, many_out)
 
         by : (turn : Turn) → StepGoes memory port D.unfetched desk.held turn new after → DrivesOn start requests out answers desk port new after turn
         by TurnFetched step = driving_fetch step
-        by Executed step = driving_execute order_is_free step
+        by Executed step = driving_execute step
         by Delivered step = driving_deliver room step
         by Idle step = step
         by Dead step = step
@@ -297,25 +303,27 @@ module _ {start : Units} {requests : List Request} {out : List Posted} {answers 
 
   pub driving_post : (p : Posted) → 0 < desk.held → p.place ≡ length requests → IsOut p → read_command (written_command (posted_command p)) ≡ Ok (posted_command p)
       → All (λ q. q.address ≢ p.address) out → All (λ q. clash p.request q.request ≡ false) out
-      → Driving start (requests ++ p.request ∷ []) (out ++ p ∷ []) answers (posted_desk desk) (record port { looking = true }) (with_command (put memory p.address (bytes_brought p.request)) desk.command_place (posted_command p))
+      → Driving start (requests ++ p.request ∷ []) (out ++ p ∷ []) answers (posted_desk desk) (record port { looking = true }) (with_command (put memory p.address (bytes_brought p.request.act)) desk.command_place (posted_command p))
   driving_post p credit last is legible other clear =
       let c = posted_command p in let i = desk.command_place in
-      let bytes = bytes_brought p.request in
+      let bytes = bytes_brought p.request.act in
       let brought = put memory p.address bytes in
       let in_ring : i < slots = omega (arith, D.posts_next) in
       let size = D.step.commands.size in
       -- memory
-      let fits = (bytes_fit p.request p.address).fits in let buffer = buffer-at p.request p.address is.short in
+      let fits = (bytes_fit p.request.act p.address).fits in let buffer = buffer-at p.request.unit p.request.act p.address is.short in
       let misses : All (λ q. Misses p.address (length bytes) (posted_command q)) out = λ k d low. misses_other p (get_or out k d) p.address (length bytes) is (D.buffered k d low) (λ same. other k d low (sym same)) refl (omega arith) in
       let ready = ready-put p memory is.short (omega (arith, is.address_is)) (omega (arith, is.address_is, is.within)) in
       let text = length-packet 0 (written_command c) (length-written_command c) in let four = length-two (command_packet i + 4) owner_word in
       -- what is out
-      let apart : All (λ q. Apart (posted_command q) c) out = λ k d low. apart_from p (get_or out k d) is (D.buffered k d low) (other k d low) (clear k d low) in
+      let beside : All (λ q. Beside (posted_command q) c) out = λ k d low. beside_from p (get_or out k d) is (D.buffered k d low) (other k d low) in
+      let none : All (λ q. NoClash q.request p.request) out = λ k d low. clash_turned p.request (get_or out k d).request (clear k d low) in
       let new : All (IsNotAt p.place) out = λ k d low same. omega (arith, D.before k d low, last) in
       let outs = outs_post D.outs p new (λ k d low same. of_ended D.outs (IsNotAt p.place) new k d low (sym same)) in
       let buffered : All IsOut (out ++ p ∷ []) = All-push IsOut out p D.buffered is in
-      let kept = keeps_post (put_beside D.outs p.address bytes misses D.keeps) p last ready (All-map (λ d. Apart d c) posted_command D.due (of_due D.outs (λ q. Apart (posted_command q) c) apart))
-      (λ k d low. (of_ended D.outs (λ q. Apart (posted_command q) c) apart k d low).no_overlap) in
+      let kept = keeps_post (put_beside D.outs p.address bytes misses D.keeps) p last ready (All-map (λ d. Beside d c) posted_command D.due (of_due D.outs (λ q. Beside (posted_command q) c) beside))
+      (All-map (λ r. NoClash r p.request) (λ (q : Posted). q.request) D.due (of_due D.outs (λ q. NoClash q.request p.request) none))
+      (of_ended D.outs (λ q. Beside (posted_command q) c) beside) in
       record {
         unfetched = D.unfetched ++ c ∷ [];
         due = D.due ++ p ∷ [];

@@ -17,33 +17,34 @@ use Rattle.uda_packet.specs.declared.command.Command.{Command}
 use Rattle.uda_packet.specs.declared.end.End.{End}
 use Rattle.uda_packet.specs.Written.{written_command}
 use Rattle.uda_packet.specs.Reading.{read_end, read_command}
-use Rattle.uda_exec.specs.Disks.{AreImages, PENDING_LIMIT}
-use Rattle.uda_exec.specs.Commands.{address_of, room_of}
-use Rattle.uda_exec.specs.Order.{OrderIsFree}
-use Rattle.uda_exec.proofs.Units.{slice_get-set_other}
+use Rattle.uda_disk.specs.Units.{AreImages}
+use Rattle.uda_exec.specs.Disks.{PENDING_LIMIT}
+use Rattle.uda_exec.specs.Commands.{buffer_start, room_of}
+use Rattle.uda_disk.proofs.Slots.{slice_get-set_other}
 use Rattle.uda_port.specs.declared.phase.Phase.{Phase}
 use Rattle.uda_port.specs.declared.phase.Phase.TheVariants.{Running}
 use Rattle.uda_port.specs.declared.turn.Turn.{Turn}
 use Rattle.uda_port.specs.declared.turn.Turn.TheVariants.{Fetched as TurnFetched, Executed, Delivered, Idle, Dead}
 use Rattle.uda_port.specs.Port.{PortState, CreditsAgree, next_grant}
 use Rattle.uda_port.specs.Turn.{TurnGoes}
-use Rattle.uda_model.specs.Request as ask
-use Rattle.uda_model.specs.Request.{Request, too_long}
-use Rattle.uda_model.specs.Answer.{Answer, TooLong}
-use Rattle.uda_model.specs.Clash.{clash, lead_from, lead, is_short, posted_count}
-use Rattle.uda_model.specs.Posting.{Posted, posted_command, commands_in, op_of, command_of, answer_of, buffer_of, bytes_brought}
-use Rattle.uda_model.specs.Keeping.{Ended, Tells, Beside, Has, AreTwo, Keeps, Outs}
+use Rattle.uda_disk.specs.Request as ask
+use Rattle.uda_disk.specs.Request.{Request}
+use Rattle.uda_disk.specs.Order.{clash, lead_from, lead}
+use Rattle.uda_disk.specs.PlainRun.{too_long, is_short, posted_count}
+use Rattle.uda_disk.specs.Answer.{Answer, TooLong}
+use Rattle.uda_posting.specs.Posting.{Posted, posted_command, commands_in, op_of, command_of, answer_of, buffer_of, bytes_brought}
+use Rattle.uda_posting.specs.Keeping.{Ended, Tells, Beside, Has, AreTwo, Keeps, Outs, IsBefore}
 use Rattle.uda_host.specs.InStep.{InStep}
 use Rattle.uda_host.specs.Layout.{slots, memory_size, buffer_address, owner_word, response_descriptor, response_packet, with_command, memory_reopened}
-use Rattle.uda_driver.specs.Driving.{IsOut, IsBefore, Driving, posted_desk}
-use Rattle.uda_model.specs.Values.{request_value, answer_value, request_values, answer_values}
-use Rattle.uda_driver.specs.Underway.{AtRest, posted_of, outs_of, triangle, Prepared, IsBlank, AreBlank, IsPrepared, turns_due, Underway, Onward, IsReady, Settles, Ran}
-use Rattle.uda_model.specs.declared.request.Request.{Request as CodeRequest}
-use Rattle.uda_model.specs.declared.answer.Answer.{Answer as CodeAnswer}
+use Rattle.uda_driver.specs.Driving.{IsOut, Driving, posted_desk}
+use Rattle.uda_disk.specs.Values.{request_value, answer_value, request_values, answer_values}
+use Rattle.uda_driver.specs.Underway.{no_request, AtRest, posted_of, outs_of, triangle, Prepared, IsBlank, AreBlank, IsPrepared, turns_due, Underway, Onward, IsReady, Settles, Ran}
+use Rattle.uda_disk.specs.declared.request.Request.{Request as CodeRequest}
+use Rattle.uda_disk.specs.declared.answer.Answer.{Answer as CodeAnswer}
 use Rattle.uda_driver.specs.declared.desk.Desk.{Desk}
 use Rattle.uda_driver.specs.declared.desk.Out.{Out}
 use Rattle.uda_model.proofs.Lists.{map-remove, All-remove, All-at, pairs_others, slice_get-last, slice_get-before}
-use Rattle.uda_model.proofs.Owing.{owes_start}
+use Rattle.uda_posting.proofs.Owing.{owes_start}
 use Rattle.uda_driver.proofs.Drivings.{taken_desk, Brings, DrivesOn, driving_turn, many_out, driving_skip, driving_post, driving_end}
 
 -- a request of the code as pure data
@@ -64,14 +65,14 @@ set_twice (x ∷ xs) (suc i) a b = ap (λ ys. x ∷ ys) (set_twice xs i a b)
 
 pub answer_told : (requests : List CodeRequest) (answers : List CodeAnswer) (done : Out) (e : End) (memory : List ℕ) (request : CodeRequest) (blank now told d : CodeAnswer)
     → IsReady requests answers done memory → request ≡ get_or requests done.place request → blank ≡ get_or answers done.place d
-    → (Prepared (request_value request) (answer_value blank) → answer_value told ≡ answer_of (request_value request) e (part memory (address_of (op_of (request_value request) (buffer_address done.buffer))) (room_of (op_of (request_value request) (buffer_address done.buffer)))))
+    → (Prepared (request_value request) (answer_value blank) → answer_value told ≡ answer_of (request_value request).act e (part memory (buffer_start (op_of (request_value request).act (buffer_address done.buffer))) (room_of (op_of (request_value request).act (buffer_address done.buffer)))))
     → map answer_value (slice_set (slice_set answers done.place now) done.place told)
-    ≡ slice_set (answer_values answers) done.place (answer_of (posted_of (request_values requests) done).request e (buffer_of (posted_of (request_values requests) done) memory))
+    ≡ slice_set (answer_values answers) done.place (answer_of (posted_of (request_values requests) done).request.act e (buffer_of (posted_of (request_values requests) done) memory))
 answer_told requests answers done e memory request blank now told d ready is was tells =
-    let asked : (posted_of (request_values requests) done).request ≡ request_value request = value_at requests done.place (ask.Status 0) request ready.there ∙ ap request_value (sym is) in
+    let asked : (posted_of (request_values requests) done).request ≡ request_value request = value_at requests done.place no_request request ready.there ∙ ap request_value (sym is) in
     let there = slice_get-get_or answers done.place d (omega (arith, ready.there, ready.sized)) ∙ ap Some (sym was) in
     let prepared = subst (λ (r : Request). Prepared r (answer_value blank)) asked (ready.prepared (answer_value blank) (slice_get-map answer_value answers done.place ∙ ap (option_map answer_value) there)) in
-    let tell : Request → Answer = λ r. answer_of r e (buffer_of (record { place = done.place; address = buffer_address done.buffer; request = r }) memory) in
+    let tell : Request → Answer = λ r. answer_of r.act e (buffer_of (record { place = done.place; address = buffer_address done.buffer; request = r }) memory) in
     ap (map answer_value) (set_twice answers done.place now told) ∙ map-set answer_value answers done.place told ∙ ap (set (answer_values answers) done.place) (tells prepared ∙ ap tell (sym asked))
 
 -- what is kept of these requests, after a turn that leaves fewer turns
@@ -96,9 +97,9 @@ module _ {start : PortState} {requests : List CodeRequest} {n bound : ℕ} {out 
   told_counted : length (take n the_asked) ≤ length the_told
   told_counted = omega (arith, length-take n the_asked, length-map requests request_value, length-map answers answer_value, U.sized)
 
-  module _ (new : PortState) (after : List ℕ) (order_is_free : OrderIsFree) (images : AreImages new.exec.units) (some : 0 < length out) (agree : CreditsAgree new) where
+  module _ (new : PortState) (after : List ℕ) (images : AreImages new.exec.units) (some : 0 < length out) (agree : CreditsAgree new) where
     drives_on : (turn : Turn) → TurnGoes port.phase port memory turn new after → DrivesOn start.exec.units (take n the_asked) (outs_of requests out) the_told desk port new after turn
-    drives_on turn goes = driving_turn U.driving new after turn order_is_free told_counted (omega (arith, out_counted)) agree (subst (λ (phase : Phase). TurnGoes phase port memory turn new after) U.driving.step.runs goes)
+    drives_on turn goes = driving_turn U.driving new after turn told_counted (omega (arith, out_counted)) agree (subst (λ (phase : Phase). TurnGoes phase port memory turn new after) U.driving.step.runs goes)
 
     pub under_other : (turn : Turn) → TurnGoes port.phase port memory turn new after → (turn ≡ Delivered → ⊥) → Turned start requests n bound out out answers desk port new after
     under_other turn goes other = by turn (drives_on turn goes) other
@@ -187,11 +188,11 @@ module _ {start : PortState} {requests : List CodeRequest} {n bound : ℕ} {out 
             let before : o.place < length (take n the_asked) = All-at (IsBefore (length (take n the_asked))) (outs_of requests out) i p D.before stands in
             let place_low : o.place < n = omega (arith, length-take n the_asked) in
             let long : length final ≡ memory_size = ap length reopened ∙ length-put after (response_descriptor desk.response_place + 2) (word_bytes owner_word) ∙ sized_after in
-            let answer = answer_of p.request B.end (buffer_of p (memory_reopened after desk.response_place)) in
+            let answer = answer_of p.request.act B.end (buffer_of p (memory_reopened after desk.response_place)) in
             let set_told = slice_set the_told o.place answer in
             let told_is : map answer_value told ≡ set_told =
             settles (record { there = omega (arith, U.within); sized = U.sized; short = own.short; inside = omega (arith, own.within, own.address_is, long); prepared = All-at (IsPrepared the_told) (outs_of requests out) i p U.prepared stands })
-            ∙ ap₂ (λ (x : End) (m : List ℕ). slice_set the_told o.place (answer_of p.request x (buffer_of p m))) end_is reopened in
+            ∙ ap₂ (λ (x : End) (m : List ℕ). slice_set the_told o.place (answer_of p.request.act x (buffer_of p m))) end_is reopened in
             let outs_are : outs_of requests left ≡ remove (outs_of requests out) i = ap (map f) left_is ∙ map-remove f out i in
             let driving = subst₂ (λ (ps : List Posted) (as' : List Answer). Driving start.exec.units (take n the_asked) ps as' (taken_desk desk (next_grant port.deliveries)) new (memory_reopened after desk.response_place)) (sym outs_are) (sym told_is) took in
             let others = pairs_others AreTwo (λ a b. b.place ≢ a.place) (λ x y two. (λ same. two (sym same), two)) (outs_of requests out) i p D.outs.distinct stands in
@@ -291,8 +292,8 @@ lead-none (suc room) seen = refl
 
 -- ---- the requests so far
 
-next_of : (requests : List CodeRequest) (n : ℕ) (request : CodeRequest) → n < length requests → request ≡ get_or requests n request → get_or (request_values requests) n (ask.Status 0) ≡ request_value request
-next_of requests n request lt is = value_at requests n (ask.Status 0) request lt ∙ ap request_value (sym is)
+next_of : (requests : List CodeRequest) (n : ℕ) (request : CodeRequest) → n < length requests → request ≡ get_or requests n request → get_or (request_values requests) n no_request ≡ request_value request
+next_of requests n request lt is = value_at requests n no_request request lt ∙ ap request_value (sym is)
 
 record Next (requests : List CodeRequest) (n : ℕ) (request : CodeRequest) : Type 0 where
   within : n < length (request_values requests)
@@ -308,21 +309,21 @@ next requests n request lt is =
     let descriptor_address = next_of requests n request lt is in
     record {
       within = within;
-      more = ap (λ (r : Request). take n rs ++ r ∷ []) (sym descriptor_address) ∙ sym (take_more rs n (ask.Status 0) within);
-      rest = drop_more rs n (ask.Status 0) within ∙ ap (λ (r : Request). r ∷ drop (n + 1) rs) descriptor_address;
-      at = slice_get-get_or rs n (ask.Status 0) within ∙ ap (λ (r : Request). Some r) descriptor_address;
+      more = ap (λ (r : Request). take n rs ++ r ∷ []) (sym descriptor_address) ∙ sym (take_more rs n no_request within);
+      rest = drop_more rs n no_request within ∙ ap (λ (r : Request). r ∷ drop (n + 1) rs) descriptor_address;
+      at = slice_get-get_or rs n no_request within ∙ ap (λ (r : Request). Some r) descriptor_address;
       counted = omega (arith, length-take n rs);
     }
 
 posted-skip : (requests : List CodeRequest) (n : ℕ) (request : CodeRequest) → n < length requests → request ≡ get_or requests n request → too_long (request_value request) ≡ true → posted_count (take (n + 1) (request_values requests)) ≡ posted_count (take n (request_values requests))
 posted-skip requests n request lt is long =
     let w = next requests n request lt is in
-    count_by_more_no is_short (request_values requests) n (ask.Status 0) w.within (ap is_short (next_of requests n request lt is) ∙ ap not long)
+    count_by_more_no is_short (request_values requests) n no_request w.within (ap is_short (next_of requests n request lt is) ∙ ap not long)
 
 posted-more : (requests : List CodeRequest) (n : ℕ) (request : CodeRequest) → n < length requests → request ≡ get_or requests n request → too_long (request_value request) ≡ false → posted_count (take (n + 1) (request_values requests)) ≡ posted_count (take n (request_values requests)) + 1
 posted-more requests n request lt is short =
     let w = next requests n request lt is in
-    count_by_more_yes is_short (request_values requests) n (ask.Status 0) w.within (ap is_short (next_of requests n request lt is) ∙ ap not short)
+    count_by_more_yes is_short (request_values requests) n no_request w.within (ap is_short (next_of requests n request lt is) ∙ ap not short)
 
 -- ---- a request is answered at once
 
@@ -375,11 +376,11 @@ going_skip {start} {requests} {n} {out} {answers} {desk} {port} {memory} request
 -- ---- a request has to wait
 
 abbrev pub WaitsFor : List CodeRequest → List Out → Desk → CodeRequest → Bool
-WaitsFor requests out desk request = nat_eq desk.held 0 || list_any (λ o. clash (request_value request) (slice_index_or (request_values requests) o.place (ask.Status 0))) out
+WaitsFor requests out desk request = nat_eq desk.held 0 || list_any (λ o. clash (request_value request) (slice_index_or (request_values requests) o.place no_request)) out
 
-any-outs : (requests : List CodeRequest) (out : List Out) (r : Request) → list_any (λ p. clash r p.request) (outs_of requests out) ≡ list_any (λ o. clash r (slice_index_or (request_values requests) o.place (ask.Status 0))) out
+any-outs : (requests : List CodeRequest) (out : List Out) (r : Request) → list_any (λ p. clash r p.request) (outs_of requests out) ≡ list_any (λ o. clash r (slice_index_or (request_values requests) o.place no_request)) out
 any-outs requests [] r = refl
-any-outs requests (o ∷ os) r = ap (λ (b : Bool). clash r (slice_index_or (request_values requests) o.place (ask.Status 0)) || b) (any-outs requests os r)
+any-outs requests (o ∷ os) r = ap (λ (b : Bool). clash r (slice_index_or (request_values requests) o.place no_request) || b) (any-outs requests os r)
 
 some_out : (p : Out → Bool) (out : List Out) → list_any p out ≡ true → 0 < length out
 some_out p [] h = absurd (cc)
@@ -411,7 +412,7 @@ module _ {start : PortState} {requests : List CodeRequest} {n : ℕ} {out : List
     pub wait_some : 0 < length out
     wait_some = elim (or_cases (nat_eq desk.held 0) _ waits) [
       | inl none ↦ omega (arith, under_held G.under, eqb-true desk.held 0 none)
-      | inr met ↦ omega (arith, some_out (λ o. clash (request_value request) (slice_index_or (request_values requests) o.place (ask.Status 0))) seen met, ap length same)
+      | inr met ↦ omega (arith, some_out (λ o. clash (request_value request) (slice_index_or (request_values requests) o.place no_request)) seen met, ap length same)
     ]
 
     pub going_step : {left : List Out} {told : List CodeAnswer} {desk_after : Desk} {new : PortState} {after : List ℕ} → n < length requests → request ≡ get_or requests n request → too_long (request_value request) ≡ false
@@ -475,7 +476,7 @@ pub going_post : {start : PortState} {requests : List CodeRequest} {n : ℕ} {ou
     → n < length requests → request ≡ get_or requests n request → too_long (request_value request) ≡ false → seen ≡ out → WaitsFor requests seen desk request ≡ false
     → new.place ≡ n → new.buffer < PENDING_LIMIT → (buffers : List Out) → buffers ≡ out → list_any (λ o. nat_eq o.buffer new.buffer) buffers ≡ false
     → items ≡ out ++ new ∷ [] → desk_after ≡ posted_desk desk → read_command (written_command (command_for request new)) ≡ Ok (command_for request new)
-    → memory_after ≡ with_command (put memory (buffer_address new.buffer) (bytes_brought (request_value request))) desk.command_place (command_for request new)
+    → memory_after ≡ with_command (put memory (buffer_address new.buffer) (bytes_brought (request_value request).act)) desk.command_place (command_for request new)
     → (port.phase ≡ Running → port_after ≡ record port { looking = true })
     → Going start requests n out answers desk port memory → Going start requests (n + 1) items answers desk_after port_after memory_after
 going_post {start} {requests} {n} {out} {answers} {desk} {port} {memory} request seen new items desk_after port_after memory_after lt is short same waits place few buffers same_buffers free items_are desk_is legible memory_is port_is G =
@@ -486,19 +487,19 @@ going_post {start} {requests} {n} {out} {answers} {desk} {port} {memory} request
     let U = G.under in
     let D = U.driving in
     let more = posted-more requests n request lt is short in
-    let request_is : (f new).request ≡ r = ap (λ (k : ℕ). get_or rs k (ask.Status 0)) place ∙ next_of requests n request lt is in
+    let request_is : (f new).request ≡ r = ap (λ (k : ℕ). get_or rs k no_request) place ∙ next_of requests n request lt is in
     let P : Request → Posted = λ x. record { place = new.place; address = buffer_address new.buffer; request = x } in
     let q : Posted = P r in
     let q_is : f new ≡ q = ap P request_is in
     let clear2 = or_none (nat_eq desk.held 0) _ (subst (λ (os : List Out). WaitsFor requests os desk request ≡ false) same waits) in
     let credit : 0 < desk.held = omega (arith, eqb-false desk.held 0 clear2.0) in
-    let no_clash = none_any (λ (o : Out). clash r (slice_index_or rs o.place (ask.Status 0))) out clear2.1 in
+    let no_clash = none_any (λ (o : Out). clash r (slice_index_or rs o.place no_request)) out clear2.1 in
     let clear : All (λ (x : Posted). clash r x.request ≡ false) (outs_of requests out) = All-map (λ (x : Posted). clash r x.request ≡ false) f out no_clash in
     let unused = none_any (λ (o : Out). nat_eq o.buffer new.buffer) out (subst (λ (os : List Out). list_any (λ o. nat_eq o.buffer new.buffer) os ≡ false) same_buffers free) in
     let apart : All (λ (x : Posted). x.address ≢ q.address) (outs_of requests out) = All-map (λ (x : Posted). x.address ≢ q.address) f out (λ k d l e. let ne = eqb-false (get_or out k d).buffer new.buffer (unused k d l) in ne (omega arith)) in
     let own : IsOut q = record { number = new.buffer; within = few; address_is = refl; short = short } in
     let port' : PortState = record port { looking = true } in
-    let memory' = with_command (put memory (buffer_address new.buffer) (bytes_brought r)) desk.command_place (command_for request new) in
+    let memory' = with_command (put memory (buffer_address new.buffer) (bytes_brought r.act)) desk.command_place (command_for request new) in
     let posted = driving_post D q credit (place ∙ sym w.counted) own legible apart clear in
     let outs_are : outs_of requests out ++ q ∷ [] ≡ outs_of requests (out ++ new ∷ []) = ap (λ (x : Posted). outs_of requests out ++ x ∷ []) (sym q_is) ∙ sym (map_push f out new) in
     let driving = subst₂ (λ (qs : List Request) (ps : List Posted). Driving start.exec.units qs ps (answer_values answers) (posted_desk desk) port' memory') w.more outs_are posted in

@@ -1,6 +1,6 @@
 -- A driver as its callers see it.
 use Rattle.std.specs.Prelude.{ℕ, List, Option}
-use Rattle.uda_exec.specs.Disks.{UnitState, AreImages}
+use Rattle.uda_disk.specs.Units.{UnitState, AreImages}
 use Rattle.uda_port.specs.Port.{PortState}
 use Rattle.uda_driver.specs.declared.desk.Desk.{Desk}
 use Rattle.uda_driver.specs.declared.driver.Driver.TheInside.{Inside}

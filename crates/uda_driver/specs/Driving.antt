@@ -3,10 +3,12 @@ use Rattle.std.specs.Prelude.{◌≡◌, ℕ, ◌+◌, ◌-◌, ◌%◌, ◌<◌
 use Rattle.uda_packet.specs.declared.command.Command.{Command}
 use Rattle.uda_exec.specs.Disks.{PENDING_LIMIT}
 use Rattle.uda_port.specs.Port.{PortState}
-use Rattle.uda_model.specs.Request.{Request, too_long}
-use Rattle.uda_model.specs.Answer.{Answer}
-use Rattle.uda_model.specs.Posting.{Posted, commands_in}
-use Rattle.uda_model.specs.Keeping.{Units, Ended, Keeps, Outs}
+use Rattle.uda_disk.specs.Request.{Request}
+use Rattle.uda_disk.specs.PlainRun.{too_long}
+use Rattle.uda_disk.specs.Answer.{Answer}
+use Rattle.uda_posting.specs.Posting.{Posted, commands_in}
+use Rattle.uda_disk.specs.Units.{Units}
+use Rattle.uda_posting.specs.Keeping.{IsBefore, Ended, Keeps, Outs}
 use Rattle.uda_host.specs.Layout.{slots, buffer_address}
 use Rattle.uda_host.specs.InStep.{InStep}
 use Rattle.uda_driver.specs.declared.desk.Desk.{Desk}
@@ -17,10 +19,6 @@ pub record IsOut (p : Posted) : Type 0 where
   pub number : ℕ
   pub within : number < PENDING_LIMIT
   pub address_is : p.address ≡ buffer_address number
-
--- it is one of the first so many requests
-abbrev pub IsBefore : ℕ → Posted → Type 0
-IsBefore n p = p.place < n
 
 -- These requests are out, of those so far: their commands are unfetched, pending, or done with an end that waits; the
 -- answers of all others are told.

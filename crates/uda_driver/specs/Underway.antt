@@ -1,21 +1,21 @@
 -- What a driver keeps while it has requests done.
 use Rattle.std.specs.Prelude.{◌≡◌, ℕ, zero, suc, ◌+◌, ◌-◌, ◌*◌, ◌<◌, ◌≤◌, true, false, List, [], length, map, take, slice_index_or, slice_get, slice_set, All, Some}
 use Rattle.uda_packet.specs.declared.end.End.{End}
-use Rattle.uda_exec.specs.Disks.{AreImages}
+use Rattle.uda_disk.specs.Units.{AreImages}
 use Rattle.uda_port.specs.Port.{PortState}
-use Rattle.uda_model.specs.Request as ask
-use Rattle.uda_model.specs.Request.{Request, too_long}
-use Rattle.uda_model.specs.Answer as tell
-use Rattle.uda_model.specs.Answer.{Answer}
-use Rattle.uda_model.specs.Clash.{posted_count}
-use Rattle.uda_model.specs.Posting.{Posted, answer_of, buffer_of}
-use Rattle.uda_model.specs.Keeping.{Owes}
+use Rattle.uda_disk.specs.Request as ask
+use Rattle.uda_disk.specs.Request.{Act, Request}
+use Rattle.uda_disk.specs.PlainRun.{too_long, posted_count}
+use Rattle.uda_disk.specs.Answer as tell
+use Rattle.uda_disk.specs.Answer.{Answer}
+use Rattle.uda_posting.specs.Posting.{Posted, answer_of, buffer_of}
+use Rattle.uda_posting.specs.Keeping.{Owes}
 use Rattle.uda_host.specs.InStep.{InStep}
 use Rattle.uda_driver.specs.Run.{CountsOn}
 use Rattle.uda_driver.specs.Driving.{Driving}
-use Rattle.uda_model.specs.Values.{request_values, answer_values}
-use Rattle.uda_model.specs.declared.request.Request.{Request as CodeRequest}
-use Rattle.uda_model.specs.declared.answer.Answer.{Answer as CodeAnswer}
+use Rattle.uda_disk.specs.Values.{request_values, answer_values}
+use Rattle.uda_disk.specs.declared.request.Request.{Request as CodeRequest}
+use Rattle.uda_disk.specs.declared.answer.Answer.{Answer as CodeAnswer}
 use Rattle.uda_driver.specs.declared.desk.Desk.{Desk}
 use Rattle.uda_driver.specs.declared.desk.Out.{Out}
 use Rattle.uda_host.specs.Layout.{buffer_size, buffer_address}
@@ -29,8 +29,12 @@ pub record AtRest (desk : Desk) (port : PortState) (memory : List ℕ) : Type 0 
   pub nothing_waits : port.waiting ≡ []
   pub begun : 0 < port.deliveries
 
+-- what an index past the end would give
+abbrev pub no_request : Request
+no_request = record { unit = 0; act = ask.Status }
+
 abbrev pub posted_of : List Request → Out → Posted
-posted_of requests o = record { place = o.place; address = buffer_address o.buffer; request = slice_index_or requests o.place (ask.Status 0) }
+posted_of requests o = record { place = o.place; address = buffer_address o.buffer; request = slice_index_or requests o.place no_request }
 
 abbrev pub outs_of : List CodeRequest → List Out → List Posted
 outs_of requests out = map (posted_of (request_values requests)) out
@@ -41,10 +45,13 @@ triangle zero = 0
 triangle (suc n) = suc n + triangle n
 
 -- an answer that has room for the bytes that a Read brings
+abbrev pub HasRoom : Act → Answer → Type 0
+HasRoom (ask.Read first bytes) (tell.Data status held) = bytes ≤ length held
+HasRoom (ask.Read first bytes) answer = ⊥
+HasRoom act answer = Unit {0}
+
 abbrev pub Prepared : Request → Answer → Type 0
-Prepared (ask.Read unit first bytes) (tell.Data status held) = bytes ≤ length held
-Prepared (ask.Read unit first bytes) answer = ⊥
-Prepared r answer = Unit {0}
+Prepared r answer = HasRoom r.act answer
 
 -- the answer that stands before a request is posted
 pub record IsBlank (r : Request) (answer : Answer) : Type 0 where
@@ -101,7 +108,7 @@ pub record IsReady (requests : List CodeRequest) (answers : List CodeAnswer) (do
 
 -- the answer of a request by its end and its buffer
 abbrev pub answer_told_by : Posted → End → List ℕ → Answer
-answer_told_by p e memory = answer_of p.request e (buffer_of p memory)
+answer_told_by p e memory = answer_of p.request.act e (buffer_of p memory)
 
 abbrev pub Settles : List CodeRequest → List CodeAnswer → Out → End → List ℕ → List CodeAnswer → Type 0
 Settles requests answers done e memory answers_after =

@@ -1,9 +1,8 @@
 //! The driver.
 ghost use Rattle.std.specs.Prelude.{◌≡◌, ◌<◌, ◌↔◌, length, Err, IfOk, IfErr};
 ghost use Rattle.uda_exec.specs.Drives.{drive_states, fresh_units, drives_in};
-ghost use Rattle.uda_exec.specs.Execution.{natures_of};
-ghost use Rattle.uda_model.specs.Keeping.{AllFaithful};
-ghost use Rattle.uda_model.specs.Values.{request_values, answer_values};
+ghost use Rattle.uda_disk.specs.Units.{natures_of, AllFaithful};
+ghost use Rattle.uda_disk.specs.Values.{request_values, answer_values};
 ghost use Rattle.uda_driver.specs.Run.{request_limit, AreAnswersOf, NoneFailed, IsPlainRun, TellsLosses, CountsOn};
 ghost use Rattle.uda_driver.specs.Driver.{units_of, IsAtRest};
 
@@ -14,7 +13,7 @@ use std::alloc::Global;
 use std::marker::Model;
 use uda_image::{BlockStore, Drive};
 use uda_mem::{HostMemory, NoMemory};
-use uda_model::{Answer, Request};
+use uda_disk::{Answer, Request};
 use uda_port::Port;
 
 /// The most requests of one run.

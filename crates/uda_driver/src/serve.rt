@@ -4,20 +4,19 @@ ghost use Rattle.std.specs.List.{list_any};
 ghost use Rattle.uda_mem.specs.Put.{put, part};
 ghost use Rattle.uda_packet.specs.Written.{written_command};
 ghost use Rattle.uda_packet.specs.Reading.{read_command};
-ghost use Rattle.uda_exec.specs.Disks.{AreImages, PENDING_LIMIT};
-ghost use Rattle.uda_exec.specs.Commands.{address_of, room_of};
-ghost use Rattle.uda_exec.specs.Execution.{natures_of};
+ghost use Rattle.uda_disk.specs.Units.{AreImages, natures_of, AllFaithful};
+ghost use Rattle.uda_exec.specs.Disks.{PENDING_LIMIT};
+ghost use Rattle.uda_exec.specs.Commands.{buffer_start, room_of};
 ghost use Rattle.uda_port.specs.declared.phase.Phase.TheVariants.{Running};
 ghost use Rattle.uda_port.specs.Port.{port_asked};
-ghost use Rattle.uda_model.specs.Request.{too_long, Status};
-ghost use Rattle.uda_model.specs.Clash.{clash};
-ghost use Rattle.uda_model.specs.Posting.{op_of, command_of, answer_of, bytes_brought};
-ghost use Rattle.uda_model.specs.Keeping.{AllFaithful};
-ghost use Rattle.uda_model.specs.Values.{request_value, answer_value, request_values, answer_values};
+ghost use Rattle.uda_disk.specs.Order.{clash};
+ghost use Rattle.uda_disk.specs.PlainRun.{too_long};
+ghost use Rattle.uda_posting.specs.Posting.{op_of, command_of, answer_of, bytes_brought};
+ghost use Rattle.uda_disk.specs.Values.{request_value, answer_value, request_values, answer_values};
 ghost use Rattle.uda_host.specs.Layout.{slots, memory_size, buffer_size, buffer_address, with_command};
 ghost use Rattle.uda_driver.specs.Run.{request_limit, AreAnswersOf, NoneFailed, IsPlainRun, TellsLosses, CountsOn};
 ghost use Rattle.uda_driver.specs.Driving.{posted_desk};
-ghost use Rattle.uda_driver.specs.Underway.{AtRest, Prepared, AreBlank, Settles, Onward, Ran};
+ghost use Rattle.uda_driver.specs.Underway.{AtRest, no_request, Prepared, AreBlank, Settles, Onward, Ran};
 
 use crate::bring::bring;
 use crate::desk::{Desk, Out};
@@ -25,13 +24,13 @@ use crate::driver::{REQUEST_LIMIT, RunError};
 use arrayvec::ArrayVec;
 use std::alloc::{AllocError, Global};
 use uda_exec::PENDING;
-use uda_exec::order::order_is_free;
 use uda_host::{BUFFER_SIZE, SLOTS, buffer_address, credits_at, end_at, reopen, write_command};
 use uda_image::BlockStore;
 use uda_mem::HostMemory;
-use uda_model::{Answer, Request};
+use uda_disk::{Answer, Request};
 use uda_packet::{End, EndBody};
 use uda_port::{Port, Turn};
+use uda_posting::command_of;
 
 // The answer that stands before a request is posted.
 fn blank(alloc: Global, request: &Request) -> Result<Answer, AllocError>
@@ -60,7 +59,7 @@ fn blanks(alloc: Global, requests: &[Request]) -> Result<Vec<Answer>, AllocError
 
 // Whether a request clashes with the one at a place.
 fn clashes_at(requests: &[Request], place: u32, request: &Request) -> bool
-    ensures { result ≡ clash (request_value request.now) (slice_index_or (map request_value requests.now) place (Status 0)) }
+    ensures { result ≡ clash (request_value request.now) (slice_index_or (map request_value requests.now) place no_request) }
 {
     match requests.get(place as usize) {
         Some(other) => request.clashes(other),
@@ -70,13 +69,13 @@ fn clashes_at(requests: &[Request], place: u32, request: &Request) -> bool
 
 // Whether a request clashes with one that is out.
 fn clashes_with_any(out: &[Out], requests: &[Request], request: &Request) -> bool
-    ensures { result ≡ list_any (λ o. clash (request_value request.now) (slice_index_or (map request_value requests.now) o.place (Status 0))) out.now }
+    ensures { result ≡ list_any (λ o. clash (request_value request.now) (slice_index_or (map request_value requests.now) o.place no_request)) out.now }
 {
     out.iter().any(|o| clashes_at(requests, o.place, request))
 }
 
 fn must_wait(desk: &Desk, out: &[Out], requests: &[Request], request: &Request) -> bool
-    ensures { result ≡ (nat_eq desk.now.held 0 || list_any (λ o. clash (request_value request.now) (slice_index_or (map request_value requests.now) o.place (Status 0))) out.now) }
+    ensures { result ≡ (nat_eq desk.now.held 0 || list_any (λ o. clash (request_value request.now) (slice_index_or (map request_value requests.now) o.place no_request)) out.now) }
 {
     desk.held == 0 || clashes_with_any(out, requests, request)
 }
@@ -126,8 +125,8 @@ fn answer_for(
 ) -> Answer
     requires short { too_long (request_value request.now) ≡ false }
     requires inside { address + buffer_size ≤ length memory.now }
-    ensures { Prepared (request_value request.now) (answer_value blank) → answer_value result ≡ answer_of (request_value request.now) end
-        (part memory.now (address_of (op_of (request_value request.now) address)) (room_of (op_of (request_value request.now) address))) }
+    ensures { Prepared (request_value request.now) (answer_value blank) → answer_value result ≡ answer_of (request_value request.now).act end
+        (part memory.now (buffer_start (op_of (request_value request.now).act address)) (room_of (op_of (request_value request.now).act address))) }
 {
     let (flags, size, moved) = match end.body {
         EndBody::Status { flags } => (flags, 0, 0),
@@ -201,8 +200,6 @@ fn step<S: BlockStore>(
     requires held { desk.old.held ≤ PENDING_LIMIT }
     ensures { Onward requests.now out.old.items answers.old.items desk.old port.old memory.old out.new.items answers.new.items desk.new port.new memory.new }
 {
-    // It does nothing: its contract is the law that whichever command goes, nothing is different.
-    order_is_free();
     if let Turn::Delivered = port.turn(memory) {
         if let Some(end) = end_at(memory, desk.response_place) {
             if let Some(i) = find(out, end.reference) {
@@ -239,7 +236,7 @@ fn post<S: BlockStore>(
     ensures out { out.new.items ≡ out.old.items ++ new ∷ [] }
     ensures desk { desk.new ≡ posted_desk desk.old }
     ensures legible { read_command (written_command (command_of (request_value request.now) (new.place + 1) (buffer_address new.buffer))) ≡ Ok (command_of (request_value request.now) (new.place + 1) (buffer_address new.buffer)) }
-    ensures memory { memory.new ≡ with_command (put memory.old (buffer_address new.buffer) (bytes_brought (request_value request.now))) desk.old.command_place (command_of (request_value request.now) (new.place + 1) (buffer_address new.buffer)) }
+    ensures memory { memory.new ≡ with_command (put memory.old (buffer_address new.buffer) (bytes_brought (request_value request.now).act)) desk.old.command_place (command_of (request_value request.now) (new.place + 1) (buffer_address new.buffer)) }
     ensures port { port.old.phase ≡ Running → port.new ≡ record port.old { looking = true } }
 {
     let address = buffer_address(new.buffer);
@@ -247,7 +244,7 @@ fn post<S: BlockStore>(
     write_command(
         memory,
         desk.command_place,
-        &request.command(new.place + 1, address),
+        &command_of(request, new.place + 1, address),
     );
     port.read_ip();
     *desk = Desk {

@@ -1,7 +1,7 @@
 //! How a driver comes to run.
 ghost use Rattle.std.specs.Prelude.{◌≡◌, ℕ, ◌+◌, ◌-◌, ◌*◌, ◌<◌, ◌≤◌, length, replicate, IfOk, IfErr};
 ghost use Rattle.uda_mem.specs.Put.{put};
-ghost use Rattle.uda_exec.specs.Disks.{AreImages};
+ghost use Rattle.uda_disk.specs.Units.{AreImages};
 ghost use Rattle.uda_exec.specs.Drives.{drive_states, fresh_units, drives_in};
 ghost use Rattle.uda_port.specs.declared.phase.Phase.TheVariants.{Step1, Running};
 ghost use Rattle.uda_host.specs.Layout.{slots, area_size, memory_size, command_ring_at, response_ring_at, IsFree, ResponseSide};

@@ -65,7 +65,7 @@ pub enum Fault {
 
 impl Fault {
     ghost use Rattle.std.specs.Prelude.{◌≡◌};
-    ghost use Rattle.uda_script.specs.Statuses.{status_of};
+    ghost use Rattle.uda_script.specs.Statuses.{exit_status_of};
 
     /// A unit's image that can't be used.
     pub fn image(unit: usize, error: ImageError) -> Fault {
@@ -82,7 +82,7 @@ impl Fault {
 
     /// The program's exit status.
     pub fn status(&self) -> u8
-        ensures status { result ≡ status_of self.now }
+        ensures status { result ≡ exit_status_of self.now }
     {
         match self {
             Fault::Usage => 2,

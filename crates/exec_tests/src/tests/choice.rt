@@ -9,8 +9,8 @@ fn numbered(reference: u32, unit: u16, op: Op) -> Command {
     }
 }
 
-fn read_at(block: u32) -> Op {
-    read(0, 512, block)
+fn read_at(lbn: u32) -> Op {
+    read(0, 512, lbn)
 }
 
 /// Commands by their references, units and operations, all taken in.

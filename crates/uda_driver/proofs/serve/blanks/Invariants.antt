@@ -1,5 +1,5 @@
 use Rattle.std.proofs.Common.{◌≡◌, length, map}
-use Rattle.uda_model.specs.Values.{request_value, answer_value}
+use Rattle.uda_disk.specs.Values.{request_value, answer_value}
 use Rattle.uda_driver.specs.Underway.{AreBlank}
 use Rattle.uda_driver.proofs.serve.blanks.Given as goal
 

@@ -1,5 +1,5 @@
 use Rattle.std.proofs.Common.{rules, subst, sym}
-use Rattle.uda_exec.specs.Disks.{AreImages}
+use Rattle.uda_disk.specs.Units.{AreImages}
 use Rattle.uda_driver.proofs.driver.Driver.start.Goals as goal
 
 pub new_port-requires : goal.new_port-requires

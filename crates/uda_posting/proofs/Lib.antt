@@ -1,0 +1,6 @@
+pub mod Dues
+pub mod Serving
+pub mod Posts
+pub mod Owing
+pub mod Ending
+pub mod Outs

@@ -3,11 +3,11 @@ use crate::measure::{Contest, by_turns};
 use crate::work::bring_online;
 use anyhow::{Result, bail};
 use std::alloc::Global;
+use uda_disk::{Answer, Request};
 use uda_driver::Driver;
 use uda_exec::{Exec, PENDING};
 use uda_image::{Drive, MemImage};
 use uda_mem::HostMemory;
-use uda_disk::{Answer, Request};
 use uda_packet::{Command, Op, encode_command};
 use uda_port::{Port, Turn};
 

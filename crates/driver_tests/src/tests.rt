@@ -6,9 +6,9 @@ mod units;
 use std::alloc::Global;
 use std::process::Abort;
 use std::test::Fail;
+use uda_disk::{Answer, Request};
 use uda_driver::Driver;
 use uda_image::{BlockStore, Drive, MemImage};
-use uda_disk::{Answer, Request};
 
 const ONLINE: Request = Request::Online {
     unit: 0,

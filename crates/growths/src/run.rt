@@ -3,8 +3,8 @@ use crate::counting::{Counting, one_drive};
 use crate::tell::{tell, tell_bytes, tell_drives};
 use anyhow::{Result, anyhow};
 use std::alloc::{AllocError, Global};
-use uda_driver::Driver;
 use uda_disk::{Answer, Request};
+use uda_driver::Driver;
 
 /// Has ten Writes and ten Reads done, and prints the answers and the drives.
 pub fn more_than_eight(rt: &HostRuntime) -> Result<()> {

@@ -8,10 +8,10 @@ use std::io::Write;
 use std::test::Fail;
 use text::{Text, text_of};
 use uda_batch::run_script;
+use uda_disk::{Answer, Request};
 use uda_driver::Driver;
 use uda_grammar::parse;
 use uda_image::{Drive, MemImage};
-use uda_disk::{Answer, Request};
 use uda_plain::{PlainDisk, PlainUnits};
 
 /// How many lists are compared.

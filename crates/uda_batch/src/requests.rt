@@ -10,8 +10,8 @@ ghost use Rattle.uda_batch.specs.Reading.{ReadsBytes, ReadsRequest, ReadsRequest
 use crate::growth::{push, with_room};
 use std::alloc::Global;
 use std::io::{ErrorKind, Read};
-use uda_grammar::{Amount, Line, ScriptError, Statement};
 use uda_disk::Request;
+use uda_grammar::{Amount, Line, ScriptError, Statement};
 
 /// Makes the requests of the lines, in order. Each `write` and `writeb` takes its bytes from `input`, and
 /// nothing else does.

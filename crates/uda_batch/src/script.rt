@@ -14,10 +14,10 @@ use crate::requests::read_requests;
 use crate::texts::{put_out, put_report};
 use std::alloc::Global;
 use std::io::{Read, Write};
+use uda_disk::{Answer, Request};
 use uda_driver::{Driver, RunError};
 use uda_grammar::{Script, ScriptError};
 use uda_image::BlockStore;
-use uda_disk::{Answer, Request};
 
 /// Runs a script: has the requests that its lines make done by the driver, and tells what came of them.
 ///

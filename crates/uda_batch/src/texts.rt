@@ -9,8 +9,8 @@ use crate::put::put_all;
 use arrayvec::ArrayString;
 use std::fmt::Write as _;
 use std::io::Write;
-use uda_grammar::ScriptError;
 use uda_disk::Answer;
+use uda_grammar::ScriptError;
 
 /// The room for a line of the report: a number, two words and a number of 32 bits, and what parts
 /// them, are 42 bytes at most.

@@ -7,7 +7,7 @@ use Rattle.uda_disk.specs.Status.{DRIVE_ERROR}
 use Rattle.uda_disk.specs.Request.{Act, Online, Available, Status, Request}
 use Rattle.uda_disk.specs.Answer.{Answer, TooLong, status_of}
 use Rattle.uda_disk.specs.Plain.{Bar, Barred, Free, bar, Outcome, Done, Lost, answer_by, serve_by}
-use Rattle.uda_disk.specs.PlainRun.{FixedRequest, requests_of, too_long, step_as, step, step_of, plain, plain_as, PlainWithLosses, tells_error, drive_errors, EachLossIsTold}
+use Rattle.uda_disk.specs.PlainRun.{FixedRequest, requests_of, too_long, step_as, step, step_of, plain, plain_as, tells_error, drive_errors, EachLossIsTold}
 
 abbrev pub is_error : Answer → Bool
 is_error a = nat_eq (status_of a) DRIVE_ERROR

@@ -6,8 +6,8 @@ ghost use Rattle.uda_posting.specs.Posting.{bytes_brought};
 ghost use Rattle.uda_disk.specs.Values.{request_value};
 ghost use Rattle.uda_host.specs.Layout.{buffer_size};
 
-use uda_mem::HostMemory;
 use uda_disk::Request;
+use uda_mem::HostMemory;
 
 // Puts what a request brings into its buffer.
 pub(crate) fn bring(request: &Request, memory: &mut HostMemory, address: u32)

@@ -11,9 +11,9 @@ use crate::serve::run;
 use crate::start::{begin, host_memory, new_port, stores_of};
 use std::alloc::Global;
 use std::marker::Model;
+use uda_disk::{Answer, Request};
 use uda_image::{BlockStore, Drive};
 use uda_mem::{HostMemory, NoMemory};
-use uda_disk::{Answer, Request};
 use uda_port::Port;
 
 /// The most requests of one run.

@@ -159,7 +159,10 @@ pub(crate) fn statement_in(line: &[u8]) -> Option<Statement>
             Statement::Erase { unit, lbn, amount }
         }
         Verb::Write(measure) => {
-            let TransferNumbers { unit, lbn, count } = transfer_alone(words, most_written(measure))?;
+            let TransferNumbers { unit, lbn, count } = transfer_alone(
+                words,
+                most_written(measure),
+            )?;
             let amount = measure.amount(count);
             Statement::Write { unit, lbn, amount }
         }

@@ -207,11 +207,7 @@ impl PlainDisk {
         requires inside { lbn + blocks_for bytes ≤ self.old.size }
         ensures blocks { self.new ≡ record self.old { blocks = put self.old.blocks lbn (replicate (blocks_for bytes) (replicate 512 0)) } }
     {
-        clear(
-            &mut self.blocks,
-            lbn as usize,
-            bytes.div_ceil(512) as usize,
-        );
+        clear(&mut self.blocks, lbn as usize, bytes.div_ceil(512) as usize);
     }
 
     // Does a request that nothing bars.

@@ -7,8 +7,8 @@ ghost use Rattle.uda_disk.specs.Values.{request_value, request_values, answer_va
 use crate::disk::{PlainDisk, refused};
 use std::alloc::Global;
 use std::marker::Model;
-use uda_mem::NoMemory;
 use uda_disk::{Answer, Refusal, Request};
+use uda_mem::NoMemory;
 
 /// Four units, numbered from 0; `None` is one without a drive.
 #[derive(Debug, Drop)]

@@ -3,8 +3,8 @@
 use rand_core::{Rng, SeedableRng};
 use rand_pcg::Pcg32;
 use std::alloc::Global;
-use uda_mem::NoMemory;
 use uda_disk::Request;
+use uda_mem::NoMemory;
 
 /// Draws units and requests at random: the same for the same seed.
 #[derive(Drop)]

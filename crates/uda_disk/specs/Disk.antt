@@ -21,4 +21,5 @@ hardware_protection = 0x2000
 
 -- those that a unit of this mode tells
 abbrev pub flags_of : Mode → ℕ
-flags_of mode = (if mode.soft then software_protection else 0) + (if mode.hard then hardware_protection else 0)
+flags_of mode =
+    (if mode.soft then software_protection else 0) + (if mode.hard then hardware_protection else 0)

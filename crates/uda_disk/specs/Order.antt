@@ -13,7 +13,8 @@ passes older r = not (nat_eq older.unit r.unit) || (is_moving older.act && is_mo
 
 -- some block lies in both ranges
 abbrev pub ranges_meet : Act → Act → Bool
-ranges_meet a b = nat_lt (max (lbn_of a) (lbn_of b)) (min (lbn_of a + blocks_named a) (lbn_of b + blocks_named b))
+ranges_meet a b =
+    nat_lt (max (lbn_of a) (lbn_of b)) (min (lbn_of a + blocks_named a) (lbn_of b + blocks_named b))
 
 -- two transfers of one unit clash where their ranges meet and one of them is a Write or an Erase
 abbrev pub clash : Request → Request → Bool

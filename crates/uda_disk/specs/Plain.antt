@@ -137,11 +137,14 @@ answer_on outcome (ask.Online protect) disk =
     Online (if disk.mode.online then ALREADY_ONLINE else SUCCESS)
     (flags_of (mode_after (ask.Online protect) disk.mode)) disk.size
 answer_on outcome ask.Available disk = Plain SUCCESS
-answer_on outcome ask.Status disk = Status (if disk.mode.online then SUCCESS else AVAILABLE) (flags_of disk.mode)
+answer_on outcome ask.Status disk =
+    Status (if disk.mode.online then SUCCESS else AVAILABLE) (flags_of disk.mode)
 answer_on outcome (ask.Read lbn bytes) disk =
-    Data (transfer_status outcome) (take (transfer_bytes outcome bytes) (bytes_on outcome (ask.Read lbn bytes) disk))
+    Data (transfer_status outcome)
+    (take (transfer_bytes outcome bytes) (bytes_on outcome (ask.Read lbn bytes) disk))
 answer_on outcome (ask.Access lbn bytes) disk = Moved (transfer_status outcome) (transfer_bytes outcome bytes)
-answer_on outcome (ask.Write lbn payload) disk = Moved (transfer_status outcome) (transfer_bytes outcome (length payload))
+answer_on outcome (ask.Write lbn payload) disk =
+    Moved (transfer_status outcome) (transfer_bytes outcome (length payload))
 answer_on outcome (ask.Erase lbn bytes) disk = Moved (transfer_status outcome) (transfer_bytes outcome bytes)
 
 abbrev pub answer_by : Outcome → Act → Bar → Answer

@@ -8,4 +8,5 @@ runs step (x ∷ rest) w = let now = step x w in let later = runs step rest now.
 
 -- the same with this x, which stands at place j, done first
 abbrev pub runs_first : {X E W : Type 0} → (X → W → E × W) → ℕ → X → List X → W → List E × W
-runs_first step j x xs w = let now = step x w in let later = runs step (remove xs j) now.1 in (insert later.0 j now.0, later.1)
+runs_first step j x xs w =
+    let now = step x w in let later = runs step (remove xs j) now.1 in (insert later.0 j now.0, later.1)

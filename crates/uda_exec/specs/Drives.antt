@@ -17,7 +17,8 @@ drive_states state drives = map (option_map (drive_state state)) drives
 
 -- a drive as a unit at first: available, without software protection
 abbrev pub fresh_unit : DriveState → UnitState
-fresh_unit drive = record { store = drive.store; mode = record { online = false; hard = drive.hard; soft = false } }
+fresh_unit drive =
+    record { store = drive.store; mode = record { online = false; hard = drive.hard; soft = false } }
 
 abbrev pub fresh_units : List (Option DriveState) → List (Option UnitState)
 fresh_units drives = map (option_map fresh_unit) drives

@@ -50,7 +50,8 @@ end_for c answer = reply c (status_of answer) (body_for c.op answer)
 
 -- what bars a command of this act, by what there is of its unit
 abbrev pub bar_in : Op → Act → ℕ → Option (Option Disk) → Bar
-bar_in op act memory slot = bar_with (is_odd (buffer_start op)) (is_missing (buffer_start op) (room_of op) memory) (bar_at act slot)
+bar_in op act memory slot =
+    bar_with (is_odd (buffer_start op)) (is_missing (buffer_start op) (room_of op) memory) (bar_at act slot)
 
 abbrev pub bar_of : Command → Act → World → Bar
 bar_of c act w = bar_in c.op act (length w.memory) (slice_get w.disks c.unit)
@@ -63,7 +64,10 @@ memory_by outcome op act (Free disk) memory = put memory (buffer_start op) (byte
 abbrev pub does : Outcome → Command → Act → Bar → World → End × World
 does outcome c act b w = (
   end_for c (answer_by outcome act b),
-  record { memory = memory_by outcome c.op act b w.memory; disks = disks_by outcome (record { unit = c.unit; act = act }) b w.disks },
+  record {
+    memory = memory_by outcome c.op act b w.memory;
+    disks = disks_by outcome (record { unit = c.unit; act = act }) b w.disks;
+  },
 )
 
 -- what a command does, its outcome fixed: its end message, and memory and units afterwards

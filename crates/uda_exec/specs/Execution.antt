@@ -43,21 +43,25 @@ world_of units memory = record { memory = memory; disks = disks_of units }
 
 -- a command is carried out or lost, and the store of its unit failed once more exactly where it is lost, which it is
 -- never where that store never fails
-pub record TakesEffect (c : Command) (units : Units) (memory : List ℕ) (e : End) (units_after : Units) (memory_left : List ℕ) : Type 0 where
+pub record TakesEffect (c : Command) (units : Units) (memory : List ℕ) (e : End) (units_after : Units)
+    (memory_left : List ℕ) : Type 0 where
   pub outcome : Outcome
   pub fits : LossFits outcome (blocks_asked c.op) (acts c (world_of units memory))
   pub effect_is : (e, world_of units_after memory_left) ≡ effect outcome c (world_of units memory)
-  pub failures_are : failures_at (slice_get units_after c.unit) ≡ failures_at (slice_get units c.unit) + (if is_lost outcome then 1 else 0)
+  pub failures_are : failures_at (slice_get units_after c.unit)
+      ≡ failures_at (slice_get units c.unit) + (if is_lost outcome then 1 else 0)
   pub sure : is_sure (slice_get units c.unit) ≡ true → outcome ≡ Done
 
 -- where a command calls a store, which a transfer of some blocks does that acts, that is faithful
 abbrev pub IsTrusted : Command → Units → List ℕ → Type 0
-IsTrusted c units memory = nat_lt 0 (blocks_asked c.op) && acts c (world_of units memory) ≡ true → is_faithful (slice_get units c.unit) ≡ true
+IsTrusted c units memory = nat_lt 0 (blocks_asked c.op) && acts c (world_of units memory) ≡ true
+    → is_faithful (slice_get units c.unit) ≡ true
 
 -- a command was executed. Whatever its store: the end answers the command; memory changes only in a Read's buffer; no
 -- other unit changes, and of its own not the nature; a transfer leaves the mode, and a command that doesn't act
 -- everything. It takes effect where it calls no store, and over a faithful one.
-pub record Executes (c : Command) (units : Units) (memory : List ℕ) (e : End) (units_after : Units) (memory_left : List ℕ) : Type 0 where
+pub record Executes (c : Command) (units : Units) (memory : List ℕ) (e : End) (units_after : Units)
+    (memory_left : List ℕ) : Type 0 where
   pub answers : Answers c e
   pub memory_stays : ChangesAt memory (buffer_start c.op) (landing_of c.op) memory_left
   pub memory_is_kept : landing_of c.op ≡ 0 → memory_left ≡ memory
@@ -68,13 +72,15 @@ pub record Executes (c : Command) (units : Units) (memory : List ℕ) (e : End) 
   pub takes_effect : IsTrusted c units memory → TakesEffect c units memory e units_after memory_left
 
 -- the command at place j is executed and taken out
-pub record ExecutesAt (j : ℕ) (old : ExecState) (memory : List ℕ) (e : End) (new : ExecState) (memory_left : List ℕ) : Type 0 where
+pub record ExecutesAt (j : ℕ) (old : ExecState) (memory : List ℕ) (e : End) (new : ExecState)
+    (memory_left : List ℕ) : Type 0 where
   pub command : Command
   pub taken : TakesOut old.pending j command new.pending
   pub executes : Executes command old.units memory e new.units memory_left
 
 -- a command of this act takes effect on the unit that it speaks of, which bars it so
-pub record TakesEffectOn (c : Command) (act : Act) (b : Bar) (unit : UnitState) (memory : List ℕ) (e : End) (unit_after : UnitState) (memory_left : List ℕ) : Type 0 where
+pub record TakesEffectOn (c : Command) (act : Act) (b : Bar) (unit : UnitState) (memory : List ℕ) (e : End)
+    (unit_after : UnitState) (memory_left : List ℕ) : Type 0 where
   pub outcome : Outcome
   pub fits : LossFits outcome (blocks_asked c.op) (is_free b)
   pub end_is : e ≡ end_for c (answer_by outcome act b)
@@ -88,10 +94,13 @@ abbrev pub bar_on : Command → Act → UnitState → List ℕ → Bar
 bar_on c act unit memory = bar_in c.op act (length memory) (Some (Some (disk_of unit)))
 
 -- a command of this act is served by the unit that it speaks of: what holds whatever the store, and what over a faithful one
-pub record ServesUnit (c : Command) (act : Act) (unit : UnitState) (memory : List ℕ) (e : End) (unit_after : UnitState) (memory_left : List ℕ) : Type 0 where
+pub record ServesUnit (c : Command) (act : Act) (unit : UnitState) (memory : List ℕ) (e : End)
+    (unit_after : UnitState) (memory_left : List ℕ) : Type 0 where
   pub answers : Answers c e
   pub memory_stays : ChangesAt memory (buffer_start c.op) (landing_of c.op) memory_left
   pub nature_stays : nature_of unit_after ≡ nature_of unit
   pub mode_stays : is_transfer c.op ≡ true → unit_after.mode ≡ unit.mode
   pub unit_stays : is_free (bar_on c act unit memory) ≡ false → unit_after ≡ unit
-  pub takes_effect : (nat_lt 0 (blocks_asked c.op) && is_free (bar_on c act unit memory) ≡ true → unit.store.faithful ≡ true) → TakesEffectOn c act (bar_on c act unit memory) unit memory e unit_after memory_left
+  pub takes_effect : (nat_lt 0 (blocks_asked c.op) && is_free (bar_on c act unit memory) ≡ true
+      → unit.store.faithful ≡ true)
+      → TakesEffectOn c act (bar_on c act unit memory) unit memory e unit_after memory_left

@@ -14,7 +14,8 @@ use Rattle.uda_exec.specs.Effect.{World, effect}
 
 -- two commands speak of one unit; Set Controller Characteristics is of a unit of its own
 abbrev pub same_unit : Command → Command → Bool
-same_unit c d = if is_controller c.op then is_controller d.op else not (is_controller d.op) && nat_eq c.unit d.unit
+same_unit c d =
+    if is_controller c.op then is_controller d.op else not (is_controller d.op) && nat_eq c.unit d.unit
 
 -- a command may pass an older one of another unit, and a transfer may pass a transfer
 abbrev pub may_pass : Command → Command → Bool
@@ -23,12 +24,14 @@ may_pass older c = not (same_unit older c) || (is_transfer older.op && is_transf
 -- the command at place j may be done next: it may pass every older one
 pub record MayGo (pending : List Command) (j : ℕ) : Type 0 where
   pub stands : j < length pending
-  pub passes : (i : ℕ) (older c : Command) → i < j → slice_get pending i ≡ Some older → slice_get pending j ≡ Some c → may_pass older c ≡ true
+  pub passes : (i : ℕ) (older c : Command) → i < j → slice_get pending i ≡ Some older
+      → slice_get pending j ≡ Some c → may_pass older c ≡ true
 
 -- two commands are apart: whatever memory holds, the requests that they stand for don't clash; and their buffers have no
 -- byte in common
 pub record Apart (c d : Command) : Type 0 where
-  pub no_clash : (memory : List ℕ) (r s : Request) → request_asked c memory ≡ Some r → request_asked d memory ≡ Some s → clash r s ≡ false
+  pub no_clash : (memory : List ℕ) (r s : Request) → request_asked c memory ≡ Some r
+      → request_asked d memory ≡ Some s → clash r s ≡ false
   pub no_overlap : Meet (buffer_start c.op) (room_of c.op) (buffer_start d.op) (room_of d.op) → ⊥
 
 -- a command, its outcome fixed
@@ -61,7 +64,8 @@ OrderIsFree =
 abbrev pub OneMore : Type 0
 OneMore =
     (xs : List FixedCommand) (x : FixedCommand) (w : World)
-    → effects (xs ++ x ∷ []) w ≡ ((effects xs w).0 ++ (effect_of x (effects xs w).1).0 ∷ [], (effect_of x (effects xs w).1).1)
+    → effects (xs ++ x ∷ []) w
+    ≡ ((effects xs w).0 ++ (effect_of x (effects xs w).1).0 ∷ [], (effect_of x (effects xs w).1).1)
 
 -- bytes at a place meet no buffer of the commands
 abbrev pub IsBeside : ℕ → ℕ → List FixedCommand → Type 0
@@ -85,5 +89,7 @@ pub record SameData (xs : List FixedCommand) (memory other : List ℕ) : Type 0 
 abbrev pub DependsOnDataAlone : Type 0
 DependsOnDataAlone =
     (xs : List FixedCommand) (memory other : List ℕ) (disks : Disks) → SameData xs memory other
-    → (((effects xs (record { memory = memory; disks = disks })).0 ≡ (effects xs (record { memory = other; disks = disks })).0)
-    × ((effects xs (record { memory = memory; disks = disks })).1.disks ≡ (effects xs (record { memory = other; disks = disks })).1.disks))
+    → (((effects xs (record { memory = memory; disks = disks })).0
+    ≡ (effects xs (record { memory = other; disks = disks })).0)
+    × ((effects xs (record { memory = memory; disks = disks })).1.disks
+    ≡ (effects xs (record { memory = other; disks = disks })).1.disks))

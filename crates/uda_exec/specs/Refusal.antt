@@ -43,4 +43,6 @@ extent_in t = record { lbn = t.lbn; bytes = t.bytes; writes = changes_blocks t.k
 
 -- all checks of a transfer on a unit with a drive: what the first that fails finds
 abbrev pub transfer_refusal : Transfer → ℕ → ℕ → Mode → Option Refusal
-transfer_refusal t memory size mode = with_buffer (is_odd t.buffer) (is_missing t.buffer (room_in t) memory) (extent_refusal (extent_in t) size mode)
+transfer_refusal t memory size mode =
+    with_buffer (is_odd t.buffer) (is_missing t.buffer (room_in t) memory)
+    (extent_refusal (extent_in t) size mode)

@@ -35,41 +35,48 @@ abbrev pub ChangesAt : List ℕ → ℕ → ℕ → List ℕ → Type 0
 ChangesAt old at n new = new ≡ put old at (part new at n)
 
 -- a read of block n, by its answer, of which so many bytes from a place of memory on are as it was read
-pub record ReadsInto (n at bytes : ℕ) (old : StoreState) (memory : List ℕ) (new : StoreState) (memory_after : List ℕ) (result : Result Unit StoreError) : Type 0 where
+pub record ReadsInto (n at bytes : ℕ) (old : StoreState) (memory : List ℕ) (new : StoreState)
+    (memory_after : List ℕ) (result : Result Unit StoreError) : Type 0 where
   pub to : List ℕ
   pub whole : length to ≡ 512
   pub landed : memory_after ≡ put memory at (take bytes to)
   pub reads : old.faithful ≡ true → Reads old n new to result
 
 -- this block stands at place k of the transfer now, where its kind puts it
-pub record Stands (t : Transfer) (k : ℕ) (block : List ℕ) (old : StoreState) (memory : List ℕ) (new : StoreState) (memory_after : List ℕ) : Type 0 where
+pub record Stands (t : Transfer) (k : ℕ) (block : List ℕ) (old : StoreState) (memory : List ℕ)
+    (new : StoreState) (memory_after : List ℕ) : Type 0 where
   pub in_memory : memory_after ≡ put memory (t.buffer + 512 * k) (bytes_landing_of t k block)
   pub in_store : new.blocks ≡ put old.blocks (t.lbn + k) (blocks_stored t (block ∷ []))
 
 -- block k is moved
-pub record MovesBlock (t : Transfer) (k : ℕ) (old : StoreState) (memory : List ℕ) (new : StoreState) (memory_after : List ℕ) : Type 0 where
+pub record MovesBlock (t : Transfer) (k : ℕ) (old : StoreState) (memory : List ℕ) (new : StoreState)
+    (memory_after : List ℕ) : Type 0 where
   pub stands : Stands t k (slice_index_or (blocks_due t old.blocks memory) k []) old memory new memory_after
   pub failures_stay : new.failures ≡ old.failures
 
 -- the store failed there, which left 512 bytes
-pub record LosesBlock (t : Transfer) (k : ℕ) (old : StoreState) (memory : List ℕ) (new : StoreState) (memory_after : List ℕ) : Type 0 where
+pub record LosesBlock (t : Transfer) (k : ℕ) (old : StoreState) (memory : List ℕ) (new : StoreState)
+    (memory_after : List ℕ) : Type 0 where
   pub left : List ℕ
   pub whole : length left ≡ 512
   pub stands : Stands t k left old memory new memory_after
   pub counted : new.failures ≡ old.failures + 1
 
 -- these blocks stand at the start of the transfer now
-pub record Stand (t : Transfer) (blocks : List (List ℕ)) (old : StoreState) (memory : List ℕ) (new : StoreState) (memory_after : List ℕ) : Type 0 where
+pub record Stand (t : Transfer) (blocks : List (List ℕ)) (old : StoreState) (memory : List ℕ)
+    (new : StoreState) (memory_after : List ℕ) : Type 0 where
   pub in_memory : memory_after ≡ put memory t.buffer (bytes_landing t blocks)
   pub in_store : new.blocks ≡ put old.blocks t.lbn (blocks_stored t blocks)
 
 -- the first k blocks are moved, and the store never failed
-pub record Progress (t : Transfer) (k : ℕ) (old : StoreState) (memory : List ℕ) (new : StoreState) (memory_after : List ℕ) : Type 0 where
+pub record Progress (t : Transfer) (k : ℕ) (old : StoreState) (memory : List ℕ) (new : StoreState)
+    (memory_after : List ℕ) : Type 0 where
   pub stand : Stand t (take k (blocks_due t old.blocks memory)) old memory new memory_after
   pub failures_stay : new.failures ≡ old.failures
 
 -- the first k blocks are moved, and then the store failed, which left 512 bytes at block k
-pub record StopsAt (t : Transfer) (k : ℕ) (old : StoreState) (memory : List ℕ) (new : StoreState) (memory_after : List ℕ) : Type 0 where
+pub record StopsAt (t : Transfer) (k : ℕ) (old : StoreState) (memory : List ℕ) (new : StoreState)
+    (memory_after : List ℕ) : Type 0 where
   pub left : List ℕ
   pub whole : length left ≡ 512
   pub stand : Stand t (take k (blocks_due t old.blocks memory) ++ left ∷ []) old memory new memory_after

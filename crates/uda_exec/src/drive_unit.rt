@@ -72,7 +72,8 @@ impl<S: BlockStore> DriveUnit<S> {
     // Access, Erase, Read or Write: all checks, and then the blocks.
     fn transfer(&mut self, command: Command, t: Transfer, memory: &mut HostMemory) -> End
         requires { transfer_of command.op ≡ Some t }
-        ensures serves { (act : Act) → act_of command.op memory.old ≡ Some act → ServesUnit command act self.old memory.old result self.new memory.new }
+        ensures serves { (act : Act) → act_of command.op memory.old ≡ Some act
+            → ServesUnit command act self.old memory.old result self.new memory.new }
         ensures image { HoldsImage (Some self.new) }
     {
         if let Some(refusal) = transfer_refusal(t, memory.len(), self.store.size(), self.mode) {
@@ -90,8 +91,10 @@ impl<S: BlockStore> DriveUnit<S> {
     fn set_mode(&mut self, command: Command) -> End
         requires transfer { transfer_of command.op ≡ None }
         requires unit { IsSome (act_of command.op []) }
-        ensures end { IfSome (act_of command.op []) (λ act. result ≡ end_for command (answer_on Done act (disk_of self.old))) }
-        ensures unit { IfSome (act_of command.op []) (λ act. self.new ≡ record self.old { mode = mode_after act self.old.mode }) }
+        ensures end { IfSome (act_of command.op []) (λ act.
+            result ≡ end_for command (answer_on Done act (disk_of self.old))) }
+        ensures unit { IfSome (act_of command.op []) (λ act.
+            self.new ≡ record self.old { mode = mode_after act self.old.mode }) }
         ensures image { HoldsImage (Some self.new) }
     {
         let was_online = self.mode.online;
@@ -126,7 +129,8 @@ impl<S: BlockStore> DriveUnit<S> {
     /// message.
     pub fn execute(&mut self, command: Command, memory: &mut HostMemory) -> End
         requires unit { IsSome (act_of command.op []) }
-        ensures serves { (act : Act) → act_of command.op memory.old ≡ Some act → ServesUnit command act self.old memory.old result self.new memory.new }
+        ensures serves { (act : Act) → act_of command.op memory.old ≡ Some act
+            → ServesUnit command act self.old memory.old result self.new memory.new }
         ensures image { HoldsImage (Some self.new) }
     {
         match command.op.transfer() {

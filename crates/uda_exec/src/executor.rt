@@ -150,7 +150,8 @@ impl<S: BlockStore> Exec<S> {
             ≡ is_faithful (slice_get self.old.units u) }
         ensures sure { (u : ℕ) → is_sure (slice_get self.new.units u)
             ≡ is_sure (slice_get self.old.units u) }
-        ensures executes { IfSome result (λ end. (j : ℕ) × ExecutesAt j self.old memory.old end self.new memory.new) }
+        ensures executes { IfSome result (λ end.
+            (j : ℕ) × ExecutesAt j self.old memory.old end self.new memory.new) }
     {
         let place = next_place(self.pending.as_slice(), self.position)?;
         let command = self.pending.remove(place);

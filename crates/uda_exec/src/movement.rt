@@ -69,7 +69,8 @@ fn write_block<S: BlockStore>(
     requires in_memory { address + bytes ≤ length memory.now }
     ensures nature { KeepsNature (S.state store.old) (S.state store.new) }
     ensures sure { (S.state store.old).never_fails ≡ true → IsOk result }
-    ensures writes { (S.state store.old).faithful ≡ true → Writes (S.state store.old) n (S.state store.new) (first_block (part memory.now address bytes)) result }
+    ensures writes { (S.state store.old).faithful ≡ true
+        → Writes (S.state store.old) n (S.state store.new) (first_block (part memory.now address bytes)) result }
 {
     if bytes >= BLOCK {
         return store.write(n, memory.block_at(address));

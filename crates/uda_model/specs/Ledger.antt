@@ -38,7 +38,8 @@ abbrev pub Ledger : Disks → List Request → List Due → List Answer → Disk
 Ledger start requests due told disks =
     (fixed : List FixedDue) → dues_in fixed ≡ due → All FitsRequest (map fixed_request fixed)
     → PlainWithLosses start requests
-    (with_answers told due (plain_as disks (map fixed_request fixed)).0) (plain_as disks (map fixed_request fixed)).1
+    (with_answers told due (plain_as disks (map fixed_request fixed)).0)
+    (plain_as disks (map fixed_request fixed)).1
 
 -- ---- its steps
 
@@ -61,14 +62,17 @@ Closes =
 -- a request that is too long is answered at once
 abbrev pub Skips : Type 0
 Skips =
-    (start : Disks) (requests : List Request) (due : List Due) (told : List Answer) (disks : Disks) (r : Request)
+    (start : Disks) (requests : List Request) (due : List Due) (told : List Answer) (disks : Disks)
+    (r : Request)
     → too_long r ≡ true → AreBelow (length told) due
-    → Ledger start requests due told disks → Ledger start (requests ++ r ∷ []) due (told ++ TooLong ∷ []) disks
+    → Ledger start requests due told disks
+    → Ledger start (requests ++ r ∷ []) due (told ++ TooLong ∷ []) disks
 
 -- one more is due, whose answer is still to come
 abbrev pub TakesIn : Type 0
 TakesIn =
-    (start : Disks) (requests : List Request) (due : List Due) (told : List Answer) (disks : Disks) (d : Due)
+    (start : Disks) (requests : List Request) (due : List Due) (told : List Answer) (disks : Disks)
+    (d : Due)
     → AreBelow (length told) due → d.place ≡ length told
     → Ledger start requests due told disks
     → Ledger start (requests ++ d.request ∷ []) (due ++ d ∷ []) (told ++ TooLong ∷ []) disks

@@ -184,7 +184,8 @@ impl PlainDisk {
 
     fn read(&self, alloc: Global, lbn: u32, bytes: u32) -> Result<Answer, NoMemory>
         requires inside { lbn + blocks_for bytes ≤ self.now.size }
-        ensures answer { IfOk result (λ answer. answer_value answer ≡ answer_on Done (ask.Read lbn bytes) self.now) }
+        ensures answer { IfOk result (λ answer.
+            answer_value answer ≡ answer_on Done (ask.Read lbn bytes) self.now) }
     {
         let first = lbn as usize;
         let count = bytes.div_ceil(512) as usize;
@@ -198,14 +199,17 @@ impl PlainDisk {
 
     fn write(&mut self, lbn: u32, payload: &[u8])
         requires inside { lbn + blocks_for (length payload.now) ≤ self.old.size }
-        ensures blocks { self.new ≡ record self.old { blocks = put self.old.blocks lbn (in_blocks payload.now) } }
+        ensures blocks { self.new
+            ≡ record self.old { blocks = put self.old.blocks lbn (in_blocks payload.now) } }
     {
         write_bytes(&mut self.blocks, lbn as usize, payload);
     }
 
     fn erase(&mut self, lbn: u32, bytes: u32)
         requires inside { lbn + blocks_for bytes ≤ self.old.size }
-        ensures blocks { self.new ≡ record self.old { blocks = put self.old.blocks lbn (replicate (blocks_for bytes) (replicate 512 0)) } }
+        ensures blocks { self.new ≡ record self.old {
+          blocks = put self.old.blocks lbn (replicate (blocks_for bytes) (replicate 512 0));
+        } }
     {
         clear(&mut self.blocks, lbn as usize, bytes.div_ceil(512) as usize);
     }
@@ -214,8 +218,10 @@ impl PlainDisk {
     fn act(&mut self, alloc: Global, request: &Request) -> Result<Answer, NoMemory>
         requires short { too_long (request_value request.now) ≡ false }
         requires free { bar_at (request_value request.now).act (Some (Some self.old)) ≡ Free self.old }
-        ensures answer { IfOk result (λ answer. answer_value answer ≡ answer_on Done (request_value request.now).act self.old) }
-        ensures disk { IfOk result (λ _. self.new ≡ disk_after Done (request_value request.now).act self.old) }
+        ensures answer { IfOk result (λ answer.
+            answer_value answer ≡ answer_on Done (request_value request.now).act self.old) }
+        ensures disk { IfOk result (λ _.
+            self.new ≡ disk_after Done (request_value request.now).act self.old) }
         ensures unchanged { IfErr result (λ _. self.new ≡ self.old) }
     {
         Ok(match request {
@@ -263,7 +269,8 @@ impl PlainDisk {
 
 /// The answer of a refused request: its status alone.
 pub(crate) fn refused(alloc: Global, request: &Request, refusal: Refusal) -> Answer
-    ensures answer { answer_value result ≡ blank_answer (request_value request.now).act (refusal_status refusal) }
+    ensures answer { answer_value result
+        ≡ blank_answer (request_value request.now).act (refusal_status refusal) }
 {
     let status = refusal.status();
     match request {

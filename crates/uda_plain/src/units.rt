@@ -32,7 +32,8 @@ fn step_unit(
 ) -> Result<Answer, NoMemory>
     requires short { too_long (request_value request.now) ≡ false }
     ensures answer { IfOk result (λ answer. answer_value answer
-        ≡ answer_by Done (request_value request.now).act (bar_at (request_value request.now).act (Some unit.old))) }
+        ≡ answer_by Done (request_value request.now).act
+        (bar_at (request_value request.now).act (Some unit.old))) }
     ensures unit { IfOk result (λ _. unit.new
         ≡ option_map (disk_by Done (request_value request.now).act
         (bar_at (request_value request.now).act (Some unit.old))) unit.old) }
@@ -49,7 +50,8 @@ fn step(
     alloc: Global,
     request: &Request,
 ) -> Result<Answer, NoMemory>
-    ensures step { IfOk result (λ answer. (answer_value answer, units.new) ≡ step (request_value request.now) units.old) }
+    ensures step { IfOk result (λ answer.
+        (answer_value answer, units.new) ≡ step (request_value request.now) units.old) }
     ensures unchanged { IfErr result (λ _. units.new ≡ units.old) }
 {
     if request.is_too_long() {
@@ -83,7 +85,8 @@ impl PlainUnits {
     ///
     /// [`NoMemory`] where no memory is left for a Read's bytes: then nothing was done.
     pub fn step(&mut self, alloc: Global, request: &Request) -> Result<Answer, NoMemory>
-        ensures step { IfOk result (λ answer. (answer_value answer, self.new) ≡ step (request_value request.now) self.old) }
+        ensures step { IfOk result (λ answer.
+            (answer_value answer, self.new) ≡ step (request_value request.now) self.old) }
         ensures unchanged { IfErr result (λ _. self.new ≡ self.old) }
     {
         step(&mut self.units, alloc, request)
@@ -95,7 +98,8 @@ impl PlainUnits {
     ///
     /// [`NoMemory`] where no memory is left for the answers: those before were done.
     pub fn run(&mut self, alloc: Global, requests: &[Request]) -> Result<Vec<Answer>, NoMemory>
-        ensures plain { IfOk result (λ answers. (answer_values answers.items, self.new) ≡ plain self.old (request_values requests.now)) }
+        ensures plain { IfOk result (λ answers.
+            (answer_values answers.items, self.new) ≡ plain self.old (request_values requests.now)) }
     {
         let mut answers = Vec::new(alloc);
         for request in requests {

@@ -8,7 +8,7 @@ use Rattle.uda_mem.proofs.PutLaws.{length-put, part-put_at}
 use Rattle.uda_packet.specs.declared.command.Command.{Command}
 use Rattle.uda_disk.specs.Request.{Act, Online, Read, Write, Request, is_moving, blocks_named}
 use Rattle.uda_disk.specs.Order as disk
-use Rattle.uda_disk.specs.PlainRun.{too_long}
+use Rattle.uda_disk.specs.PlainRun.{transfer_limit, too_long}
 use Rattle.uda_exec.specs.Commands.{is_controller, is_transfer, buffer_start, room_of, blocks_asked, act_of}
 use Rattle.uda_exec.specs.Order.{may_pass, MayGo}
 use Rattle.uda_exec.proofs.Blocks.{bytes_at-within}
@@ -30,7 +30,7 @@ names_same _ address = record { speaks = refl; moving = refl; count = refl }
 
 -- where a command has a buffer, it begins at the address given, and it is small
 pub record BufferAt (act : Act) (address : ℕ) : Type 0 where
-  pub small : room_of (op_of act address) ≤ 16384
+  pub small : room_of (op_of act address) ≤ transfer_limit
   pub here : 0 < room_of (op_of act address) → buffer_start (op_of act address) ≡ address
   pub low : buffer_start (op_of act address) ≤ address
   pub even : address % 2 ≡ 0 → buffer_start (op_of act address) % 2 ≡ 0
@@ -55,7 +55,7 @@ bytes_fit (Write first payload) address = record {
 bytes_fit (Online protect) address = record { fits = omega arith; asks = λ _ _. refl }
 bytes_fit _ address = record { fits = omega arith; asks = λ _ _. refl }
 
-pub ready-put : (p : Posted) (memory : List ℕ) → too_long p.request ≡ false → p.address % 2 ≡ 0 → p.address + 16384 ≤ length memory → Ready p (put memory p.address (bytes_brought p.request.act))
+pub ready-put : (p : Posted) (memory : List ℕ) → too_long p.request ≡ false → p.address % 2 ≡ 0 → p.address + transfer_limit ≤ length memory → Ready p (put memory p.address (bytes_brought p.request.act))
 ready-put p memory short even room =
     let buffer = buffer-at p.request.unit p.request.act p.address short in
     let size = length-put memory p.address (bytes_brought p.request.act) in

@@ -53,12 +53,15 @@ IsNotDue k due = All (IsNotAt k) due
 -- ---- what is owed
 
 -- Over faithful stores: what the commands that are due will make of what was told, and each failure was told once.
-pub record Sound (start : Units) (requests : List Request) (due : List Posted) (told : List Answer) (units : Units) : Type 0 where
+pub record Sound (start : Units) (requests : List Request) (due : List Posted) (told : List Answer)
+    (units : Units) : Type 0 where
   pub ledger : Ledger (disks_of start) requests (dues_of due) told (disks_of units)
-  pub errors : (u : ℕ) → failures_at (slice_get units u) ≡ failures_at (slice_get start u) + drive_errors u requests told
+  pub errors : (u : ℕ)
+      → failures_at (slice_get units u) ≡ failures_at (slice_get start u) + drive_errors u requests told
 
 -- Of these requests, posted or answered at once, these are still to be done by their commands; all others have their answers.
-pub record Owes (start : Units) (requests : List Request) (due : List Posted) (told : List Answer) (units : Units) (memory : List ℕ) : Type 0 where
+pub record Owes (start : Units) (requests : List Request) (due : List Posted) (told : List Answer)
+    (units : Units) (memory : List ℕ) : Type 0 where
   pub counted : length told ≡ length requests
   pub stand : All (StandsIn requests) due
   pub untold : All (IsUntold told) due
@@ -66,7 +69,8 @@ pub record Owes (start : Units) (requests : List Request) (due : List Posted) (t
   pub ready : All (IsReadyIn memory) due
   pub beside : AllPairs Beside (commands_in due)
   pub clear : AllPairs NoClash (requests_posted due)
-  pub formed : (k : ℕ) (r : Request) (answer : Answer) → slice_get requests k ≡ Some r → slice_get told k ≡ Some answer → IsNotDue k due → IsAnswerOf r answer
+  pub formed : (k : ℕ) (r : Request) (answer : Answer) → slice_get requests k ≡ Some r
+      → slice_get told k ≡ Some answer → IsNotDue k due → IsAnswerOf r answer
   pub natures : natures_of units ≡ natures_of start
   pub sound : AllFaithful start → AreImages start → Sound start requests due told units
 
@@ -92,12 +96,14 @@ abbrev pub EndedNotAt : ℕ → Ended → Type 0
 EndedNotAt k d = IsNotAt k d.posted
 
 -- What is owed, where some answers still lie in their ends: the driver has told all others.
-pub record Keeps (start : Units) (requests : List Request) (due : List Posted) (ended : List Ended) (answers : List Answer) (units : Units) (memory : List ℕ) : Type 0 where
+pub record Keeps (start : Units) (requests : List Request) (due : List Posted) (ended : List Ended)
+    (answers : List Answer) (units : Units) (memory : List ℕ) : Type 0 where
   pub told : List Answer
   pub owes : Owes start requests due told units memory
   pub tell : All (Tells told memory) ended
   pub left : All (IsLeftBy due) ended
-  pub shown : (k : ℕ) → k < length requests → IsNotDue k due → All (EndedNotAt k) ended → slice_get answers k ≡ slice_get told k
+  pub shown : (k : ℕ) → k < length requests → IsNotDue k due → All (EndedNotAt k) ended
+      → slice_get answers k ≡ slice_get told k
 
 -- ---- what is out
 
@@ -122,7 +128,8 @@ EndedIsNone due d = IsNotDue d.posted.place due
 
 -- The requests that are out are those that are due and those that have ended, each once; the ends wait in the order in
 -- which they were made.
-pub record Outs (out : List Posted) (due : List Posted) (ended : List Ended) (waiting : List End) : Type 0 where
+pub record Outs (out : List Posted) (due : List Posted) (ended : List Ended) (waiting : List End)
+    : Type 0 where
   pub counted : length out ≡ length ended + length due
   pub has_due : All (Has out) due
   pub has_ended : All (HasEnded out) ended

@@ -1,0 +1,23 @@
+-- The answers before their requests are posted.
+use Rattle.std.specs.Prelude.{◌≡◌, ℕ, ◌≤◌, true, false, List, length, slice_get, Some}
+use Rattle.uda_model.specs.Request as ask
+use Rattle.uda_model.specs.Request.{Request, too_long}
+use Rattle.uda_model.specs.Answer as tell
+use Rattle.uda_model.specs.Answer.{Answer}
+
+-- an answer that has room for the bytes that a Read brings
+abbrev pub Prepared : Request → Answer → Type 0
+Prepared (ask.Read unit first bytes) (tell.Data status held) = bytes ≤ length held
+Prepared (ask.Read unit first bytes) answer = ⊥
+Prepared r answer = Unit {0}
+
+-- the answer that stands before a request is posted
+pub record IsBlank (r : Request) (answer : Answer) : Type 0 where
+  pub long : too_long r ≡ true → answer ≡ tell.TooLong
+  pub room : too_long r ≡ false → Prepared r answer
+
+-- those from place n on are blank
+abbrev pub AreBlank : List Request → ℕ → List Answer → Type 0
+AreBlank requests n answers =
+    (k : ℕ) (r : Request) (answer : Answer)
+    → n ≤ k → slice_get requests k ≡ Some r → slice_get answers k ≡ Some answer → IsBlank r answer

@@ -7,7 +7,7 @@ use uda_driver::Driver;
 use uda_exec::{Exec, PENDING};
 use uda_image::{Drive, MemImage};
 use uda_mem::HostMemory;
-use uda_model::{Answer, Request};
+use uda_disk::{Answer, Request};
 use uda_packet::{Command, Op, encode_command};
 use uda_port::{Port, Turn};
 
@@ -51,9 +51,9 @@ impl Errand {
     fn op(self, n: u32) -> Op {
         match self {
             Errand::Read(blocks) => Op::Read {
-                count: blocks.saturating_mul(512),
+                bytes: blocks.saturating_mul(512),
                 address: BUFFER,
-                block: self.block(n),
+                lbn: self.block(n),
             },
             Errand::Status => Op::Status,
         }

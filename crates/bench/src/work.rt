@@ -19,7 +19,7 @@ impl Direction {
         Work {
             direction: self,
             blocks,
-            count: blocks.saturating_mul(512),
+            bytes: blocks.saturating_mul(512),
             transfers,
         }
     }
@@ -33,7 +33,7 @@ pub struct Work {
     /// The blocks of a transfer.
     pub blocks: u32,
     /// The bytes of a transfer.
-    pub count: u32,
+    pub bytes: u32,
     /// How many transfers there are.
     pub transfers: u32,
 }
@@ -64,19 +64,19 @@ impl Work {
         }
     }
 
-    // The operation of the transfer at `block`.
-    fn op(self, block: u32) -> Op {
-        let (count, address) = (self.count, 0);
+    // The operation of the transfer at `lbn`.
+    fn op(self, lbn: u32) -> Op {
+        let (bytes, address) = (self.bytes, 0);
         match self.direction {
             Direction::Read => Op::Read {
-                count,
+                bytes,
                 address,
-                block,
+                lbn,
             },
             Direction::Write => Op::Write {
-                count,
+                bytes,
                 address,
-                block,
+                lbn,
             },
         }
     }

@@ -41,19 +41,19 @@ fn main(rt: HostRuntime) -> Result<()> {
 }
 
 // A Write of one block, from the bytes of memory at an address.
-fn write(address: u32, block: u32) -> Op {
+fn write(address: u32, lbn: u32) -> Op {
     Op::Write {
-        count: 512,
+        bytes: 512,
         address,
-        block,
+        lbn,
     }
 }
 
 // A Read of one block, to the bytes of memory at an address.
-fn read(address: u32, block: u32) -> Op {
+fn read(address: u32, lbn: u32) -> Op {
     Op::Read {
-        count: 512,
+        bytes: 512,
         address,
-        block,
+        lbn,
     }
 }

@@ -4,10 +4,10 @@ ghost use Rattle.std.specs.Prelude.{◌≡◌, ◌/◌, true, false, [], length,
 ghost use Rattle.std.specs.List.{concat};
 ghost use Rattle.std.specs.Simd.{first_chunks};
 ghost use Rattle.uda_image.specs.Image.{blocks_of};
-ghost use Rattle.uda_exec.specs.Disks.{AreImages};
+ghost use Rattle.uda_disk.specs.Units.{AreImages, is_faithful, is_sure};
 ghost use Rattle.uda_exec.specs.Commands.{is_transfer, landing_of};
 ghost use Rattle.uda_exec.specs.Effect.{is_acting, verdict};
-ghost use Rattle.uda_exec.specs.Execution.{Executes, world_of, is_faithful, is_sure};
+ghost use Rattle.uda_exec.specs.Execution.{Executes, world_of};
 
 use super::read;
 use std::alloc::Global;

@@ -6,7 +6,7 @@ use anyhow::{Result, anyhow};
 use std::alloc::Global;
 use uda_driver::Driver;
 use uda_image::{Drive, MemImage};
-use uda_model::Request;
+use uda_disk::Request;
 
 fn main(rt: HostRuntime) -> Result<()> {
     let alloc = rt.alloc();

@@ -8,7 +8,7 @@ use std::process::Abort;
 use std::test::Fail;
 use uda_driver::Driver;
 use uda_image::{BlockStore, Drive, MemImage};
-use uda_model::{Answer, Request};
+use uda_disk::{Answer, Request};
 
 const ONLINE: Request = Request::Online {
     unit: 0,

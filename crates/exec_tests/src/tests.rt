@@ -45,27 +45,27 @@ fn online(soft: Option<bool>) -> Op {
     Op::Online { soft }
 }
 
-fn access(count: u32, block: u32) -> Op {
-    Op::Access { count, block }
+fn access(bytes: u32, lbn: u32) -> Op {
+    Op::Access { bytes, lbn }
 }
 
-fn erase(count: u32, block: u32) -> Op {
-    Op::Erase { count, block }
+fn erase(bytes: u32, lbn: u32) -> Op {
+    Op::Erase { bytes, lbn }
 }
 
-fn read(address: u32, count: u32, block: u32) -> Op {
+fn read(address: u32, bytes: u32, lbn: u32) -> Op {
     Op::Read {
-        count,
+        bytes,
         address,
-        block,
+        lbn,
     }
 }
 
-fn write(address: u32, count: u32, block: u32) -> Op {
+fn write(address: u32, bytes: u32, lbn: u32) -> Op {
     Op::Write {
-        count,
+        bytes,
         address,
-        block,
+        lbn,
     }
 }
 

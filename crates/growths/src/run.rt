@@ -4,7 +4,7 @@ use crate::tell::{tell, tell_bytes, tell_drives};
 use anyhow::{Result, anyhow};
 use std::alloc::{AllocError, Global};
 use uda_driver::Driver;
-use uda_model::{Answer, Request};
+use uda_disk::{Answer, Request};
 
 /// Has ten Writes and ten Reads done, and prints the answers and the drives.
 pub fn more_than_eight(rt: &HostRuntime) -> Result<()> {

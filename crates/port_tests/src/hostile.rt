@@ -100,9 +100,9 @@ fn read_over_the_rings(rt: HostRuntime) -> Result<(), Fail> {
         machine.open_response(&rt, i);
     }
     let read = Op::Read {
-        count: 512,
+        bytes: 512,
         address: 8,
-        block: 0,
+        lbn: 0,
     };
     machine.post_command(&rt, 1, 0, read);
     let wanted = [Turn::Fetched, Turn::Executed, Turn::Idle];
@@ -124,16 +124,16 @@ fn start_up_in_mid_work(rt: HostRuntime) -> Result<(), Fail> {
     machine.put_online(&rt);
     machine.fill_block(0x1000, 0x77);
     let write = Op::Write {
-        count: 512,
+        bytes: 512,
         address: 0x1000,
-        block: 2,
+        lbn: 2,
     };
     machine.post_command(&rt, 1, 0, write);
     machine.take_turns(&rt, &[Turn::Fetched, Turn::Executed]);
     let read = Op::Read {
-        count: 512,
+        bytes: 512,
         address: 0x1200,
-        block: 2,
+        lbn: 2,
     };
     machine.post_command(&rt, 2, 0, read);
     machine.take_turns(&rt, &[Turn::Fetched]);

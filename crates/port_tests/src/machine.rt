@@ -52,7 +52,7 @@ fn port_over(alloc: Global, image: MemImage) -> Result<Port<MemImage>, Fail> {
 }
 
 /// A port over a unit 0 of 8 blocks, block k all bytes k.
-pub(crate) fn new_port(alloc: Global) -> Result<Port<MemImage>, Fail> {
+fn new_port(alloc: Global) -> Result<Port<MemImage>, Fail> {
     port_over(alloc, image_of_eight(alloc)?)
 }
 
@@ -146,6 +146,11 @@ impl Machine {
     /// Whether the port looks at its command ring.
     pub(crate) fn is_looking(&self) -> bool {
         self.port.is_looking()
+    }
+
+    /// How the port shows itself.
+    pub(crate) fn text(&self, alloc: Global) -> Result<String, Fail> {
+        Ok(format!(in alloc; "{:?}", self.port)?)
     }
 
     /// The units, as the port leaves them.

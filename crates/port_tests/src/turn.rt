@@ -1,6 +1,6 @@
 //! Turns of a running port, by the worked examples.
 
-use super::machine::{COMMANDS, Machine, new_port};
+use super::machine::{COMMANDS, Machine};
 use std::alloc::Global;
 use std::test::Fail;
 use uda_exec::Exec;
@@ -93,9 +93,9 @@ fn refused_transfers(rt: HostRuntime) -> Result<(), Fail> {
         machine.put_online(&rt);
         machine.open_response(&rt, 1);
         let read = Op::Read {
-            count,
+            bytes: count,
             address,
-            block: 5,
+            lbn: 5,
         };
         machine.post_command(&rt, 1, 0, read);
         machine.take_turns(&rt, &ONE_COMMAND);
@@ -177,14 +177,54 @@ fn a_port_looks_when_ip_is_read(rt: HostRuntime) -> Result<(), Fail> {
 
 #[test]
 fn a_port_is_told_by_its_debug_text(rt: HostRuntime) -> Result<(), Fail> {
-    let port = new_port(rt.alloc())?;
-    let text = format!(in rt.alloc(); "{port:?}")?;
+    let text = Machine::new(rt.alloc())?.text(rt.alloc())?;
     assert_eq!(rt;
         text.as_str(),
         "Port { phase: Step1, pending: 0, waiting: 0, looking: false, credits: 1, .. }"
     );
-    let cause = format!(in rt.alloc(); "{}", Fatal::CreditsExceeded)?;
-    assert_eq!(rt; cause.as_str(), "the host exceeded its credits");
+    Ok(())
+}
+
+#[test]
+fn a_busy_port_by_its_debug_text(rt: HostRuntime) -> Result<(), Fail> {
+    let mut machine = Machine::running(rt.alloc())?;
+    machine.put_online(&rt);
+    for i in 1..4 {
+        machine.post_command(&rt, i, 0, Op::Status);
+    }
+    machine.take_turns(&rt, &[Turn::Fetched, Turn::Fetched, Turn::Fetched]);
+    machine.assert_turn(&rt, Turn::Executed);
+    let text = machine.text(rt.alloc())?;
+    assert_eq!(rt;
+        text.as_str(),
+        "Port { phase: Running, pending: 2, waiting: 1, looking: false, credits: 12, .. }"
+    );
+    Ok(())
+}
+
+/// Why a port died, and the text of it.
+const CAUSES: [(Fatal, &str); 7] = [
+    (Fatal::PacketRead, "a command packet can't be read"),
+    (Fatal::PacketWrite, "a response packet can't be written"),
+    (Fatal::RingRead, "a descriptor can't be read"),
+    (Fatal::RingWrite, "the communication area can't be written"),
+    (Fatal::CreditsExceeded, "the host exceeded its credits"),
+    (
+        Fatal::WrongEnvelope,
+        "an envelope is of another connection or message type",
+    ),
+    (
+        Fatal::StartUpWord,
+        "a start-up word asks for what this port hasn't",
+    ),
+];
+
+#[test]
+fn each_cause_has_its_text(rt: HostRuntime) -> Result<(), Fail> {
+    for (cause, text) in CAUSES {
+        let told = format!(in rt.alloc(); "{cause}")?;
+        assert_eq!(rt; told.as_str(), text);
+    }
     Ok(())
 }
 

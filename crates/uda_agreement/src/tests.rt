@@ -11,7 +11,7 @@ use uda_batch::run_script;
 use uda_driver::Driver;
 use uda_grammar::parse;
 use uda_image::{Drive, MemImage};
-use uda_model::{Answer, Request};
+use uda_disk::{Answer, Request};
 use uda_plain::{PlainDisk, PlainUnits};
 
 /// How many lists are compared.

@@ -7,11 +7,11 @@ use Rattle.uda_grammar.specs.declared.error.ScriptError.{ScriptError}
 use Rattle.uda_grammar.specs.declared.error.ScriptError.TheVariants.{NoMemory, Write}
 use Rattle.uda_grammar.specs.declared.script.Line.{Line}
 use Rattle.uda_grammar.specs.Limit.{script_limit}
-use Rattle.uda_model.specs.Request.{Request}
-use Rattle.uda_model.specs.Answer.{Answer}
-use Rattle.uda_model.specs.Values.{request_value, request_values, answer_values}
-use Rattle.uda_model.specs.declared.answer.Answer.{Answer as Told}
-use Rattle.uda_model.specs.declared.request.Request.{Request as Made}
+use Rattle.uda_disk.specs.Request.{Request}
+use Rattle.uda_disk.specs.Answer.{Answer}
+use Rattle.uda_disk.specs.Values.{request_value, request_values, answer_values}
+use Rattle.uda_disk.specs.declared.answer.Answer.{Answer as Told}
+use Rattle.uda_disk.specs.declared.request.Request.{Request as Made}
 use Rattle.uda_driver.specs.Driver.{DriverState}
 use Rattle.uda_driver.specs.Run.{request_limit}
 use Rattle.uda_batch.specs.Requests.{bytes_taken, requests}

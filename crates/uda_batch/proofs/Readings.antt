@@ -10,8 +10,8 @@ use Rattle.std.proofs.KnownBytes.{Consumes-nil, Consumes-trans}
 use Rattle.uda_grammar.specs.declared.error.ScriptError.{ScriptError}
 use Rattle.uda_grammar.specs.declared.error.ScriptError.TheVariants.{NoMemory, Syntax, TooManyLines, ShortData, Read, Write}
 use Rattle.uda_grammar.specs.declared.script.Line.{Line}
-use Rattle.uda_model.specs.Request.{Request}
-use Rattle.uda_batch.specs.Requests.{bytes_taken, taken, request_of, requests, first_short}
+use Rattle.uda_disk.specs.Request.{Request}
+use Rattle.uda_batch.specs.Requests.{bytes_taken, taken, request_made, requests, first_short}
 use Rattle.uda_batch.specs.Reading.{ReadsAs, ReadsBytes, ReadsRequest, ReadsRequests, IsUnread, AreUnread}
 
 -- so many bytes were read; of what f makes these items are made, and `rest` makes the others of what follows
@@ -100,7 +100,7 @@ lines_from : (lines : List Line) (k : ℕ) (line other : Line) → k < length li
 lines_from lines k line other h is = drop-cons lines k other h ∙ ap (λ (l : Line). l ∷ drop (suc k) lines) (sym is)
 
 -- the request of a line, and those of the lines behind it
-line_makes : (line : Line) (rest : List Line) (request : Request) (piece : List ℕ) → length piece ≡ bytes_taken line → ((later : List ℕ) → request_of line.statement (piece ++ later) ≡ request)
+line_makes : (line : Line) (rest : List Line) (request : Request) (piece : List ℕ) → length piece ≡ bytes_taken line → ((later : List ℕ) → request_made line.statement (piece ++ later) ≡ request)
     → (later : List ℕ) → requests (line ∷ rest) (piece ++ later) ≡ request ∷ requests rest later
 line_makes line rest request piece size is later =
     ap (λ (r : Request). r ∷ requests rest (drop (bytes_taken line) (piece ++ later))) (is later)

@@ -2,8 +2,8 @@
 use Rattle.std.proofs.Common.{◌≡◌, ℕ, suc, ◌+◌, ◌<◌, List, ◌∷◌, ◌++◌, length, drop, get_or, sym, ap, ◌∙◌, subst, add-one, drop-cons}
 use Rattle.std.specs.Prelude.{Option}
 use Rattle.std.specs.Io.KnownBytes.{Appends}
-use Rattle.uda_model.specs.declared.answer.Answer.{Answer}
-use Rattle.uda_model.specs.Values.{answer_value, answer_values}
+use Rattle.uda_disk.specs.declared.answer.Answer.{Answer}
+use Rattle.uda_disk.specs.Values.{answer_value, answer_values}
 use Rattle.uda_batch.specs.Texts.{answer_bytes, out_text, report_line, report_from, AppendsBeginning}
 use Rattle.uda_batch.proofs.Puts.{LeavesRest, leaves_later, leaves_broken}
 

@@ -4,8 +4,8 @@ use Rattle.std.specs.Io.KnownBytes.{Consumes}
 use Rattle.uda_grammar.specs.declared.error.ScriptError.{ScriptError}
 use Rattle.uda_grammar.specs.declared.error.ScriptError.TheVariants.{NoMemory, ShortData, Read}
 use Rattle.uda_grammar.specs.declared.script.Line.{Line}
-use Rattle.uda_model.specs.Request.{Request}
-use Rattle.uda_batch.specs.Requests.{bytes_taken, taken, request_of, requests, first_short}
+use Rattle.uda_disk.specs.Request.{Request}
+use Rattle.uda_batch.specs.Requests.{bytes_taken, taken, request_made, requests, first_short}
 
 -- so many bytes were read, and what f makes of them and of whatever follows them is made
 pub record ReadsAs {A : Type 0} (f : List ℕ → A) (count : ℕ) (left left_after : Option (List ℕ)) (made : A) : Type 0 where
@@ -20,7 +20,7 @@ ReadsBytes count left left_after bytes = ReadsAs (take count) count left left_af
 
 -- a line's request was made of the data that it takes
 abbrev pub ReadsRequest : Line → Option (List ℕ) → Option (List ℕ) → Request → Type 0
-ReadsRequest line left left_after request = ReadsAs (request_of line.statement) (bytes_taken line) left left_after request
+ReadsRequest line left left_after request = ReadsAs (request_made line.statement) (bytes_taken line) left left_after request
 
 -- the lines' requests were made of the data that they take
 abbrev pub ReadsRequests : List Line → Option (List ℕ) → Option (List ℕ) → List Request → Type 0

@@ -4,8 +4,8 @@ use Rattle.uda_grammar.specs.declared.statement.Statement.{Statement}
 use Rattle.uda_grammar.specs.declared.statement.Statement.TheVariants.{Online, Available, Status, Read, Access, Erase, Write, Fill}
 use Rattle.uda_grammar.specs.declared.script.Line.{Line}
 use Rattle.uda_grammar.specs.Amounts.{bytes_in}
-use Rattle.uda_model.specs.Request as ask
-use Rattle.uda_model.specs.Request.{Request}
+use Rattle.uda_disk.specs.Request as ask
+use Rattle.uda_disk.specs.Request.{Act, Request}
 
 -- how many bytes of the data a statement takes: `write` and `writeb` alone take any
 abbrev pub taken_by : Statement → ℕ
@@ -19,21 +19,24 @@ bytes_taken line = taken_by line.statement
 abbrev pub taken : List Line → ℕ
 taken lines = sum_by bytes_taken lines
 
+abbrev pub asked_of : ℕ → Act → Request
+asked_of unit act = record { unit = unit; act = act }
+
 -- what a line asks for, where the data goes on so: `write` and `writeb` take its first bytes, `fill` makes its own
-abbrev pub request_of : Statement → List ℕ → Request
-request_of (Online unit protect) bytes = ask.Online unit protect
-request_of (Available unit) bytes = ask.Available unit
-request_of (Status unit) bytes = ask.Status unit
-request_of (Read unit lbn amount) bytes = ask.Read unit lbn (bytes_in amount)
-request_of (Access unit lbn amount) bytes = ask.Access unit lbn (bytes_in amount)
-request_of (Erase unit lbn amount) bytes = ask.Erase unit lbn (bytes_in amount)
-request_of (Write unit lbn amount) bytes = ask.Write unit lbn (take (bytes_in amount) bytes)
-request_of (Fill unit lbn count byte) bytes = ask.Write unit lbn (replicate (512 * count) byte)
+abbrev pub request_made : Statement → List ℕ → Request
+request_made (Online unit protect) bytes = asked_of unit (ask.Online protect)
+request_made (Available unit) bytes = asked_of unit ask.Available
+request_made (Status unit) bytes = asked_of unit ask.Status
+request_made (Read unit lbn amount) bytes = asked_of unit (ask.Read lbn (bytes_in amount))
+request_made (Access unit lbn amount) bytes = asked_of unit (ask.Access lbn (bytes_in amount))
+request_made (Erase unit lbn amount) bytes = asked_of unit (ask.Erase lbn (bytes_in amount))
+request_made (Write unit lbn amount) bytes = asked_of unit (ask.Write lbn (take (bytes_in amount) bytes))
+request_made (Fill unit lbn count byte) bytes = asked_of unit (ask.Write lbn (replicate (512 * count) byte))
 
 -- what the lines ask for: each that takes data takes the bytes behind those that were taken before it
 abbrev pub requests : List Line → List ℕ → List Request
 requests [] bytes = []
-requests (line ∷ rest) bytes = request_of line.statement bytes ∷ requests rest (drop (bytes_taken line) bytes)
+requests (line ∷ rest) bytes = request_made line.statement bytes ∷ requests rest (drop (bytes_taken line) bytes)
 
 -- the number of the first line whose bytes so many bytes of data don't hold
 abbrev pub first_short : List Line → ℕ → Option ℕ

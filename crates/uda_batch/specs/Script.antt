@@ -1,9 +1,9 @@
 -- What a run of a script leaves.
 use Rattle.std.specs.Prelude.{◌≡◌, ℕ, List, ◌++◌, length, Option, Some, IfSome}
 use Rattle.std.specs.Io.KnownBytes.{Appends, Consumes}
-use Rattle.uda_model.specs.Keeping.{AllFaithful}
-use Rattle.uda_model.specs.Answer.{Answer}
-use Rattle.uda_model.specs.Request.{Request}
+use Rattle.uda_disk.specs.Units.{AllFaithful}
+use Rattle.uda_disk.specs.Answer.{Answer}
+use Rattle.uda_disk.specs.Request.{Request}
 use Rattle.uda_driver.specs.Driver.{DriverState, units_of, IsAtRest}
 use Rattle.uda_driver.specs.Run.{AreAnswersOf, IsPlainRun, NoneFailed, TellsLosses, CountsOn}
 use Rattle.uda_grammar.specs.declared.error.ScriptError.{ScriptError}

@@ -2,8 +2,8 @@
 use Rattle.std.specs.Prelude.{◌≡◌, ℕ, suc, List, [], ◌∷◌, ◌++◌, Option}
 use Rattle.std.specs.Fmt.{decimal}
 use Rattle.std.specs.Io.KnownBytes.{Appends}
-use Rattle.uda_model.specs.Answer.{Answer, Data}
-use Rattle.uda_model.specs.Display.{answer_display}
+use Rattle.uda_disk.specs.Answer.{Answer, Data}
+use Rattle.uda_disk.specs.Display.{answer_display}
 
 -- the bytes that were read
 abbrev pub answer_bytes : Answer → List ℕ

@@ -9,7 +9,7 @@ use uda_grammar::ScriptError;
 
 /// Writes all of the bytes. Where the writer fails, or takes no byte, a beginning of them was
 /// written and the answer is [`ScriptError::Write`]. A write that is interrupted is tried again.
-pub fn put<W: Write>(writer: &mut W, bytes: &[u8]) -> Result<(), ScriptError>
+pub fn put_all<W: Write>(writer: &mut W, bytes: &[u8]) -> Result<(), ScriptError>
     ensures whole { OnOk result (Appends (W.contents writer.old) (W.contents writer.new) bytes.now) }
     ensures begun { OnErr result
         (AppendsBeginning (W.contents writer.old) (W.contents writer.new) bytes.now) }

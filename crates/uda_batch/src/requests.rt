@@ -3,15 +3,15 @@
 ghost use Rattle.std.specs.Prelude.{◌≡◌, ◌*◌, length, replicate, OnOk, IfOk, IfErr};
 ghost use Rattle.std.specs.Io.KnownBytes.{Consumes};
 ghost use Rattle.uda_grammar.specs.Amounts.{bytes_in};
-ghost use Rattle.uda_model.specs.Values.{request_value, request_values};
+ghost use Rattle.uda_disk.specs.Values.{request_value, request_values};
 ghost use Rattle.uda_batch.specs.Requests.{bytes_taken, taken};
 ghost use Rattle.uda_batch.specs.Reading.{ReadsBytes, ReadsRequest, ReadsRequests, IsUnread, AreUnread};
 
 use crate::growth::{push, with_room};
 use std::alloc::Global;
 use std::io::{ErrorKind, Read};
+use uda_disk::Request;
 use uda_grammar::{Amount, Line, ScriptError, Statement};
-use uda_model::Request;
 
 /// Makes the requests of the lines, in order. Each `write` and `writeb` takes its bytes from `input`, and
 /// nothing else does.

@@ -2,8 +2,8 @@
 
 ghost use Rattle.std.specs.Prelude.{◌≡◌, ◌≤◌, length, OnOk, OnErr, IfOk, IfErr};
 ghost use Rattle.std.specs.Io.KnownBytes.{Appends};
-ghost use Rattle.uda_exec.specs.Execution.{natures_of};
-ghost use Rattle.uda_model.specs.Values.{request_values, answer_values};
+ghost use Rattle.uda_disk.specs.Units.{natures_of};
+ghost use Rattle.uda_disk.specs.Values.{request_values, answer_values};
 ghost use Rattle.uda_driver.specs.Driver.{units_of};
 ghost use Rattle.uda_driver.specs.Run.{request_limit};
 ghost use Rattle.uda_batch.specs.Requests.{taken};
@@ -14,10 +14,10 @@ use crate::requests::read_requests;
 use crate::texts::{put_out, put_report};
 use std::alloc::Global;
 use std::io::{Read, Write};
+use uda_disk::{Answer, Request};
 use uda_driver::{Driver, RunError};
 use uda_grammar::{Script, ScriptError};
 use uda_image::BlockStore;
-use uda_model::{Answer, Request};
 
 /// Runs a script: has the requests that its lines make done by the driver, and tells what came of them.
 ///

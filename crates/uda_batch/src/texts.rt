@@ -2,15 +2,15 @@
 
 ghost use Rattle.std.specs.Prelude.{◌≡◌, OnOk, OnErr, IfErr};
 ghost use Rattle.std.specs.Io.KnownBytes.{Appends, Keeps};
-ghost use Rattle.uda_model.specs.Values.{answer_value, answer_values};
+ghost use Rattle.uda_disk.specs.Values.{answer_value, answer_values};
 ghost use Rattle.uda_batch.specs.Texts.{answer_bytes, out_text, report_line, report_text, AppendsBeginning};
 
-use crate::put::put;
+use crate::put::put_all;
 use arrayvec::ArrayString;
 use std::fmt::Write as _;
 use std::io::Write;
+use uda_disk::Answer;
 use uda_grammar::ScriptError;
-use uda_model::Answer;
 
 /// The room for a line of the report: a number, two words and a number of 32 bits, and what parts
 /// them, are 42 bytes at most.
@@ -55,7 +55,7 @@ fn put_bytes<W: Write>(out: &mut W, answer: &Answer) -> Result<(), ScriptError>
     ensures error { IfErr result (λ e. e ≡ ScriptError.Write) }
 {
     match answer {
-        Answer::Data { bytes, .. } => put(out, bytes),
+        Answer::Data { bytes, .. } => put_all(out, bytes),
         _ => Ok(()),
     }
 }
@@ -70,7 +70,7 @@ fn put_line<V: Write>(report: &mut V, number: usize, answer: &Answer) -> Result<
 {
     let mut line = ArrayString::<LINE_ROOM>::new();
     match writeln!(line, "{number} {answer}") {
-        Ok(()) => put(report, line.as_bytes()),
+        Ok(()) => put_all(report, line.as_bytes()),
         Err(_) => Err(ScriptError::Write),
     }
 }

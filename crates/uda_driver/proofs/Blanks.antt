@@ -7,14 +7,15 @@ use Rattle.std.proofs.lemmas.Bool.Decides.{nat_tests}
 use Rattle.std.proofs.lemmas.Option.{slice_get_within, slice_get-map, slice_get-get_or}
 use Rattle.uda_mem.specs.Put.{part}
 use Rattle.uda_packet.specs.declared.end.End.{End}
-use Rattle.uda_exec.specs.Commands.{address_of, room_of}
+use Rattle.uda_exec.specs.Commands.{buffer_start, room_of}
 use Rattle.uda_exec.specs.Execution.{bytes_of}
-use Rattle.uda_model.specs.Request.{Request, Online, Available, Status, Read, Access, Write, Erase, too_long}
-use Rattle.uda_model.specs.Answer.{Answer, TooLong, Data}
-use Rattle.uda_model.specs.Posting.{op_of, answer_of}
-use Rattle.uda_model.specs.Values.{request_value, answer_value, request_values, answer_values}
-use Rattle.uda_model.specs.declared.request.Request.{Request as CodeRequest}
-use Rattle.uda_model.specs.declared.answer.Answer.{Answer as CodeAnswer}
+use Rattle.uda_disk.specs.Request.{Act, Request, Online, Available, Status, Read, Access, Write, Erase}
+use Rattle.uda_disk.specs.PlainRun.{too_long}
+use Rattle.uda_disk.specs.Answer.{Answer, TooLong, Data}
+use Rattle.uda_posting.specs.Posting.{op_of, answer_of}
+use Rattle.uda_disk.specs.Values.{request_value, answer_value, request_values, answer_values}
+use Rattle.uda_disk.specs.declared.request.Request.{Request as CodeRequest}
+use Rattle.uda_disk.specs.declared.answer.Answer.{Answer as CodeAnswer}
 use Rattle.uda_model.proofs.Lists.{slice_get-last, slice_get-before}
 use Rattle.uda_driver.specs.Blank.{Prepared, IsBlank, AreBlank}
 
@@ -40,24 +41,26 @@ blank_more requests i answers request a size lt is long room all k r b le at tol
 
 -- ---- an answer by its end reads no more of a buffer than its command has
 
-pub answer-in_buffer : (r : Request) (e : End) (memory : List ℕ) (address size : ℕ) → too_long r ≡ false → size ≡ 16384
-    → answer_of r e (take (room_of (op_of r 0)) (part memory address size)) ≡ answer_of r e (part memory (address_of (op_of r address)) (room_of (op_of r address)))
+small_read : (unit lbn bytes size : ℕ) → too_long (record { unit = unit; act = Read lbn bytes }) ≡ false → size ≡ 16384 → bytes ≤ size
+small_read unit lbn bytes size short is = grind (arith, nat_tests)
+
+answer-in_buffer : (unit : ℕ) (act : Act) (e : End) (memory : List ℕ) (address size : ℕ) → too_long (record { unit = unit; act = act }) ≡ false → size ≡ 16384
+    → answer_of act e (take (room_of (op_of act 0)) (part memory address size)) ≡ answer_of act e (part memory (buffer_start (op_of act address)) (room_of (op_of act address)))
 unfolding part
-answer-in_buffer (Read unit first bytes) e memory address size short is =
-    let small : bytes ≤ size = grind (arith, nat_tests) in
-    ap (λ (b : List ℕ). Data e.status (take (bytes_of e.body) b)) (take-take bytes size (drop address memory) small)
-answer-in_buffer (Online unit protect) e memory address size short is = refl
-answer-in_buffer (Available unit) e memory address size short is = refl
-answer-in_buffer (Status unit) e memory address size short is = refl
-answer-in_buffer (Access unit first bytes) e memory address size short is = refl
-answer-in_buffer (Write unit first payload) e memory address size short is = refl
-answer-in_buffer (Erase unit first bytes) e memory address size short is = refl
+answer-in_buffer unit (Read lbn bytes) e memory address size short is =
+    ap (λ (b : List ℕ). Data e.status (take (bytes_of e.body) b)) (take-take bytes size (drop address memory) (small_read unit lbn bytes size short is))
+answer-in_buffer unit (Online protect) e memory address size short is = refl
+answer-in_buffer unit Available e memory address size short is = refl
+answer-in_buffer unit Status e memory address size short is = refl
+answer-in_buffer unit (Access lbn bytes) e memory address size short is = refl
+answer-in_buffer unit (Write lbn payload) e memory address size short is = refl
+answer-in_buffer unit (Erase lbn bytes) e memory address size short is = refl
 
 -- the answer that is told is by the request's end and its buffer
 pub answer_told : (answers : List CodeAnswer) (place : ℕ) (r : Request) (e : End) (memory : List ℕ) (address : ℕ) (buffer : List ℕ) (blank told : CodeAnswer)
     → too_long r ≡ false → buffer ≡ part memory address 16384 → Prepared r (answer_value blank)
-    → (Prepared r (answer_value blank) → answer_value told ≡ answer_of r e (take (room_of (op_of r 0)) buffer))
-    → answer_values (set answers place told) ≡ set (answer_values answers) place (answer_of r e (part memory (address_of (op_of r address)) (room_of (op_of r address))))
+    → (Prepared r (answer_value blank) → answer_value told ≡ answer_of r.act e (take (room_of (op_of r.act 0)) buffer))
+    → answer_values (set answers place told) ≡ set (answer_values answers) place (answer_of r.act e (part memory (buffer_start (op_of r.act address)) (room_of (op_of r.act address))))
 answer_told answers place r e memory address buffer blank told short is prepared tells =
     map-set answer_value answers place told
-    ∙ ap (set (answer_values answers) place) (tells prepared ∙ ap (λ (b : List ℕ). answer_of r e (take (room_of (op_of r 0)) b)) is ∙ answer-in_buffer r e memory address 16384 short refl)
+    ∙ ap (set (answer_values answers) place) (tells prepared ∙ ap (λ (b : List ℕ). answer_of r.act e (take (room_of (op_of r.act 0)) b)) is ∙ answer-in_buffer r.unit r.act e memory address 16384 short refl)

@@ -1,7 +1,8 @@
 -- The steps of a driver: those of its host and those of what is owed, together.
-use Rattle.std.proofs.Common.{◌≡◌, ◌≢◌, ℕ, zero, suc, ◌+◌, ◌<◌, ◌≤◌, inl, inr, false, true, List, [], ◌∷◌, ◌++◌, length, map, set, get_or, Option, Some, None, refl, sym, ap, ap₂, ◌∙◌, arith, subst, subst₂, length-append}
-use Rattle.std.specs.Prelude.{slice_get, slice_set, remove, replicate, All, AllPairs}
+use Rattle.std.proofs.Common.{◌≡◌, ◌≢◌, ℕ, zero, suc, min, max, Bool, ◌+◌, ◌<◌, ◌≤◌, inl, inr, false, true, List, [], ◌∷◌, ◌++◌, length, map, set, get_or, Option, Some, None, refl, sym, ap, ap₂, ◌∙◌, arith, subst, subst₂, length-append}
+use Rattle.std.specs.Prelude.{slice_get, slice_set, remove, replicate, All, AllPairs, nat_eq, nat_lt, ◌&&◌, ◌||◌}
 use Rattle.std.proofs.Math.Bool.{and_comm, or_comm}
+use Rattle.std.proofs.lemmas.Bool.Decides.{nat_tests}
 use Rattle.std.proofs.lemmas.List.{length-map, map_push, append-nil, length_push, nil_from_length}
 use Rattle.std.proofs.lemmas.List.Elements.{All-nil, All-cons, All-head, All-tail, All-map}
 use Rattle.std.proofs.lemmas.Bool.{cases_eq}
@@ -11,18 +12,18 @@ use Rattle.uda_mem.proofs.PutLaws.{length-part, length-put}
 use Rattle.uda_packet.specs.declared.command.Command.{Command}
 use Rattle.uda_packet.specs.declared.end.End.{End}
 use Rattle.uda_exec.specs.Disks.{PENDING_LIMIT}
-use Rattle.uda_exec.specs.Commands.{is_transfer, is_changing}
-use Rattle.uda_exec.specs.Order.{Apart, Clash, OrderIsFree}
-use Rattle.uda_exec.proofs.Units.{slice_get-set_same, slice_get-set_other}
-use Rattle.uda_model.specs.Request.{Request, too_long}
-use Rattle.uda_model.specs.Answer.{Answer, TooLong}
-use Rattle.uda_model.specs.Clash.{clash}
-use Rattle.uda_model.specs.Posting.{Posted, posted_command, commands_in, answer_of, buffer_of, bytes_brought}
-use Rattle.uda_model.specs.Values.{request_value, answer_value}
-use Rattle.uda_model.specs.Keeping.{Units, Misses, Beside, Owes, Ended, answer_now, Keeps, Tells as TellsIn}
-use Rattle.uda_model.proofs.Owing.{owes_start}
-use Rattle.uda_model.proofs.Apartness.{buffer-at, bytes_fit, ready-put, no_clash}
-use Rattle.uda_model.proofs.Ending.{keeps_put, keeps_skip, keeps_post, Ends, keeps_execute, keeps_deliver, keeps_end}
+use Rattle.uda_disk.proofs.Slots.{slice_get-set_same, slice_get-set_other}
+use Rattle.uda_disk.specs.Request.{Request, is_moving, is_writing, lbn_of, blocks_named}
+use Rattle.uda_disk.specs.PlainRun.{too_long}
+use Rattle.uda_disk.specs.Answer.{Answer, TooLong}
+use Rattle.uda_disk.specs.Order.{clash, NoClash}
+use Rattle.uda_posting.specs.Posting.{Posted, posted_command, commands_in, answer_of, buffer_of, bytes_brought}
+use Rattle.uda_disk.specs.Values.{request_value, answer_value}
+use Rattle.uda_disk.specs.Units.{Units}
+use Rattle.uda_posting.specs.Keeping.{Misses, Beside, Owes, Ended, answer_now, Keeps, Tells as TellsIn}
+use Rattle.uda_posting.proofs.Owing.{owes_start}
+use Rattle.uda_posting.proofs.Posts.{buffer-at, bytes_fit, ready-put}
+use Rattle.uda_posting.proofs.Ending.{keeps_put, keeps_skip, keeps_post, Ends, keeps_execute, keeps_deliver, keeps_end}
 use Rattle.uda_host.specs.Layout.{buffers_start, buffer_address, memory_size}
 use Rattle.uda_host.specs.InStep.{IsAbove}
 use Rattle.uda_host.specs.Host.{HostState, out_of, BuffersStay, Fetches, Does, Takes, Works, OneFetched, OneDone, AddsUp, IsIdle}
@@ -43,23 +44,28 @@ pub record IsBuffered (p : Posted) : Type 0 where
   pub address_is : p.address ≡ buffer_address number
 
 pub is_above : (p : Posted) → IsBuffered p → IsAbove (posted_command p)
-is_above p is meet = let buffer = buffer-at p.request p.address is.short in omega (arith, buffer.here (omega arith), is.address_is)
+is_above p is meet = let buffer = buffer-at p.request.unit p.request.act p.address is.short in omega (arith, buffer.here (omega arith), is.address_is)
 
 -- what lies in one of two buffers misses the other
 misses_other : (p q : Posted) (at size : ℕ) → IsBuffered p → IsBuffered q → p.address ≢ q.address → at ≡ p.address → size ≤ 16384 → Misses at size (posted_command q)
 misses_other p q at size is that other here small meet =
-    let buffer = buffer-at q.request q.address that.short in other (omega (arith, buffer.small, buffer.here (omega arith), is.address_is, that.address_is))
+    let buffer = buffer-at q.request.unit q.request.act q.address that.short in other (omega (arith, buffer.small, buffer.here (omega arith), is.address_is, that.address_is))
 
--- commands with two buffers of requests that don't clash are apart
-apart_from : (p q : Posted) → IsBuffered p → IsBuffered q → q.address ≢ p.address → clash p.request q.request ≡ false → Apart (posted_command q) (posted_command p)
-apart_from p q is that other clear =
-    let c = (posted_command p).op in let d = (posted_command q).op in
-    record {
-      no_clash = λ both.
-          let turned : Clash (posted_command p) (posted_command q) = record { transfers = and_comm (is_transfer c) (is_transfer d) ∙ both.transfers; one_unit = sym both.one_unit; changes = or_comm (is_changing c) (is_changing d) ∙ both.changes; meet = let m = both.meet in omega arith } in
-          no_clash p q clear turned;
-      no_overlap = λ meet. let buffer = buffer-at q.request q.address that.short in misses_other q p _ _ that is other (buffer.here (omega arith)) buffer.small meet;
-    }
+-- commands with two buffers are beside one another
+beside_from : (p q : Posted) → IsBuffered p → IsBuffered q → q.address ≢ p.address → Beside (posted_command q) (posted_command p)
+beside_from p q is that other meet = let buffer = buffer-at q.request.unit q.request.act q.address that.short in misses_other q p _ _ that is other (buffer.here (omega arith)) buffer.small meet
+
+-- two requests clash either way
+clash_turned : (r s : Request) → clash r s ≡ false → clash s r ≡ false
+clash_turned r s h =
+    let units : nat_eq s.unit r.unit ≡ nat_eq r.unit s.unit = grind (arith, nat_tests) in
+    let starts : max (lbn_of s.act) (lbn_of r.act) ≡ max (lbn_of r.act) (lbn_of s.act) = omega arith in
+    let ends : min (lbn_of s.act + blocks_named s.act) (lbn_of r.act + blocks_named r.act) ≡ min (lbn_of r.act + blocks_named r.act) (lbn_of s.act + blocks_named s.act) = omega arith in
+    let joined : Bool → Bool → Bool → ℕ → ℕ → Bool = λ moving one writing low high. moving && one && writing && nat_lt low high in
+    ap (λ (b : Bool). joined b (nat_eq s.unit r.unit) (is_writing s.act || is_writing r.act) (max (lbn_of s.act) (lbn_of r.act)) (min (lbn_of s.act + blocks_named s.act) (lbn_of r.act + blocks_named r.act))) (and_comm (is_moving s.act) (is_moving r.act))
+    ∙ ap (λ (b : Bool). joined (is_moving r.act && is_moving s.act) b (is_writing s.act || is_writing r.act) (max (lbn_of s.act) (lbn_of r.act)) (min (lbn_of s.act + blocks_named s.act) (lbn_of r.act + blocks_named r.act))) units
+    ∙ ap (λ (b : Bool). joined (is_moving r.act && is_moving s.act) (nat_eq r.unit s.unit) b (max (lbn_of s.act) (lbn_of r.act)) (min (lbn_of s.act + blocks_named s.act) (lbn_of r.act + blocks_named r.act))) (or_comm (is_writing s.act) (is_writing r.act))
+    ∙ ap₂ (joined (is_moving r.act && is_moving s.act) (nat_eq r.unit s.unit) (is_writing r.act || is_writing s.act)) starts ends ∙ h
 
 -- ---- a list, and its parts
 
@@ -109,9 +115,9 @@ module _ {start : Units} {requests : List Request} {out : List (Option Out)} {an
     adds_up = adds_up;
   }
 
-  driving_does : OrderIsFree → Does host new → Driving start requests out answers new
-  driving_does order_is_free x =
-      let t : Ends start requests D.due D.ended answers x.place x.end (record { units = new.units; pending = new.due }) [] new.memory = keeps_execute order_is_free [] (append-nil host.due ∙ D.are_due) x.executes D.keeps in
+  driving_does : Does host new → Driving start requests out answers new
+  driving_does x =
+      let t : Ends start requests D.due D.ended answers x.place x.end (record { units = new.units; pending = new.due }) [] new.memory = keeps_execute [] (append-nil host.due ∙ D.are_due) x.executes D.keeps in
       let now : Ended = record { posted = t.posted; end = x.end } in
       record {
         due = remove D.due x.place;
@@ -123,9 +129,9 @@ module _ {start : Units} {requests : List Request} {out : List (Option Out)} {an
         adds_up = adds_up;
       }
 
-  pub driving_works : OrderIsFree → Works host new → Driving start requests out answers new
-  driving_works order_is_free (OneFetched f) = driving_fetches f
-  driving_works order_is_free (OneDone x) = driving_does order_is_free x
+  pub driving_works : Works host new → Driving start requests out answers new
+  driving_works (OneFetched f) = driving_fetches f
+  driving_works (OneDone x) = driving_does x
 
 -- the end that waits first is that of the command that has ended first
 record FirstEnded (ended : List Ended) (e : End) : Type 0 where
@@ -151,13 +157,13 @@ module _ {start : Units} {requests : List Request} {out : List (Option Out)} {an
 
   -- once it is told, that one is out no more
   pub driving_takes : AddsUp new → length requests ≤ length answers → (done : IsReferred e.reference out)
-      → Driving start requests (set out done.number None) (slice_set answers done.one.place (answer_of (request_value done.one.request.now) e (buffer_of (posted_with done.number done.one) new.memory))) new
+      → Driving start requests (set out done.number None) (slice_set answers done.one.place (answer_of (request_value done.one.request.now).act e (buffer_of (posted_with done.number done.one) new.memory))) new
   driving_takes adds_up room done =
       let p = posted_with done.number done.one in
       let back = outs_take outs_split done.number done.one done.stands done.refers in
       let kept = subst (λ (us : Units). Keeps start requests D.due D.ended answers us new.memory) (sym (ap (λ (h : HostState). h.units) takes.is)) (stays D takes.buffers) in
       let delivered = keeps_deliver room (subst (λ (es : List Ended). Keeps start requests D.due es answers new.units new.memory) split.is kept) in
-      let told : answer_now new.memory split.first ≡ answer_of p.request e (buffer_of p new.memory) = ap₂ (λ (q : Posted) (x : End). answer_of q.request x (buffer_of q new.memory)) (sym back.same) split.end_is in
+      let told : answer_now new.memory split.first ≡ answer_of p.request.act e (buffer_of p new.memory) = ap₂ (λ (q : Posted) (x : End). answer_of q.request.act x (buffer_of q new.memory)) (sym back.same) split.end_is in
       let answers_are = ap₂ (slice_set answers) (ap (λ (q : Posted). q.place) (sym back.same)) told in
       record {
         due = D.due;
@@ -219,20 +225,24 @@ module _ {start : Units} {requests : List Request} {out : List (Option Out)} {an
     other_buffer k other stands same =
         let both : Some (Some other) ≡ Some None = sym stands ∙ ap (slice_get out) (omega (arith, same)) ∙ puts.free in cc
 
-    apart : (k : ℕ) (other : Out) → slice_get out k ≡ Some (Some other) → Apart (posted_command (posted_with k other)) (posted_command now)
-    apart k other stands = apart_from now (posted_with k other) now_buffered (has_buffer out D.outs.sized D.fit k other stands) (other_buffer k other stands) (clear k other stands)
+    beside : (k : ℕ) (other : Out) → slice_get out k ≡ Some (Some other) → Beside (posted_command (posted_with k other)) (posted_command now)
+    beside k other stands = beside_from now (posted_with k other) now_buffered (has_buffer out D.outs.sized D.fit k other stands) (other_buffer k other stands)
 
-    kept_brought : Keeps start (requests ++ now.request ∷ []) (D.due ++ now ∷ []) D.ended answers host.units (put host.memory now.address (bytes_brought now.request))
+    kept_brought : Keeps start (requests ++ now.request ∷ []) (D.due ++ now ∷ []) D.ended answers host.units (put host.memory now.address (bytes_brought now.request.act))
     kept_brought =
-        let fits = (bytes_fit now.request now.address).fits in let buffer = buffer-at now.request now.address fit.short in
+        let fits = (bytes_fit now.request.act now.address).fits in let buffer = buffer-at now.request.unit now.request.act now.address fit.short in
         let ready = ready-put now host.memory fit.short (omega arith) (omega (arith, slice_get_within out puts.number None puts.free, D.outs.sized, D.adds_up.size)) in
-        let Beside : Posted → Type 0 = λ q. Apart (posted_command q) (posted_command now) in
-        let all = of_alive D.outs Beside apart in
-        let Missed : Posted → Type 0 = λ q. Misses now.address (length (bytes_brought now.request)) (posted_command q) in
-        let misses = of_alive D.outs Missed (λ k other stands. misses_other now (posted_with k other) now.address (length (bytes_brought now.request)) now_buffered (has_buffer out D.outs.sized D.fit k other stands) (λ same. other_buffer k other stands (sym same)) refl (omega arith)) in
-        keeps_post (put_kept now.address (bytes_brought now.request) misses D.keeps) now last ready
-        (All-map (λ d. Apart d (posted_command now)) posted_command D.due (all_behind Beside (map (λ (d : Ended). d.posted) D.ended) D.due all))
-        (λ k d low. (all_ended Beside D.ended D.due all k d low).no_overlap)
+        let Apart : Posted → Type 0 = λ q. Beside (posted_command q) (posted_command now) in
+        let Clear : Posted → Type 0 = λ q. NoClash q.request now.request in
+        let before = map (λ (d : Ended). d.posted) D.ended in
+        let all = of_alive D.outs Apart beside in
+        let none = of_alive D.outs Clear (λ k other stands. clash_turned now.request (posted_with k other).request (clear k other stands)) in
+        let Missed : Posted → Type 0 = λ q. Misses now.address (length (bytes_brought now.request.act)) (posted_command q) in
+        let misses = of_alive D.outs Missed (λ k other stands. misses_other now (posted_with k other) now.address (length (bytes_brought now.request.act)) now_buffered (has_buffer out D.outs.sized D.fit k other stands) (λ same. other_buffer k other stands (sym same)) refl (omega arith)) in
+        keeps_post (put_kept now.address (bytes_brought now.request.act) misses D.keeps) now last ready
+        (All-map (λ d. Beside d (posted_command now)) posted_command D.due (all_behind Apart before D.due all))
+        (All-map (λ r. NoClash r now.request) (λ (q : Posted). q.request) D.due (all_behind Clear before D.due none))
+        (all_ended Apart D.ended D.due all)
 
     fit_after : AreFit (length (requests ++ now.request ∷ [])) (set out puts.number (Some one))
     fit_after = λ k other stands. elim (cases_eq k puts.number) [

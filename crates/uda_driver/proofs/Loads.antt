@@ -9,10 +9,12 @@ use Rattle.std.proofs.lemmas.Option.{slice_get_within, get_or_from_slice_get}
 use Rattle.uda_exec.specs.Disks.{PENDING_LIMIT}
 use Rattle.uda_packet.specs.declared.command.Command.{Command}
 use Rattle.uda_packet.specs.declared.end.End.{End}
-use Rattle.uda_model.specs.Request.{Request, too_long}
-use Rattle.uda_model.specs.Clash.{clash, lead_from, lead, is_short, posted_count}
-use Rattle.uda_model.specs.Posting.{posted_command}
-use Rattle.uda_model.specs.Values.{request_value}
+use Rattle.uda_disk.specs.Request.{Request}
+use Rattle.uda_disk.specs.PlainRun.{too_long}
+use Rattle.uda_disk.specs.Order.{clash, lead_from, lead}
+use Rattle.uda_disk.specs.PlainRun.{is_short, posted_count}
+use Rattle.uda_posting.specs.Posting.{posted_command}
+use Rattle.uda_disk.specs.Values.{request_value}
 use Rattle.uda_host.specs.Host.{HostState, Posts, Fetches, Does, Works, OneFetched, OneDone, Takes}
 use Rattle.uda_driver.specs.Out.{posted_with, clashes_with_any}
 use Rattle.uda_driver.specs.Steps.{with_brought, PutsOut}

@@ -9,9 +9,9 @@ use Rattle.std.proofs.lemmas.Bool.{cases_eq}
 use Rattle.std.proofs.lemmas.Option.{slice_get_within}
 use Rattle.uda_packet.specs.declared.end.End.{End}
 use Rattle.uda_exec.specs.Disks.{PENDING_LIMIT}
-use Rattle.uda_exec.proofs.Units.{slice_get-set_same, slice_get-set_other}
-use Rattle.uda_model.specs.Posting.{Posted}
-use Rattle.uda_model.specs.Keeping.{Ended, RefersBack, AreTwo}
+use Rattle.uda_disk.proofs.Slots.{slice_get-set_same, slice_get-set_other}
+use Rattle.uda_posting.specs.Posting.{Posted}
+use Rattle.uda_posting.specs.Keeping.{Ended, RefersBack, AreTwo}
 use Rattle.uda_model.proofs.Lists.{All-remove, All-at, pairs_first, pairs_rest, pairs_others}
 use Rattle.uda_driver.specs.Out.{posted_with, count_out}
 use Rattle.uda_driver.specs.Underway.{IsOut, alive, HaveOwnPlaces, Outs}

@@ -6,7 +6,7 @@ use Rattle.std.proofs.lemmas.List.Quantifiers.{position-Some}
 use Rattle.std.proofs.lemmas.Bool.{lt-ltb, ltb-true, eqb-true, eq-eqb}
 use Rattle.std.proofs.lemmas.List.Folds.{list_any_at}
 use Rattle.std.proofs.lemmas.Option.{slice_get_within, slice_get-get_or, get_or_from_slice_get}
-use Rattle.uda_model.specs.Request.{Request}
+use Rattle.uda_disk.specs.Request.{Request}
 use Rattle.uda_driver.specs.Out.{count_out, refers, clashes_with, clashes_with_any}
 use Rattle.uda_driver.specs.declared.out.Out.{Out}
 

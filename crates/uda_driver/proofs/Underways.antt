@@ -7,18 +7,21 @@ use Rattle.std.proofs.lemmas.List.Edits.{length-remove}
 use Rattle.std.proofs.lemmas.Bool.{eqb-true, eqb-false}
 use Rattle.std.proofs.lemmas.Option.{slice_get_within, slice_get-map, slice_get-get_or}
 use Rattle.uda_packet.specs.declared.end.End.{End}
-use Rattle.uda_exec.specs.Disks.{UnitState, AreImages, PENDING_LIMIT}
-use Rattle.uda_exec.specs.Order.{OrderIsFree}
-use Rattle.uda_exec.proofs.Units.{slice_get-set_other}
-use Rattle.uda_model.specs.Request.{Request, too_long}
-use Rattle.uda_model.specs.Answer.{Answer, TooLong}
-use Rattle.uda_model.specs.Clash.{clash, lead, lead_from, posted_count}
-use Rattle.uda_model.specs.Posting.{posted_command, answer_of, buffer_of}
-use Rattle.uda_model.specs.Keeping.{Units, Keeps}
-use Rattle.uda_model.specs.Values.{request_value, answer_value, request_values, answer_values}
-use Rattle.uda_model.specs.declared.request.Request.{Request as CodeRequest}
-use Rattle.uda_model.specs.declared.answer.Answer.{Answer as CodeAnswer}
-use Rattle.uda_model.specs.declared.answer.Answer.TheVariants.{TooLong as CodeTooLong}
+use Rattle.uda_disk.specs.Units.{UnitState, AreImages}
+use Rattle.uda_exec.specs.Disks.{PENDING_LIMIT}
+use Rattle.uda_disk.proofs.Slots.{slice_get-set_other}
+use Rattle.uda_disk.specs.Request.{Request}
+use Rattle.uda_disk.specs.PlainRun.{too_long}
+use Rattle.uda_disk.specs.Answer.{Answer, TooLong}
+use Rattle.uda_disk.specs.Order.{clash, lead, lead_from}
+use Rattle.uda_disk.specs.PlainRun.{posted_count}
+use Rattle.uda_posting.specs.Posting.{posted_command, answer_of, buffer_of}
+use Rattle.uda_disk.specs.Units.{Units}
+use Rattle.uda_posting.specs.Keeping.{Keeps}
+use Rattle.uda_disk.specs.Values.{request_value, answer_value, request_values, answer_values}
+use Rattle.uda_disk.specs.declared.request.Request.{Request as CodeRequest}
+use Rattle.uda_disk.specs.declared.answer.Answer.{Answer as CodeAnswer}
+use Rattle.uda_disk.specs.declared.answer.Answer.TheVariants.{TooLong as CodeTooLong}
 use Rattle.uda_host.specs.Host.{HostState, out_of, turns_left, Works, OneFetched, OneDone, Takes, AddsUp}
 use Rattle.uda_driver.specs.Driver.{IsDriver}
 use Rattle.uda_driver.specs.Blank.{Prepared, AreBlank}
@@ -84,14 +87,14 @@ module _ {start : HostState} {requests : List CodeRequest} {n : ℕ} {out : List
   blank_told : (place : ℕ) (a : Answer) (told : List CodeAnswer) → place < n → answer_values told ≡ slice_set (answer_values answers) place a → AreBlank (request_values requests) n (answer_values told)
   blank_told place a told low is = λ k r b from stands at. U.blank k r b from stands (sym (slice_get-set_other (answer_values answers) place k a (λ same. omega (arith, same, from, low))) ∙ ap (λ (as' : List Answer). slice_get as' k) (sym is) ∙ at)
 
-  module _ {new : HostState} {after : List (Option Out)} {told : List CodeAnswer} (order_is_free : OrderIsFree) (adds_up : AddsUp new) (images : AreImages new.units)
+  module _ {new : HostState} {after : List (Option Out)} {told : List CodeAnswer} (adds_up : AddsUp new) (images : AreImages new.units)
       (ends : (l : InLead start (request_values requests) n out host) → lead_from host.credits l.seen (drop n (request_values requests)) ≡ 0) where
     -- a turn ends the lead, where no more come in it
     pub underway_step : Steps host out answers new after told → Underway start requests n after told new
     underway_step (TellsNone works out_is answers_are) =
         let t = turned_works works in
         subst₂ (λ (o : List (Option Out)) (as' : List CodeAnswer). Underway start requests n o as' new) (sym out_is) (sym answers_are) (record {
-          driving = driving_works U.driving adds_up order_is_free works;
+          driving = driving_works U.driving adds_up works;
           blank = U.blank;
           sized = U.sized;
           begun = omega (arith, U.begun, t.taken);
@@ -103,7 +106,7 @@ module _ {start : HostState} {requests : List CodeRequest} {n : ℕ} {out : List
         let t = turned_takes takes in
         let place = tells.done.one.place in
         let low : place < n = omega (arith, (U.driving.fit tells.done.number tells.done.one tells.done.stands).before, length-take n (request_values requests)) in
-        let a = answer_of (request_value tells.done.one.request.now) e (buffer_of (posted_with tells.done.number tells.done.one) new.memory) in
+        let a = answer_of (request_value tells.done.one.request.now).act e (buffer_of (posted_with tells.done.number tells.done.one) new.memory) in
         let driving = driving_takes U.driving takes adds_up room tells.done in
         subst (λ (o : List (Option Out)). Underway start requests n o told new) (sym tells.out_is) (record {
           driving = subst (λ (as' : List Answer). Driving start.units (take n (request_values requests)) (set out tells.done.number None) as' new) (sym tells.answers_are) driving;

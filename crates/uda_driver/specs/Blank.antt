@@ -1,15 +1,19 @@
 -- The answers before their requests are posted.
 use Rattle.std.specs.Prelude.{◌≡◌, ℕ, ◌≤◌, true, false, List, length, slice_get, Some}
-use Rattle.uda_model.specs.Request as ask
-use Rattle.uda_model.specs.Request.{Request, too_long}
-use Rattle.uda_model.specs.Answer as tell
-use Rattle.uda_model.specs.Answer.{Answer}
+use Rattle.uda_disk.specs.Request as ask
+use Rattle.uda_disk.specs.Request.{Act, Request}
+use Rattle.uda_disk.specs.PlainRun.{too_long}
+use Rattle.uda_disk.specs.Answer as tell
+use Rattle.uda_disk.specs.Answer.{Answer}
 
 -- an answer that has room for the bytes that a Read brings
+abbrev pub HasRoom : Act → Answer → Type 0
+HasRoom (ask.Read lbn bytes) (tell.Data status held) = bytes ≤ length held
+HasRoom (ask.Read lbn bytes) answer = ⊥
+HasRoom act answer = Unit {0}
+
 abbrev pub Prepared : Request → Answer → Type 0
-Prepared (ask.Read unit first bytes) (tell.Data status held) = bytes ≤ length held
-Prepared (ask.Read unit first bytes) answer = ⊥
-Prepared r answer = Unit {0}
+Prepared r answer = HasRoom r.act answer
 
 -- the answer that stands before a request is posted
 pub record IsBlank (r : Request) (answer : Answer) : Type 0 where

@@ -1,6 +1,7 @@
 -- A driver as its callers see it.
 use Rattle.std.specs.Prelude.{◌≡◌, ℕ, ◌<◌, List, Option}
-use Rattle.uda_exec.specs.Disks.{UnitState, AreImages, PENDING_LIMIT}
+use Rattle.uda_disk.specs.Units.{UnitState, AreImages}
+use Rattle.uda_exec.specs.Disks.{PENDING_LIMIT}
 use Rattle.uda_port.specs.declared.phase.Phase.TheVariants.{Running}
 use Rattle.uda_host.specs.Host.{HostState, IsIdle, AddsUp}
 

@@ -2,8 +2,9 @@
 -- done.
 use Rattle.std.specs.Prelude.{◌≡◌, ℕ, zero, suc, ◌+◌, ◌-◌, ◌≤◌, List, Option, length, take, drop}
 use Rattle.std.specs.List.{list_any}
-use Rattle.uda_model.specs.Request.{Request}
-use Rattle.uda_model.specs.Clash.{clash, lead, lead_from, posted_count}
+use Rattle.uda_disk.specs.Request.{Request}
+use Rattle.uda_disk.specs.Order.{clash, lead, lead_from}
+use Rattle.uda_disk.specs.PlainRun.{posted_count}
 use Rattle.uda_host.specs.Host.{HostState}
 use Rattle.uda_driver.specs.Out.{clashes_with_any}
 use Rattle.uda_driver.specs.declared.out.Out.{Out}

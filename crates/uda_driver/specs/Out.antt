@@ -3,10 +3,11 @@
 use Rattle.std.specs.Prelude.{◌≡◌, ℕ, suc, ◌+◌, ◌<◌, Bool, false, ◌||◌, nat_eq}
 use Rattle.std.specs.Prelude.{List, [], ◌∷◌, Option, Some, None, slice_get}
 use Rattle.std.specs.List.{list_any}
-use Rattle.uda_model.specs.Request.{Request, too_long}
-use Rattle.uda_model.specs.Clash.{clash}
-use Rattle.uda_model.specs.Posting.{Posted}
-use Rattle.uda_model.specs.Values.{request_value, answer_value}
+use Rattle.uda_disk.specs.Request.{Request}
+use Rattle.uda_disk.specs.PlainRun.{too_long}
+use Rattle.uda_disk.specs.Order.{clash}
+use Rattle.uda_posting.specs.Posting.{Posted}
+use Rattle.uda_disk.specs.Values.{request_value, answer_value}
 use Rattle.uda_host.specs.Layout.{buffer_address}
 use Rattle.uda_host.specs.Host.{HostState}
 use Rattle.uda_driver.specs.Blank.{Prepared}

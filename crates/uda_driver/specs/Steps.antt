@@ -2,9 +2,9 @@
 use Rattle.std.specs.Prelude.{◌≡◌, ℕ, ◌+◌, List, Option, Some, None, slice_get, slice_set}
 use Rattle.uda_mem.specs.Put.{put}
 use Rattle.uda_packet.specs.declared.end.End.{End}
-use Rattle.uda_model.specs.Posting.{posted_command, answer_of, buffer_of, bytes_brought}
-use Rattle.uda_model.specs.Values.{request_value, answer_values}
-use Rattle.uda_model.specs.declared.answer.Answer.{Answer}
+use Rattle.uda_posting.specs.Posting.{posted_command, answer_of, buffer_of, bytes_brought}
+use Rattle.uda_disk.specs.Values.{request_value, answer_values}
+use Rattle.uda_disk.specs.declared.answer.Answer.{Answer}
 use Rattle.uda_host.specs.Layout.{buffer_address}
 use Rattle.uda_host.specs.Host.{HostState, Posts, Works, Takes}
 use Rattle.uda_driver.specs.Out.{posted_with}
@@ -14,7 +14,7 @@ use Rattle.uda_driver.specs.declared.out.Out.{Out}
 abbrev pub with_brought : HostState → ℕ → Out → HostState
 with_brought host number one =
     record host {
-      memory = put host.memory (buffer_address number) (bytes_brought (request_value one.request.now));
+      memory = put host.memory (buffer_address number) (bytes_brought (request_value one.request.now).act);
     }
 
 -- one more is out, with a buffer that was free, and its command is posted
@@ -40,7 +40,7 @@ pub record Tells (end : End) (memory : List ℕ) (out : List (Option Out)) (answ
   pub answers_are :
       answer_values answers_after
       ≡ slice_set (answer_values answers) done.one.place
-      (answer_of (request_value done.one.request.now) end
+      (answer_of (request_value done.one.request.now).act end
       (buffer_of (posted_with done.number done.one) memory))
 
 -- a turn, by which nothing is told, or the answer of the end that was taken

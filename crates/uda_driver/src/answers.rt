@@ -1,14 +1,14 @@
 //! The answers, as they are prepared before the first command, and as ends fill them.
 ghost use Rattle.std.specs.Prelude.{◌≡◌, ◌≤◌, true, false, length, take, IfOk};
 ghost use Rattle.uda_exec.specs.Commands.{room_of};
-ghost use Rattle.uda_model.specs.Request.{too_long};
-ghost use Rattle.uda_model.specs.Posting.{op_of, answer_of};
-ghost use Rattle.uda_model.specs.Values.{request_value, answer_value, request_values, answer_values};
+ghost use Rattle.uda_disk.specs.PlainRun.{too_long};
+ghost use Rattle.uda_posting.specs.Posting.{op_of, answer_of};
+ghost use Rattle.uda_disk.specs.Values.{request_value, answer_value, request_values, answer_values};
 ghost use Rattle.uda_host.specs.Layout.{buffer_size};
 ghost use Rattle.uda_driver.specs.Blank.{Prepared, AreBlank};
 
 use std::alloc::{AllocError, Global};
-use uda_model::{Answer, Request};
+use uda_disk::{Answer, Request};
 use uda_packet::{End, EndBody};
 
 // The answer that stands before a request is posted.
@@ -47,8 +47,8 @@ pub(crate) fn answer_for(blank: Answer, request: &Request, end: End, buffer: &[u
     requires whole { length buffer.now ≡ buffer_size }
     ensures { Prepared (request_value request.now) (answer_value blank)
         → answer_value result
-        ≡ answer_of (request_value request.now) end
-        (take (room_of (op_of (request_value request.now) 0)) buffer.now) }
+        ≡ answer_of (request_value request.now).act end
+        (take (room_of (op_of (request_value request.now).act 0)) buffer.now) }
 {
     let (flags, size, moved) = match end.body {
         EndBody::Status { flags } => (flags, 0, 0),

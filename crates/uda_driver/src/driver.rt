@@ -1,9 +1,9 @@
 //! The driver.
 ghost use Rattle.std.specs.Prelude.{◌≡◌, ◌<◌, ◌≤◌, ◌↔◌, length, Err, IfOk, IfErr};
 ghost use Rattle.uda_exec.specs.Drives.{drive_states, fresh_units, drives_in};
-ghost use Rattle.uda_exec.specs.Execution.{natures_of};
-ghost use Rattle.uda_model.specs.Keeping.{AllFaithful};
-ghost use Rattle.uda_model.specs.Values.{request_values, answer_values};
+ghost use Rattle.uda_disk.specs.Units.{natures_of};
+ghost use Rattle.uda_disk.specs.Units.{AllFaithful};
+ghost use Rattle.uda_disk.specs.Values.{request_values, answer_values};
 ghost use Rattle.uda_driver.specs.Run.{request_limit, AreAnswersOf, NoneFailed, IsPlainRun};
 ghost use Rattle.uda_driver.specs.Run.{TellsLosses, CountsOn};
 ghost use Rattle.uda_driver.specs.Blank.{AreBlank};
@@ -13,11 +13,11 @@ use crate::answers::blanks;
 use crate::serve::drive;
 use std::alloc::Global;
 use std::marker::Model;
+use uda_disk::{Answer, Request};
 use uda_exec::Exec;
 use uda_host::Host;
 use uda_image::{BlockStore, Drive};
 use uda_mem::NoMemory;
-use uda_model::{Answer, Request};
 
 /// The most requests of one run.
 pub const REQUEST_LIMIT: usize = 4096;

@@ -2,11 +2,11 @@
 ghost use Rattle.std.specs.Prelude.{◌≡◌, ◌<◌, Some, None, replicate, position, is_none};
 ghost use Rattle.std.specs.Prelude.{slice_set, slice_index_or};
 ghost use Rattle.uda_exec.specs.Disks.{PENDING_LIMIT};
-ghost use Rattle.uda_model.specs.Values.{request_value};
+ghost use Rattle.uda_disk.specs.Values.{request_value};
 ghost use Rattle.uda_driver.specs.Out.{refers, clashes_with, clashes_with_any};
 
+use uda_disk::{Answer, Request};
 use uda_exec::PENDING;
-use uda_model::{Answer, Request};
 
 /// A request that is out, and the answer that its end will fill.
 #[derive(Drop)]

@@ -2,10 +2,11 @@
 ghost use Rattle.std.specs.Prelude.{◌≡◌, ◌<◌, ◌≤◌, true, false, length, is_none};
 ghost use Rattle.std.specs.List.{list_any};
 ghost use Rattle.uda_mem.specs.Put.{put};
-ghost use Rattle.uda_exec.specs.Disks.{AreImages, PENDING_LIMIT};
-ghost use Rattle.uda_model.specs.Request.{too_long};
-ghost use Rattle.uda_model.specs.Posting.{bytes_brought};
-ghost use Rattle.uda_model.specs.Values.{request_value, request_values, answer_values};
+ghost use Rattle.uda_disk.specs.Units.{AreImages};
+ghost use Rattle.uda_exec.specs.Disks.{PENDING_LIMIT};
+ghost use Rattle.uda_disk.specs.PlainRun.{too_long};
+ghost use Rattle.uda_posting.specs.Posting.{bytes_brought};
+ghost use Rattle.uda_disk.specs.Values.{request_value, request_values, answer_values};
 ghost use Rattle.uda_host.specs.Layout.{buffer_address};
 ghost use Rattle.uda_host.specs.Host.{out_of, AddsUp};
 ghost use Rattle.uda_driver.specs.Blank.{AreBlank};
@@ -17,12 +18,12 @@ ghost use Rattle.uda_driver.specs.Underway.{IsDriving, Ran};
 
 use crate::answers::answer_for;
 use crate::out::{Out, buffer_of, clashes_with_any, free_buffer, none_out, put_out, take_out};
+use uda_disk::{Answer, Request};
 use uda_exec::PENDING;
-use uda_exec::order::order_is_free;
 use uda_host::{Host, buffer_address};
 use uda_image::BlockStore;
-use uda_model::{Answer, Request};
 use uda_packet::End;
+use uda_posting::command_of;
 
 /// Has the requests done, and tells their answers in place of the blanks. Nothing is taken from memory
 /// once a command is posted.
@@ -37,8 +38,6 @@ pub(crate) fn drive<S: BlockStore>(
     requires blank { AreBlank (request_values requests.now) 0 (answer_values answers.items) }
     ensures { Ran host.old requests.now result.items host.new }
 {
-    // It does nothing: its contract is the law that whichever command goes, nothing is different.
-    order_is_free();
     let mut out = none_out();
     for n in 0..requests.len() {
         let request = &requests[n];
@@ -87,10 +86,7 @@ fn post<'a, S: BlockStore>(host: &mut Host<S>, out: &mut [Option<Out<'a>>; PENDI
         unreachable!()
     };
     bring(host, one.request, number as u8);
-    host.post(
-        &one.request
-            .command(one.place + 1, buffer_address(number as u8)),
-    );
+    host.post(&command_of(one.request, one.place + 1, buffer_address(number as u8)));
     put_out(out, number, one);
 }
 
@@ -99,7 +95,7 @@ fn bring<S: BlockStore>(host: &mut Host<S>, request: &Request, number: u8)
     requires number { number < PENDING_LIMIT }
     requires short { too_long (request_value request.now) ≡ false }
     ensures brought { host.new ≡ record host.old {
-      memory = put host.old.memory (buffer_address number) (bytes_brought (request_value request.now));
+      memory = put host.old.memory (buffer_address number) (bytes_brought (request_value request.now).act);
     } }
 {
     if let Request::Write { payload, .. } = request {

@@ -38,5 +38,5 @@ changes_again a b c at n h g =
 
 -- a command changes no more of its buffer than there is
 pub landing-le : (op : Op) → landing_of op ≤ room_of op
-landing-le (Read count address block) = omega arith
+landing-le (Read bytes address lbn) = omega arith
 landing-le _ = omega arith

@@ -3,6 +3,7 @@ pub mod Changes
 pub mod Blocks
 pub mod Moves
 pub mod Steps
+pub mod Requests
 pub mod Transferred
 pub mod Units
 pub mod Choices

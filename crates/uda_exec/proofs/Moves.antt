@@ -4,8 +4,9 @@ use Rattle.std.specs.Prelude.{MatchResult, true, false, slice_set}
 use Rattle.std.proofs.lemmas.List.{take_all}
 use Rattle.std.proofs.lemmas.Option.{get_or_from_slice_get}
 use Rattle.uda_mem.proofs.PutLaws.{put-nil, length-part-le}
-use Rattle.uda_exec.proofs.Words.{put, part, changes_blocks, Transfer, StoreError, StoreState, Reads, Writes, block_count, changes_memory, in_blocks, first_block, blocks_due, bytes_landing_of, MovesBlock, LosesBlock}
-use Rattle.uda_exec.proofs.Blocks.{get_or-in_blocks, part-part}
+use Rattle.uda_exec.proofs.Words.{put, part, changes_blocks, Transfer, StoreError, StoreState, Reads, Writes, block_count, changes_memory, in_blocks, bytes_at, first_block, blocks_due, bytes_landing_of, MovesBlock, LosesBlock}
+use Rattle.uda_disk.proofs.InBlocks.{get_or-in_blocks}
+use Rattle.uda_exec.proofs.Blocks.{bytes_at-within, part-part}
 
 -- what one block's move may end in
 abbrev pub EndsBlock : Transfer → ℕ → StoreState → List ℕ → StoreState → List ℕ → Result Unit StoreError → Type 0
@@ -21,43 +22,44 @@ set-put (y ∷ ys) (suc n) x = let rest = set-put ys n x in rw add-one (ap (λ (
 module _ (t : Transfer) (k : ℕ) (old : StoreState) (memory : List ℕ) (new : StoreState) where
   -- the store reads into memory itself, whether it fails or not
   pub reads_block : changes_blocks t.kind ≡ false → (to memory_after : List ℕ) (result : Result Unit StoreError) → length to ≡ 512
-      → get_or (blocks_due t old.blocks memory) k [] ≡ get_or old.blocks (t.block + k) [] → memory_after ≡ put memory (t.buffer + 512 * k) (bytes_landing_of t k to)
-      → Reads old (t.block + k) new to result → EndsBlock t k old memory new memory_after result
+      → get_or (blocks_due t old.blocks memory) k [] ≡ get_or old.blocks (t.lbn + k) [] → memory_after ≡ put memory (t.buffer + 512 * k) (bytes_landing_of t k to)
+      → Reads old (t.lbn + k) new to result → EndsBlock t k old memory new memory_after result
   reads_block keeps to memory_after (Ok u) whole due e h = record {
     stands = record {
-      in_memory = rw (due ∙ get_or_from_slice_get old.blocks (t.block + k) to [] h.value) e;
-      in_store = rw keeps (ap (λ (s : StoreState). s.blocks) h.state_stays ∙ sym (put-nil old.blocks (t.block + k)));
+      in_memory = rw (due ∙ get_or_from_slice_get old.blocks (t.lbn + k) to [] h.value) e;
+      in_store = rw keeps (ap (λ (s : StoreState). s.blocks) h.state_stays ∙ sym (put-nil old.blocks (t.lbn + k)));
     };
     failures_stay = ap (λ (s : StoreState). s.failures) h.state_stays;
   }
   reads_block keeps to memory_after (Err f) whole due e h = record {
     left = to;
     whole = whole;
-    stands = record { in_memory = e; in_store = rw keeps (ap (λ (s : StoreState). s.blocks) h.counted ∙ sym (put-nil old.blocks (t.block + k))) };
+    stands = record { in_memory = e; in_store = rw keeps (ap (λ (s : StoreState). s.blocks) h.counted ∙ sym (put-nil old.blocks (t.lbn + k))) };
     counted = ap (λ (s : StoreState). s.failures) h.counted;
   }
 
   pub writes_block : changes_blocks t.kind ≡ true → changes_memory t.kind ≡ false → (from : List ℕ) (result : Result Unit StoreError)
-      → get_or (blocks_due t old.blocks memory) k [] ≡ from → Writes old (t.block + k) new from result → EndsBlock t k old memory new memory result
+      → get_or (blocks_due t old.blocks memory) k [] ≡ from → Writes old (t.lbn + k) new from result → EndsBlock t k old memory new memory result
   writes_block changes keeps from (Ok u) due h = record {
     stands = record {
       in_memory = rw keeps (sym (put-nil memory (t.buffer + 512 * k)));
-      in_store = rw (due, changes) (ap (λ (s : StoreState). s.blocks) h.written ∙ set-put old.blocks (t.block + k) from);
+      in_store = rw (due, changes) (ap (λ (s : StoreState). s.blocks) h.written ∙ set-put old.blocks (t.lbn + k) from);
     };
     failures_stay = ap (λ (s : StoreState). s.failures) h.written;
   }
   writes_block changes keeps from (Err e) due h = record {
     left = h.left;
     whole = h.whole;
-    stands = record { in_memory = rw keeps (sym (put-nil memory (t.buffer + 512 * k))); in_store = rw changes (ap (λ (s : StoreState). s.blocks) h.written ∙ set-put old.blocks (t.block + k) h.left) };
+    stands = record { in_memory = rw keeps (sym (put-nil memory (t.buffer + 512 * k))); in_store = rw changes (ap (λ (s : StoreState). s.blocks) h.written ∙ set-put old.blocks (t.lbn + k) h.left) };
     counted = ap (λ (s : StoreState). s.failures) h.written;
   }
 
 -- the block that a Write's buffer fills at place k
-pub due-Write : (t : Transfer) (k : ℕ) (memory : List ℕ) → k < block_count t → t.buffer + t.count ≤ length memory
-    → get_or (in_blocks (block_count t) (part memory t.buffer t.count)) k [] ≡ first_block (part memory (t.buffer + 512 * k) (t.count - 512 * k))
+pub due-Write : (t : Transfer) (k : ℕ) (memory : List ℕ) → k < block_count t → t.buffer + t.bytes ≤ length memory
+    → get_or (in_blocks (bytes_at memory t.buffer t.bytes)) k [] ≡ first_block (part memory (t.buffer + 512 * k) (t.bytes - 512 * k))
 due-Write t k memory inside room =
-    let rest : ℕ = t.count - 512 * k in
-    let size = length-part-le memory t.buffer t.count room in
-    get_or-in_blocks (block_count t) k rest (part memory t.buffer t.count) inside (omega (arith, size)) (omega (arith, size))
-    ∙ ap first_block (part-part memory t.buffer t.count (512 * k) rest (omega arith))
+    let rest : ℕ = t.bytes - 512 * k in
+    let size = length-part-le memory t.buffer t.bytes room in
+    ap (λ (bytes : List ℕ). get_or (in_blocks bytes) k []) (bytes_at-within memory t.buffer t.bytes room)
+    ∙ get_or-in_blocks k rest (part memory t.buffer t.bytes) (rw size inside) (omega (arith, size)) (omega (arith, size))
+    ∙ ap first_block (part-part memory t.buffer t.bytes (512 * k) rest (omega arith))

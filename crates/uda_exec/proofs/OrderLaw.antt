@@ -1,89 +1,60 @@
 -- Whichever command that may go is done first, nothing is different; and what else a driver needs of a list of commands.
-use Rattle.std.proofs.Common.{◌≡◌, ℕ, zero, suc, ◌+◌, ◌-◌, inl, inr, min, subst, ◌<◌, true, List, [], ◌∷◌, length, get_or, set, Option, Some, refl, sym, ap, ap₂, ◌∙◌, arith}
-use Rattle.std.specs.Prelude.{slice_get, option_map, insert, remove, AllPairs}
-use Rattle.std.proofs.lemmas.List.{same_lists}
+use Rattle.std.proofs.Common.{◌≡◌, ℕ, ◌+◌, ◌-◌, inl, inr, min, ◌<◌, List, [], ◌∷◌, ◌++◌, length, get_or, take, replicate, Option, Some, None, refl, sym, ap, ap₂, subst₂, ◌∙◌, arith}
+use Rattle.std.specs.Prelude.{slice_get, option_map}
+use Rattle.std.proofs.lemmas.List.{same_lists, take_at}
 use Rattle.std.proofs.lemmas.Bool.{cases_lt}
 use Rattle.std.proofs.lemmas.List.Elements.{All-head, All-tail}
 use Rattle.std.proofs.lemmas.Option.{slice_get-map, slice_get_within, get_or_from_slice_get}
 use Rattle.uda_mem.proofs.PutLaws.{length-put, length-part, get_or-part, get_or-put_before, get_or-put_at, get_or-put_behind, put-put_comm}
-use Rattle.uda_packet.specs.declared.command.Op.TheVariants.{Write}
-use Rattle.uda_exec.proofs.Words.{put, part, Meet, Command, Op, End, Disks, first_block_of, address_of, room_of, World, Verdict, ActsOn, verdict, mode_after, end_of, may_pass, MayGo, Apart, FixedCommand, commands_of, effect_of, effects, OrderIsFree, OneMore, with_bytes, PassesThrough, data_of, SameData, DependsOnDataAlone}
-use Rattle.uda_exec.proofs.Swap.{swaps, by, effect-by, sends, length-bytes_put, bytes_put-same, blocks_put-same, data_of-put}
-
-pairs_rest : (c : Command) (cs : List Command) → AllPairs Apart (c ∷ cs) → AllPairs Apart cs
-pairs_rest c cs h i j d below within = h (suc i) (suc j) d (omega arith) (omega arith)
-
--- the first of a list is apart from each later one
-pairs_first : (c : Command) (cs : List Command) (j : ℕ) (d : Command) → AllPairs Apart (c ∷ cs) → slice_get cs j ≡ Some d → Apart c d
-pairs_first c cs j d h at =
-    let within = slice_get_within cs j d at in
-    let is : get_or cs j c ≡ d = get_or_from_slice_get cs j d c at in
-    rw (← is) (h 0 (suc j) c (omega arith) (omega arith))
-
-goes_rest : (c : Command) (cs : List Command) (j : ℕ) → MayGo (c ∷ cs) (suc j) → MayGo cs j
-goes_rest c cs j h = record {
-  stands = omega (arith, h.stands);
-  passes = λ i older younger below at_i at_j. h.passes (suc i) older younger (omega arith) at_i at_j;
-}
+use Rattle.uda_packet.specs.declared.command.Op.TheVariants.{Status, Controller, Available, Online, Access, Erase, Read, Write}
+use Rattle.uda_disk.specs.Request as ask
+use Rattle.uda_disk.proofs.Runs.{first_is_free, runs-push}
+use Rattle.uda_disk.proofs.Swap as item
+use Rattle.uda_disk.proofs.Swap.{Told, judge}
+use Rattle.uda_exec.proofs.Words.{put, part, Meet, Command, Op, End, Disks, Act, buffer_start, room_of, bytes_at, act_of, World, Apart, FixedCommand, commands_of, effect_of, effects, OrderIsFree, OneMore, with_bytes, PassesThrough, SameData, DependsOnDataAlone}
+use Rattle.uda_exec.proofs.Requests.{asks, act_of-put}
+use Rattle.uda_exec.proofs.Swap.{swaps, item_of, lands, effect-lands, effect-none, behind, length-told}
 
 pub order_is_free : OrderIsFree
-order_is_free [] j x w apart goes at = absurd (cc)
-order_is_free (first ∷ rest) zero x w apart goes at =
-    let same : first ≡ x = cc in
-    ap (λ (a : FixedCommand). let now = effect_of a w in let later = effects rest now.1 in (now.0 ∷ later.0, later.1)) (sym same)
-order_is_free (first ∷ rest) (suc j) x w apart goes at =
-    let at_command : slice_get (commands_of rest) j ≡ Some x.command = slice_get-map (λ (a : FixedCommand). a.command) rest j ∙ ap (λ (o : Option FixedCommand). option_map (λ (a : FixedCommand). a.command) o) at in
-    let may : may_pass first.command x.command ≡ true = goes.passes 0 first.command x.command (omega arith) refl at_command in
-    let beside = pairs_first first.command (commands_of rest) j x.command apart at_command in
-    let swap = swaps x first w may beside in
-    let induction = order_is_free rest j x (effect_of first w).1 (pairs_rest first.command (commands_of rest) apart) (goes_rest first.command (commands_of rest) j goes) at in
-    -- the end of the first, the end of the one that goes, and those of the others in the world that the two leave
-    let joined : End → End → World → List End × World = λ e f v. let later = effects (remove rest j) v in (e ∷ insert later.0 j f, later.1) in
-    let behind : List End × World → List End × World = λ r. ((effect_of first w).0 ∷ r.0, r.1) in
-    ap (λ (e : End). joined e (effect_of x w).0 (effect_of first (effect_of x w).1).1) swap.end_second
-    ∙ ap (λ (e : End). joined (effect_of first w).0 e (effect_of first (effect_of x w).1).1) swap.end_first
-    ∙ ap (λ (v : World). joined (effect_of first w).0 (effect_of x (effect_of first w).1).0 v) swap.worlds
-    ∙ ap behind induction
+order_is_free xs j x w apart goes at =
+    let command : FixedCommand → Command = λ y. y.command in
+    let at_command : slice_get (commands_of xs) j ≡ Some x.command = slice_get-map command xs j ∙ ap (option_map command) at in
+    let place = slice_get_within (commands_of xs) j x.command at_command in
+    first_is_free effect_of xs j x w at (λ i y v below there.
+    let there_command : slice_get (commands_of xs) i ≡ Some y.command = slice_get-map command xs i ∙ ap (option_map command) there in
+    let is_y = get_or_from_slice_get (commands_of xs) i y.command x.command there_command in
+    let is_x = get_or_from_slice_get (commands_of xs) j x.command x.command at_command in
+    swaps x y v (goes.passes i y.command x.command below there_command at_command) (subst₂ Apart is_y is_x (apart i j x.command below place)))
 
 pub one_more : OneMore
-one_more [] x w = refl
-one_more (first ∷ rest) x w =
-    let behind : List End × World → List End × World = λ r. ((effect_of first w).0 ∷ r.0, r.1) in
-    ap behind (one_more rest x (effect_of first w).1)
+one_more xs x w = runs-push effect_of xs x w
 
 -- bytes beside a command's buffer pass through doing it
-passes_verdict : (x : FixedCommand) (w : World) (at : ℕ) (bytes : List ℕ) → (Meet at (length bytes) (address_of x.command.op) (room_of x.command.op) → ⊥)
-    → (v : Verdict) → by x v (with_bytes w at bytes) ≡ ((by x v w).0, with_bytes (by x v w).1 at bytes)
-passes_verdict x w at bytes beside (ActsOn d) =
-    let op = x.command.op in
-    let make : List ℕ → List (List ℕ) → End × World = λ m new. (
-      end_of x.outcome x.command (ActsOn d),
-      record {
-        memory = m;
-        disks = set w.disks x.command.unit (Some (record { blocks = put d.blocks (first_block_of op) new; size = d.size; mode = mode_after op d.mode }));
-      },
-    ) in
-    let memories : put (put w.memory at bytes) (address_of op) (sends x d (put w.memory at bytes)) ≡ put (put w.memory (address_of op) (sends x d w.memory)) at bytes =
-    ap (λ (b : List ℕ). put (put w.memory at bytes) (address_of op) b) (bytes_put-same x.outcome op d.blocks d.blocks _ w.memory refl)
-    ∙ put-put_comm w.memory at bytes (address_of op) (sends x d w.memory) (λ meet. let less = length-bytes_put x.outcome op d.blocks w.memory in beside (omega arith)) in
-    ap₂ make memories (blocks_put-same x.outcome op d.blocks d.blocks _ w.memory (data_of-put op w.memory at bytes beside))
-passes_verdict x w at bytes beside _ = refl
-
-passes_one : (x : FixedCommand) (w : World) (at : ℕ) (bytes : List ℕ) → (Meet at (length bytes) (address_of x.command.op) (room_of x.command.op) → ⊥)
-    → effect_of x (with_bytes w at bytes) ≡ ((effect_of x w).0, with_bytes (effect_of x w).1 at bytes)
-passes_one x w at bytes beside =
-    let same : verdict x.command (with_bytes w at bytes) ≡ verdict x.command w = rw (length-put w.memory at bytes) refl in
-    effect-by x (with_bytes w at bytes) (verdict x.command w) same ∙ passes_verdict x w at bytes beside (verdict x.command w)
+passes_one : (x : FixedCommand) (w : World) (at : ℕ) (bytes : List ℕ) → (Meet at (length bytes) (buffer_start x.command.op) (room_of x.command.op) → ⊥)
+    → (asked : Option Act) → act_of x.command.op w.memory ≡ asked → effect_of x (with_bytes w at bytes) ≡ ((effect_of x w).0, with_bytes (effect_of x w).1 at bytes)
+passes_one x w at bytes beside None is =
+    let behind_it : End × World → End × World = λ r. (r.0, with_bytes r.1 at bytes) in
+    effect-none x (with_bytes w at bytes) (act_of-put x.command.op w.memory at bytes beside ∙ is) ∙ sym (ap behind_it (effect-none x w is))
+passes_one x w at bytes beside (Some act) is =
+    let c = x.command in
+    let it = item_of x act (length w.memory) in
+    let r = item.does it w.disks in
+    let behind_it : End × World → End × World = λ r. (r.0, with_bytes r.1 at bytes) in
+    let little = length-told x act (length w.memory) (judge it (slice_get w.disks c.unit)) (asks c.op w.memory act is) in
+    let make : List ℕ → End × World = λ m. ((lands c w.memory r).0, record { memory = m; disks = r.1 }) in
+    behind x act w at bytes w.disks is beside
+    ∙ ap make (put-put_comm w.memory at bytes (buffer_start c.op) r.0.1 (λ meet. beside (omega arith)))
+    ∙ sym (ap behind_it (effect-lands x act w is))
 
 pub passes_through : PassesThrough
 passes_through [] at bytes w beside = refl
 passes_through (x ∷ rest) at bytes w beside =
-    let P : FixedCommand → Type 0 = λ a. Meet at (length bytes) (address_of a.command.op) (room_of a.command.op) → ⊥ in
-    let now = passes_one x w at bytes (All-head P x rest beside) in
+    let P : FixedCommand → Type 0 = λ a. Meet at (length bytes) (buffer_start a.command.op) (room_of a.command.op) → ⊥ in
+    let now = passes_one x w at bytes (All-head P x rest beside) _ refl in
     let later = passes_through rest at bytes (effect_of x w).1 (All-tail P x rest beside) in
     let step : End × World → List End × World = λ r. let more = effects rest r.1 in (r.0 ∷ more.0, more.1) in
-    let behind : List End × World → List End × World = λ r. ((effect_of x w).0 ∷ r.0, r.1) in
-    ap step now ∙ ap behind later
+    let behind_it : List End × World → List End × World = λ r. ((effect_of x w).0 ∷ r.0, r.1) in
+    ap step now ∙ ap behind_it later
 
 -- a part that two lists share is still shared when the same is put into both
 part-put_both : (xs ys : List ℕ) (at : ℕ) (new : List ℕ) (a n : ℕ) → length xs ≡ length ys → part xs a n ≡ part ys a n → part (put xs at new) a n ≡ part (put ys at new) a n
@@ -101,48 +72,60 @@ part-put_both xs ys at new a n same h =
       ]
     ] ∙ sym (get_or-part (put ys at new) a n k d inside))
 
-data_of-put_both : (op : Op) (memory other : List ℕ) (at : ℕ) (bytes : List ℕ) → length memory ≡ length other → data_of op memory ≡ data_of op other → data_of op (put memory at bytes) ≡ data_of op (put other at bytes)
-data_of-put_both (Write count address block) memory other at bytes same h = part-put_both memory other at bytes address count same h
-data_of-put_both _ memory other at bytes same h = refl
+-- what a Write asks of two memories of one length tells whether they share its buffer
+part-shared : (memory other : List ℕ) (at n : ℕ) → length memory ≡ length other → bytes_at memory at n ≡ bytes_at other at n → part memory at n ≡ part other at n
+part-shared memory other at n same h =
+    let size = length-part memory at n in let size' = length-part other at n in
+    let rest : List ℕ → List ℕ = λ m. replicate (n - length (part m at n)) 0 in
+    sym (take_at (part memory at n) (rest memory) (length (part memory at n)) refl) ∙ ap (take (length (part memory at n))) h
+    ∙ take_at (part other at n) (rest other) (length (part memory at n)) (omega (arith, same))
 
--- one command in two memories that agree on its data: one end, the same units, and memories that agree as before
-record Agrees (x : FixedCommand) (memory other : List ℕ) (disks : Disks) (now then : End × World) : Type 0 where
+act_of-put_both : (o : Op) (memory other : List ℕ) (at : ℕ) (bytes : List ℕ) → length memory ≡ length other → act_of o memory ≡ act_of o other → act_of o (put memory at bytes) ≡ act_of o (put other at bytes)
+act_of-put_both (Write n address lbn) memory other at bytes same h =
+    let shared : bytes_at memory address n ≡ bytes_at other address n = cc in
+    let all = part-put_both memory other at bytes address n same (part-shared memory other address n same shared) in
+    ap (λ (part : List ℕ). Some (ask.Write lbn (part ++ replicate (n - length part) 0))) all
+act_of-put_both Status memory other at bytes same h = refl
+act_of-put_both Controller memory other at bytes same h = refl
+act_of-put_both Available memory other at bytes same h = refl
+act_of-put_both (Online soft) memory other at bytes same h = refl
+act_of-put_both (Access n lbn) memory other at bytes same h = refl
+act_of-put_both (Read n address lbn) memory other at bytes same h = refl
+act_of-put_both (Erase n lbn) memory other at bytes same h = refl
+
+-- one command in two memories of which it asks the same: one end, the same units, and memories that agree as before
+record Agrees (memory other : List ℕ) (now then : End × World) : Type 0 where
   ends : now.0 ≡ then.0
   units : now.1.disks ≡ then.1.disks
   same_length : length now.1.memory ≡ length then.1.memory
-  same_data : (op : Op) → data_of op memory ≡ data_of op other → data_of op now.1.memory ≡ data_of op then.1.memory
+  same_acts : (o : Op) → act_of o memory ≡ act_of o other → act_of o now.1.memory ≡ act_of o then.1.memory
 
-agrees_verdict : (x : FixedCommand) (memory other : List ℕ) (disks : Disks) → length memory ≡ length other → data_of x.command.op memory ≡ data_of x.command.op other
-    → (v : Verdict) → Agrees x memory other disks (by x v (record { memory = memory; disks = disks })) (by x v (record { memory = other; disks = disks }))
-agrees_verdict x memory other disks same h (ActsOn d) =
-    let op = x.command.op in let bytes = sends x d memory in
-    let make : List (List ℕ) → Disks = λ new. set disks x.command.unit (Some (record { blocks = put d.blocks (first_block_of op) new; size = d.size; mode = mode_after op d.mode })) in
-    let sent : sends x d other ≡ bytes = bytes_put-same x.outcome op d.blocks d.blocks other memory refl in
-    record {
+agrees_one : (x : FixedCommand) (memory other : List ℕ) (disks : Disks) → length memory ≡ length other → (asked : Option Act) → act_of x.command.op memory ≡ asked → act_of x.command.op other ≡ asked
+    → Agrees memory other (effect_of x (record { memory = memory; disks = disks })) (effect_of x (record { memory = other; disks = disks }))
+agrees_one x memory other disks same None is is' =
+    subst₂ (Agrees memory other) (sym (effect-none x (record { memory = memory; disks = disks }) is)) (sym (effect-none x (record { memory = other; disks = disks }) is'))
+    (record { ends = refl; units = refl; same_length = same; same_acts = λ o g. g })
+agrees_one x memory other disks same (Some act) is is' =
+    let c = x.command in
+    let r = item.does (item_of x act (length memory)) disks in
+    let there : effect_of x (record { memory = other; disks = disks }) ≡ lands c other r =
+    effect-lands x act (record { memory = other; disks = disks }) is' ∙ ap (λ (n : ℕ). lands c other (item.does (item_of x act n) disks)) (sym same) in
+    subst₂ (Agrees memory other) (sym (effect-lands x act (record { memory = memory; disks = disks }) is)) (sym there) (record {
       ends = refl;
-      units = ap make (blocks_put-same x.outcome op d.blocks d.blocks memory other h);
-      same_length = length-put memory (address_of op) bytes ∙ same ∙ sym (length-put other (address_of op) (sends x d other));
-      same_data = λ o g. data_of-put_both o memory other (address_of op) bytes same g ∙ sym (ap (λ (b : List ℕ). data_of o (put other (address_of op) b)) sent);
-    }
-agrees_verdict x memory other disks same h _ = record { ends = refl; units = refl; same_length = same; same_data = λ op g. g }
-
-agrees_one : (x : FixedCommand) (memory other : List ℕ) (disks : Disks) → length memory ≡ length other → data_of x.command.op memory ≡ data_of x.command.op other
-    → Agrees x memory other disks (effect_of x (record { memory = memory; disks = disks })) (effect_of x (record { memory = other; disks = disks }))
-agrees_one x memory other disks same h =
-    let w : World = record { memory = memory; disks = disks } in let v : World = record { memory = other; disks = disks } in
-    let judged_same : verdict x.command v ≡ verdict x.command w = rw (← same) refl in
-    let P : End × World → Type 0 = λ r. Agrees x memory other disks (effect_of x w) r in
-    subst P (sym (effect-by x v (verdict x.command w) judged_same)) (agrees_verdict x memory other disks same h (verdict x.command w))
+      units = refl;
+      same_length = length-put memory (buffer_start c.op) r.0.1 ∙ same ∙ sym (length-put other (buffer_start c.op) r.0.1);
+      same_acts = λ o g. act_of-put_both o memory other (buffer_start c.op) r.0.1 same g;
+    })
 
 pub depends_on_data_alone : DependsOnDataAlone
 depends_on_data_alone [] memory other disks same = (refl, refl)
 depends_on_data_alone (x ∷ rest) memory other disks same =
-    let P : FixedCommand → Type 0 = λ a. data_of a.command.op memory ≡ data_of a.command.op other in
+    let P : FixedCommand → Type 0 = λ a. act_of a.command.op memory ≡ act_of a.command.op other in
     let w : World = record { memory = memory; disks = disks } in let v : World = record { memory = other; disks = disks } in
-    let now = agrees_one x memory other disks same.same_length (All-head P x rest same.same_bytes) in
+    let now = agrees_one x memory other disks same.same_length _ refl (sym (All-head P x rest same.same_acts)) in
     let rest_same : SameData rest (effect_of x w).1.memory (effect_of x v).1.memory = record {
       same_length = now.same_length;
-      same_bytes = λ k d below. now.same_data (get_or rest k d).command.op (All-tail P x rest same.same_bytes k d below);
+      same_acts = λ k d below. now.same_acts (get_or rest k d).command.op (All-tail P x rest same.same_acts k d below);
     } in
     let later = depends_on_data_alone rest (effect_of x w).1.memory (effect_of x v).1.memory (effect_of x w).1.disks rest_same in
     let there : Disks → List End × World = λ d. effects rest (record { memory = (effect_of x v).1.memory; disks = d }) in

@@ -7,39 +7,47 @@ use Rattle.std.proofs.lemmas.List.Folds.{concat-append}
 use Rattle.std.proofs.lemmas.List.Elements.{All-replicate}
 use lib.Seq.{take-append-add}
 use Rattle.uda_mem.proofs.PutLaws.{put-nil, put-put_next, length-part, length-part-le}
-use Rattle.uda_packet.specs.declared.end.Kind.TheVariants.{Erase, Write}
+use Rattle.uda_packet.specs.declared.end.Kind.TheVariants.{Access, Erase, Read, Write}
 use Rattle.uda_image.specs.StoreLaws.{length-first_chunks}
-use Rattle.uda_exec.proofs.Words.{put, part, Kind, Transfer, changes_blocks, StoreState, KeepsNature, IsImage, block_count, room_in, changes_memory, ChangesAt, due_by, blocks_due, bytes_landing, bytes_landing_of, blocks_stored, Stands, MovesBlock, LosesBlock, Progress, StopsAt}
-use Rattle.uda_exec.proofs.Blocks.{AreBlocks, AreBlocks-part, AreBlocks-take, AreBlocks-in_blocks, length-concat_blocks}
+use Rattle.uda_exec.proofs.Words.{put, part, Kind, Transfer, changes_blocks, StoreState, KeepsNature, IsImage, blocks_for, bytes_at, block_count, room_in, changes_memory, ChangesAt, due_by, blocks_due, bytes_landing, bytes_landing_of, blocks_stored, Stands, MovesBlock, LosesBlock, Progress, StopsAt}
+use Rattle.uda_exec.proofs.Blocks.{AreBlocks, AreBlocks-part, AreBlocks-take, AreBlocks-in_blocks, length-bytes_at, length-concat_blocks}
 
 module _ (t : Transfer) (blocks : List (List ℕ)) (memory : List ℕ) where
-  pub length-due_by : t.block + block_count t ≤ length blocks → (kind : Kind) → length (due_by kind t blocks memory) ≡ block_count t
+  -- a Write's blocks are as many as its count takes
+  length-due_Write : length (due_by Write t blocks memory) ≡ block_count t
+  length-due_Write =
+      let bytes = bytes_at memory t.buffer t.bytes in
+      length-first_chunks (blocks_for (length bytes)) (bytes ++ replicate 512 0) ∙ ap blocks_for (length-bytes_at memory t.buffer t.bytes)
+
+  pub length-due_by : t.lbn + block_count t ≤ length blocks → (kind : Kind) → length (due_by kind t blocks memory) ≡ block_count t
   length-due_by on_unit Erase = length-replicate (block_count t) (replicate 512 0)
-  length-due_by on_unit Write = length-first_chunks (block_count t) (part memory t.buffer t.count ++ replicate 512 0)
-  length-due_by on_unit _ = length-part-le blocks t.block (block_count t) on_unit
+  length-due_by on_unit Write = length-due_Write
+  length-due_by on_unit Read = length-part-le blocks t.lbn (block_count t) on_unit
+  length-due_by on_unit Access = length-part-le blocks t.lbn (block_count t) on_unit
 
   pub length-due_le : (kind : Kind) → length (due_by kind t blocks memory) ≤ block_count t
   length-due_le Erase = let all : length (due_by Erase t blocks memory) ≡ block_count t = length-replicate (block_count t) (replicate 512 0) in omega arith
-  length-due_le Write = omega (arith, length-first_chunks (block_count t) (part memory t.buffer t.count ++ replicate 512 0))
-  length-due_le _ = omega (arith, length-part blocks t.block (block_count t))
+  length-due_le Write = omega (arith, length-due_Write)
+  length-due_le Read = omega (arith, length-part blocks t.lbn (block_count t))
+  length-due_le Access = omega (arith, length-part blocks t.lbn (block_count t))
 
-  -- where the unit's blocks are whole, if there are any to move, and the buffer lies in memory
-  AreBlocks-due_by : (0 < block_count t → AreBlocks blocks) → (kind : Kind) → t.kind ≡ kind → t.buffer + room_in t ≤ length memory → AreBlocks (due_by kind t blocks memory)
-  AreBlocks-due_by are Erase is room = All-replicate (λ b. length b ≡ 512) (block_count t) (replicate 512 0) refl
-  AreBlocks-due_by are Write is room =
-      let within : t.buffer + t.count ≤ length memory = rw is at room in
-      AreBlocks-in_blocks (block_count t) (part memory t.buffer t.count) (omega (arith, length-part-le memory t.buffer t.count within))
-  AreBlocks-due_by are _ is room = AreBlocks-part blocks t.block (block_count t) are
+  -- where the unit's blocks are whole, if there are any to move
+  pub AreBlocks-due_by : (0 < block_count t → AreBlocks blocks) → (kind : Kind) → AreBlocks (due_by kind t blocks memory)
+  AreBlocks-due_by are Erase = All-replicate (λ b. length b ≡ 512) (block_count t) (replicate 512 0) refl
+  AreBlocks-due_by are Write = AreBlocks-in_blocks (bytes_at memory t.buffer t.bytes)
+  AreBlocks-due_by are Read = AreBlocks-part blocks t.lbn (block_count t) are
+  AreBlocks-due_by are Access = AreBlocks-part blocks t.lbn (block_count t) are
 
-  pub AreBlocks-due : (0 < block_count t → AreBlocks blocks) → t.buffer + room_in t ≤ length memory → AreBlocks (blocks_due t blocks memory)
-  AreBlocks-due are room = AreBlocks-due_by are t.kind refl room
+  pub AreBlocks-due : (0 < block_count t → AreBlocks blocks) → AreBlocks (blocks_due t blocks memory)
+  AreBlocks-due are = AreBlocks-due_by are t.kind
 
 -- what is due does not change on the way: a Read leaves the blocks, a Write memory
 due_by-stays : (kind : Kind) (t : Transfer) (blocks : List (List ℕ)) (memory bytes : List ℕ) (stored : List (List ℕ)) (at place : ℕ)
     → due_by kind t (put blocks place (if changes_blocks kind then stored else [])) (put memory at (if changes_memory kind then bytes else [])) ≡ due_by kind t blocks memory
 due_by-stays Erase t blocks memory bytes stored at place = refl
 due_by-stays Write t blocks memory bytes stored at place = rw put-nil refl
-due_by-stays _ t blocks memory bytes stored at place = ap (λ (b : List (List ℕ)). part b t.block (block_count t)) (put-nil blocks place)
+due_by-stays Read t blocks memory bytes stored at place = ap (λ (b : List (List ℕ)). part b t.lbn (block_count t)) (put-nil blocks place)
+due_by-stays Access t blocks memory bytes stored at place = ap (λ (b : List (List ℕ)). part b t.lbn (block_count t)) (put-nil blocks place)
 
 -- more behind what is there, if there is to be any
 more_behind : {A : Type 0} (b : Bool) (xs : List A) (at n : ℕ) (front more : List A) → length front ≡ n
@@ -59,7 +67,7 @@ landing_behind true memory at count n front more size fits =
 landing_behind false memory at count n front more size fits = put-nil _ _
 
 module _ (t : Transfer) (k : ℕ) (old : StoreState) (memory : List ℕ) (now : StoreState) (memory_now : List ℕ)
-    (image : IsImage old.size old.blocks) (on_unit : t.block + block_count t ≤ old.size) (in_memory : t.buffer + room_in t ≤ length memory) (inside : k < block_count t) (h : Progress t k old memory now memory_now) where
+    (image : IsImage old.size old.blocks) (on_unit : t.lbn + block_count t ≤ old.size) (in_memory : t.buffer + room_in t ≤ length memory) (inside : k < block_count t) (h : Progress t k old memory now memory_now) where
   abbrev front : List (List ℕ)
   front = take k (blocks_due t old.blocks memory)
 
@@ -68,21 +76,21 @@ module _ (t : Transfer) (k : ℕ) (old : StoreState) (memory : List ℕ) (now : 
 
   -- the next block of any content stands behind the first k
   joins : (x : List ℕ) (new : StoreState) (memory_after : List ℕ) → Stands t k x now memory_now new memory_after
-      → (memory_after ≡ put memory t.buffer (bytes_landing t (front ++ x ∷ []))) × (new.blocks ≡ put old.blocks t.block (blocks_stored t (front ++ x ∷ [])))
+      → (memory_after ≡ put memory t.buffer (bytes_landing t (front ++ x ∷ []))) × (new.blocks ≡ put old.blocks t.lbn (blocks_stored t (front ++ x ∷ [])))
   joins x new memory_after s =
       let size : length front ≡ k = length-take-le k (blocks_due t old.blocks memory) (omega (arith, all_due)) in
-      let bytes = length-concat_blocks front (AreBlocks-take (blocks_due t old.blocks memory) k (AreBlocks-due t old.blocks memory (λ some. image.whole) in_memory)) in
+      let bytes = length-concat_blocks front (AreBlocks-take (blocks_due t old.blocks memory) k (AreBlocks-due t old.blocks memory (λ some. image.whole))) in
       let bytes_are : length (concat front) ≡ 512 * k = bytes ∙ ap (λ i. 512 * i) size in
       let joined : concat (front ++ x ∷ []) ≡ concat front ++ x = concat-append front (x ∷ []) ∙ ap (λ (z : List ℕ). concat front ++ z) (append-nil x) in (
-        s.in_memory ∙ ap (λ (m : List ℕ). put m (t.buffer + 512 * k) (bytes_landing_of t k x)) h.stand.in_memory ∙ rw joined (landing_behind (changes_memory t.kind) memory t.buffer t.count (512 * k) (concat front) x bytes_are (omega arith)),
-        s.in_store ∙ ap (λ (b : List (List ℕ)). put b (t.block + k) (blocks_stored t (x ∷ []))) h.stand.in_store ∙ more_behind (changes_blocks t.kind) old.blocks t.block k front (x ∷ []) size,
+        s.in_memory ∙ ap (λ (m : List ℕ). put m (t.buffer + 512 * k) (bytes_landing_of t k x)) h.stand.in_memory ∙ rw joined (landing_behind (changes_memory t.kind) memory t.buffer t.bytes (512 * k) (concat front) x bytes_are (omega arith)),
+        s.in_store ∙ ap (λ (b : List (List ℕ)). put b (t.lbn + k) (blocks_stored t (x ∷ []))) h.stand.in_store ∙ more_behind (changes_blocks t.kind) old.blocks t.lbn k front (x ∷ []) size,
       )
 
   pub progress_next : (new : StoreState) (memory_after : List ℕ) → MovesBlock t k now memory_now new memory_after → Progress t (suc k) old memory new memory_after
   progress_next new memory_after m =
       let piece = get_or (blocks_due t old.blocks memory) k [] in
       let same : blocks_due t now.blocks memory_now ≡ blocks_due t old.blocks memory =
-      rw (h.stand.in_store, h.stand.in_memory) (due_by-stays t.kind t old.blocks memory (take t.count (concat front)) front t.buffer t.block) in
+      rw (h.stand.in_store, h.stand.in_memory) (due_by-stays t.kind t old.blocks memory (take t.bytes (concat front)) front t.buffer t.lbn) in
       let stands : Stands t k piece now memory_now new memory_after = rw same at m.stands in
       let both = joins piece new memory_after stands in
       let below : k < length (blocks_due t old.blocks memory) = omega (arith, all_due) in
@@ -109,12 +117,12 @@ nothing_landed _ memory at count = sym (put-nil memory at)
 
 pub progress_none : (t : Transfer) (old : StoreState) (memory : List ℕ) → Progress t 0 old memory old memory
 progress_none t old memory = record {
-  stand = record { in_memory = nothing_landed (changes_memory t.kind) memory t.buffer t.count; in_store = nothing_put (changes_blocks t.kind) old.blocks t.block };
+  stand = record { in_memory = nothing_landed (changes_memory t.kind) memory t.buffer t.bytes; in_store = nothing_put (changes_blocks t.kind) old.blocks t.lbn };
   failures_stay = refl;
 }
 
 -- what holds on the way, before block k
 pub record OnTheWay (t : Transfer) (k : ℕ) (old now : StoreState) (memory memory_now : List ℕ) : Type 0 where
   pub nature : KeepsNature old now
-  pub changes : ChangesAt memory t.buffer (if changes_memory t.kind then t.count else 0) memory_now
+  pub changes : ChangesAt memory t.buffer (if changes_memory t.kind then t.bytes else 0) memory_now
   pub moves : (0 < block_count t → old.faithful ≡ true) → Progress t k old memory now memory_now

@@ -1,16 +1,24 @@
 -- A transfer takes effect, done, lost or refused; and so does a command that moves no blocks.
-use Rattle.std.proofs.Common.{◌≡◌, ℕ, suc, ◌+◌, ◌*◌, ◌<◌, ◌≤◌, zero-le, Bool, true, false, List, [], ◌∷◌, ◌++◌, length, get_or, take, set, refl, sym, ap, ap₂, ◌∙◌, arith, add-one, add-zero, Some, None}
-use Rattle.std.specs.Prelude.{if◌then◌else◌, nat_lt, unwrap_or}
+use Rattle.std.proofs.Common.{◌≡◌, ℕ, suc, ◌+◌, ◌*◌, ◌<◌, ◌≤◌, zero-le, inl, inr, Bool, true, false, List, [], ◌∷◌, ◌++◌, length, get_or, take, set, refl, sym, ap, ap₂, subst, ◌∙◌, arith, add-one, add-zero, Option, Some, None, length-take, length-set}
+use Rattle.std.specs.Prelude.{if◌then◌else◌, nat_lt, unwrap_or, ◌&&◌, IfSome}
+use Rattle.std.specs.List.{concat}
 use Rattle.std.proofs.lemmas.List.{take_all, take_more, set_at, length-take-le}
+use Rattle.std.proofs.lemmas.List.Elements.{All-take, All-set}
+use Rattle.std.proofs.lemmas.Bool.{cases_lt, le-ltb}
 use Rattle.std.proofs.lemmas.Bool.Decides.{nat_tests}
 use Rattle.uda_mem.proofs.PutLaws.{put-nil}
-use Rattle.uda_packet.specs.declared.command.Op.TheVariants.{Status, Controller, Available, Online}
+use Rattle.uda_packet.specs.declared.command.Op.TheVariants as op
 use Rattle.uda_packet.specs.declared.end.EndBody.TheVariants as body
+use Rattle.uda_packet.specs.declared.end.Kind.TheVariants as kind
 use Rattle.uda_packet.specs.Opcode.{answered_opcode, blank_body}
-use Rattle.uda_exec.specs.Status.{SUCCESS, DRIVE_ERROR}
-use Rattle.uda_exec.proofs.Words.{put, Command, Op, EndBody, Transfer, transfer_of, StoreState, KeepsNature, IsImage, Mode, Refusal, Disk, UnitState, disk_of, is_controller, block_count, room_in, count_of, changes_memory, refusal_status, transfer_refusal, ChangesAt, blocks_due, bytes_landing, blocks_stored, Progress, StopsAt, Outcome, Done, Lost, blocks_moved, ActsOn, verdict_on, mode_after, mode_body, reply, plain_body, with_bytes_moved, transfer_status, transfer_bytes, is_lost, Fits, end_of, bytes_of, IsBodyOf, Answers, TakesEffectOn, calls_store, ServesUnit}
+use Rattle.uda_disk.specs.Request as ask
+use Rattle.uda_disk.specs.Status.{SUCCESS, DRIVE_ERROR}
+use Rattle.uda_disk.specs.Answer.{status_of}
+use Rattle.uda_exec.proofs.Words.{put, Command, Op, Kind, End, EndBody, Transfer, transfer_of, changes_blocks, StoreState, KeepsNature, IsImage, Mode, Refusal, Disk, Act, blocks_for, extent_of, lbn_of, UnitState, disk_of, blank_answer, block_count, room_in, room_of, blocks_asked, buffer_start, bytes_asked, changes_memory, refusal_status, extent_refusal, Bar, Barred, Free, bar_by, refusal_on, with_buffer, bar_with, extent_in, is_odd, is_missing, transfer_refusal, ChangesAt, asks_by, act_of, blocks_due, bytes_landing, blocks_stored, Progress, StopsAt, Outcome, Done, Lost, FitsCount, blocks_moved, due, stored, brought, mode_after, bytes_on, answer_on, reply, plain_body, with_bytes_moved, body_for, end_for, is_free, transfer_status, transfer_bytes, is_lost, bytes_of, IsBodyOf, Answers, bar_on, TakesEffectOn, ServesUnit}
 use Rattle.uda_exec.proofs.Changes.{changes_nothing}
-use Rattle.uda_exec.proofs.Steps.{length-due_by, length-due_le}
+use Rattle.uda_exec.proofs.Requests.{asks}
+use Rattle.uda_exec.proofs.Blocks.{AreBlocks, length-bytes_at, length-concat_blocks}
+use Rattle.uda_exec.proofs.Steps.{length-due_by, length-due_le, AreBlocks-due}
 
 -- ---- the ends
 
@@ -23,157 +31,305 @@ bytes_of-with_bytes (body.Moved kind old) bytes = omega arith
 bytes_of-with_bytes _ bytes = zero-le
 
 -- the plain body is the command's, with a byte count of at most its own
-pub IsBodyOf-plain : (op : Op) (bytes : ℕ) → bytes ≤ count_of op → IsBodyOf op (plain_body op bytes)
+pub IsBodyOf-plain : (op : Op) (bytes : ℕ) → bytes ≤ bytes_asked op → IsBodyOf op (plain_body op bytes)
 IsBodyOf-plain op bytes h = record { opcode = opcode-with_bytes (blank_body op) bytes; within = omega (arith, bytes_of-with_bytes (blank_body op) bytes) }
 
-pub Answers-plain : (c : Command) (status bytes : ℕ) → bytes ≤ count_of c.op → Answers c (reply c status (plain_body c.op bytes))
+pub Answers-plain : (c : Command) (status bytes : ℕ) → bytes ≤ bytes_asked c.op → Answers c (reply c status (plain_body c.op bytes))
 Answers-plain c status bytes h = record { reference = refl; unit = refl; body = IsBodyOf-plain c.op bytes h }
 
-IsBodyOf-mode : (op : Op) (size : ℕ) (mode : Mode) → IsBodyOf op (mode_body op size mode)
-IsBodyOf-mode Status size mode = record { opcode = refl; within = zero-le }
-IsBodyOf-mode (Online soft) size mode = record { opcode = refl; within = zero-le }
-IsBodyOf-mode op size mode = IsBodyOf-plain op 0 zero-le
+-- one that is refused
+status-blank : (act : Act) (status : ℕ) → status_of (blank_answer act status) ≡ status
+status-blank (ask.Online protect) status = refl
+status-blank ask.Available status = refl
+status-blank ask.Status status = refl
+status-blank (ask.Read first bytes) status = refl
+status-blank _ status = refl
 
-pub Answers-mode : (c : Command) (disk : Disk) → transfer_of c.op ≡ None → Answers c (end_of Done c (ActsOn disk))
-Answers-mode c disk is = rw is (record { reference = refl; unit = refl; body = IsBodyOf-mode c.op disk.size disk.mode })
+pub end_of-blank : (c : Command) (memory : List ℕ) (act : Act) (status : ℕ) → act_of c.op memory ≡ Some act → end_for c (blank_answer act status) ≡ reply c status (plain_body c.op 0)
+end_of-blank c memory act status is = ap₂ (reply c) (status-blank act status) ((asks c.op memory act is).blank status)
 
 -- ---- a command that moves no blocks
 
--- no command changes a unit's own protection
-hard-mode_after : (op : Op) (mode : Mode) → (mode_after op mode).hard ≡ mode.hard
-hard-mode_after (Online soft) mode = elim mode.online as (λ b. (if b then mode else record mode { online = true; soft = unwrap_or soft false }).hard ≡ mode.hard) [ true ↦ refl | _ ↦ refl ]
-hard-mode_after Available mode = refl
-hard-mode_after _ mode = refl
+-- an act of no extent answers by its mode, and puts nothing
+record Still (o : Op) (act : Act) : Type 0 where
+  pub answers : (disk : Disk) → IsBodyOf o (body_for o (answer_on Done act disk))
+  pub no_extent : extent_of act ≡ None
+  pub stores : (blocks : List (List ℕ)) → stored act (due act blocks) ≡ []
+  pub brings : (blocks : List (List ℕ)) → brought act (due act blocks) ≡ []
+  pub hard_stays : (mode : Mode) → (mode_after act mode).hard ≡ mode.hard
+
+hard-online : (protect : Bool) (mode : Mode) → (mode_after (ask.Online protect) mode).hard ≡ mode.hard
+hard-online protect mode = elim mode.online as (λ b. (if b then mode else record mode { online = true; soft = protect }).hard ≡ mode.hard) [ true ↦ refl | _ ↦ refl ]
+
+still_if : (o : Op) → transfer_of o ≡ None → IfSome (act_of o []) (Still o)
+still_if op.Controller none = tt
+still_if op.Status none = record { answers = λ disk. record { opcode = refl; within = zero-le }; no_extent = refl; stores = λ blocks. refl; brings = λ blocks. refl; hard_stays = λ mode. refl }
+still_if op.Available none = record { answers = λ disk. record { opcode = refl; within = zero-le }; no_extent = refl; stores = λ blocks. refl; brings = λ blocks. refl; hard_stays = λ mode. refl }
+still_if (op.Online soft) none = record {
+  answers = λ disk. record { opcode = refl; within = zero-le };
+  no_extent = refl;
+  stores = λ blocks. refl;
+  brings = λ blocks. refl;
+  hard_stays = hard-online (unwrap_or soft false);
+}
+still_if _ none = absurd (cc)
+
+-- what it asks does not depend on memory
+pub act_of-same : (o : Op) (memory : List ℕ) → transfer_of o ≡ None → act_of o memory ≡ act_of o []
+act_of-same op.Controller memory none = refl
+act_of-same op.Status memory none = refl
+act_of-same op.Available memory none = refl
+act_of-same (op.Online soft) memory none = refl
+act_of-same _ memory none = absurd (cc)
+
+pub bar-with_buffer : (odd missing : Bool) (found : Option Refusal) (disk : Disk) → bar_with odd missing (bar_by found disk) ≡ bar_by (with_buffer odd missing found) disk
+bar-with_buffer odd missing None disk = refl
+bar-with_buffer odd missing (Some refusal) disk = refl
+
+-- what bars a command is what its act's checks find, with what its buffer adds
+bar_on-by : (c : Command) (act : Act) (unit : UnitState) (memory : List ℕ) (address room : ℕ) (found : Option Refusal) → buffer_start c.op ≡ address → room_of c.op ≡ room
+    → refusal_on (extent_of act) unit.store.size unit.mode ≡ found
+    → bar_on c act unit memory ≡ bar_by (with_buffer (is_odd address) (is_missing address room (length memory)) found) (disk_of unit)
+bar_on-by c act unit memory address room found at has is =
+    let m = length memory in let disk = disk_of unit in
+    let b : Bar = bar_by (refusal_on (extent_of act) unit.store.size unit.mode) disk in
+    ap (λ (a : ℕ). bar_with (is_odd a) (is_missing a (room_of c.op) m) b) at ∙ ap (λ (r : ℕ). bar_with (is_odd address) (is_missing address r m) b) has
+    ∙ ap (λ (f : Option Refusal). bar_with (is_odd address) (is_missing address room m) (bar_by f disk)) is ∙ bar-with_buffer _ _ found disk
+
+free-still : (c : Command) (act : Act) (unit : UnitState) (memory : List ℕ) → transfer_of c.op ≡ None → extent_of act ≡ None → bar_on c act unit memory ≡ Free (disk_of unit)
+free-still c act unit memory none still =
+    let present : is_missing 0 0 (length memory) ≡ false = le-ltb (length memory) 0 zero-le in
+    bar_on-by c act unit memory 0 0 None (rw none refl) (rw none refl) (rw still refl) ∙ ap (λ (missing : Bool). bar_by (with_buffer false missing None) (disk_of unit)) present
 
 -- the unit's mode is what the command leaves, and nothing else changed
-pub serves_mode : (c : Command) (unit : UnitState) (memory : List ℕ) → transfer_of c.op ≡ None
-    → ServesUnit c unit memory (end_of Done c (ActsOn (disk_of unit))) (record unit { mode = mode_after c.op unit.mode }) memory
-serves_mode c unit memory is = record {
-  answers = Answers-mode c (disk_of unit) is;
-  memory_stays = changes_nothing memory _ _;
-  nature_stays = ap (λ (hard : Bool). record { size = unit.store.size; hard = hard; faithful = unit.store.faithful; never_fails = unit.store.never_fails }) (hard-mode_after c.op unit.mode);
-  mode_stays = λ transfers. let none = rw is at transfers in absurd (cc);
-  unit_stays = λ idle. let none = rw is at idle in absurd (cc);
-  takes_effect = λ trusted. record {
-    outcome = Done;
-    fits = tt;
-    end_is = rw (is, is) refl;
-    memory_is = rw (is, is) (sym (put-nil memory 0));
-    disk_is = rw (is, is) (ap (λ (b : List (List ℕ)). record { blocks = b; size = unit.store.size; mode = mode_after c.op unit.mode }) (sym (put-nil unit.store.blocks 0)));
-    failures_are = sym (add-zero unit.store.failures);
-    sure = λ never. refl;
-  };
-}
+pub serves_mode : (c : Command) (act : Act) (unit : UnitState) (memory : List ℕ) → transfer_of c.op ≡ None → act_of c.op memory ≡ Some act
+    → ServesUnit c act unit memory (end_for c (answer_on Done act (disk_of unit))) (record unit { mode = mode_after act unit.mode }) memory
+serves_mode c act unit memory none is =
+    let s : Still c.op act = subst (λ (a : Option Act). IfSome a (Still c.op)) (sym (act_of-same c.op memory none) ∙ is) (still_if c.op none) in
+    let free = free-still c act unit memory none s.no_extent in
+    let no_first : lbn_of act ≡ 0 = rw s.no_extent refl in
+    record {
+      answers = record { reference = refl; unit = refl; body = s.answers (disk_of unit) };
+      memory_stays = changes_nothing memory _ _;
+      nature_stays = ap (λ (hard : Bool). record { size = unit.store.size; hard = hard; faithful = unit.store.faithful; never_fails = unit.store.never_fails }) (s.hard_stays unit.mode);
+      mode_stays = λ transfers. let not = rw none at transfers in absurd (cc);
+      unit_stays = λ idle. let not : is_free (Free (disk_of unit)) ≡ false = ap is_free (sym free) ∙ idle in absurd (cc);
+      takes_effect = λ trusted. subst (λ (b : Bar). TakesEffectOn c act b unit memory (end_for c (answer_on Done act (disk_of unit))) (record unit { mode = mode_after act unit.mode }) memory) (sym free) (record {
+        outcome = Done;
+        fits = record { acting = λ lost. absurd (cc); count = tt };
+        end_is = refl;
+        memory_is = sym (ap (put memory (buffer_start c.op)) (s.brings unit.store.blocks) ∙ put-nil memory (buffer_start c.op));
+        disk_is = ap (λ (b : List (List ℕ)). record { blocks = b; size = unit.store.size; mode = mode_after act unit.mode }) (sym (ap (put unit.store.blocks (lbn_of act)) (s.stores unit.store.blocks) ∙ put-nil unit.store.blocks (lbn_of act)));
+        failures_are = sym (add-zero unit.store.failures);
+        sure = λ never. refl;
+      });
+    }
 
 -- ---- a transfer
 
+-- where nothing is found, nothing is wrong
+pub record NoneFound (odd missing : Bool) (found : Option Refusal) : Type 0 where
+  pub even : odd ≡ false
+  pub present : missing ≡ false
+  pub nothing : found ≡ None
+
+pub none_found : (odd missing : Bool) (found : Option Refusal) → with_buffer odd missing found ≡ None → NoneFound odd missing found
+none_found odd missing (Some refusal) h = absurd (cc)
+none_found true missing None h = absurd (cc)
+none_found false true None h = absurd (cc)
+none_found false false None h = record { even = refl; present = refl; nothing = refl }
+
 -- what a transfer that passes its checks is known of
 pub record Passes (t : Transfer) (memory size : ℕ) : Type 0 where
-  pub on_unit : t.block + block_count t ≤ size
+  pub on_unit : t.lbn + block_count t ≤ size
   pub in_memory : t.buffer + room_in t ≤ memory
 
+pub in_range : (e : ask.Extent) (size : ℕ) (mode : Mode) → extent_refusal e size mode ≡ None → e.lbn + blocks_for e.bytes ≤ size
+in_range e size mode h = grind (arith, nat_tests)
+
 pub passes_if : (t : Transfer) (memory size : ℕ) (mode : Mode) → transfer_refusal t memory size mode ≡ None → Passes t memory size
-passes_if t memory size mode h = record { on_unit = grind (arith, nat_tests); in_memory = grind (arith, nat_tests) }
-
--- a transfer speaks of a unit, and leaves its mode
-pub speaks : (op : Op) (t : Transfer) → transfer_of op ≡ Some t → is_controller op ≡ false
-speaks Controller t h = absurd (cc)
-speaks _ t h = refl
-
-pub mode_after-transfer : (op : Op) (t : Transfer) (mode : Mode) → transfer_of op ≡ Some t → mode_after op mode ≡ mode
-mode_after-transfer Available t mode h = absurd (cc)
-mode_after-transfer (Online soft) t mode h = absurd (cc)
-mode_after-transfer _ t mode h = refl
+passes_if t memory size mode h =
+    let none = none_found _ _ _ h in
+    let present : nat_lt memory (t.buffer + room_in t) ≡ false = none.present in
+    record { on_unit = in_range (extent_in t) size mode none.nothing; in_memory = grind (arith, nat_tests) }
 
 -- the first k blocks and what is left at block k
-blocks_moved-lost : (k : ℕ) (left : List ℕ) (blocks : List (List ℕ)) → k < length blocks → blocks_moved (Lost k left) blocks ≡ take k blocks ++ left ∷ []
-blocks_moved-lost k left blocks h =
+moved-lost : (k : ℕ) (left : List ℕ) (blocks : List (List ℕ)) → k < length blocks → blocks_moved (Lost k left) blocks ≡ take k blocks ++ left ∷ []
+moved-lost k left blocks h =
     let more : take (suc k) blocks ≡ take k blocks ++ get_or blocks k [] ∷ [] = rw (← add-one) (take_more blocks k [] h) in
     ap (λ (b : List (List ℕ)). set b k left) more ∙ set_at (take k blocks) (get_or blocks k []) [] left k (length-take-le k blocks (omega arith))
 
+-- the bytes that count as moved are among those that were
+pub told_within : (o : Outcome) (n : ℕ) → FitsCount (blocks_for n) o → transfer_bytes o n ≤ n
+told_within Done n f = omega arith
+told_within (Lost k left) n f = omega (arith, f.0)
+
+AreBlocks-moved : (o : Outcome) (n : ℕ) (bs : List (List ℕ)) → AreBlocks bs → FitsCount n o → AreBlocks (blocks_moved o bs)
+AreBlocks-moved Done n bs h f = h
+AreBlocks-moved (Lost k left) n bs h f = All-set (λ block. length block ≡ 512) (take (suc k) bs) k left f.1 (All-take (λ block. length block ≡ 512) (suc k) bs h)
+
+pub told_there : (o : Outcome) (n : ℕ) (bs : List (List ℕ)) → AreBlocks bs → length bs ≡ blocks_for n → FitsCount (blocks_for n) o → transfer_bytes o n ≤ length (take n (concat (blocks_moved o bs)))
+told_there Done n bs h e f = omega (arith, length-concat_blocks bs h, length-take n (concat bs))
+told_there (Lost k left) n bs h e f =
+    let all = blocks_moved (Lost k left) bs in
+    omega (arith, f.0, length-set (take (suc k) bs) k left, length-take (suc k) bs, length-concat_blocks all (AreBlocks-moved (Lost k left) (blocks_for n) bs h f), length-take n (concat all))
+
+-- what a transfer asks, by its kind
+asks-transfer : (o : Op) (t : Transfer) (memory : List ℕ) → transfer_of o ≡ Some t → act_of o memory ≡ Some (asks_by t.kind t memory)
+asks-transfer op.Controller t memory is = absurd (cc)
+asks-transfer op.Status t memory is = absurd (cc)
+asks-transfer op.Available t memory is = absurd (cc)
+asks-transfer (op.Online soft) t memory is = absurd (cc)
+asks-transfer (op.Access bytes lbn) t memory is = let same : record { kind = kind.Access; bytes = bytes; lbn = lbn; buffer = 0 } ≡ t = cc in ap (λ (x : Transfer). Some (asks_by x.kind x memory)) same
+asks-transfer (op.Erase bytes lbn) t memory is = let same : record { kind = kind.Erase; bytes = bytes; lbn = lbn; buffer = 0 } ≡ t = cc in ap (λ (x : Transfer). Some (asks_by x.kind x memory)) same
+asks-transfer (op.Read bytes address lbn) t memory is = let same : record { kind = kind.Read; bytes = bytes; lbn = lbn; buffer = address } ≡ t = cc in ap (λ (x : Transfer). Some (asks_by x.kind x memory)) same
+asks-transfer (op.Write bytes address lbn) t memory is = let same : record { kind = kind.Write; bytes = bytes; lbn = lbn; buffer = address } ≡ t = cc in ap (λ (x : Transfer). Some (asks_by x.kind x memory)) same
+
+module _ (t : Transfer) (memory : List ℕ) where
+  pub extent-asks : (k : Kind) → extent_of (asks_by k t memory) ≡ Some (record { lbn = t.lbn; bytes = t.bytes; writes = changes_blocks k })
+  extent-asks kind.Access = refl
+  extent-asks kind.Erase = refl
+  extent-asks kind.Read = refl
+  extent-asks kind.Write = ap (λ (n : ℕ). Some (record { lbn = t.lbn; bytes = n; writes = true })) (length-bytes_at memory t.buffer t.bytes)
+
+  mode-asks : (k : Kind) (mode : Mode) → mode_after (asks_by k t memory) mode ≡ mode
+  mode-asks kind.Access mode = refl
+  mode-asks kind.Erase mode = refl
+  mode-asks kind.Read mode = refl
+  mode-asks kind.Write mode = refl
+
+  stored-asks : (k : Kind) (blocks : List (List ℕ)) → stored (asks_by k t memory) blocks ≡ (if changes_blocks k then blocks else [])
+  stored-asks kind.Access blocks = refl
+  stored-asks kind.Erase blocks = refl
+  stored-asks kind.Read blocks = refl
+  stored-asks kind.Write blocks = refl
+
+  brought-asks : (k : Kind) (blocks : List (List ℕ)) → brought (asks_by k t memory) blocks ≡ (if changes_memory k then take t.bytes (concat blocks) else [])
+  brought-asks kind.Access blocks = refl
+  brought-asks kind.Erase blocks = refl
+  brought-asks kind.Read blocks = refl
+  brought-asks kind.Write blocks = refl
+
+  -- the end of one that acts, where its blocks are whole
+  end-asks : (c : Command) (o : Outcome) (disk : Disk) (k : Kind) → AreBlocks (due (asks_by k t memory) disk.blocks) → length (due (asks_by k t memory) disk.blocks) ≡ block_count t → FitsCount (block_count t) o
+      → reply c (transfer_status o) (plain_body c.op (transfer_bytes o t.bytes)) ≡ end_for c (answer_on o (asks_by k t memory) disk)
+  end-asks c o disk kind.Access are whole f = refl
+  end-asks c o disk kind.Erase are whole f = refl
+  end-asks c o disk kind.Read are whole f =
+      let there = told_there o t.bytes (due (ask.Read t.lbn t.bytes) disk.blocks) are whole f in
+      ap (λ (n : ℕ). reply c (transfer_status o) (plain_body c.op n)) (sym (length-take-le (transfer_bytes o t.bytes) (bytes_on o (ask.Read t.lbn t.bytes) disk) there))
+  end-asks c o disk kind.Write are whole f = ap (λ (n : ℕ). reply c (transfer_status o) (plain_body c.op (transfer_bytes o n))) (sym (length-bytes_at memory t.buffer t.bytes))
+
 module _ (c : Command) (t : Transfer) (unit : UnitState) (memory : List ℕ) (is : transfer_of c.op ≡ Some t) where
+  abbrev act : Act
+  act = asks_by t.kind t memory
+
+  -- whichever the act that it asks
+  asked : (e : End) (unit_after : UnitState) (memory_left : List ℕ) → ServesUnit c act unit memory e unit_after memory_left
+      → (a : Act) → act_of c.op memory ≡ Some a → ServesUnit c a unit memory e unit_after memory_left
+  asked e unit_after memory_left s a other =
+      let one : Some act ≡ Some a = sym (asks-transfer c.op t memory is) ∙ other in
+      let same : act ≡ a = cc in
+      subst (λ (x : Act). ServesUnit c x unit memory e unit_after memory_left) same s
+
+  extent : extent_of act ≡ Some (extent_in t)
+  extent = extent-asks t memory t.kind
+
+  -- its checks say what bars it
+  barred : bar_on c act unit memory ≡ bar_by (transfer_refusal t (length memory) unit.store.size unit.mode) (disk_of unit)
+  barred = bar_on-by c act unit memory t.buffer (room_in t) (extent_refusal (extent_in t) unit.store.size unit.mode) (rw is refl) (rw is refl) (rw extent refl)
+
   -- a transfer that fails a check is refused, and changes nothing
   pub serves_refused : (refusal : Refusal) → transfer_refusal t (length memory) unit.store.size unit.mode ≡ Some refusal
-      → ServesUnit c unit memory (reply c (refusal_status refusal) (plain_body c.op 0)) unit memory
-  serves_refused refusal h = record {
-    answers = Answers-plain c (refusal_status refusal) 0 zero-le;
-    memory_stays = changes_nothing memory _ _;
-    nature_stays = refl;
-    mode_stays = λ transfers. refl;
-    unit_stays = λ idle. refl;
-    takes_effect = λ trusted. record {
-      outcome = Done;
-      fits = tt;
-      end_is = rw (is, h) refl;
-      memory_is = rw (is, h) refl;
-      disk_is = rw (is, h) refl;
-      failures_are = sym (add-zero unit.store.failures);
-      sure = λ never. refl;
-    };
-  }
+      → (a : Act) → act_of c.op memory ≡ Some a → ServesUnit c a unit memory (reply c (refusal_status refusal) (plain_body c.op 0)) unit memory
+  serves_refused refusal h =
+      let b : bar_on c act unit memory ≡ Barred refusal = barred ∙ ap (λ (f : Option Refusal). bar_by f (disk_of unit)) h in
+      let e : End = reply c (refusal_status refusal) (plain_body c.op 0) in
+      asked e unit memory (record {
+        answers = Answers-plain c (refusal_status refusal) 0 zero-le;
+        memory_stays = changes_nothing memory _ _;
+        nature_stays = refl;
+        mode_stays = λ transfers. refl;
+        unit_stays = λ idle. refl;
+        takes_effect = λ trusted. subst (λ (b : Bar). TakesEffectOn c act b unit memory e unit memory) (sym b) (record {
+          outcome = Done;
+          fits = record { acting = λ lost. absurd (cc); count = tt };
+          end_is = sym (end_of-blank c memory act (refusal_status refusal) (asks-transfer c.op t memory is));
+          memory_is = refl;
+          disk_is = refl;
+          failures_are = sym (add-zero unit.store.failures);
+          sure = λ never. refl;
+        });
+      })
 
   module _ (passed : transfer_refusal t (length memory) unit.store.size unit.mode ≡ None) where
-    pub acts : verdict_on c.op (length memory) (disk_of unit) ≡ ActsOn (disk_of unit)
-    acts = rw (is, passed) refl
+    free : bar_on c act unit memory ≡ Free (disk_of unit)
+    free = barred ∙ ap (λ (f : Option Refusal). bar_by f (disk_of unit)) passed
 
     -- one of some blocks calls the store
-    pub is_called : 0 < block_count t → calls_store c.op (verdict_on c.op (length memory) (disk_of unit)) ≡ true
-    is_called some = let calls : nat_lt 0 (block_count t) ≡ true = grind (arith, nat_tests) in rw (is, passed, calls) refl
+    is_called : 0 < block_count t → nat_lt 0 (blocks_asked c.op) && is_free (bar_on c act unit memory) ≡ true
+    is_called some = let calls : nat_lt 0 (block_count t) ≡ true = grind (arith, nat_tests) in
+        let count : blocks_asked c.op ≡ block_count t = rw is refl in
+        ap (λ (b : Bool). nat_lt 0 (blocks_asked c.op) && b) (ap is_free free) ∙ ap (λ (n : ℕ). nat_lt 0 n && true) count ∙ ap (λ (b : Bool). b && true) calls
 
     bounds : Passes t (length memory) unit.store.size
     bounds = passes_if t (length memory) unit.store.size unit.mode passed
 
     -- whatever the store
-    pub serves_moved : (new : StoreState) (memory_left : List ℕ) → KeepsNature unit.store new → ChangesAt memory t.buffer (if changes_memory t.kind then t.count else 0) memory_left
-        → (status bytes : ℕ) → bytes ≤ t.count
-        → ((0 < block_count t → unit.store.faithful ≡ true) → TakesEffectOn c unit memory (reply c status (plain_body c.op bytes)) (record { store = new; mode = unit.mode }) memory_left)
-        → ServesUnit c unit memory (reply c status (plain_body c.op bytes)) (record { store = new; mode = unit.mode }) memory_left
-    serves_moved new memory_left nature changes status bytes few takes = record {
+    pub serves_moved : (new : StoreState) (memory_left : List ℕ) → KeepsNature unit.store new → ChangesAt memory t.buffer (if changes_memory t.kind then t.bytes else 0) memory_left
+        → (status bytes : ℕ) → bytes ≤ t.bytes
+        → ((0 < block_count t → unit.store.faithful ≡ true) → TakesEffectOn c act (Free (disk_of unit)) unit memory (reply c status (plain_body c.op bytes)) (record { store = new; mode = unit.mode }) memory_left)
+        → (a : Act) → act_of c.op memory ≡ Some a → ServesUnit c a unit memory (reply c status (plain_body c.op bytes)) (record { store = new; mode = unit.mode }) memory_left
+    serves_moved new memory_left nature changes status bytes few takes = asked _ _ _ (record {
       answers = Answers-plain c status bytes (rw is few);
       memory_stays = rw is changes;
       nature_stays = rw (nature.size_stays, nature.faithful_stays, nature.never_fails_stays) refl;
       mode_stays = λ transfers. refl;
-      unit_stays = λ idle. let none = rw acts at idle in absurd (cc);
-      takes_effect = λ trusted. takes (λ some. trusted (is_called some));
-    }
+      unit_stays = λ idle. let none : is_free (Free (disk_of unit)) ≡ false = ap is_free (sym free) ∙ idle in absurd (cc);
+      takes_effect = λ trusted. subst (λ (b : Bar). TakesEffectOn c act b unit memory (reply c status (plain_body c.op bytes)) (record { store = new; mode = unit.mode }) memory_left) (sym free) (takes (λ some. trusted (is_called some)));
+    })
 
     module _ (image : 0 < block_count t → IsImage unit.store.size unit.store.blocks) (new : StoreState) (memory_left : List ℕ) (nature : KeepsNature unit.store new) where
-      abbrev due : List (List ℕ)
-      due = blocks_due t unit.store.blocks memory
+      abbrev due_now : List (List ℕ)
+      due_now = blocks_due t unit.store.blocks memory
 
-      short : length due ≤ block_count t
-      short = length-due_le t unit.store.blocks memory t.kind
+      whole : length due_now ≡ block_count t
+      whole = elim (cases_lt 0 (block_count t)) [
+        | inl some ↦ length-due_by t unit.store.blocks memory (rw (image some).counted bounds.on_unit) t.kind
+        | inr none ↦ let short = length-due_le t unit.store.blocks memory t.kind in omega arith
+      ]
 
       -- whatever the outcome: where the blocks and bytes stand as it says, the transfer takes effect
-      takes : (o : Outcome) (front : List (List ℕ)) → blocks_moved o due ≡ front → Fits o c.op (ActsOn (disk_of unit))
+      takes : (o : Outcome) (front : List (List ℕ)) → blocks_moved o due_now ≡ front → FitsCount (block_count t) o
           → memory_left ≡ put memory t.buffer (bytes_landing t front)
-          → new.blocks ≡ put unit.store.blocks t.block (blocks_stored t front)
+          → new.blocks ≡ put unit.store.blocks t.lbn (blocks_stored t front)
           → new.failures ≡ unit.store.failures + (if is_lost o then 1 else 0)
           → (unit.store.never_fails ≡ true → o ≡ Done)
-          → TakesEffectOn c unit memory (reply c (transfer_status o) (plain_body c.op (transfer_bytes o t.count))) (record { store = new; mode = unit.mode }) memory_left
-      takes o front moved fits in_memory in_store failed sure =
-          let make : List (List ℕ) → ℕ → Disk = λ b n. record { blocks = b; size = n; mode = unit.mode } in
-          let mode : mode_after c.op unit.mode ≡ unit.mode = mode_after-transfer c.op t unit.mode is in
+          → TakesEffectOn c act (Free (disk_of unit)) unit memory (reply c (transfer_status o) (plain_body c.op (transfer_bytes o t.bytes))) (record { store = new; mode = unit.mode }) memory_left
+      takes o front all fits in_memory in_store failed sure =
+          let make : List (List ℕ) → ℕ → Mode → Disk = λ b n m. record { blocks = b; size = n; mode = m } in
+          let first : lbn_of act ≡ t.lbn = rw extent refl in
+          let bytes : bytes_on o act (disk_of unit) ≡ bytes_landing t front = brought-asks t memory t.kind (blocks_moved o due_now) ∙ ap (bytes_landing t) all in
+          let blocks : stored act (blocks_moved o due_now) ≡ blocks_stored t front = stored-asks t memory t.kind (blocks_moved o due_now) ∙ ap (blocks_stored t) all in
           record {
             outcome = o;
-            fits = rw acts fits;
-            end_is = rw (is, passed, is) refl;
-            memory_is = rw (is, passed, is) (in_memory ∙ ap (λ (b : List (List ℕ)). put memory t.buffer (bytes_landing t b)) (sym moved));
-            disk_is = rw (is, passed, is, mode) (ap₂ make (in_store ∙ ap (λ (b : List (List ℕ)). put unit.store.blocks t.block (blocks_stored t b)) (sym moved)) nature.size_stays);
+            fits = record { acting = λ lost. refl; count = rw is fits };
+            end_is = end-asks t memory c o (disk_of unit) t.kind (AreBlocks-due t unit.store.blocks memory (λ some. (image some).whole)) whole fits;
+            memory_is = in_memory ∙ rw (is, bytes) refl;
+            disk_is = rw (first, blocks, mode-asks t memory t.kind unit.mode) (ap₂ (λ b n. make b n unit.mode) in_store nature.size_stays);
             failures_are = failed;
             sure = sure;
           }
 
       pub takes_done : Progress t (block_count t) unit.store memory new memory_left
-          → TakesEffectOn c unit memory (reply c SUCCESS (plain_body c.op t.count)) (record { store = new; mode = unit.mode }) memory_left
+          → TakesEffectOn c act (Free (disk_of unit)) unit memory (reply c SUCCESS (plain_body c.op t.bytes)) (record { store = new; mode = unit.mode }) memory_left
       takes_done h =
-          let all : take (block_count t) due ≡ due = take_all _ _ short in
+          let all : take (block_count t) due_now ≡ due_now = take_all _ _ (omega (arith, whole)) in
           let stand = rw all at h.stand in
-          takes Done due refl tt stand.in_memory stand.in_store (h.failures_stay ∙ sym (add-zero unit.store.failures)) (λ never. refl)
+          takes Done due_now refl tt stand.in_memory stand.in_store (h.failures_stay ∙ sym (add-zero unit.store.failures)) (λ never. refl)
 
       pub takes_lost : (k : ℕ) → k < block_count t → (unit.store.never_fails ≡ true → ⊥) → StopsAt t k unit.store memory new memory_left
-          → TakesEffectOn c unit memory (reply c DRIVE_ERROR (plain_body c.op (512 * k))) (record { store = new; mode = unit.mode }) memory_left
+          → TakesEffectOn c act (Free (disk_of unit)) unit memory (reply c DRIVE_ERROR (plain_body c.op (512 * k))) (record { store = new; mode = unit.mode }) memory_left
       takes_lost k inside unsure h =
-          let here : length due ≡ block_count t = length-due_by t unit.store.blocks memory (rw (image (omega arith)).counted bounds.on_unit) t.kind in
-          takes (Lost k h.left) (take k due ++ h.left ∷ []) (blocks_moved-lost k h.left due (omega arith))
-          (record { passes = refl; within = rw is inside; whole = h.whole }) h.stand.in_memory h.stand.in_store h.counted (λ never. absurd (unsure never))
+          takes (Lost k h.left) (take k due_now ++ h.left ∷ []) (moved-lost k h.left due_now (omega (arith, whole)))
+          (inside, h.whole) h.stand.in_memory h.stand.in_store h.counted (λ never. absurd (unsure never))

@@ -1,23 +1,15 @@
 -- One command on the units of an executor.
-use Rattle.std.proofs.Common.{◌≡◌, ◌≢◌, ℕ, ◌<◌, zero, suc, Bool, true, false, List, ◌∷◌, length, length-set, set, Option, Some, None, refl, sym, ap, ap₂, ◌∙◌, arith, add-zero}
-use Rattle.std.specs.Prelude.{option_map, slice_get, map}
-use Rattle.std.proofs.lemmas.List.{map-set, get_or-set_same, set-get_or}
-use Rattle.std.proofs.lemmas.Option.{slice_get_within, slice_get-map, slice_get-get_or, get_or_from_slice_get}
+use Rattle.std.proofs.Common.{◌≡◌, ℕ, Bool, true, false, List, length, set, Option, Some, None, refl, sym, ap, ap₂, subst, ◌∙◌, add-zero}
+use Rattle.std.specs.Prelude.{option_map, slice_get, map, nat_lt, ◌&&◌}
+use Rattle.std.proofs.lemmas.List.{map-set}
+use Rattle.std.proofs.lemmas.Option.{slice_get_within, slice_get-map}
 use Rattle.std.proofs.lemmas.List.Elements.{All-map, All-weaker}
-use Rattle.uda_exec.proofs.Words.{Command, End, Disk, Disks, UnitState, disk_of, disks_of, HoldsImage, AreImages, reset_unit, is_controller, World, Outcome, Done, Lost, Verdict, ActsOn, is_acting, verdict, verdict_at, verdict_on, effect, end_of, world_after, Fits, Answers, Nature, nature_of, natures_of, is_faithful, is_sure, world_of, EndsBy, ServesUnit, Executes, memory_by, disk_by}
+use Rattle.uda_packet.specs.declared.command.Op.TheVariants.{Controller}
+use Rattle.uda_disk.specs.Status.{SUCCESS}
+use Rattle.uda_disk.proofs.Slots.{slice_get-set_same, slice_get-set_other, set-itself}
+use Rattle.uda_exec.proofs.Words.{Command, Op, End, Disk, Disks, Act, Refusal, refusal_status, Bar, Barred, Free, bar_at, bar_with, UnitState, disk_of, disks_of, HoldsImage, AreImages, reset_unit, is_controller, blocks_asked, act_of, World, Outcome, Done, disks_by, bar_in, bar_of, is_free, acts_by, acts, does, effect_by, effect, reply, plain_body, LossFits, Answers, Nature, nature_of, natures_of, is_faithful, is_sure, world_of, bar_on, ServesUnit, Executes, disk_by}
 use Rattle.uda_exec.proofs.Changes.{changes_nothing, ChangesAt-none}
-
-pub slice_get-set_same : {A : Type 0} (xs : List A) (i : ℕ) (a : A) → i < length xs → slice_get (set xs i a) i ≡ Some a
-slice_get-set_same xs i a h = slice_get-get_or (set xs i a) i a (omega (arith, length-set xs i a)) ∙ ap Some (get_or-set_same xs i a a h)
-
-pub slice_get-set_other : {A : Type 0} (xs : List A) (i j : ℕ) (a : A) → j ≢ i → slice_get (set xs i a) j ≡ slice_get xs j
-slice_get-set_other (x ∷ xs) zero zero a h = absurd (h refl)
-slice_get-set_other (x ∷ xs) (suc i) (suc j) a h = slice_get-set_other xs i j a (λ e. h (ap suc e))
-slice_get-set_other _ _ _ a h = refl
-
--- an item set to itself
-pub set-itself : {A : Type 0} (xs : List A) (i : ℕ) (a : A) → slice_get xs i ≡ Some a → set xs i a ≡ xs
-set-itself xs i a h = ap (λ x. set xs i x) (sym (get_or_from_slice_get xs i a a h)) ∙ set-get_or xs i a
+use Rattle.uda_exec.proofs.Transferred.{end_of-blank}
 
 -- what is known of each unit stays where it stays of the one that is set
 map-set_same : {A B : Type 0} (f : A → B) (units : List (Option A)) (i : ℕ) (old new : A) → slice_get units i ≡ Some (Some old) → f new ≡ f old
@@ -49,14 +41,34 @@ module _ (old new : List (Option UnitState)) (same : natures_of new ≡ natures_
   pub sure_stays : is_sure (slice_get new u) ≡ is_sure (slice_get old u)
   sure_stays = sym (asked_sure (slice_get new u)) ∙ ap (asked (λ n. n.never_fails)) nature_stays ∙ asked_sure (slice_get old u)
 
--- a command that acts on no disk changes nothing
-pub world_after-idle : (o : Outcome) (c : Command) (v : Verdict) (w : World) → is_acting v ≡ false → world_after o c v w ≡ w
-world_after-idle o c (ActsOn disk) w idle = absurd (cc)
-world_after-idle o c _ w idle = refl
+-- a command that asks nothing of a unit, or is barred, changes nothing
+pub record Idle (c : Command) (w : World) (e : End) : Type 0 where
+  pub idle : acts c w ≡ false
+  pub stays : effect Done c w ≡ (e, w)
 
-pub executes_idle : (c : Command) (units : List (Option UnitState)) (memory : List ℕ) (v : Verdict) (e : End) → verdict c (world_of units memory) ≡ v → is_acting v ≡ false
-    → e ≡ end_of Done c v → Answers c e → Executes c units memory e units memory
-executes_idle c units memory v e judged idle is_end answers = record {
+idle-by : (c : Command) (w : World) (e : End) (asked : Option Act) → act_of c.op w.memory ≡ asked → acts_by c asked w ≡ false → effect_by Done c asked w ≡ (e, w) → Idle c w e
+idle-by c w e asked is idle stays = record { idle = rw is idle; stays = ap (λ (a : Option Act). effect_by Done c a w) is ∙ stays }
+
+pub idle-controller : (c : Command) (w : World) → is_controller c.op ≡ true → Idle c w (reply c SUCCESS (plain_body c.op 0))
+idle-controller c w h = by c.op refl h
+  where
+    by : (o : Op) → c.op ≡ o → is_controller o ≡ true → Idle c w (reply c SUCCESS (plain_body c.op 0))
+    by Controller is speaks = idle-by c w _ None (rw is refl) refl (rw is refl)
+    by _ is speaks = absurd (cc)
+
+-- what there is of a unit
+pub slot_in : (units : List (Option UnitState)) (u : ℕ) (slot : Option (Option UnitState)) → slice_get units u ≡ slot → slice_get (disks_of units) u ≡ option_map (option_map disk_of) slot
+slot_in units u slot here = slice_get-map _ units u ∙ ap (option_map (option_map disk_of)) here
+
+-- where its unit is none, whatever its buffer
+pub idle-barred : (c : Command) (w : World) (act : Act) (slot : Option (Option Disk)) (refusal : Refusal) → act_of c.op w.memory ≡ Some act → slice_get w.disks c.unit ≡ slot
+    → ((odd missing : Bool) → bar_with odd missing (bar_at act slot) ≡ Barred refusal) → Idle c w (reply c (refusal_status refusal) (plain_body c.op 0))
+idle-barred c w act slot refusal asks here bars =
+    let is : bar_of c act w ≡ Barred refusal = ap (bar_in c.op act (length w.memory)) here ∙ bars _ _ in
+    idle-by c w _ (Some act) asks (ap is_free is) (ap (λ (b : Bar). does Done c act b w) is ∙ ap (λ (e : End). (e, w)) (end_of-blank c w.memory act (refusal_status refusal) asks))
+
+pub executes_idle : (c : Command) (units : List (Option UnitState)) (memory : List ℕ) (e : End) → Idle c (world_of units memory) e → Answers c e → Executes c units memory e units memory
+executes_idle c units memory e h answers = record {
   answers = answers;
   memory_stays = changes_nothing memory _ _;
   memory_is_kept = λ unread. refl;
@@ -66,42 +78,37 @@ executes_idle c units memory v e judged idle is_end answers = record {
   units_stay = λ acts. refl;
   takes_effect = λ trusted. record {
     outcome = Done;
-    ends = rw judged (ap₂ (λ (a : End) (b : World). (a, b)) is_end (sym (world_after-idle Done c v (world_of units memory) idle)));
+    fits = record { acting = λ lost. absurd (cc); count = tt };
+    effect_is = sym h.stays;
     failures_are = sym (add-zero _);
     sure = λ never. refl;
   };
 }
 
--- the world that a verdict leaves, by memory and by the unit's disk
-world_after-parts : (o : Outcome) (c : Command) (v : Verdict) (w : World) (disk : Disk) → slice_get w.disks c.unit ≡ Some (Some disk)
-    → world_after o c v w ≡ record { memory = memory_by o c.op v w.memory; disks = set w.disks c.unit (Some (disk_by o c.op v w.memory disk)) }
-world_after-parts o c (ActsOn d) w disk here = refl
-world_after-parts o c _ w disk here = ap (λ (d : Disks). record { memory = w.memory; disks = d }) (sym (set-itself w.disks c.unit (Some disk) here))
+-- the units that a bar leaves, by the unit's disk
+disks_by-disk : (o : Outcome) (u : ℕ) (act : Act) (b : Bar) (disks : Disks) (disk : Disk) → slice_get disks u ≡ Some (Some disk)
+    → disks_by o (record { unit = u; act = act }) b disks ≡ set disks u (Some (disk_by o act b disk))
+disks_by-disk o u act (Free d) disks disk here = refl
+disks_by-disk o u act (Barred refusal) disks disk here = sym (set-itself disks u (Some disk) here)
 
--- the end and the world are an effect of the outcome, which fits
-ends_by : (o : Outcome) (c : Command) (w : World) (e : End) (after : World) → Fits o c.op (verdict c w) → (e, after) ≡ effect o c w → EndsBy o c w e after
-ends_by Done c w e after fits is = is
-ends_by (Lost k left) c w e after fits is = record { fits = fits; effect_is = is }
-
--- a command is judged by what its unit is
-pub verdict-slot : (c : Command) (units : List (Option UnitState)) (memory : List ℕ) (slot : Option (Option UnitState)) → is_controller c.op ≡ false → slice_get units c.unit ≡ slot
-    → verdict c (world_of units memory) ≡ verdict_at c.op (length memory) (option_map (option_map disk_of) slot)
-verdict-slot c units memory slot speaks here =
-    let there : slice_get (disks_of units) c.unit ≡ option_map (option_map disk_of) slot = slice_get-map _ units c.unit ∙ ap (option_map (option_map disk_of)) here in
-    rw (speaks, there) refl
-
-module _ (c : Command) (units : List (Option UnitState)) (memory : List ℕ) (unit unit_after : UnitState) (e : End) (memory_left : List ℕ)
-    (speaks : is_controller c.op ≡ false) (here : slice_get units c.unit ≡ Some (Some unit)) where
+module _ (c : Command) (act : Act) (units : List (Option UnitState)) (memory : List ℕ) (unit unit_after : UnitState) (e : End) (memory_left : List ℕ)
+    (asks : act_of c.op memory ≡ Some act) (here : slice_get units c.unit ≡ Some (Some unit)) where
   there : slice_get (set units c.unit (Some unit_after)) c.unit ≡ Some (Some unit_after)
   there = slice_get-set_same units c.unit (Some unit_after) (slice_get_within units c.unit (Some unit) here)
 
   disk_here : slice_get (disks_of units) c.unit ≡ Some (Some (disk_of unit))
-  disk_here = slice_get-map _ units c.unit ∙ ap (option_map (option_map disk_of)) here
+  disk_here = slot_in units c.unit (Some (Some unit)) here
 
-  judged : verdict c (world_of units memory) ≡ verdict_on c.op (length memory) (disk_of unit)
-  judged = verdict-slot c units memory (Some (Some unit)) speaks here
+  barred : bar_of c act (world_of units memory) ≡ bar_on c act unit memory
+  barred = ap (bar_in c.op act (length memory)) disk_here
 
-  pub executes_on : ServesUnit c unit memory e unit_after memory_left → Executes c units memory e (set units c.unit (Some unit_after)) memory_left
+  acting : acts c (world_of units memory) ≡ is_free (bar_on c act unit memory)
+  acting = ap (λ (a : Option Act). acts_by c a (world_of units memory)) asks ∙ ap is_free barred
+
+  effected : (o : Outcome) → effect o c (world_of units memory) ≡ does o c act (bar_on c act unit memory) (world_of units memory)
+  effected o = ap (λ (a : Option Act). effect_by o c a (world_of units memory)) asks ∙ ap (λ (b : Bar). does o c act b (world_of units memory)) barred
+
+  pub executes_on : ServesUnit c act unit memory e unit_after memory_left → Executes c units memory e (set units c.unit (Some unit_after)) memory_left
   executes_on s = record {
     answers = s.answers;
     memory_stays = s.memory_stays;
@@ -109,19 +116,18 @@ module _ (c : Command) (units : List (Option UnitState)) (memory : List ℕ) (un
     others_stay = λ u apart. slice_get-set_other units c.unit u (Some unit_after) apart;
     natures_stay = map-set_same nature_of units c.unit unit unit_after here s.nature_stays;
     modes_stay = λ transfers. map-set_same (λ (u : UnitState). u.mode) units c.unit unit unit_after here (s.mode_stays transfers);
-    units_stay = λ idle. ap (λ (u : UnitState). set units c.unit (Some u)) (s.unit_stays (rw judged at idle)) ∙ set-itself units c.unit (Some unit) here;
+    units_stay = λ idle. ap (λ (u : UnitState). set units c.unit (Some u)) (s.unit_stays (sym acting ∙ idle)) ∙ set-itself units c.unit (Some unit) here;
     takes_effect = λ trusted.
-        let t = s.takes_effect (λ calls. let faithful = trusted (rw judged calls) in rw here at faithful) in
-        let v = verdict_on c.op (length memory) (disk_of unit) in
+        let t = s.takes_effect (λ calls. let faithful = trusted (ap (λ (a : Bool). nat_lt 0 (blocks_asked c.op) && a) acting ∙ calls) in rw here at faithful) in
+        let b = bar_on c act unit memory in
         let make_world : List ℕ → Disks → World = λ m d. record { memory = m; disks = d } in
-        let disks_are : disks_of (set units c.unit (Some unit_after)) ≡ set (disks_of units) c.unit (Some (disk_by t.outcome c.op v memory (disk_of unit))) =
-        map-set _ units c.unit (Some unit_after) ∙ ap (λ (d : Disk). set (disks_of units) c.unit (Some d)) t.disk_is in
-        let worlds : make_world memory_left (disks_of (set units c.unit (Some unit_after))) ≡ world_after t.outcome c v (world_of units memory) =
-        ap₂ make_world t.memory_is disks_are ∙ sym (world_after-parts t.outcome c v (world_of units memory) (disk_of unit) disk_here) in
         let make_pair : End → World → End × World = λ a b. (a, b) in
+        let disks_are : disks_of (set units c.unit (Some unit_after)) ≡ disks_by t.outcome (record { unit = c.unit; act = act }) b (disks_of units) =
+        map-set _ units c.unit (Some unit_after) ∙ ap (λ (d : Disk). set (disks_of units) c.unit (Some d)) t.disk_is ∙ sym (disks_by-disk t.outcome c.unit act b (disks_of units) (disk_of unit) disk_here) in
         record {
           outcome = t.outcome;
-          ends = ends_by t.outcome c _ e _ (rw judged t.fits) (rw judged (ap₂ make_pair t.end_is worlds));
+          fits = subst (LossFits t.outcome (blocks_asked c.op)) (sym acting) t.fits;
+          effect_is = ap₂ make_pair t.end_is (ap₂ make_world t.memory_is disks_are) ∙ sym (effected t.outcome);
           failures_are = rw (there, here) t.failures_are;
           sure = λ never. let promised = rw here at never in t.sure promised;
         };

@@ -2,7 +2,7 @@
 use Rattle.std.specs.Prelude.{Bool, false, List, Option, map, option_map}
 use Rattle.uda_image.specs.declared.store.Drive.{Drive}
 use Rattle.uda_image.specs.Store.{StoreState}
-use Rattle.uda_exec.specs.Disks.{UnitState}
+use Rattle.uda_disk.specs.Units.{UnitState}
 
 -- what contracts see of a drive: its store, and its own write protection
 pub record DriveState : Type 0 where

@@ -1,4 +1,3 @@
-pub mod Status
 pub mod Disks
 pub mod Drives
 pub mod Commands

@@ -1,18 +1,16 @@
 -- Which pending command may go, and what a list of commands does in order and out of it.
 -- MSCP Basic Disk Functions Manual: command ordering.
-use Rattle.std.specs.Prelude.{◌≡◌, ℕ, ◌<◌, Bool, true, ◌&&◌, ◌||◌, not, nat_eq, List, [], ◌∷◌, ◌++◌, length, map, Some, slice_get, insert, remove, All, AllPairs, if◌then◌else◌}
-use Rattle.std.specs.Option.{option_map_or}
-use Rattle.uda_mem.specs.Put.{put, part, Meet}
+use Rattle.std.specs.Prelude.{◌≡◌, ℕ, ◌<◌, Bool, true, false, ◌&&◌, ◌||◌, not, nat_eq, List, [], ◌∷◌, ◌++◌, length, map, Some, slice_get, All, AllPairs, if◌then◌else◌}
+use Rattle.uda_mem.specs.Put.{put, Meet}
 use Rattle.uda_packet.specs.declared.command.Command.{Command}
-use Rattle.uda_packet.specs.declared.command.Op.{Op}
-use Rattle.uda_packet.specs.declared.end.Kind.{Kind}
-use Rattle.uda_packet.specs.declared.end.Kind.TheVariants.{Write}
-use Rattle.uda_packet.specs.declared.transfer.Transfer.{Transfer}
-use Rattle.uda_packet.specs.Transfer.{transfer_of}
 use Rattle.uda_packet.specs.declared.end.End.{End}
-use Rattle.uda_exec.specs.Disks.{Disks}
-use Rattle.uda_exec.specs.Commands.{is_controller, is_transfer, is_changing, first_block_of, blocks_of, address_of, room_of}
-use Rattle.uda_exec.specs.Effect.{World, Outcome, effect}
+use Rattle.uda_disk.specs.Disk.{Disks}
+use Rattle.uda_disk.specs.Request.{Request}
+use Rattle.uda_disk.specs.Plain.{Outcome}
+use Rattle.uda_disk.specs.Runs.{runs, runs_first}
+use Rattle.uda_disk.specs.Order.{clash}
+use Rattle.uda_exec.specs.Commands.{is_controller, is_transfer, act_of, request_asked, buffer_start, room_of}
+use Rattle.uda_exec.specs.Effect.{World, effect}
 
 -- two commands speak of one unit; Set Controller Characteristics is of a unit of its own
 abbrev pub same_unit : Command → Command → Bool
@@ -27,17 +25,11 @@ pub record MayGo (pending : List Command) (j : ℕ) : Type 0 where
   pub stands : j < length pending
   pub passes : (i : ℕ) (older c : Command) → i < j → slice_get pending i ≡ Some older → slice_get pending j ≡ Some c → may_pass older c ≡ true
 
--- two transfers of one unit clash where some block lies in both ranges and one of them changes blocks
-pub record Clash (c d : Command) : Type 0 where
-  pub transfers : is_transfer c.op && is_transfer d.op ≡ true
-  pub one_unit : c.unit ≡ d.unit
-  pub changes : is_changing c.op || is_changing d.op ≡ true
-  pub meet : Meet (first_block_of c.op) (blocks_of c.op) (first_block_of d.op) (blocks_of d.op)
-
--- two commands are apart: they don't clash, and their buffers have no byte in common
+-- two commands are apart: whatever memory holds, the requests that they stand for don't clash; and their buffers have no
+-- byte in common
 pub record Apart (c d : Command) : Type 0 where
-  pub no_clash : Clash c d → ⊥
-  pub no_overlap : Meet (address_of c.op) (room_of c.op) (address_of d.op) (room_of d.op) → ⊥
+  pub no_clash : (memory : List ℕ) (r s : Request) → request_asked c memory ≡ Some r → request_asked d memory ≡ Some s → clash r s ≡ false
+  pub no_overlap : Meet (buffer_start c.op) (room_of c.op) (buffer_start d.op) (room_of d.op) → ⊥
 
 -- a command, its outcome fixed
 pub record FixedCommand : Type 0 where
@@ -52,12 +44,11 @@ effect_of x w = effect x.outcome x.command w
 
 -- a list of commands done in order: each end at its command's place, and the world afterwards
 abbrev pub effects : List FixedCommand → World → List End × World
-effects [] w = ([], w)
-effects (x ∷ rest) w = let now = effect_of x w in let later = effects rest now.1 in (now.0 ∷ later.0, later.1)
+effects xs w = runs effect_of xs w
 
 -- the same with this x, which stands at place j, done first
 abbrev pub effects_first : ℕ → FixedCommand → List FixedCommand → World → List End × World
-effects_first j x xs w = let now = effect_of x w in let later = effects (remove xs j) now.1 in (insert later.0 j now.0, later.1)
+effects_first j x xs w = runs_first effect_of j x xs w
 
 -- whichever command that may go is done first, the ends are the same, each its own, and so are the units and memory
 abbrev pub OrderIsFree : Type 0
@@ -74,7 +65,7 @@ OneMore =
 
 -- bytes at a place meet no buffer of the commands
 abbrev pub IsBeside : ℕ → ℕ → List FixedCommand → Type 0
-IsBeside at n xs = All (λ x. Meet at n (address_of x.command.op) (room_of x.command.op) → ⊥) xs
+IsBeside at n xs = All (λ x. Meet at n (buffer_start x.command.op) (room_of x.command.op) → ⊥) xs
 
 abbrev pub with_bytes : World → ℕ → List ℕ → World
 with_bytes w at bytes = record w { memory = put w.memory at bytes }
@@ -85,18 +76,10 @@ PassesThrough =
     (xs : List FixedCommand) (at : ℕ) (bytes : List ℕ) (w : World) → IsBeside at (length bytes) xs
     → effects xs (with_bytes w at bytes) ≡ ((effects xs w).0, with_bytes (effects xs w).1 at bytes)
 
--- the bytes that a command reads from memory: a Write's buffer, and nothing for the others
-abbrev pub data_by : Kind → Transfer → List ℕ → List ℕ
-data_by Write t memory = part memory t.buffer t.count
-data_by _ t memory = []
-
-abbrev pub data_of : Op → List ℕ → List ℕ
-data_of op memory = option_map_or (λ t. data_by t.kind t memory) (transfer_of op) []
-
--- two memories of one length hold the same bytes in the buffers of a list's Writes
+-- in two memories of one length a list's commands stand for the same requests
 pub record SameData (xs : List FixedCommand) (memory other : List ℕ) : Type 0 where
   pub same_length : length memory ≡ length other
-  pub same_bytes : All (λ x. data_of x.command.op memory ≡ data_of x.command.op other) xs
+  pub same_acts : All (λ x. act_of x.command.op memory ≡ act_of x.command.op other) xs
 
 -- the ends and the units of a list depend on no byte of memory outside its Writes' buffers
 abbrev pub DependsOnDataAlone : Type 0

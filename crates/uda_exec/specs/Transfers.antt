@@ -1,31 +1,19 @@
 -- What a transfer moves, and how far it has come at block k of its range, counted from 0.
 -- MSCP Basic Disk Functions Manual: transfer commands, logical blocks.
-use Rattle.std.specs.Prelude.{◌≡◌, ℕ, true, Result, ◌+◌, ◌-◌, ◌*◌, List, [], ◌∷◌, ◌++◌, length, take, replicate, slice_index_or, if◌then◌else◌}
+use Rattle.std.specs.Prelude.{◌≡◌, ℕ, true, Result, ◌+◌, ◌-◌, ◌*◌, List, [], ◌∷◌, ◌++◌, length, take, slice_index_or, if◌then◌else◌}
 use Rattle.std.specs.List.{concat}
-use Rattle.std.specs.Simd.{first_chunks}
 use Rattle.uda_mem.specs.Put.{put, part}
 use Rattle.uda_image.specs.declared.store.StoreError.{StoreError}
 use Rattle.uda_image.specs.Store.{StoreState, Reads}
 use Rattle.uda_packet.specs.declared.end.Kind.{Kind}
-use Rattle.uda_packet.specs.declared.end.Kind.TheVariants.{Access, Erase, Read, Write}
 use Rattle.uda_packet.specs.declared.transfer.Transfer.{Transfer}
 use Rattle.uda_packet.specs.Transfer.{changes_blocks}
-use Rattle.uda_exec.specs.Commands.{block_count, changes_memory}
+use Rattle.uda_disk.specs.Plain.{due}
+use Rattle.uda_exec.specs.Commands.{changes_memory, asks_by}
 
--- so many blocks of these bytes; behind the bytes the last is zeros
-abbrev pub in_blocks : ℕ → List ℕ → List (List ℕ)
-in_blocks count bytes = first_chunks 512 count (bytes ++ replicate 512 0)
-
--- the first block of these bytes; where they end before it does, the rest is zeros
-abbrev pub first_block : List ℕ → List ℕ
-first_block bytes = take 512 (bytes ++ replicate 512 0)
-
--- the blocks that a transfer is to move: those of its range, those that its buffer fills, or zeros
+-- the blocks that a transfer is to move
 abbrev pub due_by : Kind → Transfer → List (List ℕ) → List ℕ → List (List ℕ)
-due_by Access t blocks memory = part blocks t.block (block_count t)
-due_by Erase t blocks memory = replicate (block_count t) (replicate 512 0)
-due_by Read t blocks memory = part blocks t.block (block_count t)
-due_by Write t blocks memory = in_blocks (block_count t) (part memory t.buffer t.count)
+due_by kind t blocks memory = due (asks_by kind t memory) blocks
 
 abbrev pub blocks_due : Transfer → List (List ℕ) → List ℕ → List (List ℕ)
 blocks_due t blocks memory = due_by t.kind t blocks memory
@@ -33,14 +21,14 @@ blocks_due t blocks memory = due_by t.kind t blocks memory
 -- of blocks that were moved, the bytes that stand in memory then, no more than the count, and the blocks that stand on
 -- the unit
 abbrev pub bytes_landing : Transfer → List (List ℕ) → List ℕ
-bytes_landing t blocks = if changes_memory t.kind then take t.count (concat blocks) else []
+bytes_landing t blocks = if changes_memory t.kind then take t.bytes (concat blocks) else []
 
 abbrev pub blocks_stored : Transfer → List (List ℕ) → List (List ℕ)
 blocks_stored t blocks = if changes_blocks t.kind then blocks else []
 
 -- the same of block k alone: a part block lands as far as the count reaches
 abbrev pub bytes_landing_of : Transfer → ℕ → List ℕ → List ℕ
-bytes_landing_of t k block = if changes_memory t.kind then take (t.count - 512 * k) block else []
+bytes_landing_of t k block = if changes_memory t.kind then take (t.bytes - 512 * k) block else []
 
 -- memory changed at most in n bytes from place at on
 abbrev pub ChangesAt : List ℕ → ℕ → ℕ → List ℕ → Type 0
@@ -56,7 +44,7 @@ pub record ReadsInto (n at bytes : ℕ) (old : StoreState) (memory : List ℕ) (
 -- this block stands at place k of the transfer now, where its kind puts it
 pub record Stands (t : Transfer) (k : ℕ) (block : List ℕ) (old : StoreState) (memory : List ℕ) (new : StoreState) (memory_after : List ℕ) : Type 0 where
   pub in_memory : memory_after ≡ put memory (t.buffer + 512 * k) (bytes_landing_of t k block)
-  pub in_store : new.blocks ≡ put old.blocks (t.block + k) (blocks_stored t (block ∷ []))
+  pub in_store : new.blocks ≡ put old.blocks (t.lbn + k) (blocks_stored t (block ∷ []))
 
 -- block k is moved
 pub record MovesBlock (t : Transfer) (k : ℕ) (old : StoreState) (memory : List ℕ) (new : StoreState) (memory_after : List ℕ) : Type 0 where
@@ -73,7 +61,7 @@ pub record LosesBlock (t : Transfer) (k : ℕ) (old : StoreState) (memory : List
 -- these blocks stand at the start of the transfer now
 pub record Stand (t : Transfer) (blocks : List (List ℕ)) (old : StoreState) (memory : List ℕ) (new : StoreState) (memory_after : List ℕ) : Type 0 where
   pub in_memory : memory_after ≡ put memory t.buffer (bytes_landing t blocks)
-  pub in_store : new.blocks ≡ put old.blocks t.block (blocks_stored t blocks)
+  pub in_store : new.blocks ≡ put old.blocks t.lbn (blocks_stored t blocks)
 
 -- the first k blocks are moved, and the store never failed
 pub record Progress (t : Transfer) (k : ℕ) (old : StoreState) (memory : List ℕ) (new : StoreState) (memory_after : List ℕ) : Type 0 where

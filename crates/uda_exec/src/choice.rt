@@ -12,19 +12,19 @@ use uda_packet::{Command, Op};
 #[derive(Clone, Copy, Debug, PartialEq, Eq, PartialOrd, Ord)]
 pub struct Position {
     unit: u16,
-    block: u32,
+    lbn: u32,
 }
 
 impl Position {
     /// The first position: block 0 of unit 0.
-    pub const START: Position = Position { unit: 0, block: 0 };
+    pub const START: Position = Position { unit: 0, lbn: 0 };
 
     // The position of a transfer; None for any other command.
     fn of(command: Command) -> Option<Position> {
         let t = command.op.transfer()?;
         Some(Position {
             unit: command.unit,
-            block: t.block,
+            lbn: t.lbn,
         })
     }
 

@@ -2,19 +2,21 @@
 //!
 //! MSCP Basic Disk Functions Manual: Access, Available, Erase, Get Unit Status, Online, Read and Write
 //! commands.
-ghost use Rattle.std.specs.Prelude.{◌≡◌, false};
+ghost use Rattle.std.specs.Prelude.{◌≡◌, [], Some, None, IsSome, IfSome};
 ghost use Rattle.uda_packet.specs.Transfer.{transfer_of};
-ghost use Rattle.uda_exec.specs.Disks.{HoldsImage, disk_of};
-ghost use Rattle.uda_exec.specs.Commands.{is_controller};
-ghost use Rattle.uda_exec.specs.Effect.{Done, ActsOn, end_of, mode_after};
+ghost use Rattle.uda_disk.specs.Request.{Act};
+ghost use Rattle.uda_disk.specs.Plain.{Done, mode_after, answer_on};
+ghost use Rattle.uda_disk.specs.Units.{HoldsImage, disk_of};
+ghost use Rattle.uda_exec.specs.Commands.{act_of};
+ghost use Rattle.uda_exec.specs.Effect.{end_for};
 ghost use Rattle.uda_exec.specs.Drives.{drive_state, drive_in, fresh_unit};
 ghost use Rattle.uda_exec.specs.Execution.{ServesUnit};
 
-use crate::mode::Mode;
 use crate::movement::{BLOCK, move_blocks};
 use crate::refusal::transfer_refusal;
 use crate::reply::{plain_body, refuse, reply};
 use std::marker::Model;
+use uda_disk::Mode;
 use uda_image::{BlockStore, Drive};
 use uda_mem::HostMemory;
 use uda_packet::{Command, End, EndBody, Op, Transfer, status};
@@ -27,7 +29,7 @@ pub struct DriveUnit<S: BlockStore> {
 }
 
 impl<S: BlockStore> Model for DriveUnit<S> {
-    ghost use Rattle.uda_exec.specs.Disks.{UnitState};
+    ghost use Rattle.uda_disk.specs.Units.{UnitState};
 
     ghost Value = { UnitState };
 
@@ -70,14 +72,14 @@ impl<S: BlockStore> DriveUnit<S> {
     // Access, Erase, Read or Write: all checks, and then the blocks.
     fn transfer(&mut self, command: Command, t: Transfer, memory: &mut HostMemory) -> End
         requires { transfer_of command.op ≡ Some t }
-        ensures serves { ServesUnit command self.old memory.old result self.new memory.new }
+        ensures serves { (act : Act) → act_of command.op memory.old ≡ Some act → ServesUnit command act self.old memory.old result self.new memory.new }
         ensures image { HoldsImage (Some self.new) }
     {
         if let Some(refusal) = transfer_refusal(t, memory.len(), self.store.size(), self.mode) {
             return refuse(command, refusal);
         }
         let (status, bytes) = match move_blocks(t, &mut self.store, memory) {
-            Ok(()) => (status::SUCCESS, t.count),
+            Ok(()) => (status::SUCCESS, t.bytes),
             Err(lost) => (status::DRIVE_ERROR, BLOCK * lost.block),
         };
         reply(command, status, plain_body(command.op, bytes))
@@ -87,9 +89,9 @@ impl<S: BlockStore> DriveUnit<S> {
     // succeeds on an available unit too; or Online, which changes nothing of a unit that is online.
     fn set_mode(&mut self, command: Command) -> End
         requires transfer { transfer_of command.op ≡ None }
-        requires controller { is_controller command.op ≡ false }
-        ensures end { result ≡ end_of Done command (ActsOn (disk_of self.old)) }
-        ensures unit { self.new ≡ record self.old { mode = mode_after command.op self.old.mode } }
+        requires unit { IsSome (act_of command.op []) }
+        ensures end { IfSome (act_of command.op []) (λ act. result ≡ end_for command (answer_on Done act (disk_of self.old))) }
+        ensures unit { IfSome (act_of command.op []) (λ act. self.new ≡ record self.old { mode = mode_after act self.old.mode }) }
         ensures image { HoldsImage (Some self.new) }
     {
         let was_online = self.mode.online;
@@ -99,7 +101,7 @@ impl<S: BlockStore> DriveUnit<S> {
                 reply(command, status::SUCCESS, EndBody::Available)
             }
             Op::Online { soft } => {
-                self.mode = self.mode.online(soft);
+                self.mode = self.mode.online(soft.unwrap_or(false));
                 let status = if was_online {
                     status::ALREADY_ONLINE
                 } else {
@@ -123,8 +125,8 @@ impl<S: BlockStore> DriveUnit<S> {
     /// Does a command of this unit, any but Set Controller Characteristics, and answers its end
     /// message.
     pub fn execute(&mut self, command: Command, memory: &mut HostMemory) -> End
-        requires unit { is_controller command.op ≡ false }
-        ensures serves { ServesUnit command self.old memory.old result self.new memory.new }
+        requires unit { IsSome (act_of command.op []) }
+        ensures serves { (act : Act) → act_of command.op memory.old ≡ Some act → ServesUnit command act self.old memory.old result self.new memory.new }
         ensures image { HoldsImage (Some self.new) }
     {
         match command.op.transfer() {

@@ -2,17 +2,18 @@
 //!
 //! MSCP Basic Disk Functions Manual: unit states, command ordering.
 ghost use Rattle.std.specs.Prelude.{◌≡◌, ℕ, ◌+◌, ◌<◌, ◌≤◌, [], ◌∷◌, ◌++◌, length, map, option_map, IsNone, IfNone, IfSome, ◌↔◌, slice_get};
-ghost use Rattle.uda_exec.specs.Disks.{HoldsImage, AreImages, PENDING_LIMIT};
+ghost use Rattle.uda_disk.specs.Units.{HoldsImage, AreImages, is_faithful, is_sure};
+ghost use Rattle.uda_exec.specs.Disks.{PENDING_LIMIT};
 ghost use Rattle.uda_exec.specs.Commands.{is_controller};
 ghost use Rattle.uda_exec.specs.Drives.{drive_state, drive_states, drive_in, fresh_unit, fresh_units, drives_in, reset_unit};
-ghost use Rattle.uda_exec.specs.Execution.{Executes, ExecutesAt, is_faithful, is_sure};
+ghost use Rattle.uda_exec.specs.Execution.{Executes, ExecutesAt};
 
 use crate::choice::{Position, next_place};
 use crate::drive_unit::DriveUnit;
-use crate::refusal::Refusal;
 use crate::reply::{plain_body, refuse, reply};
 use arrayvec::ArrayVec;
 use std::marker::Model;
+use uda_disk::Refusal;
 use uda_image::{BlockStore, Drive};
 use uda_mem::HostMemory;
 use uda_packet::{Command, End, Op, status};
@@ -37,7 +38,8 @@ pub struct Exec<S: BlockStore> {
 
 // The position that the last transfer reached decides which command goes next, and no contract tells it.
 impl<S: BlockStore> Model for Exec<S> {
-    ghost use Rattle.uda_exec.specs.Disks.{ExecState, AreImages};
+    ghost use Rattle.uda_exec.specs.Disks.{ExecState};
+    ghost use Rattle.uda_disk.specs.Units.{AreImages};
     ghost use Rattle.arrayvec.specs.ArrayVec.{array_vec_len};
     ghost use Rattle.std.specs.Prelude.{◌≡◌, length};
 

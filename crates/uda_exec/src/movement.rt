@@ -5,8 +5,10 @@ ghost use Rattle.std.specs.Prelude.{◌≡◌, ◌+◌, ◌<◌, ◌≤◌, ◌^
 ghost use Rattle.uda_mem.specs.Put.{part};
 ghost use Rattle.uda_image.specs.Store.{KeepsNature, Writes};
 ghost use Rattle.uda_exec.specs.Commands.{block_count, room_in, changes_memory};
-ghost use Rattle.uda_exec.specs.Transfers.{ChangesAt, ReadsInto, first_block, MovesBlock, LosesBlock, Progress, StopsAt};
+ghost use Rattle.uda_exec.specs.Transfers.{ChangesAt, ReadsInto, MovesBlock, LosesBlock, Progress, StopsAt};
+ghost use Rattle.uda_disk.specs.Request.{first_block};
 
+use uda_disk::first_block;
 use uda_image::{BlockStore, StoreError};
 use uda_mem::HostMemory;
 use uda_packet::{Kind, Transfer};
@@ -25,20 +27,7 @@ pub struct Lost {
 pub fn block_count(t: Transfer) -> u32
     ensures { result ≡ block_count t }
 {
-    t.count.div_ceil(BLOCK)
-}
-
-/// The first block of these bytes; where they end before it does, the rest is zeros. So the last block of a
-/// Write is made, whose byte count needn't be a multiple of 512.
-///
-/// MSCP Basic Disk Functions Manual: transfer commands, logical blocks.
-pub fn first_block(bytes: &[u8]) -> [u8; 512]
-    ensures { result ≡ first_block bytes.now }
-{
-    let mut block = [0; 512];
-    let count = bytes.len().min(512);
-    block[..count].copy_from_slice(&bytes[..count]);
-    block
+    t.bytes.div_ceil(BLOCK)
 }
 
 // Reads block `n` for so many bytes of memory. A whole block the store reads into memory itself; of a part
@@ -98,23 +87,23 @@ fn move_block<S: BlockStore>(
     memory: &mut HostMemory,
 ) -> Result<(), StoreError>
     requires in_range { k < block_count t }
-    requires on_unit { t.block + block_count t ≤ (S.state store.old).size }
+    requires on_unit { t.lbn + block_count t ≤ (S.state store.old).size }
     requires in_memory { t.buffer + room_in t ≤ length memory.old }
     requires addressable { t.buffer + room_in t < 2 ^ 32 }
     ensures nature { KeepsNature (S.state store.old) (S.state store.new) }
-    ensures changes { ChangesAt memory.old t.buffer (if changes_memory t.kind then t.count else 0) memory.new }
+    ensures changes { ChangesAt memory.old t.buffer (if changes_memory t.kind then t.bytes else 0) memory.new }
     ensures sure { (S.state store.old).never_fails ≡ true → IsOk result }
     ensures moves { (S.state store.old).faithful ≡ true → MatchResult result
         (λ _. MovesBlock t k (S.state store.old) memory.old (S.state store.new) memory.new)
         (λ _. LosesBlock t k (S.state store.old) memory.old (S.state store.new) memory.new) }
 {
-    let n = t.block + k;
+    let n = t.lbn + k;
     let before = BLOCK * k;
     match t.kind {
         Kind::Access => store.read(n, &mut [0; 512]),
         Kind::Erase => store.write(n, &[0; 512]),
-        Kind::Read => read_block(store, n, memory, t.buffer + before, t.count - before),
-        Kind::Write => write_block(store, n, memory, t.buffer + before, t.count - before),
+        Kind::Read => read_block(store, n, memory, t.buffer + before, t.bytes - before),
+        Kind::Write => write_block(store, n, memory, t.buffer + before, t.bytes - before),
     }
 }
 
@@ -126,11 +115,11 @@ pub fn move_blocks<S: BlockStore>(
     store: &mut S,
     memory: &mut HostMemory,
 ) -> Result<(), Lost>
-    requires on_unit { t.block + block_count t ≤ (S.state store.old).size }
+    requires on_unit { t.lbn + block_count t ≤ (S.state store.old).size }
     requires in_memory { t.buffer + room_in t ≤ length memory.old }
     requires addressable { t.buffer + room_in t < 2 ^ 32 }
     ensures nature { KeepsNature (S.state store.old) (S.state store.new) }
-    ensures changes { ChangesAt memory.old t.buffer (if changes_memory t.kind then t.count else 0) memory.new }
+    ensures changes { ChangesAt memory.old t.buffer (if changes_memory t.kind then t.bytes else 0) memory.new }
     ensures within { IfErr result (λ lost. lost.block < block_count t) }
     ensures sure { (S.state store.old).never_fails ≡ true → IsOk result }
     ensures moves { (0 < block_count t → (S.state store.old).faithful ≡ true) → MatchResult result

@@ -3,9 +3,9 @@
 //! MSCP Basic Disk Functions Manual: end messages.
 ghost use Rattle.std.specs.Prelude.{◌≡◌};
 ghost use Rattle.uda_exec.specs.Effect.{plain_body, reply};
-ghost use Rattle.uda_exec.specs.Refusal.{refusal_status};
+ghost use Rattle.uda_disk.specs.Plain.{refusal_status};
 
-use crate::refusal::Refusal;
+use uda_disk::Refusal;
 use uda_packet::{Command, End, EndBody, Kind, Op};
 
 // The body of an end message with this byte count, where its opcode has one, and all other numbers 0.
@@ -17,14 +17,14 @@ pub fn plain_body(op: Op, bytes: u32) -> EndBody
         Op::Controller => EndBody::Controller,
         Op::Available => EndBody::Available,
         Op::Online { .. } => EndBody::Online { flags: 0, size: 0 },
-        Op::Access { .. } => moved(Kind::Access, bytes),
-        Op::Erase { .. } => moved(Kind::Erase, bytes),
-        Op::Read { .. } => moved(Kind::Read, bytes),
-        Op::Write { .. } => moved(Kind::Write, bytes),
+        Op::Access { .. } => moved_body(Kind::Access, bytes),
+        Op::Erase { .. } => moved_body(Kind::Erase, bytes),
+        Op::Read { .. } => moved_body(Kind::Read, bytes),
+        Op::Write { .. } => moved_body(Kind::Write, bytes),
     }
 }
 
-fn moved(kind: Kind, bytes: u32) -> EndBody
+fn moved_body(kind: Kind, bytes: u32) -> EndBody
     ensures { result ≡ EndBody.Moved kind bytes }
 {
     EndBody::Moved { kind, bytes }

@@ -1,12 +1,11 @@
 -- Each statement has one list of words.
 use Rattle.std.proofs.Common.{not, nat_lt, ◌+◌, ◌&&◌, rules, ◌/◌, ◌%◌, ◌≡◌, ℕ, ◌<◌, ◌≤◌, ◌^◌, Bool, true, false, cond, codes, List, [], ◌∷◌, Option, Some, None, refl, sym, ◌∙◌, ap, subst, arith}
-use Rattle.std.specs.Fmt.{decimal}
+use Rattle.std.specs.Fmt.{decimal, digit_glyph}
 use Rattle.std.specs.Option.{option_map, option_and_then}
 use Rattle.std.specs.Str.{bytes_eq}
 use Rattle.std.proofs.lemmas.Slice.Eq.{bytes_eq-Decides}
 use Rattle.std.specs.Prelude.{◌==◌}
 use Rattle.std.specs.Char.{is_ascii_digit}
-use Rattle.std.specs.Fmt.{digit_glyph}
 use Rattle.std.specs.List.{list_all, join_with_byte, AllByRecursion}
 use Rattle.std.proofs.lemmas.Fmt.{digits_decimal}
 use Rattle.std.proofs.lemmas.Grind.{common_steps}
@@ -15,16 +14,16 @@ use Rattle.std.proofs.lemmas.List.Splits.{slice_split_none, slice_split_at, join
 use Rattle.uda_grammar.specs.Parts.{words_of}
 use Rattle.uda_grammar.specs.declared.verb.Verb.{Verb}
 use Rattle.uda_grammar.specs.declared.verb.Verb.TheVariants as verb
-use Rattle.uda_grammar.specs.declared.transfer.Transfer.{Transfer}
+use Rattle.uda_grammar.specs.declared.transfer.TransferNumbers.{TransferNumbers}
 use Rattle.uda_grammar.specs.declared.statement.Statement.{Statement}
 use Rattle.uda_grammar.specs.declared.statement.Statement.TheVariants as form
-use Rattle.uda_grammar.specs.Words.{verb_of, most_number, number_of, unit_of, byte_of}
+use Rattle.uda_grammar.specs.Words.{verb_of, most_number, number_of, unit_named, byte_of}
 use Rattle.uda_grammar.specs.declared.statement.Measure.TheVariants.{Blocks, Bytes}
 use Rattle.uda_grammar.specs.declared.statement.Amount.TheVariants as amount
 use Rattle.uda_grammar.specs.Amounts.{most_written}
-use Rattle.uda_grammar.specs.Forms.{with_numbers, with_byte, only_unit, transfer_of, online_of, fill_of, statement_behind, statement_of}
-use Rattle.uda_grammar.specs.Texts.{hexadecimal, transfer_words, words_in, text_of, IsTransfer, Fits, OneText}
-use Rattle.uda_grammar.proofs.WordLaws.{own, Told-number_of, number_of-decimal, byte_of-hexadecimal, hexadecimal-byte_of}
+use Rattle.uda_grammar.specs.Forms.{with_numbers, with_byte, only_unit, transfer_form, online_of, fill_of, statement_behind, statement_of}
+use Rattle.uda_grammar.specs.Texts.{two_digits, transfer_words, words_in, statement_text, IsTransfer, Fits, OneText}
+use Rattle.uda_grammar.proofs.WordLaws.{own, Told-number_of, number_of-decimal, byte_of-two_digits, two_digits-byte_of}
 
 -- the word of a verb
 abbrev name_of : Verb → List ℕ
@@ -90,35 +89,35 @@ only_unit-told (u ∷ next ∷ rest) unit e = absurd (cc)
 three : (u l n v m k : List ℕ) → u ≡ v → l ≡ m → n ≡ k → ◌≡◌ {A = List (List ℕ)} (u ∷ l ∷ n ∷ []) (v ∷ m ∷ k ∷ [])
 three u l n v m k p q r = cc
 
-numbers-told : (a b c : Option ℕ) (t : Transfer) → with_numbers a b c ≡ Some t → (a ≡ Some t.unit) × (b ≡ Some t.lbn) × (c ≡ Some t.count)
+numbers-told : (a b c : Option ℕ) (t : TransferNumbers) → with_numbers a b c ≡ Some t → (a ≡ Some t.unit) × (b ≡ Some t.lbn) × (c ≡ Some t.count)
 numbers-told None b c t e = absurd (cc)
 numbers-told (Some unit) None c t e = absurd (cc)
 numbers-told (Some unit) (Some lbn) None t e = absurd (cc)
 numbers-told (Some unit) (Some lbn) (Some count) t e =
-    let made : Transfer = record { unit = unit; lbn = lbn; count = count } in
+    let made : TransferNumbers = record { unit = unit; lbn = lbn; count = count } in
     let same : made ≡ t = cc in
     (ap (λ x. Some x.unit) same, ap (λ x. Some x.lbn) same, ap (λ x. Some x.count) same)
 
-transfer_of-told : (most : ℕ) → most < 2 ^ 64 → (words : List (List ℕ)) (t : Transfer) → transfer_of most words ≡ Some t → IsTransfer most t.unit t.lbn t.count × (words ≡ transfer_words t.unit t.lbn t.count)
-transfer_of-told most small [] t e = absurd (cc)
-transfer_of-told most small (u ∷ []) t e = absurd (cc)
-transfer_of-told most small (u ∷ l ∷ []) t e = absurd (cc)
-transfer_of-told most small (u ∷ l ∷ n ∷ []) t e =
-    let all = numbers-told (unit_of u) (number_of most_number l) (number_of most n) t e in
+transfer_form-told : (most : ℕ) → most < 2 ^ 64 → (words : List (List ℕ)) (t : TransferNumbers) → transfer_form most words ≡ Some t → IsTransfer most t.unit t.lbn t.count × (words ≡ transfer_words t.unit t.lbn t.count)
+transfer_form-told most small [] t e = absurd (cc)
+transfer_form-told most small (u ∷ []) t e = absurd (cc)
+transfer_form-told most small (u ∷ l ∷ []) t e = absurd (cc)
+transfer_form-told most small (u ∷ l ∷ n ∷ []) t e =
+    let all = numbers-told (unit_named u) (number_of most_number l) (number_of most n) t e in
     let unit = Told-number_of 65535 t.unit u (omega arith) all.0 in
     let lbn = Told-number_of most_number t.lbn l (omega arith) all.1 in
     let count = Told-number_of most t.count n small all.2 in
     (record { unit_fits = unit.fits; lbn_fits = lbn.fits; count_fits = count.fits }, three u l n _ _ _ unit.printed lbn.printed count.printed)
-transfer_of-told most small (u ∷ l ∷ n ∷ next ∷ rest) t e = absurd (cc)
+transfer_form-told most small (u ∷ l ∷ n ∷ next ∷ rest) t e = absurd (cc)
 
 -- words that are those of a statement
 abbrev Reads : List (List ℕ) → Statement → Type 0
 Reads words statement = Fits statement × (words ≡ words_in statement)
 
-transfer-told : (most : ℕ) (small : most < 2 ^ 64) (name : List ℕ) (make : Transfer → Statement) → ((t : Transfer) → IsTransfer most t.unit t.lbn t.count → Reads (name ∷ transfer_words t.unit t.lbn t.count) (make t)) → (words : List (List ℕ)) (s : Statement) → option_map make (transfer_of most words) ≡ Some s → Reads (name ∷ words) s
+transfer-told : (most : ℕ) (small : most < 2 ^ 64) (name : List ℕ) (make : TransferNumbers → Statement) → ((t : TransferNumbers) → IsTransfer most t.unit t.lbn t.count → Reads (name ∷ transfer_words t.unit t.lbn t.count) (make t)) → (words : List (List ℕ)) (s : Statement) → option_map make (transfer_form most words) ≡ Some s → Reads (name ∷ words) s
 transfer-told most small name make reads words s e =
-    let m = mapped make (transfer_of most words) s e in
-    let t = transfer_of-told most small words m.0 m.1 in
+    let m = mapped make (transfer_form most words) s e in
+    let t = transfer_form-told most small words m.0 m.1 in
     subst (λ ws. Reads (name ∷ ws) s) (sym t.1) (subst (λ made. Reads (name ∷ transfer_words m.0.unit m.0.lbn m.0.count) made) m.2 (reads m.0 t.0))
 
 unit-told : (name : List ℕ) (make : ℕ → Statement) → ((unit : ℕ) → unit ≤ 65535 → Reads (name ∷ unit_words unit) (make unit)) → (words : List (List ℕ)) (s : Statement) → option_map make (only_unit words) ≡ Some s → Reads (name ∷ words) s
@@ -132,16 +131,16 @@ online-told [] s e = absurd (cc)
 online-told (u ∷ []) s e = unit-told (codes "online") (λ unit. form.Online unit false) (λ unit fits. (fits, refl)) (u ∷ []) s e
 online-told (u ∷ word ∷ []) s e = tested (bytes_eq word (codes "protect")) refl e
   where
-    tested : (b : Bool) → bytes_eq word (codes "protect") ≡ b → cond b (option_map (λ unit. form.Online unit true) (unit_of u)) None ≡ Some s → Reads (codes "online" ∷ u ∷ word ∷ []) s
+    tested : (b : Bool) → bytes_eq word (codes "protect") ≡ b → cond b (option_map (λ unit. form.Online unit true) (unit_named u)) None ≡ Some s → Reads (codes "online" ∷ u ∷ word ∷ []) s
     tested true is f =
-        let m = mapped (λ unit. form.Online unit true) (unit_of u) s f in
+        let m = mapped (λ unit. form.Online unit true) (unit_named u) s f in
         let t = Told-number_of 65535 m.0 u (omega arith) m.1 in
         let word_is = (bytes_eq-Decides word (codes "protect")).0 is in
         subst (λ made. Reads (codes "online" ∷ u ∷ word ∷ []) made) m.2 (t.fits, three (codes "online") u word _ _ _ refl t.printed word_is)
     tested false is f = absurd (cc)
 online-told (u ∷ word ∷ next ∷ rest) s e = absurd (cc)
 
-byte-told : (a : Option Transfer) (b : Option ℕ) (s : Statement) → with_byte a b ≡ Some s → (t : Transfer) × (byte : ℕ) × (a ≡ Some t) × (b ≡ Some byte) × (form.Fill t.unit t.lbn t.count byte ≡ s)
+byte-told : (a : Option TransferNumbers) (b : Option ℕ) (s : Statement) → with_byte a b ≡ Some s → (t : TransferNumbers) × (byte : ℕ) × (a ≡ Some t) × (b ≡ Some byte) × (form.Fill t.unit t.lbn t.count byte ≡ s)
 byte-told None b s e = absurd (cc)
 byte-told (Some t) None s e = absurd (cc)
 byte-told (Some t) (Some byte) s e = (t, byte, refl, refl, cc)
@@ -152,9 +151,9 @@ fill-told (u ∷ []) s e = absurd (cc)
 fill-told (u ∷ l ∷ []) s e = absurd (cc)
 fill-told (u ∷ l ∷ n ∷ []) s e = absurd (cc)
 fill-told (u ∷ l ∷ n ∷ x ∷ []) s e =
-    let a = byte-told (transfer_of (most_written Blocks) (u ∷ l ∷ n ∷ [])) (byte_of x) s e in
-    let t = transfer_of-told (most_written Blocks) (omega arith) (u ∷ l ∷ n ∷ []) a.0 a.2 in
-    let byte = hexadecimal-byte_of x a.1 a.3 in
+    let a = byte-told (transfer_form (most_written Blocks) (u ∷ l ∷ n ∷ [])) (byte_of x) s e in
+    let t = transfer_form-told (most_written Blocks) (omega arith) (u ∷ l ∷ n ∷ []) a.0 a.2 in
+    let byte = two_digits-byte_of x a.1 a.3 in
     subst (λ made. Reads (codes "fill" ∷ u ∷ l ∷ n ∷ x ∷ []) made) a.4 ((t.0, byte.0), five u l n x _ _ _ _ t.1 byte.1)
   where
     five : (u l n x v m k y : List ℕ) → ◌≡◌ {A = List (List ℕ)} (u ∷ l ∷ n ∷ []) (v ∷ m ∷ k ∷ []) → x ≡ y → ◌≡◌ {A = List (List ℕ)} (codes "fill" ∷ u ∷ l ∷ n ∷ x ∷ []) (codes "fill" ∷ v ∷ m ∷ k ∷ y ∷ [])
@@ -183,11 +182,11 @@ told (word ∷ words) s e =
 
 -- ---- and back
 
-abbrev made_of : ℕ → ℕ → ℕ → Transfer
+abbrev made_of : ℕ → ℕ → ℕ → TransferNumbers
 made_of unit lbn count = record { unit = unit; lbn = lbn; count = count }
 
-transfer_of-words : (most u l n : ℕ) → most < 2 ^ 64 → IsTransfer most u l n → transfer_of most (transfer_words u l n) ≡ Some (made_of u l n)
-transfer_of-words most u l n small fits =
+transfer_form-words : (most u l n : ℕ) → most < 2 ^ 64 → IsTransfer most u l n → transfer_form most (transfer_words u l n) ≡ Some (made_of u l n)
+transfer_form-words most u l n small fits =
     joined (number_of 65535 (decimal u)) (number_of most_number (decimal l)) (number_of most (decimal n))
     (number_of-decimal 65535 u (omega arith) fits.unit_fits) (number_of-decimal most_number l (omega arith) fits.lbn_fits) (number_of-decimal most n small fits.count_fits)
   where
@@ -199,17 +198,17 @@ reread (form.Online unit false) fits = ap (option_map (λ n. form.Online n false
 reread (form.Online unit true) fits = ap (option_map (λ n. form.Online n true)) (number_of-decimal 65535 unit (omega arith) fits)
 reread (form.Available unit) fits = ap (option_map (λ n. form.Available n)) (number_of-decimal 65535 unit (omega arith) fits)
 reread (form.Status unit) fits = ap (option_map (λ n. form.Status n)) (number_of-decimal 65535 unit (omega arith) fits)
-reread (form.Read u l (amount.Blocks n)) fits = ap (option_map (λ t. form.Read t.unit t.lbn (amount.Blocks t.count))) (transfer_of-words most_number u l n (omega arith) fits)
-reread (form.Read u l (amount.Bytes n)) fits = ap (option_map (λ t. form.Read t.unit t.lbn (amount.Bytes t.count))) (transfer_of-words most_number u l n (omega arith) fits)
-reread (form.Access u l (amount.Blocks n)) fits = ap (option_map (λ t. form.Access t.unit t.lbn (amount.Blocks t.count))) (transfer_of-words most_number u l n (omega arith) fits)
-reread (form.Access u l (amount.Bytes n)) fits = ap (option_map (λ t. form.Access t.unit t.lbn (amount.Bytes t.count))) (transfer_of-words most_number u l n (omega arith) fits)
-reread (form.Erase u l (amount.Blocks n)) fits = ap (option_map (λ t. form.Erase t.unit t.lbn (amount.Blocks t.count))) (transfer_of-words most_number u l n (omega arith) fits)
-reread (form.Erase u l (amount.Bytes n)) fits = ap (option_map (λ t. form.Erase t.unit t.lbn (amount.Bytes t.count))) (transfer_of-words most_number u l n (omega arith) fits)
-reread (form.Write u l (amount.Blocks n)) fits = ap (option_map (λ t. form.Write t.unit t.lbn (amount.Blocks t.count))) (transfer_of-words (most_written Blocks) u l n (omega arith) fits)
-reread (form.Write u l (amount.Bytes n)) fits = ap (option_map (λ t. form.Write t.unit t.lbn (amount.Bytes t.count))) (transfer_of-words (most_written Bytes) u l n (omega arith) fits)
+reread (form.Read u l (amount.Blocks n)) fits = ap (option_map (λ t. form.Read t.unit t.lbn (amount.Blocks t.count))) (transfer_form-words most_number u l n (omega arith) fits)
+reread (form.Read u l (amount.Bytes n)) fits = ap (option_map (λ t. form.Read t.unit t.lbn (amount.Bytes t.count))) (transfer_form-words most_number u l n (omega arith) fits)
+reread (form.Access u l (amount.Blocks n)) fits = ap (option_map (λ t. form.Access t.unit t.lbn (amount.Blocks t.count))) (transfer_form-words most_number u l n (omega arith) fits)
+reread (form.Access u l (amount.Bytes n)) fits = ap (option_map (λ t. form.Access t.unit t.lbn (amount.Bytes t.count))) (transfer_form-words most_number u l n (omega arith) fits)
+reread (form.Erase u l (amount.Blocks n)) fits = ap (option_map (λ t. form.Erase t.unit t.lbn (amount.Blocks t.count))) (transfer_form-words most_number u l n (omega arith) fits)
+reread (form.Erase u l (amount.Bytes n)) fits = ap (option_map (λ t. form.Erase t.unit t.lbn (amount.Bytes t.count))) (transfer_form-words most_number u l n (omega arith) fits)
+reread (form.Write u l (amount.Blocks n)) fits = ap (option_map (λ t. form.Write t.unit t.lbn (amount.Blocks t.count))) (transfer_form-words (most_written Blocks) u l n (omega arith) fits)
+reread (form.Write u l (amount.Bytes n)) fits = ap (option_map (λ t. form.Write t.unit t.lbn (amount.Bytes t.count))) (transfer_form-words (most_written Bytes) u l n (omega arith) fits)
 reread (form.Fill u l n byte) fits =
-    ap (λ t. with_byte t (byte_of (hexadecimal byte))) (transfer_of-words (most_written Blocks) u l n (omega arith) fits.0)
-    ∙ ap (with_byte (Some (made_of u l n))) (byte_of-hexadecimal byte fits.1)
+    ap (λ t. with_byte t (byte_of (two_digits byte))) (transfer_form-words (most_written Blocks) u l n (omega arith) fits.0)
+    ∙ ap (with_byte (Some (made_of u l n))) (byte_of-two_digits byte fits.1)
 
 -- ---- the words of a line
 
@@ -262,29 +261,29 @@ glyph n = tested (nat_lt n 10)
     tested true = grind (arith, common_steps)
     tested false = grind (arith, common_steps)
 
-hexadecimal_has_no_space : (byte : ℕ) → HasNoSpace (hexadecimal byte)
-hexadecimal_has_no_space byte = rw (glyph (byte / 16), glyph (byte % 16)) refl
+two_digits_have_no_space : (byte : ℕ) → HasNoSpace (two_digits byte)
+two_digits_have_no_space byte = rw (glyph (byte / 16), glyph (byte % 16)) refl
 
 of_transfer : (most u l n : ℕ) → most < 2 ^ 64 → IsTransfer most u l n → HaveNoSpaces (decimal u ∷ decimal l ∷ decimal n ∷ [])
 of_transfer most u l n small fits =
     (number 65535 u (omega arith) fits.unit_fits, (number most_number l (omega arith) fits.lbn_fits, (number most n small fits.count_fits, tt)))
 
-words_of-text_of : (s : Statement) → Fits s → words_of (text_of s) ≡ words_in s
-words_of-text_of (form.Online unit false) fits = words_of-joined _ _ refl (number 65535 unit (omega arith) fits, tt)
-words_of-text_of (form.Online unit true) fits = words_of-joined _ _ refl (number 65535 unit (omega arith) fits, (refl, tt))
-words_of-text_of (form.Available unit) fits = words_of-joined _ _ refl (number 65535 unit (omega arith) fits, tt)
-words_of-text_of (form.Status unit) fits = words_of-joined _ _ refl (number 65535 unit (omega arith) fits, tt)
-words_of-text_of (form.Read u l (amount.Blocks n)) fits = words_of-joined _ _ refl (of_transfer most_number u l n (omega arith) fits)
-words_of-text_of (form.Read u l (amount.Bytes n)) fits = words_of-joined _ _ refl (of_transfer most_number u l n (omega arith) fits)
-words_of-text_of (form.Access u l (amount.Blocks n)) fits = words_of-joined _ _ refl (of_transfer most_number u l n (omega arith) fits)
-words_of-text_of (form.Access u l (amount.Bytes n)) fits = words_of-joined _ _ refl (of_transfer most_number u l n (omega arith) fits)
-words_of-text_of (form.Erase u l (amount.Blocks n)) fits = words_of-joined _ _ refl (of_transfer most_number u l n (omega arith) fits)
-words_of-text_of (form.Erase u l (amount.Bytes n)) fits = words_of-joined _ _ refl (of_transfer most_number u l n (omega arith) fits)
-words_of-text_of (form.Write u l (amount.Blocks n)) fits = words_of-joined _ _ refl (of_transfer (most_written Blocks) u l n (omega arith) fits)
-words_of-text_of (form.Write u l (amount.Bytes n)) fits = words_of-joined _ _ refl (of_transfer (most_written Bytes) u l n (omega arith) fits)
-words_of-text_of (form.Fill u l n byte) fits =
+words_of-statement_text : (s : Statement) → Fits s → words_of (statement_text s) ≡ words_in s
+words_of-statement_text (form.Online unit false) fits = words_of-joined _ _ refl (number 65535 unit (omega arith) fits, tt)
+words_of-statement_text (form.Online unit true) fits = words_of-joined _ _ refl (number 65535 unit (omega arith) fits, (refl, tt))
+words_of-statement_text (form.Available unit) fits = words_of-joined _ _ refl (number 65535 unit (omega arith) fits, tt)
+words_of-statement_text (form.Status unit) fits = words_of-joined _ _ refl (number 65535 unit (omega arith) fits, tt)
+words_of-statement_text (form.Read u l (amount.Blocks n)) fits = words_of-joined _ _ refl (of_transfer most_number u l n (omega arith) fits)
+words_of-statement_text (form.Read u l (amount.Bytes n)) fits = words_of-joined _ _ refl (of_transfer most_number u l n (omega arith) fits)
+words_of-statement_text (form.Access u l (amount.Blocks n)) fits = words_of-joined _ _ refl (of_transfer most_number u l n (omega arith) fits)
+words_of-statement_text (form.Access u l (amount.Bytes n)) fits = words_of-joined _ _ refl (of_transfer most_number u l n (omega arith) fits)
+words_of-statement_text (form.Erase u l (amount.Blocks n)) fits = words_of-joined _ _ refl (of_transfer most_number u l n (omega arith) fits)
+words_of-statement_text (form.Erase u l (amount.Bytes n)) fits = words_of-joined _ _ refl (of_transfer most_number u l n (omega arith) fits)
+words_of-statement_text (form.Write u l (amount.Blocks n)) fits = words_of-joined _ _ refl (of_transfer (most_written Blocks) u l n (omega arith) fits)
+words_of-statement_text (form.Write u l (amount.Bytes n)) fits = words_of-joined _ _ refl (of_transfer (most_written Bytes) u l n (omega arith) fits)
+words_of-statement_text (form.Fill u l n byte) fits =
     let h = of_transfer (most_written Blocks) u l n (omega arith) fits.0 in
-    words_of-joined _ _ refl (h.0, (h.1.0, (h.1.1.0, (hexadecimal_has_no_space byte, tt))))
+    words_of-joined _ _ refl (h.0, (h.1.0, (h.1.1.0, (two_digits_have_no_space byte, tt))))
 
 pub one_text : OneText
 one_text line s = (
@@ -292,5 +291,5 @@ one_text line s = (
       (reads.0, sym (join_with_byte-slice_split 32 line) ∙ ap (join_with_byte 32) reads.1),
   λ reads.
       subst (λ l. statement_of (words_of l) ≡ Some s) (sym reads.1)
-      (subst (λ ws. statement_of ws ≡ Some s) (sym (words_of-text_of s reads.0)) (reread s reads.0)),
+      (subst (λ ws. statement_of ws ≡ Some s) (sym (words_of-statement_text s reads.0)) (reread s reads.0)),
 )

@@ -11,7 +11,7 @@ use Rattle.std.proofs.lemmas.Fmt.{decimal-digits_value, digits_decimal, digits_v
 use Rattle.std.proofs.lemmas.Str.Parse.{IsNumeralModel, numerals_by_fold}
 use Rattle.std.proofs.lemmas.Grind.{common_steps}
 use Rattle.uda_grammar.specs.Words.{is_decimal, value_behind, number_of, nibble_of, byte_of}
-use Rattle.uda_grammar.specs.Texts.{hexadecimal}
+use Rattle.uda_grammar.specs.Texts.{two_digits}
 use Rattle.uda_grammar.proofs.Numbers.{is_decimal-digits, number_of-some}
 
 -- digits and their value, in the words of the forms
@@ -85,8 +85,8 @@ glyph-nibble_of digit n e =
     let same : get_or (codes "0123456789abcdef") n 0 ≡ digit = grind (arith, common_steps, passes) in
     (within, sym same ∙ glyph_at n within)
 
-pub byte_of-hexadecimal : (byte : ℕ) → byte ≤ 255 → byte_of (hexadecimal byte) ≡ Some byte
-byte_of-hexadecimal byte h =
+pub byte_of-two_digits : (byte : ℕ) → byte ≤ 255 → byte_of (two_digits byte) ≡ Some byte
+byte_of-two_digits byte h =
     rw (nibble_of-glyph (byte / 16) (omega arith), nibble_of-glyph (byte % 16) (omega arith)) (ap Some (let e : 16 * (byte / 16) + byte % 16 ≡ byte = omega arith in e))
 
 nibbles : (high low : Option ℕ) (byte : ℕ) → option_and_then (λ h. option_map (λ l. 16 * h + l) low) high ≡ Some byte → (h l : ℕ) × (high ≡ Some h) × (low ≡ Some l) × (16 * h + l ≡ byte)
@@ -97,14 +97,14 @@ nibbles (Some h) (Some l) byte e = (h, l, refl, refl, cc)
 pair : (a b c d : ℕ) → a ≡ c → b ≡ d → ◌≡◌ {A = List ℕ} (a ∷ b ∷ []) (c ∷ d ∷ [])
 pair a b c d e f = cc
 
-pub hexadecimal-byte_of : (word : List ℕ) (byte : ℕ) → byte_of word ≡ Some byte → (byte ≤ 255) × (word ≡ hexadecimal byte)
-hexadecimal-byte_of [] byte e = absurd (cc)
-hexadecimal-byte_of (high ∷ []) byte e = absurd (cc)
-hexadecimal-byte_of (high ∷ low ∷ []) byte e =
+pub two_digits-byte_of : (word : List ℕ) (byte : ℕ) → byte_of word ≡ Some byte → (byte ≤ 255) × (word ≡ two_digits byte)
+two_digits-byte_of [] byte e = absurd (cc)
+two_digits-byte_of (high ∷ []) byte e = absurd (cc)
+two_digits-byte_of (high ∷ low ∷ []) byte e =
     let n = nibbles (nibble_of high) (nibble_of low) byte e in
     let a = glyph-nibble_of high n.0 n.2 in
     let b = glyph-nibble_of low n.1 n.3 in
     let upper : byte / 16 ≡ n.0 = omega (arith, a.0, b.0, n.4) in
     let lower : byte % 16 ≡ n.1 = omega (arith, a.0, b.0, n.4) in
     (omega (arith, a.0, b.0, n.4), pair high low _ _ (a.1 ∙ ap (digit_glyph false) (sym upper)) (b.1 ∙ ap (digit_glyph false) (sym lower)))
-hexadecimal-byte_of (high ∷ low ∷ next ∷ rest) byte e = absurd (cc)
+two_digits-byte_of (high ∷ low ∷ next ∷ rest) byte e = absurd (cc)

@@ -1,7 +1,6 @@
 -- How much a line moves.
 use Rattle.std.specs.Prelude.{ℕ, ◌*◌, ◌/◌}
-use Rattle.uda_packet.specs.declared.end.Kind.TheVariants as kind
-use Rattle.uda_model.specs.Request.{limit_of}
+use Rattle.uda_disk.specs.PlainRun.{transfer_limit}
 use Rattle.uda_grammar.specs.declared.statement.Measure.{Measure}
 use Rattle.uda_grammar.specs.declared.statement.Measure.TheVariants as measure
 use Rattle.uda_grammar.specs.declared.statement.Amount.{Amount}
@@ -19,5 +18,5 @@ bytes_in (Bytes count) = count
 
 -- the most that a line can have written: as much as one command
 abbrev pub most_written : Measure → ℕ
-most_written measure.Blocks = limit_of kind.Write / 512
-most_written measure.Bytes = limit_of kind.Write
+most_written measure.Blocks = transfer_limit / 512
+most_written measure.Bytes = transfer_limit

@@ -14,8 +14,8 @@ use Rattle.uda_grammar.specs.Words.{most_number}
 use Rattle.uda_grammar.specs.Forms.{statement_of}
 
 -- two hexadecimal digits in lower case
-abbrev pub hexadecimal : ℕ → List ℕ
-hexadecimal byte = digit_glyph false (byte / 16) ∷ digit_glyph false (byte % 16) ∷ []
+abbrev pub two_digits : ℕ → List ℕ
+two_digits byte = digit_glyph false (byte / 16) ∷ digit_glyph false (byte % 16) ∷ []
 
 -- the numbers of a transfer as they are printed
 abbrev pub transfer_words : ℕ → ℕ → ℕ → List (List ℕ)
@@ -36,7 +36,7 @@ words_in (form.Erase unit lbn (Bytes count)) = codes "eraseb" ∷ transfer_words
 words_in (form.Write unit lbn (Blocks count)) = codes "write" ∷ transfer_words unit lbn count
 words_in (form.Write unit lbn (Bytes count)) = codes "writeb" ∷ transfer_words unit lbn count
 words_in (form.Fill unit lbn count byte) =
-    codes "fill" ∷ transfer_words unit lbn count ++ hexadecimal byte ∷ []
+    codes "fill" ∷ transfer_words unit lbn count ++ two_digits byte ∷ []
 
 -- the numbers of a transfer, of at most so many blocks or bytes
 pub record IsTransfer (most unit lbn count : ℕ) : Type 0 where
@@ -45,9 +45,9 @@ pub record IsTransfer (most unit lbn count : ℕ) : Type 0 where
   pub count_fits : count ≤ most
 
 -- how many, in whatever measure
-abbrev pub number_in : Amount → ℕ
-number_in (Blocks count) = count
-number_in (Bytes count) = count
+abbrev pub how_many : Amount → ℕ
+how_many (Blocks count) = count
+how_many (Bytes count) = count
 
 -- in what they are counted
 abbrev pub measure_in : Amount → Measure
@@ -59,17 +59,17 @@ abbrev pub Fits : Statement → Type 0
 Fits (form.Online unit protect) = unit ≤ 65535
 Fits (form.Available unit) = unit ≤ 65535
 Fits (form.Status unit) = unit ≤ 65535
-Fits (form.Read unit lbn amount) = IsTransfer most_number unit lbn (number_in amount)
-Fits (form.Access unit lbn amount) = IsTransfer most_number unit lbn (number_in amount)
-Fits (form.Erase unit lbn amount) = IsTransfer most_number unit lbn (number_in amount)
-Fits (form.Write unit lbn amount) = IsTransfer (most_written (measure_in amount)) unit lbn (number_in amount)
+Fits (form.Read unit lbn amount) = IsTransfer most_number unit lbn (how_many amount)
+Fits (form.Access unit lbn amount) = IsTransfer most_number unit lbn (how_many amount)
+Fits (form.Erase unit lbn amount) = IsTransfer most_number unit lbn (how_many amount)
+Fits (form.Write unit lbn amount) = IsTransfer (most_written (measure_in amount)) unit lbn (how_many amount)
 Fits (form.Fill unit lbn count byte) = IsTransfer (most_written measure.Blocks) unit lbn count × (byte ≤ 255)
 
 -- the text of a statement: its words, with a space between two
-abbrev pub text_of : Statement → List ℕ
-text_of statement = join_with_byte 32 (words_in statement)
+abbrev pub statement_text : Statement → List ℕ
+statement_text statement = join_with_byte 32 (words_in statement)
 
 -- a line asks for a statement exactly where it is the statement's text, and the numbers fit
 abbrev pub OneText : Type 0
 OneText = (line : List ℕ) (statement : Statement)
-    → (statement_of (words_of line) ≡ Some statement) ↔ (Fits statement × (line ≡ text_of statement))
+    → (statement_of (words_of line) ≡ Some statement) ↔ (Fits statement × (line ≡ statement_text statement))

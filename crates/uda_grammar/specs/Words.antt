@@ -1,6 +1,5 @@
 -- What one word of a line may say.
-use Rattle.std.specs.Prelude.{ℕ, ◌+◌, ◌-◌, ◌*◌, Bool, false, not, ◌&&◌, ◌==◌, nat_le}
-use Rattle.std.specs.Prelude.{List, [], ◌∷◌, codes, Option, Some, None, if◌then◌else◌}
+use Rattle.std.specs.Prelude.{ℕ, ◌+◌, ◌-◌, ◌*◌, Bool, false, not, ◌&&◌, ◌==◌, nat_le, List, [], ◌∷◌, codes, Option, Some, None, if◌then◌else◌}
 use Rattle.std.specs.Char.{is_ascii_digit}
 use Rattle.std.specs.List.{fold, list_all, position}
 use Rattle.std.specs.Option.{option_map, option_and_then}
@@ -47,8 +46,8 @@ abbrev pub most_number : ℕ
 most_number = 4294967295
 
 -- a unit's number, of 16 bits
-abbrev pub unit_of : List ℕ → Option ℕ
-unit_of word = number_of 65535 word
+abbrev pub unit_named : List ℕ → Option ℕ
+unit_named word = number_of 65535 word
 
 -- the value of a hexadecimal digit is its place among them; upper case has none
 abbrev pub nibble_of : ℕ → Option ℕ

@@ -3,14 +3,14 @@ ghost use Rattle.std.specs.Prelude.{◌≡◌, ◌<◌, [], ◌∷◌, length, I
 ghost use Rattle.std.specs.Option.{option_copied};
 ghost use Rattle.uda_grammar.specs.Amounts.{most_written};
 ghost use Rattle.uda_grammar.specs.Parts.{words_of, parts_behind};
-ghost use Rattle.uda_grammar.specs.Forms.{only_unit, transfer_of, online_of, fill_of, statement_of};
+ghost use Rattle.uda_grammar.specs.Forms.{only_unit, transfer_form, online_of, fill_of, statement_of};
 
 use crate::cut::cut;
 use crate::number::{byte, number, unit};
 use crate::statement::{Measure, Statement};
-use crate::transfer::Transfer;
+use crate::transfer::TransferNumbers;
 use crate::verb::Verb;
-use uda_model::BUFFER_BYTES;
+use uda_disk::TRANSFER_LIMIT;
 
 // What parts the words of a line.
 const SPACE: u8 = b' ';
@@ -20,8 +20,8 @@ fn most_written(measure: Measure) -> u32
     ensures most { result ≡ most_written measure }
 {
     match measure {
-        Measure::Blocks => BUFFER_BYTES / 512,
-        Measure::Bytes => BUFFER_BYTES,
+        Measure::Blocks => TRANSFER_LIMIT / 512,
+        Measure::Bytes => TRANSFER_LIMIT,
     }
 }
 
@@ -65,11 +65,11 @@ impl<'a> Fields<'a> {
     }
 
     // The numbers that the three words are, of at most so many.
-    fn transfer(&self, most: u32) -> Option<Transfer>
+    fn transfer(&self, most: u32) -> Option<TransferNumbers>
         ensures transfer { result
-            ≡ transfer_of most (self.now.unit.now ∷ self.now.lbn.now ∷ self.now.count.now ∷ []) }
+            ≡ transfer_form most (self.now.unit.now ∷ self.now.lbn.now ∷ self.now.count.now ∷ []) }
     {
-        Some(Transfer {
+        Some(TransferNumbers {
             unit: unit(self.unit)?,
             lbn: number(self.lbn, u32::MAX)?,
             count: number(self.count, most)?,
@@ -85,9 +85,9 @@ fn unit_alone(words: &[u8]) -> Option<u16>
 }
 
 // `U L N`, of at most so many
-#[tactic(auto, using(crate::proofs::Fields::transfer_of_more, crate::proofs::Cutting::behind_nonempty))]
-fn transfer_alone(words: &[u8], most: u32) -> Option<Transfer>
-    ensures transfer { result ≡ transfer_of most (words_of words.now) }
+#[tactic(auto, using(crate::proofs::Fields::transfer_form_more, crate::proofs::Cutting::behind_nonempty))]
+fn transfer_alone(words: &[u8], most: u32) -> Option<TransferNumbers>
+    ensures transfer { result ≡ transfer_form most (words_of words.now) }
 {
     let fields = Fields::of_words(words)?;
     match fields.rest {
@@ -120,7 +120,7 @@ fn fill(words: &[u8]) -> Option<Statement>
 {
     let fields = Fields::of_words(words)?;
     let byte = byte(only_word(fields.rest?)?)?;
-    let Transfer { unit, lbn, count } = fields.transfer(most_written(Measure::Blocks))?;
+    let TransferNumbers { unit, lbn, count } = fields.transfer(most_written(Measure::Blocks))?;
     Some(Statement::Fill {
         unit,
         lbn,
@@ -144,22 +144,22 @@ pub(crate) fn statement_in(line: &[u8]) -> Option<Statement>
             unit: unit_alone(words)?,
         },
         Verb::Read(measure) => {
-            let Transfer { unit, lbn, count } = transfer_alone(words, u32::MAX)?;
+            let TransferNumbers { unit, lbn, count } = transfer_alone(words, u32::MAX)?;
             let amount = measure.amount(count);
             Statement::Read { unit, lbn, amount }
         }
         Verb::Access(measure) => {
-            let Transfer { unit, lbn, count } = transfer_alone(words, u32::MAX)?;
+            let TransferNumbers { unit, lbn, count } = transfer_alone(words, u32::MAX)?;
             let amount = measure.amount(count);
             Statement::Access { unit, lbn, amount }
         }
         Verb::Erase(measure) => {
-            let Transfer { unit, lbn, count } = transfer_alone(words, u32::MAX)?;
+            let TransferNumbers { unit, lbn, count } = transfer_alone(words, u32::MAX)?;
             let amount = measure.amount(count);
             Statement::Erase { unit, lbn, amount }
         }
         Verb::Write(measure) => {
-            let Transfer { unit, lbn, count } = transfer_alone(words, most_written(measure))?;
+            let TransferNumbers { unit, lbn, count } = transfer_alone(words, most_written(measure))?;
             let amount = measure.amount(count);
             Statement::Write { unit, lbn, amount }
         }

@@ -1,6 +1,6 @@
 //! Numbers in words.
 ghost use Rattle.std.specs.Prelude.{◌≡◌};
-ghost use Rattle.uda_grammar.specs.Words.{number_of, unit_of, nibble_of, byte_of};
+ghost use Rattle.uda_grammar.specs.Words.{number_of, unit_named, nibble_of, byte_of};
 
 /// The number that a word is in decimal without leading zeros, where it is at most this.
 pub(crate) fn number(word: &[u8], most: u32) -> Option<u32>
@@ -23,7 +23,7 @@ pub(crate) fn number(word: &[u8], most: u32) -> Option<u32>
 
 /// The number of a unit that a word is.
 pub(crate) fn unit(word: &[u8]) -> Option<u16>
-    ensures unit { result ≡ unit_of word.now }
+    ensures unit { result ≡ unit_named word.now }
 {
     u16::try_from(number(word, u32::from(u16::MAX))?).ok()
 }

@@ -2,7 +2,7 @@
 
 /// The numbers of a transfer: its unit, its first logical block, and how many blocks or bytes.
 #[derive(Clone, Copy)]
-pub(crate) struct Transfer {
+pub(crate) struct TransferNumbers {
     /// The unit's number.
     pub(crate) unit: u16,
     /// The first logical block.

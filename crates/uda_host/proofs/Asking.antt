@@ -6,7 +6,7 @@ use Rattle.std.proofs.lemmas.List.Edits.{length-remove}
 use Rattle.uda_packet.specs.declared.command.Command.{Command}
 use Rattle.uda_packet.specs.declared.command.Op.TheVariants.{Controller}
 use Rattle.uda_packet.specs.declared.end.End.{End}
-use Rattle.uda_exec.specs.Disks.{UnitState}
+use Rattle.uda_disk.specs.Units.{UnitState}
 use Rattle.uda_exec.specs.Execution.{Executes}
 use Rattle.uda_port.specs.Port.{next_grant}
 use Rattle.uda_host.specs.Host.{HostState, out_of, BuffersStay, Posts, Does, Takes, Works, OneFetched, OneDone, HostGoes, AddsUp, IsIdle, IsStarted, Asked}

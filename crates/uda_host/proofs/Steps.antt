@@ -13,7 +13,7 @@ use Rattle.uda_packet.specs.Written.{written_command, written_end}
 use Rattle.uda_packet.specs.Reading.{read_command, read_end}
 use Rattle.uda_packet.specs.Bad.{other_length_end}
 use Rattle.uda_packet.proofs.WrittenLaws.{length-written_command, length-written_end}
-use Rattle.uda_exec.specs.Commands.{address_of as buffer_of, landing_of}
+use Rattle.uda_exec.specs.Commands.{buffer_start as buffer_of, landing_of}
 use Rattle.uda_exec.specs.Disks.{ExecState}
 use Rattle.uda_exec.specs.Execution.{ExecutesAt}
 use Rattle.uda_exec.proofs.Changes.{landing-le}

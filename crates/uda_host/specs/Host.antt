@@ -3,7 +3,8 @@
 use Rattle.std.specs.Prelude.{◌≡◌, ℕ, ◌+◌, ◌-◌, ◌*◌, ◌<◌, ◌≤◌, List, [], ◌∷◌, ◌++◌, length, Option, Some, None}
 use Rattle.uda_packet.specs.declared.command.Command.{Command}
 use Rattle.uda_packet.specs.declared.end.End.{End}
-use Rattle.uda_exec.specs.Disks.{UnitState, PENDING_LIMIT}
+use Rattle.uda_disk.specs.Units.{UnitState}
+use Rattle.uda_exec.specs.Disks.{PENDING_LIMIT}
 use Rattle.uda_exec.specs.Execution.{Executes, ExecutesAt}
 use Rattle.uda_exec.specs.Transfers.{ChangesAt}
 use Rattle.uda_port.specs.declared.phase.Phase.{Phase}

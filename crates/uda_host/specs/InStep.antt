@@ -4,7 +4,7 @@ use Rattle.uda_mem.specs.Put.{Meet}
 use Rattle.uda_packet.specs.declared.command.Command.{Command}
 use Rattle.uda_packet.specs.Written.{written_command}
 use Rattle.uda_packet.specs.Reading.{read_command}
-use Rattle.uda_exec.specs.Commands.{address_of, room_of}
+use Rattle.uda_exec.specs.Commands.{buffer_start, room_of}
 use Rattle.uda_port.specs.declared.phase.Phase.TheVariants.{Running}
 use Rattle.uda_port.specs.Port.{PortState, CreditsAgree}
 use Rattle.uda_host.specs.Layout.{slots, buffers_start, command_ring_at, response_ring_at}
@@ -12,7 +12,7 @@ use Rattle.uda_host.specs.Layout.{CommandSide, ResponseSide}
 
 -- no byte of its buffer lies below the buffers, among the rings and texts
 abbrev pub IsAbove : Command → Type 0
-IsAbove c = Meet (address_of c.op) (room_of c.op) 0 buffers_start → ⊥
+IsAbove c = Meet (buffer_start c.op) (room_of c.op) 0 buffers_start → ⊥
 
 -- a command that the port reads as it was written, and that leaves the rings and texts alone
 pub record IsSound (c : Command) : Type 0 where

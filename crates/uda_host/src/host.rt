@@ -1,7 +1,8 @@
 //! The host.
 ghost use Rattle.std.specs.Prelude.{◌≡◌, ◌<◌, ◌≤◌, length, map, IfOk, IfErr};
 ghost use Rattle.uda_mem.specs.Put.{put, part};
-ghost use Rattle.uda_exec.specs.Disks.{AreImages, PENDING_LIMIT};
+ghost use Rattle.uda_disk.specs.Units.{AreImages};
+ghost use Rattle.uda_exec.specs.Disks.{PENDING_LIMIT};
 ghost use Rattle.uda_exec.specs.Drives.{reset_unit};
 ghost use Rattle.uda_host.specs.Layout.{buffer_address, buffer_size};
 ghost use Rattle.uda_host.specs.InStep.{IsAbove};

@@ -57,11 +57,12 @@ failing_state image = record {
   failures = failures_by image.left;
 }
 
--- a file that is open as an image: how many blocks it had when it was opened, and whether it was
--- opened to be written
+-- a file that is open as an image: how many blocks it had when it was opened, whether it was opened
+-- to be written, and whether it was written since it was opened or last synced
 pub record OpenImage : Type 0 where
   pub size : ℕ
   pub writable : Bool
+  pub written : Bool
 
 -- a file as a store: nothing is known of it but how many blocks it had when it was opened
 abbrev pub file_state : OpenImage → StoreState

@@ -1,5 +1,5 @@
 //! Images in files.
-ghost use Rattle.std.specs.Prelude.{length, ◌≡◌, ◌≢◌, ◌≤◌, false, IfOk, IfErr};
+ghost use Rattle.std.specs.Prelude.{length, ◌≡◌, ◌≢◌, ◌≤◌, true, false, IsOk, OnOk, OnErr, IfOk, IfErr};
 ghost use Rattle.uda_image.specs.declared.store.TheConstants.{BLOCK_LIMIT};
 ghost use Rattle.uda_image.specs.Image.{file_state};
 ghost use Rattle.uda_image.specs.StoreLaws.{min-le, no_image};
@@ -8,7 +8,7 @@ use crate::error::ImageError;
 use crate::length::count_blocks;
 use crate::store::{BLOCK_LIMIT, BlockStore, StoreError};
 use std::fs;
-use std::fs::{File, OpenFile, OpenOptions};
+use std::fs::{File, OpenFile, OpenOptions, TryLockError};
 use std::marker::Model;
 use std::os::unix::fs::FileExt;
 
@@ -18,13 +18,17 @@ use std::os::unix::fs::FileExt;
 /// Its size is that of the file when it is opened. It isn't faithful, since other programs may
 /// change the file. A read or write that fails or ends early, as behind the end of a file that was
 /// shortened, is an error. An image that isn't to be written is opened for reading alone, so that no
-/// write could reach its file, and a write to it is an error. Contracts see its size in blocks, and
-/// whether it was opened to be written.
+/// write could reach its file, and a write to it is an error. Contracts see its size in blocks,
+/// whether it was opened to be written, and whether it was written since it was opened or last synced.
+///
+/// While it is open it holds the advisory lock of its file, where the file system has such locks: an
+/// image to be written holds it alone, and those for reading share it.
 #[derive(Debug, Drop)]
 pub struct FileImage {
     file: File,
     size: u32,
     writable: bool,
+    written: bool,
 }
 
 impl Model for FileImage {
@@ -34,7 +38,11 @@ impl Model for FileImage {
 
     ghost Value = { OpenImage };
 
-    ghost view = { λ image. record { size = image.size; writable = image.writable } };
+    ghost view = { λ image. record {
+      size = image.size;
+      writable = image.writable;
+      written = image.written;
+    } };
 
     ghost invariant = { λ image. image.size ≤ BLOCK_LIMIT };
 }
@@ -48,13 +56,25 @@ fn is_plain_file(rt: &HostRuntime, path: &str) -> bool {
     }
 }
 
+// Takes a file's advisory lock, alone or shared; false where another open of the file is in its way. A
+// file system without such locks refuses nobody.
+fn lock(file: &File, alone: bool) -> bool {
+    let locked = if alone {
+        file.try_lock()
+    } else {
+        file.try_lock_shared()
+    };
+    !matches!(locked, Err(TryLockError::WouldBlock))
+}
+
 impl FileImage {
     /// Opens the plain file at `path` as an image, to be read and, where `writable`, written. Errs
-    /// with Open where it can't be opened so, is no plain file, or its length can't be learnt; with
-    /// Length where its bytes are no whole number of blocks of 512; and with TooLarge where those
-    /// are more than [`BLOCK_LIMIT`]. Takes no memory and changes no file.
+    /// with Open where it can't be opened so, is no plain file, its advisory lock is held, or its
+    /// length can't be learnt; with Length where its bytes are no whole number of blocks of 512; and
+    /// with TooLarge where those are more than [`BLOCK_LIMIT`]. Takes no memory and changes no file.
     pub fn open(rt: &HostRuntime, path: &str, writable: bool) -> Result<FileImage, ImageError>
         ensures writable { IfOk result (λ image. image.writable ≡ writable) }
+        ensures written { IfOk result (λ image. image.written ≡ false) }
         ensures within_limit { IfOk result (λ image. image.size ≤ BLOCK_LIMIT) }
         ensures errors { result ≢ Err ImageError.NoMemory }
     {
@@ -67,7 +87,7 @@ impl FileImage {
         let Ok(metadata) = file.metadata() else {
             return Err(ImageError::Open);
         };
-        if !metadata.is_file() {
+        if !metadata.is_file() || !lock(&file, writable) {
             return Err(ImageError::Open);
         }
         let size = count_blocks(metadata.len())?;
@@ -75,7 +95,24 @@ impl FileImage {
             file,
             size,
             writable,
+            written: false,
         })
+    }
+
+    /// Has the system hand on to the medium what was written, and the file's length; nothing is asked
+    /// of it where nothing was written. Errs with Write where the system can't, or where an error of
+    /// an earlier write shows only now.
+    pub fn sync(&mut self) -> Result<(), StoreError>
+        ensures synced { OnOk result (self.new ≡ record self.old { written = false }) }
+        ensures unchanged { OnErr result (self.new ≡ self.old) }
+        ensures idle { self.old.written ≡ false → IsOk result }
+        ensures error { IfErr result (λ e. e ≡ StoreError.Write) }
+    {
+        if self.written && self.file.sync_data().is_err() {
+            return Err(StoreError::Write);
+        }
+        self.written = false;
+        Ok(())
     }
 }
 
@@ -102,13 +139,15 @@ impl BlockStore for FileImage {
     }
 
     fn write(&mut self, n: u32, from: &[u8; 512]) -> Result<(), StoreError>
-        ensures unchanged { self.new ≡ self.old }
+        ensures written { self.old.writable ≡ true → self.new ≡ record self.old { written = true } }
         ensures read_only { self.old.writable ≡ false → result ≡ Err StoreError.Write }
+        ensures unchanged { self.old.writable ≡ false → self.new ≡ self.old }
         ensures error { IfErr result (λ e. e ≡ StoreError.Write) }
     {
         if !self.writable {
             return Err(StoreError::Write);
         }
+        self.written = true;
         match self.file.write_all_at(from, 512 * u64::from(n)) {
             Ok(()) => Ok(()),
             Err(_) => Err(StoreError::Write),

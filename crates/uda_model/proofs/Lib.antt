@@ -1,13 +1,2 @@
-pub mod Examples
 pub mod Lists
-pub mod Bytes
-pub mod Serving
-pub mod Errors
-pub mod Running
-pub mod Ordering
 pub mod LedgerSteps
-pub mod Outcomes
-pub mod Owing
-pub mod Ending
-pub mod Outs
-pub mod Apartness

@@ -1,9 +1,1 @@
-pub mod Request
-pub mod Answer
-pub mod Plain
-pub mod Clash
-pub mod Posting
 pub mod Ledger
-pub mod Keeping
-pub mod Values
-pub mod Display

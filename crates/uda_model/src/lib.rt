@@ -1,18 +1,11 @@
-//! The plain model of a driver: what it may be asked, what it answers, and one plain array of blocks for
-//! each unit on which requests are done one at a time.
+//! The ledger: what requests that are done in another order than they were asked in make of disks and answers.
 //!
-//! Nothing here knows a ring, a text, a credit or a second command. What a request answers and leaves is
-//! one definition (`specs/Plain.antt`), with each transfer's outcome fixed: done, or lost at some block.
-//! How a request is had done by a command, and that commands in any order give what the plain model gives,
-//! is the ledger (`specs/Ledger.antt`), on which a driver's proof stands.
+//! Nothing here knows an image, a memory or a command. A list of requests is taken in one after another, and those
+//! that are due are done in whatever order they may go. The ledger (`specs/Ledger.antt`) says throughout that,
+//! however those that are due end, all of them together make a plain run, with losses, of the requests in their
+//! order. Its steps are laws, each the contract of a function of `ledger` that does nothing.
 //!
-//! MSCP Basic Disk Functions Manual: the commands, unit states, command ordering.
+//! MSCP Basic Disk Functions Manual: command ordering.
 #![tactic(auto)]
 
-mod answer;
-mod extent;
-mod request;
-
-pub use answer::Answer;
-pub use extent::{BUFFER_BYTES, Extent};
-pub use request::Request;
+pub mod ledger;

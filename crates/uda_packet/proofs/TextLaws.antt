@@ -25,10 +25,10 @@ op_is_read bytes op.Controller t = rw (t.opcode_is, t.modifiers_are, t.parameter
 op_is_read bytes op.Available t = rw (t.opcode_is, t.modifiers_are) refl
 op_is_read bytes (op.Online None) t = rw (t.opcode_is, t.modifiers_are) refl
 op_is_read bytes (op.Online (Some soft)) t = rw (t.opcode_is, t.modifiers_are, t.parameters_are) refl
-op_is_read bytes (op.Access count block) t = rw (t.opcode_is, t.modifiers_are, t.parameters_are.count_is, t.parameters_are.block_is) refl
-op_is_read bytes (op.Erase count block) t = rw (t.opcode_is, t.modifiers_are, t.parameters_are.count_is, t.parameters_are.block_is) refl
-op_is_read bytes (op.Read count address block) t = rw (t.opcode_is, t.modifiers_are, t.parameters_are.count_is, t.parameters_are.address_is, t.parameters_are.block_is) refl
-op_is_read bytes (op.Write count address block) t = rw (t.opcode_is, t.modifiers_are, t.parameters_are.count_is, t.parameters_are.address_is, t.parameters_are.block_is) refl
+op_is_read bytes (op.Access n lbn) t = rw (t.opcode_is, t.modifiers_are, t.parameters_are.byte_count_is, t.parameters_are.lbn_is) refl
+op_is_read bytes (op.Erase n lbn) t = rw (t.opcode_is, t.modifiers_are, t.parameters_are.byte_count_is, t.parameters_are.lbn_is) refl
+op_is_read bytes (op.Read n address lbn) t = rw (t.opcode_is, t.modifiers_are, t.parameters_are.byte_count_is, t.parameters_are.address_is, t.parameters_are.lbn_is) refl
+op_is_read bytes (op.Write n address lbn) t = rw (t.opcode_is, t.modifiers_are, t.parameters_are.byte_count_is, t.parameters_are.address_is, t.parameters_are.lbn_is) refl
 
 unknown_is_read : (bytes : List ℕ) (b : EndBody) → HasUnknownOpcode bytes b → read_op bytes ≡ Err (fault.Opcode, b)
 unfolding op_named read_op
@@ -43,10 +43,10 @@ stray_is_read bytes b op.Status code stray e = rw (code, ne_eqb _ _ stray, e) re
 stray_is_read bytes b op.Controller code stray e = rw (code, ne_eqb _ _ stray, e) refl
 stray_is_read bytes b op.Available code stray e = rw (code, ne_eqb _ _ stray, e) refl
 stray_is_read bytes b (op.Online soft) code stray e = rw (code, ne_eqb _ _ stray, e) refl
-stray_is_read bytes b (op.Access count block) code stray e = rw (code, ne_eqb _ _ stray, e) refl
-stray_is_read bytes b (op.Erase count block) code stray e = rw (code, ne_eqb _ _ stray, e) refl
-stray_is_read bytes b (op.Read count address block) code stray e = rw (code, ne_eqb _ _ stray, e) refl
-stray_is_read bytes b (op.Write count address block) code stray e = rw (code, ne_eqb _ _ stray, e) refl
+stray_is_read bytes b (op.Access n lbn) code stray e = rw (code, ne_eqb _ _ stray, e) refl
+stray_is_read bytes b (op.Erase n lbn) code stray e = rw (code, ne_eqb _ _ stray, e) refl
+stray_is_read bytes b (op.Read n address lbn) code stray e = rw (code, ne_eqb _ _ stray, e) refl
+stray_is_read bytes b (op.Write n address lbn) code stray e = rw (code, ne_eqb _ _ stray, e) refl
 
 version_is_read : (bytes : List ℕ) (b : EndBody) → HasWrongVersion bytes b → read_op bytes ≡ Err (fault.Version, b)
 unfolding op_named read_op

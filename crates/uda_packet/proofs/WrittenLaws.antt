@@ -44,10 +44,10 @@ entries_command reference unit op.Controller = refl
 entries_command reference unit op.Available = refl
 entries_command reference unit (op.Online None) = refl
 entries_command reference unit (op.Online (Some soft)) = refl
-entries_command reference unit (op.Access count block) = refl
-entries_command reference unit (op.Erase count block) = refl
-entries_command reference unit (op.Read count address block) = refl
-entries_command reference unit (op.Write count address block) = refl
+entries_command reference unit (op.Access bytes lbn) = refl
+entries_command reference unit (op.Erase bytes lbn) = refl
+entries_command reference unit (op.Read bytes address lbn) = refl
+entries_command reference unit (op.Write bytes address lbn) = refl
 
 op_back : (reference unit : ℕ) (o : Op) → OpFits o → OpText (written_command (record { reference = reference; unit = unit; op = o })) o
 unfolding written_command
@@ -57,10 +57,10 @@ op_back reference unit op.Available h = record { opcode_is = refl; modifiers_are
 op_back reference unit (op.Online None) h = record { opcode_is = refl; modifiers_are = refl; parameters_are = tt }
 op_back reference unit (op.Online (Some true)) h = record { opcode_is = refl; modifiers_are = refl; parameters_are = refl }
 op_back reference unit (op.Online (Some false)) h = record { opcode_is = refl; modifiers_are = refl; parameters_are = refl }
-op_back reference unit (op.Access count block) h = record { opcode_is = refl; modifiers_are = refl; parameters_are = record { count_is = long_back count h.0; block_is = long_back block h.1 } }
-op_back reference unit (op.Erase count block) h = record { opcode_is = refl; modifiers_are = refl; parameters_are = record { count_is = long_back count h.0; block_is = long_back block h.1 } }
-op_back reference unit (op.Read count address block) h = record { opcode_is = refl; modifiers_are = refl; parameters_are = record { count_is = long_back count h.0; address_is = long_back address h.1; block_is = long_back block h.2 } }
-op_back reference unit (op.Write count address block) h = record { opcode_is = refl; modifiers_are = refl; parameters_are = record { count_is = long_back count h.0; address_is = long_back address h.1; block_is = long_back block h.2 } }
+op_back reference unit (op.Access bytes lbn) h = record { opcode_is = refl; modifiers_are = refl; parameters_are = record { byte_count_is = long_back bytes h.0; lbn_is = long_back lbn h.1 } }
+op_back reference unit (op.Erase bytes lbn) h = record { opcode_is = refl; modifiers_are = refl; parameters_are = record { byte_count_is = long_back bytes h.0; lbn_is = long_back lbn h.1 } }
+op_back reference unit (op.Read bytes address lbn) h = record { opcode_is = refl; modifiers_are = refl; parameters_are = record { byte_count_is = long_back bytes h.0; address_is = long_back address h.1; lbn_is = long_back lbn h.2 } }
+op_back reference unit (op.Write bytes address lbn) h = record { opcode_is = refl; modifiers_are = refl; parameters_are = record { byte_count_is = long_back bytes h.0; address_is = long_back address h.1; lbn_is = long_back lbn h.2 } }
 
 -- the head is the same whatever follows
 head_back : (reference unit : ℕ) (o : Op) → reference < 2 ^ 32 → unit < 2 ^ 16
@@ -85,10 +85,10 @@ length_command reference unit op.Controller = refl
 length_command reference unit op.Available = refl
 length_command reference unit (op.Online None) = refl
 length_command reference unit (op.Online (Some soft)) = refl
-length_command reference unit (op.Access count block) = refl
-length_command reference unit (op.Erase count block) = refl
-length_command reference unit (op.Read count address block) = refl
-length_command reference unit (op.Write count address block) = refl
+length_command reference unit (op.Access bytes lbn) = refl
+length_command reference unit (op.Erase bytes lbn) = refl
+length_command reference unit (op.Read bytes address lbn) = refl
+length_command reference unit (op.Write bytes address lbn) = refl
 
 pub length-written_command : (c : Command) → length (written_command c) ≡ 48
 length-written_command c = length_command c.reference c.unit c.op

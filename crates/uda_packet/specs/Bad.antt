@@ -6,7 +6,7 @@ use Rattle.uda_packet.specs.declared.bad.BadKind.TheVariants as fault
 use Rattle.uda_packet.specs.declared.end.End.{End}
 use Rattle.uda_packet.specs.declared.end.EndBody.TheVariants as body
 use Rattle.uda_packet.specs.Field.{number_in, reference_field, unit_field}
-use Rattle.uda_packet.specs.Status.{INVALID_LENGTH, INVALID_OPCODE, INVALID_MODIFIERS, INVALID_VERSION}
+use Rattle.uda_disk.specs.Status.{INVALID_LENGTH, INVALID_OPCODE, INVALID_MODIFIERS, INVALID_VERSION}
 
 -- the kinds of fault, numbered in the order in which they are judged
 abbrev pub fault_number : BadKind → ℕ

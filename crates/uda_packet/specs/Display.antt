@@ -1,6 +1,6 @@
 -- Messages as a person reads them.
-use Rattle.std.specs.Prelude.{ℕ, ◌-◌, ◌^◌, false, List, [], ◌++◌, codes}
-use Rattle.std.specs.Fmt.{decimal, digits, padded_integral, format_spec}
+use Rattle.std.specs.Prelude.{ℕ, List, ◌++◌, codes}
+use Rattle.std.specs.Fmt.{decimal}
 use Rattle.uda_packet.specs.declared.bad.Bad.{Bad}
 use Rattle.uda_packet.specs.declared.bad.BadKind.{BadKind}
 use Rattle.uda_packet.specs.declared.bad.BadKind.TheVariants as fault
@@ -9,11 +9,8 @@ use Rattle.uda_packet.specs.declared.end.EndBody.{EndBody}
 use Rattle.uda_packet.specs.declared.end.EndBody.TheVariants as body
 use Rattle.uda_packet.specs.declared.end.Kind.{Kind}
 use Rattle.uda_packet.specs.declared.end.Kind.TheVariants as kind
-use Rattle.uda_packet.specs.Status.{status_name}
-
--- a word as four hexadecimal digits
-abbrev pub word_digits : ℕ → List ℕ
-word_digits n = padded_integral (format_spec 32 0 4 4 (2 ^ 64 - 1)) false [] (digits 16 false n)
+use Rattle.uda_disk.specs.Status.{status_name}
+use Rattle.uda_disk.specs.Display.{word_digits}
 
 abbrev pub kind_display : Kind → List ℕ
 kind_display kind.Access = codes "Access"

@@ -29,8 +29,8 @@ modifiers_field = field 10 2
 abbrev pub status_field : Field
 status_field = field 10 2
 
-abbrev pub count_field : Field
-count_field = field 12 4
+abbrev pub byte_count_field : Field
+byte_count_field = field 12 4
 
 abbrev pub version_field : Field
 version_field = field 12 2
@@ -46,8 +46,8 @@ address_field = field 16 4
 abbrev pub identifier_field : Field
 identifier_field = field 20 8
 
-abbrev pub block_field : Field
-block_field = field 28 4
+abbrev pub lbn_field : Field
+lbn_field = field 28 4
 
 abbrev pub media_type_field : Field
 media_type_field = field 28 4

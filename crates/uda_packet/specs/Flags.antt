@@ -14,11 +14,7 @@ allowed_modifiers op.Status = 0
 allowed_modifiers op.Controller = 0
 allowed_modifiers op.Available = 0
 allowed_modifiers (op.Online soft) = set_write_protect
-allowed_modifiers (op.Access count block) = 0
-allowed_modifiers (op.Erase count block) = 0
-allowed_modifiers (op.Read count address block) = 0
-allowed_modifiers (op.Write count address block) = 0
-
--- the unit flag of software write protection
-abbrev pub software_protection : ℕ
-software_protection = 0x1000
+allowed_modifiers (op.Access bytes lbn) = 0
+allowed_modifiers (op.Erase bytes lbn) = 0
+allowed_modifiers (op.Read bytes address lbn) = 0
+allowed_modifiers (op.Write bytes address lbn) = 0

@@ -1,5 +1,4 @@
 pub mod Field
-pub mod Status
 pub mod Opcode
 pub mod Flags
 pub mod Text

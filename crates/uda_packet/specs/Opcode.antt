@@ -17,10 +17,10 @@ blank_body op.Status = body.Status 0
 blank_body op.Controller = body.Controller
 blank_body op.Available = body.Available
 blank_body (op.Online soft) = body.Online 0 0
-blank_body (op.Access count block) = body.Moved kind.Access 0
-blank_body (op.Erase count block) = body.Moved kind.Erase 0
-blank_body (op.Read count address block) = body.Moved kind.Read 0
-blank_body (op.Write count address block) = body.Moved kind.Write 0
+blank_body (op.Access bytes lbn) = body.Moved kind.Access 0
+blank_body (op.Erase bytes lbn) = body.Moved kind.Erase 0
+blank_body (op.Read bytes address lbn) = body.Moved kind.Read 0
+blank_body (op.Write bytes address lbn) = body.Moved kind.Write 0
 
 abbrev pub transfer_opcode : Kind → ℕ
 transfer_opcode kind.Access = 16

@@ -10,10 +10,10 @@ OpFits op.Status = Unit {0}
 OpFits op.Controller = Unit {0}
 OpFits op.Available = Unit {0}
 OpFits (op.Online soft) = Unit {0}
-OpFits (op.Access count block) = (count < 2 ^ 32) × (block < 2 ^ 32)
-OpFits (op.Erase count block) = (count < 2 ^ 32) × (block < 2 ^ 32)
-OpFits (op.Read count address block) = (count < 2 ^ 32) × (address < 2 ^ 32) × (block < 2 ^ 32)
-OpFits (op.Write count address block) = (count < 2 ^ 32) × (address < 2 ^ 32) × (block < 2 ^ 32)
+OpFits (op.Access bytes lbn) = (bytes < 2 ^ 32) × (lbn < 2 ^ 32)
+OpFits (op.Erase bytes lbn) = (bytes < 2 ^ 32) × (lbn < 2 ^ 32)
+OpFits (op.Read bytes address lbn) = (bytes < 2 ^ 32) × (address < 2 ^ 32) × (lbn < 2 ^ 32)
+OpFits (op.Write bytes address lbn) = (bytes < 2 ^ 32) × (address < 2 ^ 32) × (lbn < 2 ^ 32)
 
 abbrev pub BodyFits : EndBody → Type 0
 BodyFits body.Invalid = Unit {0}

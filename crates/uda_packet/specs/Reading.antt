@@ -11,7 +11,7 @@ use Rattle.uda_packet.specs.declared.end.Kind.TheVariants as kind
 use Rattle.uda_packet.specs.declared.bad.Bad.{Bad}
 use Rattle.uda_packet.specs.declared.bad.BadKind.{BadKind}
 use Rattle.uda_packet.specs.declared.bad.BadKind.TheVariants as fault
-use Rattle.uda_packet.specs.Field.{number_in, reference_field, unit_field, code_field, modifiers_field, status_field, count_field, version_field, unit_flags_field, address_field, block_field, unit_size_field}
+use Rattle.uda_packet.specs.Field.{number_in, reference_field, unit_field, code_field, modifiers_field, status_field, byte_count_field, version_field, unit_flags_field, address_field, lbn_field, unit_size_field}
 use Rattle.uda_packet.specs.Opcode.{blank_body, opcode_of, end_code}
 use Rattle.uda_packet.specs.Flags.{set_write_protect, allowed_modifiers}
 use Rattle.uda_packet.specs.Text.{asks_protection}
@@ -32,15 +32,15 @@ op_named code bytes =
     else if code == opcode_of op.Available then Some op.Available
     else if code == opcode_of (op.Online None) then Some (op.Online (protection_in bytes))
     else if code == opcode_of (op.Access 0 0) then
-    Some (op.Access (number_in count_field bytes) (number_in block_field bytes))
+    Some (op.Access (number_in byte_count_field bytes) (number_in lbn_field bytes))
     else if code == opcode_of (op.Erase 0 0) then
-    Some (op.Erase (number_in count_field bytes) (number_in block_field bytes))
+    Some (op.Erase (number_in byte_count_field bytes) (number_in lbn_field bytes))
     else if code == opcode_of (op.Read 0 0 0) then
-    Some (op.Read (number_in count_field bytes) (number_in address_field bytes)
-    (number_in block_field bytes))
+    Some (op.Read (number_in byte_count_field bytes) (number_in address_field bytes)
+    (number_in lbn_field bytes))
     else if code == opcode_of (op.Write 0 0 0) then
-    Some (op.Write (number_in count_field bytes) (number_in address_field bytes)
-    (number_in block_field bytes))
+    Some (op.Write (number_in byte_count_field bytes) (number_in address_field bytes)
+    (number_in lbn_field bytes))
     else None
 
 -- the version is judged of a Set Controller Characteristics alone
@@ -51,10 +51,10 @@ op_by_version bytes op.Controller =
 op_by_version bytes op.Status = Ok op.Status
 op_by_version bytes op.Available = Ok op.Available
 op_by_version bytes (op.Online soft) = Ok (op.Online soft)
-op_by_version bytes (op.Access count block) = Ok (op.Access count block)
-op_by_version bytes (op.Erase count block) = Ok (op.Erase count block)
-op_by_version bytes (op.Read count address block) = Ok (op.Read count address block)
-op_by_version bytes (op.Write count address block) = Ok (op.Write count address block)
+op_by_version bytes (op.Access n lbn) = Ok (op.Access n lbn)
+op_by_version bytes (op.Erase n lbn) = Ok (op.Erase n lbn)
+op_by_version bytes (op.Read n address lbn) = Ok (op.Read n address lbn)
+op_by_version bytes (op.Write n address lbn) = Ok (op.Write n address lbn)
 
 abbrev pub op_by_modifiers : List ℕ → Op → Result Op (BadKind × EndBody)
 op_by_modifiers bytes o =
@@ -94,13 +94,13 @@ body_named code bytes =
     else if code == end_code (body.Online 0 0) then
     Some (body.Online (number_in unit_flags_field bytes) (number_in unit_size_field bytes))
     else if code == end_code (body.Moved kind.Access 0) then
-    Some (body.Moved kind.Access (number_in count_field bytes))
+    Some (body.Moved kind.Access (number_in byte_count_field bytes))
     else if code == end_code (body.Moved kind.Erase 0) then
-    Some (body.Moved kind.Erase (number_in count_field bytes))
+    Some (body.Moved kind.Erase (number_in byte_count_field bytes))
     else if code == end_code (body.Moved kind.Read 0) then
-    Some (body.Moved kind.Read (number_in count_field bytes))
+    Some (body.Moved kind.Read (number_in byte_count_field bytes))
     else if code == end_code (body.Moved kind.Write 0) then
-    Some (body.Moved kind.Write (number_in count_field bytes))
+    Some (body.Moved kind.Write (number_in byte_count_field bytes))
     else None
 
 unfoldable pub read_body : List ℕ → Option EndBody

@@ -11,9 +11,10 @@ use Rattle.uda_packet.specs.declared.end.EndBody.TheVariants as body
 use Rattle.uda_packet.specs.declared.bad.Bad.{Bad}
 use Rattle.uda_packet.specs.declared.bad.BadKind.{BadKind}
 use Rattle.uda_packet.specs.declared.bad.BadKind.TheVariants as fault
-use Rattle.uda_packet.specs.Field.{number_in, reference_field, unit_field, code_field, modifiers_field, status_field, count_field, version_field, unit_flags_field, address_field, block_field, unit_size_field}
+use Rattle.uda_packet.specs.Field.{number_in, reference_field, unit_field, code_field, modifiers_field, status_field, byte_count_field, version_field, unit_flags_field, address_field, lbn_field, unit_size_field}
 use Rattle.uda_packet.specs.Opcode.{blank_body, opcode_of, end_code}
-use Rattle.uda_packet.specs.Flags.{set_write_protect, allowed_modifiers, software_protection}
+use Rattle.uda_packet.specs.Flags.{set_write_protect, allowed_modifiers}
+use Rattle.uda_disk.specs.Disk.{software_protection}
 
 -- ---- commands
 
@@ -24,24 +25,24 @@ modifiers_of op.Controller = 0
 modifiers_of op.Available = 0
 modifiers_of (op.Online None) = 0
 modifiers_of (op.Online (Some soft)) = set_write_protect
-modifiers_of (op.Access count block) = 0
-modifiers_of (op.Erase count block) = 0
-modifiers_of (op.Read count address block) = 0
-modifiers_of (op.Write count address block) = 0
+modifiers_of (op.Access n lbn) = 0
+modifiers_of (op.Erase n lbn) = 0
+modifiers_of (op.Read n address lbn) = 0
+modifiers_of (op.Write n address lbn) = 0
 
 -- whether the unit flags of the text ask for software protection
 abbrev pub asks_protection : List ℕ → Bool
 asks_protection bytes =
     bit_and (number_in unit_flags_field bytes) software_protection == software_protection
 
-pub record ExtentText (bytes : List ℕ) (count block : ℕ) : Type 0 where
-  pub count_is : number_in count_field bytes ≡ count
-  pub block_is : number_in block_field bytes ≡ block
+pub record ExtentText (bytes : List ℕ) (n lbn : ℕ) : Type 0 where
+  pub byte_count_is : number_in byte_count_field bytes ≡ n
+  pub lbn_is : number_in lbn_field bytes ≡ lbn
 
-pub record BufferText (bytes : List ℕ) (count address block : ℕ) : Type 0 where
-  pub count_is : number_in count_field bytes ≡ count
+pub record BufferText (bytes : List ℕ) (n address lbn : ℕ) : Type 0 where
+  pub byte_count_is : number_in byte_count_field bytes ≡ n
   pub address_is : number_in address_field bytes ≡ address
-  pub block_is : number_in block_field bytes ≡ block
+  pub lbn_is : number_in lbn_field bytes ≡ lbn
 
 -- the parameters of a command stand in the text
 abbrev pub ParametersText : List ℕ → Op → Type 0
@@ -50,10 +51,10 @@ ParametersText bytes op.Controller = number_in version_field bytes ≡ 0
 ParametersText bytes op.Available = Unit {0}
 ParametersText bytes (op.Online None) = Unit {0}
 ParametersText bytes (op.Online (Some soft)) = asks_protection bytes ≡ soft
-ParametersText bytes (op.Access count block) = ExtentText bytes count block
-ParametersText bytes (op.Erase count block) = ExtentText bytes count block
-ParametersText bytes (op.Read count address block) = BufferText bytes count address block
-ParametersText bytes (op.Write count address block) = BufferText bytes count address block
+ParametersText bytes (op.Access n lbn) = ExtentText bytes n lbn
+ParametersText bytes (op.Erase n lbn) = ExtentText bytes n lbn
+ParametersText bytes (op.Read n address lbn) = BufferText bytes n address lbn
+ParametersText bytes (op.Write n address lbn) = BufferText bytes n address lbn
 
 -- an operation stands in the text
 pub record OpText (bytes : List ℕ) (o : Op) : Type 0 where
@@ -113,7 +114,7 @@ AnswerText bytes (body.Status flags) = number_in unit_flags_field bytes ≡ flag
 AnswerText bytes body.Controller = Unit {0}
 AnswerText bytes body.Available = Unit {0}
 AnswerText bytes (body.Online flags size) = OnlineEndText bytes flags size
-AnswerText bytes (body.Moved which moved) = number_in count_field bytes ≡ moved
+AnswerText bytes (body.Moved which moved) = number_in byte_count_field bytes ≡ moved
 
 -- a body stands in the text
 pub record BodyText (bytes : List ℕ) (b : EndBody) : Type 0 where

@@ -9,14 +9,14 @@ use Rattle.uda_packet.specs.declared.transfer.Transfer.{Transfer}
 -- an operation as a transfer, where it is one: an Access and an Erase have no buffer, which 0
 -- stands for
 abbrev pub transfer_of : Op → Option Transfer
-transfer_of (op.Access count block) =
-    Some (record { kind = kind.Access; count = count; block = block; buffer = 0 })
-transfer_of (op.Erase count block) =
-    Some (record { kind = kind.Erase; count = count; block = block; buffer = 0 })
-transfer_of (op.Read count address block) =
-    Some (record { kind = kind.Read; count = count; block = block; buffer = address })
-transfer_of (op.Write count address block) =
-    Some (record { kind = kind.Write; count = count; block = block; buffer = address })
+transfer_of (op.Access bytes lbn) =
+    Some (record { kind = kind.Access; bytes = bytes; lbn = lbn; buffer = 0 })
+transfer_of (op.Erase bytes lbn) =
+    Some (record { kind = kind.Erase; bytes = bytes; lbn = lbn; buffer = 0 })
+transfer_of (op.Read bytes address lbn) =
+    Some (record { kind = kind.Read; bytes = bytes; lbn = lbn; buffer = address })
+transfer_of (op.Write bytes address lbn) =
+    Some (record { kind = kind.Write; bytes = bytes; lbn = lbn; buffer = address })
 transfer_of _ = None
 
 -- an Erase and a Write change blocks

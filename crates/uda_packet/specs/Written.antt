@@ -6,10 +6,11 @@ use Rattle.uda_packet.specs.declared.command.Op.TheVariants as op
 use Rattle.uda_packet.specs.declared.end.End.{End}
 use Rattle.uda_packet.specs.declared.end.EndBody.{EndBody}
 use Rattle.uda_packet.specs.declared.end.EndBody.TheVariants as body
-use Rattle.uda_packet.specs.Field.{Entry, ◌holds◌, text_of, reference_field, unit_field, code_field, modifiers_field, status_field, count_field, unit_flags_field, address_field, identifier_field, block_field, media_type_field, unit_size_field}
+use Rattle.uda_packet.specs.Field.{Entry, ◌holds◌, text_of, reference_field, unit_field, code_field, modifiers_field, status_field, byte_count_field, unit_flags_field, address_field, identifier_field, lbn_field, media_type_field, unit_size_field}
 use Rattle.uda_packet.specs.Opcode.{opcode_of, end_code}
-use Rattle.uda_packet.specs.Flags.{set_write_protect, software_protection}
-use Rattle.uda_packet.specs.Status.{SUCCESS, AVAILABLE, ALREADY_ONLINE}
+use Rattle.uda_packet.specs.Flags.{set_write_protect}
+use Rattle.uda_disk.specs.Disk.{software_protection}
+use Rattle.uda_disk.specs.Status.{SUCCESS, AVAILABLE, ALREADY_ONLINE}
 
 -- ---- commands
 
@@ -25,12 +26,12 @@ parameters op.Available = []
 parameters (op.Online None) = []
 parameters (op.Online (Some soft)) =
     modifiers_field holds set_write_protect ∷ unit_flags_field holds (protection_flags soft) ∷ []
-parameters (op.Access count block) = count_field holds count ∷ block_field holds block ∷ []
-parameters (op.Erase count block) = count_field holds count ∷ block_field holds block ∷ []
-parameters (op.Read count address block) =
-    count_field holds count ∷ address_field holds address ∷ block_field holds block ∷ []
-parameters (op.Write count address block) =
-    count_field holds count ∷ address_field holds address ∷ block_field holds block ∷ []
+parameters (op.Access bytes lbn) = byte_count_field holds bytes ∷ lbn_field holds lbn ∷ []
+parameters (op.Erase bytes lbn) = byte_count_field holds bytes ∷ lbn_field holds lbn ∷ []
+parameters (op.Read bytes address lbn) =
+    byte_count_field holds bytes ∷ address_field holds address ∷ lbn_field holds lbn ∷ []
+parameters (op.Write bytes address lbn) =
+    byte_count_field holds bytes ∷ address_field holds address ∷ lbn_field holds lbn ∷ []
 
 -- the text that a command is written as
 unfoldable pub written_command : Command → List ℕ
@@ -83,7 +84,7 @@ answer_entries unit status body.Available = []
 answer_entries unit status (body.Online flags size) =
     unit_flags_field holds flags
     ∷ (unit_entries (tells_online status) unit ++ unit_size_field holds size ∷ [])
-answer_entries unit status (body.Moved which moved) = count_field holds moved ∷ []
+answer_entries unit status (body.Moved which moved) = byte_count_field holds moved ∷ []
 
 -- the text that an end message is written as
 unfoldable pub written_end : End → List ℕ

@@ -36,33 +36,33 @@ pub enum Op {
     /// Access: reads blocks and moves nothing to the host.
     Access {
         /// How many bytes.
-        count: u32,
+        bytes: u32,
         /// The first logical block.
-        block: u32,
+        lbn: u32,
     },
     /// Erase: writes zeros.
     Erase {
         /// How many bytes.
-        count: u32,
+        bytes: u32,
         /// The first logical block.
-        block: u32,
+        lbn: u32,
     },
     /// Read: moves blocks into the host's buffer.
     Read {
         /// How many bytes.
-        count: u32,
+        bytes: u32,
         /// Where the host's buffer begins.
         address: u32,
         /// The first logical block.
-        block: u32,
+        lbn: u32,
     },
     /// Write: moves the host's buffer into blocks.
     Write {
         /// How many bytes.
-        count: u32,
+        bytes: u32,
         /// Where the host's buffer begins.
         address: u32,
         /// The first logical block.
-        block: u32,
+        lbn: u32,
     },
 }

@@ -17,12 +17,13 @@ use crate::bad::{Bad, BadKind};
 use crate::command::{Command, Op};
 use crate::end::{End, EndBody, Kind};
 use crate::field::{
-    ADDRESS, BLOCK, CODE, COUNT, MODIFIERS, REFERENCE, STATUS, Text, UNIT, UNIT_FLAGS, UNIT_SIZE,
-    VERSION,
+    ADDRESS, BYTE_COUNT, CODE, LBN, MODIFIERS, REFERENCE, STATUS, Text, UNIT, UNIT_FLAGS,
+    UNIT_SIZE, VERSION,
 };
-use crate::flags::{Modifiers, UnitFlags};
+use crate::flags::Modifiers;
 use crate::opcode::{END_CODE, Opcode};
 use bitflags::Flags;
+use uda_disk::UnitFlags;
 
 /// The command that a text stands for, or what is wrong with it.
 ///
@@ -62,12 +63,12 @@ pub fn decode_command(text: &[u8; 48]) -> Result<Command, Bad>
     Ok(Command {
         reference,
         unit,
-        op: op_of(opcode, modifiers, text),
+        op: op_in_text(opcode, modifiers, text),
     })
 }
 
 // The operation of an opcode and its modifiers, with the parameters that stand in the text.
-fn op_of(opcode: Opcode, modifiers: Modifiers, text: &Text) -> Op
+fn op_in_text(opcode: Opcode, modifiers: Modifiers, text: &Text) -> Op
     requires allowed { bit_and modifiers.0 (allowed_modifiers (plain_op opcode)) ≡ modifiers.0 }
     requires version { opcode ≡ Opcode.SetControllerCharacteristics
         → number_in version_field text.now ≡ 0 }
@@ -80,31 +81,31 @@ fn op_of(opcode: Opcode, modifiers: Modifiers, text: &Text) -> Op
         Opcode::SetControllerCharacteristics => Op::Controller,
         Opcode::Available => Op::Available,
         Opcode::Online => Op::Online {
-            soft: protection(modifiers, text),
+            soft: asked_protection(modifiers, text),
         },
         Opcode::Access => Op::Access {
-            count: COUNT.get(text),
-            block: BLOCK.get(text),
+            bytes: BYTE_COUNT.get(text),
+            lbn: LBN.get(text),
         },
         Opcode::Erase => Op::Erase {
-            count: COUNT.get(text),
-            block: BLOCK.get(text),
+            bytes: BYTE_COUNT.get(text),
+            lbn: LBN.get(text),
         },
         Opcode::Read => Op::Read {
-            count: COUNT.get(text),
+            bytes: BYTE_COUNT.get(text),
             address: ADDRESS.get(text),
-            block: BLOCK.get(text),
+            lbn: LBN.get(text),
         },
         Opcode::Write => Op::Write {
-            count: COUNT.get(text),
+            bytes: BYTE_COUNT.get(text),
             address: ADDRESS.get(text),
-            block: BLOCK.get(text),
+            lbn: LBN.get(text),
         },
     }
 }
 
 // Whether an Online asks for software protection, where its modifiers let it say so.
-fn protection(modifiers: Modifiers, text: &Text) -> Option<bool>
+fn asked_protection(modifiers: Modifiers, text: &Text) -> Option<bool>
     requires { bit_and modifiers.0 set_write_protect ≡ modifiers.0 }
     ensures { MatchOption result (modifiers.0 ≡ 0) (λ soft.
         (modifiers.0 ≡ set_write_protect) × (asks_protection text.now ≡ soft)) }
@@ -145,19 +146,19 @@ fn body_in(text: &Text) -> Option<EndBody>
         0 => Some(EndBody::Invalid),
         number => {
             let opcode = Opcode::of_number(number)?;
-            Some(body_of(opcode, text))
+            Some(body_in_text(opcode, text))
         }
     }
 }
 
 // The body that answers an opcode, with what stands in the text.
-fn body_of(opcode: Opcode, text: &Text) -> EndBody
+fn body_in_text(opcode: Opcode, text: &Text) -> EndBody
     ensures named { answered_opcode result ≡ opcode_of (plain_op opcode) }
     ensures told { AnswerText text.now result }
 {
     let moved = |kind| EndBody::Moved {
         kind,
-        bytes: COUNT.get(text),
+        bytes: BYTE_COUNT.get(text),
     };
     match opcode {
         Opcode::GetUnitStatus => EndBody::Status {

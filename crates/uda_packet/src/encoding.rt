@@ -13,13 +13,14 @@ ghost use Rattle.uda_packet.specs.Written.{written_command, written_end, paramet
 use crate::command::{Command, Op};
 use crate::end::{End, EndBody};
 use crate::field::{
-    ADDRESS, BLOCK, CODE, COUNT, IDENTIFIER, MEDIA_TYPE, MODIFIERS, REFERENCE, STATUS, Text, UNIT,
-    UNIT_FLAGS, UNIT_SIZE,
+    ADDRESS, BYTE_COUNT, CODE, IDENTIFIER, LBN, MEDIA_TYPE, MODIFIERS, REFERENCE, STATUS, Text,
+    UNIT, UNIT_FLAGS, UNIT_SIZE,
 };
-use crate::flags::{Modifiers, UnitFlags};
+use crate::flags::Modifiers;
 use crate::opcode::{END_CODE, Opcode};
 use crate::status::{ALREADY_ONLINE, AVAILABLE, SUCCESS};
 use bitflags::Flags;
+use uda_disk::UnitFlags;
 
 // The class of a disk unit, in the highest byte of its identifier.
 const DISK: u64 = 2 << 56;
@@ -74,7 +75,7 @@ pub fn encode_end(end: &End) -> [u8; 48]
         status,
         body,
     } = *end;
-    let mut text = head(reference, unit, code_of(&body));
+    let mut text = head(reference, unit, end_code_of(&body));
     STATUS.put(&mut text, status);
     put_answer(&mut text, end);
     text
@@ -94,7 +95,7 @@ fn head(reference: u32, unit: u16, code: u8) -> Text
 }
 
 // The end code of a body.
-fn code_of(body: &EndBody) -> u8
+fn end_code_of(body: &EndBody) -> u8
     ensures { result ≡ end_code body.now }
 {
     END_CODE + Opcode::of_body(body).map_or(0, Opcode::number)
@@ -109,31 +110,31 @@ fn put_parameters(text: &mut Text, op: &Op)
         Op::Status | Op::Controller | Op::Available | Op::Online { soft: None } => {}
         Op::Online { soft: Some(soft) } => {
             MODIFIERS.put(text, Modifiers::SET_WRITE_PROTECT.bits());
-            UNIT_FLAGS.put(text, protection(soft).bits());
+            UNIT_FLAGS.put(text, protection_flags(soft).bits());
         }
-        Op::Access { count, block } | Op::Erase { count, block } => {
-            COUNT.put(text, count);
-            BLOCK.put(text, block);
+        Op::Access { bytes, lbn } | Op::Erase { bytes, lbn } => {
+            BYTE_COUNT.put(text, bytes);
+            LBN.put(text, lbn);
         }
         Op::Read {
-            count,
+            bytes,
             address,
-            block,
+            lbn,
         }
         | Op::Write {
-            count,
+            bytes,
             address,
-            block,
+            lbn,
         } => {
-            COUNT.put(text, count);
+            BYTE_COUNT.put(text, bytes);
             ADDRESS.put(text, address);
-            BLOCK.put(text, block);
+            LBN.put(text, lbn);
         }
     }
 }
 
 // The unit flags that ask for software protection, or for none.
-fn protection(soft: bool) -> UnitFlags
+fn protection_flags(soft: bool) -> UnitFlags
     ensures { result.0 ≡ protection_flags soft }
 {
     if soft {
@@ -161,7 +162,7 @@ fn put_answer(text: &mut Text, end: &End)
             put_unit(text, end.unit, tells_online(end.status));
             UNIT_SIZE.put(text, size);
         }
-        EndBody::Moved { bytes, .. } => COUNT.put(text, bytes),
+        EndBody::Moved { bytes, .. } => BYTE_COUNT.put(text, bytes),
     }
 }
 

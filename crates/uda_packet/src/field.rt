@@ -20,7 +20,7 @@ pub(crate) const MODIFIERS: Word = Word(10);
 
 pub(crate) const STATUS: Word = Word(10);
 
-pub(crate) const COUNT: Long = Long(12);
+pub(crate) const BYTE_COUNT: Long = Long(12);
 
 pub(crate) const VERSION: Word = Word(12);
 
@@ -30,7 +30,7 @@ pub(crate) const ADDRESS: Long = Long(16);
 
 pub(crate) const IDENTIFIER: Quad = Quad(20);
 
-pub(crate) const BLOCK: Long = Long(28);
+pub(crate) const LBN: Long = Long(28);
 
 pub(crate) const MEDIA_TYPE: Long = Long(28);
 

@@ -1,46 +1,10 @@
-//! Sets of bits: the unit flags, and the modifiers of a command.
+//! The modifiers of a command.
 //!
-//! MSCP Basic Disk Functions Manual: unit flags; command modifiers.
+//! MSCP Basic Disk Functions Manual: command modifiers.
 
 ghost use Rattle.std.specs.Prelude.{⊤, [], ◌∷◌, codes};
 
 use bitflags::{Flag, Flags, bitflag_items};
-
-/// The unit flags: how a unit is protected against writing. Their methods are those of [`Flags`],
-/// which this crate hands on.
-#[derive(Clone, Copy, PartialEq, Eq, Debug)]
-pub struct UnitFlags(u16);
-
-bitflag_items! {
-    impl UnitFlags: u16 {
-        /// Software protection, which an Online sets.
-        const SOFT = 0x1000;
-        /// Hardware protection, the switch of the drive.
-        const HARD = 0x2000;
-    }
-}
-
-impl Flags for UnitFlags {
-    type Bits = u16;
-
-    ghost exact = { ⊤ };
-
-    ghost table = { (codes "SOFT", 0x1000) ∷ (codes "HARD", 0x2000) ∷ [] };
-
-    ghost set_of = { λ flags. flags.0 };
-
-    fn flags<'a>() -> &'a [Flag<UnitFlags>] {
-        UnitFlags::FLAGS
-    }
-
-    fn bits(&self) -> u16 {
-        self.0
-    }
-
-    fn from_bits_retain(bits: u16) -> UnitFlags {
-        UnitFlags(bits)
-    }
-}
 
 /// The modifiers of a command. Online alone has one. Their methods are those of [`Flags`], which
 /// this crate hands on.

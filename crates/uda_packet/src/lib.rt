@@ -19,7 +19,6 @@ mod envelope;
 mod field;
 mod flags;
 mod opcode;
-pub mod status;
 mod transfer;
 
 pub use bad::{Bad, BadKind};
@@ -29,5 +28,6 @@ pub use decoding::{decode_command, decode_end};
 pub use encoding::{encode_command, encode_end};
 pub use end::{End, EndBody, Kind};
 pub use envelope::Envelope;
-pub use flags::{Modifiers, UnitFlags};
+pub use flags::Modifiers;
 pub use transfer::Transfer;
+pub use uda_disk::{UnitFlags, status};

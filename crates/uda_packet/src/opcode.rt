@@ -99,10 +99,10 @@ impl Opcode {
             Opcode::SetControllerCharacteristics => EndBody::Controller,
             Opcode::Available => EndBody::Available,
             Opcode::Online => EndBody::Online { flags: 0, size: 0 },
-            Opcode::Access => moved(Kind::Access),
-            Opcode::Erase => moved(Kind::Erase),
-            Opcode::Read => moved(Kind::Read),
-            Opcode::Write => moved(Kind::Write),
+            Opcode::Access => moved_nothing(Kind::Access),
+            Opcode::Erase => moved_nothing(Kind::Erase),
+            Opcode::Read => moved_nothing(Kind::Read),
+            Opcode::Write => moved_nothing(Kind::Write),
         }
     }
 
@@ -122,7 +122,7 @@ impl Opcode {
 }
 
 // The body of a transfer that moved nothing.
-fn moved(kind: Kind) -> EndBody
+fn moved_nothing(kind: Kind) -> EndBody
     ensures { result ≡ EndBody.Moved kind 0 }
 {
     EndBody::Moved { kind, bytes: 0 }

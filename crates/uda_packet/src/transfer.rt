@@ -16,9 +16,9 @@ pub struct Transfer {
     /// Which transfer.
     pub kind: Kind,
     /// How many bytes.
-    pub count: u32,
-    /// The first logical block.
-    pub block: u32,
+    pub bytes: u32,
+    /// The first logical lbn.
+    pub lbn: u32,
     /// Where the host's buffer begins; 0 for an Access or an Erase, which have none.
     pub buffer: u32,
 }
@@ -28,25 +28,25 @@ impl Op {
     pub fn transfer(self) -> Option<Transfer>
         ensures transfer { result ≡ transfer_of self }
     {
-        let (kind, count, block, buffer) = match self {
-            Op::Access { count, block } => (Kind::Access, count, block, 0),
-            Op::Erase { count, block } => (Kind::Erase, count, block, 0),
+        let (kind, bytes, lbn, buffer) = match self {
+            Op::Access { bytes, lbn } => (Kind::Access, bytes, lbn, 0),
+            Op::Erase { bytes, lbn } => (Kind::Erase, bytes, lbn, 0),
             Op::Read {
-                count,
+                bytes,
                 address,
-                block,
-            } => (Kind::Read, count, block, address),
+                lbn,
+            } => (Kind::Read, bytes, lbn, address),
             Op::Write {
-                count,
+                bytes,
                 address,
-                block,
-            } => (Kind::Write, count, block, address),
+                lbn,
+            } => (Kind::Write, bytes, lbn, address),
             _ => return None,
         };
         Some(Transfer {
             kind,
-            count,
-            block,
+            bytes,
+            lbn,
             buffer,
         })
     }

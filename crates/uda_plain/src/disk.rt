@@ -1,29 +1,21 @@
 //! One unit's blocks and mode.
-ghost use Rattle.std.specs.Prelude.{◌≡◌, ℕ, Some, ◌≤◌, ◌<◌, ◌+◌, ◌↔◌, false, None, length, replicate, IfOk, IfErr, IfSome, IsNone};
+ghost use Rattle.std.specs.Prelude.{◌≡◌, ℕ, Some, ◌≤◌, ◌<◌, ◌+◌, ◌↔◌, false, length, replicate, IfOk, IfErr, IfSome, IsNone};
 ghost use Rattle.std.specs.List.{concat};
-ghost use Rattle.uda_mem.specs.Put.{part, put};
+ghost use Rattle.uda_mem.specs.Put.{put};
 ghost use Rattle.uda_image.specs.declared.store.TheConstants.{BLOCK_LIMIT};
-ghost use Rattle.uda_exec.specs.Disks.{Disk};
-ghost use Rattle.uda_exec.specs.Commands.{blocks_for};
-ghost use Rattle.uda_exec.specs.Transfers.{in_blocks};
-ghost use Rattle.uda_exec.specs.Effect.{Done, mode_after};
-ghost use Rattle.uda_packet.specs.declared.command.Op.TheVariants.{Available as AvailableOp, Online as OnlineOp};
-ghost use Rattle.uda_model.specs.Request as ask;
-ghost use Rattle.uda_model.specs.Request.{extent_of, too_long};
-ghost use Rattle.uda_exec.specs.Status.{SUCCESS};
-ghost use Rattle.uda_model.specs.Answer.{Moved, Plain, blank_answer};
-ghost use Rattle.uda_model.specs.Plain.{extent_refusal, answer_on, disk_left, answer_by, bar_on, Free};
-ghost use Rattle.uda_exec.specs.Refusal.{refusal_status};
-ghost use Rattle.uda_plain.specs.Steps.{disk_by};
-ghost use Rattle.uda_model.specs.Values.{request_value, answer_value};
+ghost use Rattle.uda_disk.specs.Status.{SUCCESS};
+ghost use Rattle.uda_disk.specs.Request as ask;
+ghost use Rattle.uda_disk.specs.Request.{blocks_for, in_blocks};
+ghost use Rattle.uda_disk.specs.Answer.{Moved, Plain, blank_answer};
+ghost use Rattle.uda_disk.specs.Plain.{Done, Free, bar_at, refusal_status, extent_refusal, mode_after, answer_on, disk_after, answer_by, disk_by};
+ghost use Rattle.uda_disk.specs.PlainRun.{too_long};
+ghost use Rattle.uda_disk.specs.Values.{request_value, extent_value, answer_value};
 
 use std::alloc::Global;
 use std::marker::Model;
-use uda_exec::{Mode, Refusal, first_block};
+use uda_disk::{Answer, Extent, Mode, Refusal, Request, first_block, status};
 use uda_image::BLOCK_LIMIT;
 use uda_mem::NoMemory;
-use uda_model::{Answer, Extent, Request};
-use uda_packet::status;
 
 /// A unit's blocks, in one array, and its mode.
 #[derive(Debug, Drop)]
@@ -35,7 +27,7 @@ pub struct PlainDisk {
 impl Model for PlainDisk {
     ghost use Rattle.std.specs.Prelude.{length, ◌≤◌};
     ghost use Rattle.uda_image.specs.declared.store.TheConstants.{BLOCK_LIMIT};
-    ghost use Rattle.uda_exec.specs.Disks.{Disk};
+    ghost use Rattle.uda_disk.specs.Disk.{Disk};
 
     ghost Value = { Disk };
 
@@ -66,7 +58,7 @@ fn overwrite(blocks: &mut [[u8; 512]], first: usize, from: &[[u8; 512]])
 /// Writes bytes over the blocks from `first` on; behind them the last is zeros.
 fn write_bytes(blocks: &mut [[u8; 512]], first: usize, bytes: &[u8])
     requires inside { first + blocks_for (length bytes.now) ≤ length blocks.old }
-    ensures blocks { blocks.new ≡ put blocks.old first (in_blocks (blocks_for (length bytes.now)) bytes.now) }
+    ensures blocks { blocks.new ≡ put blocks.old first (in_blocks bytes.now) }
 {
     for k in 0..bytes.len().div_ceil(512) {
         overwrite(blocks, first + k, &[first_block(&bytes[512 * k..])]);
@@ -128,22 +120,21 @@ impl PlainDisk {
 
     // Why a transfer is refused.
     fn extent_refusal(&self, extent: Extent) -> Option<Refusal>
-        ensures refusal { result ≡ extent_refusal extent self.now }
+        ensures refusal { result ≡ extent_refusal (extent_value extent) self.now.size self.now.mode }
     {
         let size = u64::from(self.size());
-        let first = u64::from(extent.first);
-        let changes = extent.kind.changes_blocks();
+        let lbn = u64::from(extent.lbn);
         if !self.mode.online {
             Some(Refusal::NotOnline)
         } else if extent.bytes % 2 != 0 {
             Some(Refusal::OddCount)
-        } else if size <= first {
+        } else if size <= lbn {
             Some(Refusal::BlockPastEnd)
-        } else if size - first < extent.blocks() {
+        } else if size - lbn < extent.blocks() {
             Some(Refusal::RangePastEnd)
-        } else if changes && self.mode.hard {
+        } else if extent.writes && self.mode.hard {
             Some(Refusal::HardwareProtected)
-        } else if changes && self.mode.soft {
+        } else if extent.writes && self.mode.soft {
             Some(Refusal::SoftwareProtected)
         } else {
             None
@@ -151,15 +142,15 @@ impl PlainDisk {
     }
 
     fn online(&mut self, protect: bool) -> Answer
-        ensures answer { (unit : ℕ) → answer_value result ≡ answer_on Done (ask.Online unit protect) self.old }
-        ensures disk { self.new ≡ record self.old { mode = mode_after (OnlineOp (Some protect)) self.old.mode } }
+        ensures answer { answer_value result ≡ answer_on Done (ask.Online protect) self.old }
+        ensures disk { self.new ≡ record self.old { mode = mode_after (ask.Online protect) self.old.mode } }
     {
         let status = if self.mode.online {
             status::ALREADY_ONLINE
         } else {
             status::SUCCESS
         };
-        self.mode = self.mode.online(Some(protect));
+        self.mode = self.mode.online(protect);
         Answer::Online {
             status,
             flags: self.mode.flags(),
@@ -169,7 +160,7 @@ impl PlainDisk {
 
     fn available(&mut self) -> Answer
         ensures answer { answer_value result ≡ Plain SUCCESS }
-        ensures disk { self.new ≡ record self.old { mode = mode_after AvailableOp self.old.mode } }
+        ensures disk { self.new ≡ record self.old { mode = mode_after ask.Available self.old.mode } }
     {
         self.mode = self.mode.available();
         Answer::Plain {
@@ -178,7 +169,7 @@ impl PlainDisk {
     }
 
     fn status(&self) -> Answer
-        ensures answer { (unit : ℕ) → answer_value result ≡ answer_on Done (ask.Status unit) self.now }
+        ensures answer { answer_value result ≡ answer_on Done ask.Status self.now }
     {
         let status = if self.mode.online {
             status::SUCCESS
@@ -191,11 +182,11 @@ impl PlainDisk {
         }
     }
 
-    fn read(&self, alloc: Global, first: u32, bytes: u32) -> Result<Answer, NoMemory>
-        requires inside { first + blocks_for bytes ≤ self.now.size }
-        ensures answer { IfOk result (λ answer. (unit : ℕ) → answer_value answer ≡ answer_on Done (ask.Read unit first bytes) self.now) }
+    fn read(&self, alloc: Global, lbn: u32, bytes: u32) -> Result<Answer, NoMemory>
+        requires inside { lbn + blocks_for bytes ≤ self.now.size }
+        ensures answer { IfOk result (λ answer. answer_value answer ≡ answer_on Done (ask.Read lbn bytes) self.now) }
     {
-        let first = first as usize;
+        let first = lbn as usize;
         let count = bytes.div_ceil(512) as usize;
         let mut data = joined(alloc, &self.blocks[first..first + count])?;
         data.truncate(bytes as usize);
@@ -205,20 +196,20 @@ impl PlainDisk {
         })
     }
 
-    fn write(&mut self, first: u32, payload: &[u8])
-        requires inside { first + blocks_for (length payload.now) ≤ self.old.size }
-        ensures blocks { self.new ≡ record self.old { blocks = put self.old.blocks first (in_blocks (blocks_for (length payload.now)) payload.now) } }
+    fn write(&mut self, lbn: u32, payload: &[u8])
+        requires inside { lbn + blocks_for (length payload.now) ≤ self.old.size }
+        ensures blocks { self.new ≡ record self.old { blocks = put self.old.blocks lbn (in_blocks payload.now) } }
     {
-        write_bytes(&mut self.blocks, first as usize, payload);
+        write_bytes(&mut self.blocks, lbn as usize, payload);
     }
 
-    fn erase(&mut self, first: u32, bytes: u32)
-        requires inside { first + blocks_for bytes ≤ self.old.size }
-        ensures blocks { self.new ≡ record self.old { blocks = put self.old.blocks first (replicate (blocks_for bytes) (replicate 512 0)) } }
+    fn erase(&mut self, lbn: u32, bytes: u32)
+        requires inside { lbn + blocks_for bytes ≤ self.old.size }
+        ensures blocks { self.new ≡ record self.old { blocks = put self.old.blocks lbn (replicate (blocks_for bytes) (replicate 512 0)) } }
     {
         clear(
             &mut self.blocks,
-            first as usize,
+            lbn as usize,
             bytes.div_ceil(512) as usize,
         );
     }
@@ -226,9 +217,9 @@ impl PlainDisk {
     // Does a request that nothing bars.
     fn act(&mut self, alloc: Global, request: &Request) -> Result<Answer, NoMemory>
         requires short { too_long (request_value request.now) ≡ false }
-        requires free { bar_on (extent_of (request_value request.now)) self.old ≡ Free self.old }
-        ensures answer { IfOk result (λ answer. answer_value answer ≡ answer_on Done (request_value request.now) self.old) }
-        ensures disk { IfOk result (λ _. self.new ≡ disk_left Done (request_value request.now) self.old) }
+        requires free { bar_at (request_value request.now).act (Some (Some self.old)) ≡ Free self.old }
+        ensures answer { IfOk result (λ answer. answer_value answer ≡ answer_on Done (request_value request.now).act self.old) }
+        ensures disk { IfOk result (λ _. self.new ≡ disk_after Done (request_value request.now).act self.old) }
         ensures unchanged { IfErr result (λ _. self.new ≡ self.old) }
     {
         Ok(match request {
@@ -236,14 +227,14 @@ impl PlainDisk {
             Request::Available { .. } => self.available(),
             Request::Status { .. } => self.status(),
             Request::Read { lbn, bytes, .. } => self.read(alloc, *lbn, *bytes as u32)?,
-            Request::Access { bytes, .. } => moved(*bytes as u32),
+            Request::Access { bytes, .. } => moved_answer(*bytes as u32),
             Request::Write { lbn, payload, .. } => {
                 self.write(*lbn, payload);
-                moved(payload.len() as u32)
+                moved_answer(payload.len() as u32)
             }
             Request::Erase { lbn, bytes, .. } => {
                 self.erase(*lbn, *bytes as u32);
-                moved(*bytes as u32)
+                moved_answer(*bytes as u32)
             }
         })
     }
@@ -255,8 +246,12 @@ impl PlainDisk {
     /// [`NoMemory`] where no memory is left for a Read's bytes: then nothing was done.
     pub(crate) fn step(&mut self, alloc: Global, request: &Request) -> Result<Answer, NoMemory>
         requires short { too_long (request_value request.now) ≡ false }
-        ensures answer { IfOk result (λ answer. answer_value answer ≡ answer_by Done (request_value request.now) (bar_on (extent_of (request_value request.now)) self.old)) }
-        ensures disk { IfOk result (λ _. self.new ≡ disk_by (request_value request.now) (bar_on (extent_of (request_value request.now)) self.old) self.old) }
+        ensures answer { IfOk result (λ answer. answer_value answer
+            ≡ answer_by Done (request_value request.now).act
+            (bar_at (request_value request.now).act (Some (Some self.old)))) }
+        ensures disk { IfOk result (λ _. self.new
+            ≡ disk_by Done (request_value request.now).act
+            (bar_at (request_value request.now).act (Some (Some self.old))) self.old) }
         ensures unchanged { IfErr result (λ _. self.new ≡ self.old) }
     {
         let refusal = match request.extent() {
@@ -272,7 +267,7 @@ impl PlainDisk {
 
 /// The answer of a refused request: its status alone.
 pub(crate) fn refused(alloc: Global, request: &Request, refusal: Refusal) -> Answer
-    ensures answer { answer_value result ≡ blank_answer (request_value request.now) (refusal_status refusal) }
+    ensures answer { answer_value result ≡ blank_answer (request_value request.now).act (refusal_status refusal) }
 {
     let status = refusal.status();
     match request {
@@ -294,7 +289,7 @@ pub(crate) fn refused(alloc: Global, request: &Request, refusal: Refusal) -> Ans
     }
 }
 
-fn moved(bytes: u32) -> Answer
+fn moved_answer(bytes: u32) -> Answer
     ensures answer { answer_value result ≡ Moved SUCCESS bytes }
 {
     Answer::Moved {

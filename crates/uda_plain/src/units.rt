@@ -1,17 +1,14 @@
 //! Four units, and lists of requests done on them.
 ghost use Rattle.std.specs.Prelude.{◌≡◌, false, Some, IfOk, IfErr, option_map};
-ghost use Rattle.uda_exec.specs.Effect.{Done};
-ghost use Rattle.uda_model.specs.Request.{too_long};
-ghost use Rattle.uda_plain.specs.Steps.{disk_by};
-ghost use Rattle.uda_model.specs.Plain.{plain, step, answer_by, bar_at};
-ghost use Rattle.uda_model.specs.Values.{request_value, request_values, answer_value, answer_values};
+ghost use Rattle.uda_disk.specs.Plain.{Done, answer_by, bar_at, disk_by};
+ghost use Rattle.uda_disk.specs.PlainRun.{too_long, plain, step};
+ghost use Rattle.uda_disk.specs.Values.{request_value, request_values, answer_value, answer_values};
 
 use crate::disk::{PlainDisk, refused};
 use std::alloc::Global;
 use std::marker::Model;
-use uda_exec::Refusal;
 use uda_mem::NoMemory;
-use uda_model::{Answer, Request};
+use uda_disk::{Answer, Refusal, Request};
 
 /// Four units, numbered from 0; `None` is one without a drive.
 #[derive(Debug, Drop)]
@@ -20,7 +17,7 @@ pub struct PlainUnits {
 }
 
 impl Model for PlainUnits {
-    ghost use Rattle.uda_exec.specs.Disks.{Disks};
+    ghost use Rattle.uda_disk.specs.Disk.{Disks};
 
     ghost Value = { Disks };
 
@@ -34,8 +31,11 @@ fn step_unit(
     request: &Request,
 ) -> Result<Answer, NoMemory>
     requires short { too_long (request_value request.now) ≡ false }
-    ensures answer { IfOk result (λ answer. answer_value answer ≡ answer_by Done (request_value request.now) (bar_at (request_value request.now) (Some unit.old))) }
-    ensures unit { IfOk result (λ _. unit.new ≡ option_map (disk_by (request_value request.now) (bar_at (request_value request.now) (Some unit.old))) unit.old) }
+    ensures answer { IfOk result (λ answer. answer_value answer
+        ≡ answer_by Done (request_value request.now).act (bar_at (request_value request.now).act (Some unit.old))) }
+    ensures unit { IfOk result (λ _. unit.new
+        ≡ option_map (disk_by Done (request_value request.now).act
+        (bar_at (request_value request.now).act (Some unit.old))) unit.old) }
     ensures unchanged { IfErr result (λ _. unit.new ≡ unit.old) }
 {
     match unit {
@@ -49,7 +49,7 @@ fn step(
     alloc: Global,
     request: &Request,
 ) -> Result<Answer, NoMemory>
-    ensures step { IfOk result (λ answer. (answer_value answer, units.new) ≡ step units.old (request_value request.now)) }
+    ensures step { IfOk result (λ answer. (answer_value answer, units.new) ≡ step (request_value request.now) units.old) }
     ensures unchanged { IfErr result (λ _. units.new ≡ units.old) }
 {
     if request.is_too_long() {
@@ -83,7 +83,7 @@ impl PlainUnits {
     ///
     /// [`NoMemory`] where no memory is left for a Read's bytes: then nothing was done.
     pub fn step(&mut self, alloc: Global, request: &Request) -> Result<Answer, NoMemory>
-        ensures step { IfOk result (λ answer. (answer_value answer, self.new) ≡ step self.old (request_value request.now)) }
+        ensures step { IfOk result (λ answer. (answer_value answer, self.new) ≡ step (request_value request.now) self.old) }
         ensures unchanged { IfErr result (λ _. self.new ≡ self.old) }
     {
         step(&mut self.units, alloc, request)

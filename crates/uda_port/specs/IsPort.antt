@@ -1,6 +1,7 @@
 -- What is always true of a port's fields.
 use Rattle.std.specs.Prelude.{◌≡◌, ◌+◌, ◌<◌, ◌↔◌, IsTrue, length}
-use Rattle.uda_exec.specs.Disks.{AreImages, PENDING_LIMIT}
+use Rattle.uda_disk.specs.Units.{AreImages}
+use Rattle.uda_exec.specs.Disks.{PENDING_LIMIT}
 use Rattle.uda_port.specs.Port.{credits_granted}
 use Rattle.uda_port.specs.declared.port.Port.TheInside.{Inside}
 

@@ -2,7 +2,7 @@
 //!
 //! UDA50 Programmer's Documentation Kit: port registers, fatal errors.
 ghost use Rattle.std.specs.Prelude.{◌≡◌};
-ghost use Rattle.uda_exec.specs.Disks.{AreImages};
+ghost use Rattle.uda_disk.specs.Units.{AreImages};
 ghost use Rattle.uda_port.specs.Port.{CreditsAgree};
 ghost use Rattle.uda_port.specs.Startup.{sa_of};
 ghost use Rattle.uda_port.specs.Play.{EventGoes, Played, DeathHasCause};

@@ -68,10 +68,8 @@ impl Model for Ring {
 }
 
 impl Ring {
-    ghost use Rattle.std.specs.Prelude.{◌≡◌, ◌+◌, ◌%◌, ◌^◌, ◌<◌, ◌≤◌, ◌↔◌, IsTrue, length};
-    ghost use Rattle.std.specs.Prelude.{OnOk};
-    ghost use Rattle.uda_port.specs.Ring.{IsRingBase, is_ring_length, descriptor_address};
-    ghost use Rattle.uda_port.specs.Ring.{ring_advanced, memory_given_back};
+    ghost use Rattle.std.specs.Prelude.{◌≡◌, ◌+◌, ◌%◌, ◌^◌, ◌<◌, ◌≤◌, ◌↔◌, IsTrue, length, OnOk};
+    ghost use Rattle.uda_port.specs.Ring.{IsRingBase, is_ring_length, descriptor_address, ring_advanced, memory_given_back};
     ghost use Rattle.uda_port.specs.Fetch.{FetchGoes, Looks, OrderKept};
     ghost use Rattle.uda_port.specs.Delivery.{PutGoes};
 

@@ -2,11 +2,11 @@
 //!
 //! UDA50 Programmer's Documentation Kit: command ring polling, message envelopes, credits.
 ghost use Rattle.std.specs.Prelude.{◌≡◌, ◌+◌, ◌<◌, ◌≤◌, slice_get, [], ◌∷◌, ◌++◌, length, Some};
-ghost use Rattle.uda_exec.specs.Disks.{AreImages, PENDING_LIMIT};
+ghost use Rattle.uda_disk.specs.Units.{AreImages};
+ghost use Rattle.uda_exec.specs.Disks.{PENDING_LIMIT};
 ghost use Rattle.circular_buffer.specs.Buffer.{buffer};
 ghost use Rattle.uda_port.specs.Port.{CreditsAgree, next_grant};
-ghost use Rattle.uda_port.specs.Turn.{FetchLine, ExecuteLine, DeliverLine, RestGoes, LinesGo};
-ghost use Rattle.uda_port.specs.Turn.{RunningTurn, TurnGoes};
+ghost use Rattle.uda_port.specs.Turn.{FetchLine, ExecuteLine, DeliverLine, RestGoes, LinesGo, RunningTurn, TurnGoes};
 
 use crate::message::message_in;
 use crate::phase::{Fatal, Phase};

@@ -2,7 +2,7 @@
 use Rattle.std.specs.Prelude.{ℕ, List}
 use Rattle.uda_packet.specs.declared.end.End.{End}
 use Rattle.uda_packet.specs.declared.end.EndBody.TheVariants.{Status}
-use Rattle.uda_packet.specs.Status.{AVAILABLE}
+use Rattle.uda_disk.specs.Status.{AVAILABLE}
 use Rattle.uda_packet.specs.Written.{written_end}
 
 -- the end of a Get Unit Status of unit 0 with reference 1, where that unit is available and no protection is on

@@ -5,7 +5,7 @@ ghost use Rattle.std.specs.Io.KnownBytes.{Appends};
 ghost use Rattle.uda_script.specs.Hexadecimal.{bytes_from};
 ghost use Rattle.uda_probe.specs.Probe.{probe_text};
 ghost use Rattle.std.specs.IoError.{error_kind};
-ghost use Rattle.uda_script.specs.Statuses.{status_of};
+ghost use Rattle.uda_script.specs.Statuses.{exit_status_of};
 
 use crate::fault::Fault;
 use crate::hexadecimal::hexadecimal;
@@ -47,8 +47,8 @@ pub fn program<R: Read + Drop, W: Write + Drop, V: Write + Drop>(
 /// Ends a program whose words could not be read: out of memory where a growth was refused, and else
 /// the usage case, as for words that are none of the program's. Answers the exit status.
 pub fn unreadable_words<V: Write + Drop>(error: &io::Error, mut report: V) -> u8
-    ensures memory { error_kind error.now ≡ ErrorKind.OutOfMemory → result ≡ status_of Fault.NoMemory }
-    ensures usage { error_kind error.now ≢ ErrorKind.OutOfMemory → result ≡ status_of Fault.Usage }
+    ensures memory { error_kind error.now ≡ ErrorKind.OutOfMemory → result ≡ exit_status_of Fault.NoMemory }
+    ensures usage { error_kind error.now ≢ ErrorKind.OutOfMemory → result ≡ exit_status_of Fault.Usage }
 {
     let fault = match error.kind() {
         ErrorKind::OutOfMemory => Fault::NoMemory,
@@ -60,9 +60,9 @@ pub fn unreadable_words<V: Write + Drop>(error: &io::Error, mut report: V) -> u8
 // Prints a fault's line, once, and answers its exit status, which stands also where the line can't
 // be written.
 fn tell<V: Write>(fault: &Fault, report: &mut V) -> u8
-    ensures { result ≡ status_of fault.now }
+    ensures { result ≡ exit_status_of fault.now }
 {
-    let _ = writeln!(report, "{fault}");
+    fault.print(report);
     fault.status()
 }
 

@@ -1,6 +1,7 @@
 //! The faults of the program, whose texts are the lines that it prints.
 
 use std::alloc::AllocError;
+use std::io::Write;
 use thiserror::Error;
 use uda_grammar::ScriptError;
 use uda_image::ImageError;
@@ -15,6 +16,9 @@ pub enum Fault {
     /// A growth was refused.
     #[error("uda: out of memory")]
     NoMemory,
+    /// Nothing can be opened that would stand in a closed standard stream's place.
+    #[error("uda: standard streams: cannot open")]
+    Streams,
     /// A unit's image can't be used: it can't be opened, its length is no multiple of 512, or it has
     /// more than 891,072 blocks.
     #[error("uda: unit {unit}: {error}")]
@@ -51,11 +55,17 @@ pub enum Fault {
     /// Standard output or standard error could not be written.
     #[error("uda: write failed")]
     Write,
+    /// What was written to a unit's image isn't on its medium.
+    #[error("uda: unit {unit}: cannot be written out")]
+    NotWrittenOut {
+        /// The unit's number.
+        unit: usize,
+    },
 }
 
 impl Fault {
     ghost use Rattle.std.specs.Prelude.{◌≡◌};
-    ghost use Rattle.uda_script.specs.Statuses.{status_of};
+    ghost use Rattle.uda_script.specs.Statuses.{exit_status_of};
 
     /// A unit's image that can't be used.
     pub fn image(unit: usize, error: ImageError) -> Fault {
@@ -65,9 +75,14 @@ impl Fault {
         }
     }
 
+    /// Prints the fault's line, once; one that can't be written is left out.
+    pub fn print<V: Write>(&self, report: &mut V) {
+        let _ = writeln!(report, "{self}");
+    }
+
     /// The program's exit status.
     pub fn status(&self) -> u8
-        ensures status { result ≡ status_of self.now }
+        ensures status { result ≡ exit_status_of self.now }
     {
         match self {
             Fault::Usage => 2,

@@ -2,7 +2,6 @@
 
 use crate::fault::Fault;
 use std::fs::{File, OpenFile};
-use std::io;
 use std::io::{ErrorKind, Read};
 use uda_image::{Drive, FileImage, ImageError};
 
@@ -11,13 +10,18 @@ pub const SCRIPT_SIZE: u64 = 1_048_576;
 
 /// Files that stand where a standard stream was closed, and are to be kept while others are open. Without
 /// them an image could be opened in a closed stream's place, and what is printed would be written to it.
-pub fn fill_closed_streams(rt: &HostRuntime) -> [Option<File>; 3] {
-    [nothing(rt), nothing(rt), nothing(rt)]
+pub fn fill_closed_streams(rt: &HostRuntime) -> Result<[File; 3], Fault> {
+    Ok([nothing(rt)?, nothing(rt)?, nothing(rt)?])
 }
 
-// A file that is empty and takes nothing.
-fn nothing(rt: &HostRuntime) -> Option<File> {
-    File::open(rt, "/dev/null").ok()
+// A file that gives no bytes and takes none: where there are no devices, the root folder.
+fn nothing(rt: &HostRuntime) -> Result<File, Fault> {
+    for path in ["/dev/null", "/"] {
+        if let Ok(file) = File::open(rt, path) {
+            return Ok(file);
+        }
+    }
+    Err(Fault::Streams)
 }
 
 /// The images of units 0 to 3, opened in this order: each of these words is `-` for no drive, `lock:FILE`
@@ -59,22 +63,30 @@ fn open(rt: &HostRuntime, word: &str) -> Result<Drive<FileImage>, ImageError> {
     Ok(Drive { store, hard })
 }
 
-/// The bytes of the script's file.
+/// The bytes of the script's file. Memory is taken apart from the file's reads: a kernel's want of it at a
+/// read is an error of the file's.
 pub fn read_script(rt: &HostRuntime, path: &str) -> Result<Vec<u8>, Fault> {
     let Ok(file) = File::open(rt, path) else {
         return Err(Fault::ScriptUnreadable);
     };
+    let mut file = file.take(SCRIPT_SIZE + 1);
     let mut text = Vec::new(rt.alloc());
-    match file.take(SCRIPT_SIZE + 1).read_to_end(&mut text) {
-        Ok(count) if count as u64 > SCRIPT_SIZE => Err(Fault::ScriptTooLong),
-        Ok(_) => Ok(text),
-        Err(error) => Err(fault_of(&error)),
+    let mut part = [0; 4096];
+    for _ in 0..u64::MAX {
+        match file.read(&mut part) {
+            Ok(0) => return whole_script(text),
+            Ok(count) => text.extend_from_slice(&part[..count])?,
+            Err(error) if error.kind() == ErrorKind::Interrupted => {}
+            Err(_) => return Err(Fault::ScriptUnreadable),
+        }
     }
+    Err(Fault::ScriptUnreadable)
 }
 
-fn fault_of(error: &io::Error) -> Fault {
-    match error.kind() {
-        ErrorKind::OutOfMemory => Fault::NoMemory,
-        _ => Fault::ScriptUnreadable,
+// A script's text, unless it is too long.
+fn whole_script(text: Vec<u8>) -> Result<Vec<u8>, Fault> {
+    if text.len() as u64 > SCRIPT_SIZE {
+        return Err(Fault::ScriptTooLong);
     }
+    Ok(text)
 }

@@ -16,7 +16,8 @@ const GATHERED: usize = 65_536;
 /// goes to `out`, and a line a request to `report`.
 ///
 /// `out` is written and flushed before the first byte of `report`. Where a write fails, what was gathered
-/// and not written is dropped.
+/// and not written is dropped. Each image that was written is synced last, and a line of `report` tells of
+/// one that can't be.
 pub fn run<R: Read, W: Write + Drop, V: Write + Drop>(
     rt: &HostRuntime,
     script: &str,
@@ -25,7 +26,7 @@ pub fn run<R: Read, W: Write + Drop, V: Write + Drop>(
     out: &mut W,
     report: &mut V,
 ) -> Result<(), Fault> {
-    let streams = fill_closed_streams(rt);
+    let streams = fill_closed_streams(rt)?;
     let drives = open_units(rt, units)?;
     let script = script_in(rt, script)?;
     let done = run_over(rt.alloc(), drives, &script, input, out, report);
@@ -39,7 +40,7 @@ fn script_in(rt: &HostRuntime, path: &str) -> Result<Script, Fault> {
     Ok(parse(rt.alloc(), &text)?)
 }
 
-// Runs a script over drives.
+// Runs a script over drives, and syncs the images that it wrote.
 fn run_over<R: Read, W: Write + Drop, V: Write + Drop>(
     alloc: Global,
     drives: [Option<Drive<FileImage>>; 4],
@@ -49,9 +50,33 @@ fn run_over<R: Read, W: Write + Drop, V: Write + Drop>(
     report: &mut V,
 ) -> Result<(), Fault> {
     match Driver::start(alloc, drives) {
-        Ok(mut driver) => gather(alloc, script, input, out, report, &mut driver),
+        Ok(mut driver) => {
+            let done = gather(alloc, script, input, out, report, &mut driver);
+            sync(driver.into_stores(), done, report)
+        }
         Err(_) => Err(Fault::NoMemory),
     }
+}
+
+// Syncs each image that was written. Of the faults, the run's and then those of the units, the last is
+// answered, and those before it have their lines.
+fn sync<V: Write>(
+    mut drives: [Option<Drive<FileImage>>; 4],
+    mut done: Result<(), Fault>,
+    report: &mut V,
+) -> Result<(), Fault> {
+    for (unit, drive) in drives.iter_mut().enumerate() {
+        let Some(drive) = drive else {
+            continue;
+        };
+        if drive.store.sync().is_err() {
+            if let Err(earlier) = &done {
+                earlier.print(report);
+            }
+            done = Err(Fault::NotWrittenOut { unit });
+        }
+    }
+    done
 }
 
 // Runs a script, its texts gathered before they are written.

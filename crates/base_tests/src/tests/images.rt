@@ -235,6 +235,30 @@ fn a_folder_is_no_image(rt: HostRuntime) -> Result<(), Fail> {
     Ok(())
 }
 
+// To open a running program to be written fails, whoever does it.
+#[test]
+fn what_is_not_to_be_written_is_opened_for_reading_alone(rt: HostRuntime) {
+    assert!(rt; !is_closed(&rt, "/proc/self/exe", false));
+}
+
+// Whether a file can be opened as an image that may be written, and as one that may not, while it is
+// open as this one.
+fn beside(rt: &HostRuntime, path: &PathBuf, writable: bool) -> Result<(bool, bool), ImageError> {
+    let held = FileImage::open(rt, path.as_str(), writable)?;
+    let closed = [true, false].map(|writable| is_closed(rt, path.as_str(), writable));
+    drop(held);
+    Ok((!closed[0], !closed[1]))
+}
+
+#[test]
+fn an_image_to_be_written_is_open_once(rt: HostRuntime) -> Result<(), Fail> {
+    let path = file_of(&rt, "held", &[0x11; 512])?;
+    assert_eq!(rt; beside(&rt, &path, true)?, (false, false));
+    assert_eq!(rt; beside(&rt, &path, false)?, (false, true));
+    assert_eq!(rt; take_file(&rt, &path)?.len(), 512);
+    Ok(())
+}
+
 #[test]
 fn a_file_is_written_and_read(rt: HostRuntime) -> Result<(), Fail> {
     let path = file_of(&rt, "written", &[0x11; 1024])?;
@@ -245,6 +269,7 @@ fn a_file_is_written_and_read(rt: HostRuntime) -> Result<(), Fail> {
     assert_block(&rt, &block, 0x44);
     image.read(0, &mut block)?;
     assert_block(&rt, &block, 0x11);
+    image.sync()?;
     assert_eq!(rt; take_file(&rt, &path)?.len(), 1024);
     Ok(())
 }

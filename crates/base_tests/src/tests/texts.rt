@@ -88,9 +88,9 @@ fn commands_are_written_and_read(rt: HostRuntime) {
         reference: 1,
         unit: 0,
         op: Op::Read {
-            count: 512,
+            bytes: 512,
             address: 0x1000,
-            block: 5,
+            lbn: 5,
         },
     };
     assert_eq!(rt; encode_command(&read), text_of(&READ));

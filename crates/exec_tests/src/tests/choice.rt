@@ -9,8 +9,8 @@ fn numbered(reference: u32, unit: u16, op: Op) -> Command {
     }
 }
 
-fn read_at(block: u32) -> Op {
-    read(0, 512, block)
+fn read_at(lbn: u32) -> Op {
+    read(0, 512, lbn)
 }
 
 /// Commands by their references, units and operations, all taken in.
@@ -62,6 +62,32 @@ fn executor_chooses(rt: HostRuntime) -> Result<(), Fail> {
         (10, 1, Op::Status),
     ];
     assert_choice(&rt, &mut bench, &mixed, &[10, 7, 8, 9])
+}
+
+/// A bench of two units of ten empty blocks, both online.
+fn bench_of_two(alloc: Global) -> Result<Bench<MemImage>, Fail> {
+    let mut drives = alone(empty_image(alloc, 10)?, false);
+    let store = empty_image(alloc, 10)?;
+    drives[1] = Some(Drive { store, hard: false });
+    let mut bench = Bench::new(memory(alloc, 4096)?, drives);
+    bench.execute(0, online(None));
+    bench.execute(1, online(None));
+    Ok(bench)
+}
+
+#[test]
+fn the_way_leads_through_the_units(rt: HostRuntime) -> Result<(), Fail> {
+    let mut bench = bench_of_two(rt.alloc())?;
+    let upwards = [
+        (1, 1, read_at(2)),
+        (2, 0, read_at(9)),
+        (3, 1, read_at(0)),
+        (4, 0, read_at(3)),
+    ];
+    assert_choice(&rt, &mut bench, &upwards, &[4, 2, 3, 1])?;
+    // from block 2 of unit 1 on, and then from the bottom of unit 0
+    let behind = [(5, 0, read_at(8)), (6, 1, read_at(1)), (7, 1, read_at(2))];
+    assert_choice(&rt, &mut bench, &behind, &[7, 5, 6])
 }
 
 /// Executes a command, of whose end message this is the reference and the status, and after which so many

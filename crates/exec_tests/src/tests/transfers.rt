@@ -386,27 +386,41 @@ impl BlockStore for DirtyReader {
     }
 }
 
-#[test]
-fn dirty_failing_read(rt: HostRuntime) -> Result<(), Fail> {
+/// A bench over such a store, online, with 2,048 bytes of 0x77 at 0x1000.
+fn dirty_bench(alloc: Global) -> Result<Bench<DirtyReader>, Fail> {
     let drives = alone(DirtyReader { reads: 0 }, false);
-    let mut bench = Bench::new(memory(rt.alloc(), 8192)?, drives);
-    bench.fill(0x1000, 1536, 0x77);
+    let mut bench = Bench::new(memory(alloc, 8192)?, drives);
+    bench.fill(0x1000, 2048, 0x77);
     bench.execute(0, online(None));
-    bench.assert_moved(&rt, &[(read(0x1000, 1536, 0), 0x000b, 512)]);
-    bench.assert_filled(&rt, 0x1000, 512, 0x11);
-    bench.assert_filled(&rt, 0x1200, 256, 0xee);
-    bench.assert_filled(&rt, 0x1300, 768, 0x77);
+    Ok(bench)
+}
+
+/// Asserts that the Read of so many bytes stops at its second block, of which the store spoilt the first half
+/// in memory itself.
+fn assert_dirty(rt: &impl Abort, alloc: Global, count: u32) -> Result<(), Fail> {
+    let mut bench = dirty_bench(alloc)?;
+    bench.assert_moved(rt, &[(read(0x1000, count, 0), 0x000b, 512)]);
+    bench.assert_filled(rt, 0x1000, 512, 0x11);
+    bench.assert_filled(rt, 0x1200, 256, 0xee);
+    bench.assert_filled(rt, 0x1300, 1280, 0x77);
     Ok(())
 }
 
+// The block that fails is in the middle, the last, and the last before a part block.
+#[test]
+fn dirty_failing_read(rt: HostRuntime) -> Result<(), Fail> {
+    for count in [1536, 1024, 1026] {
+        assert_dirty(&rt, rt.alloc(), count)?;
+    }
+    Ok(())
+}
+
+// Nothing of a part block that fails comes to memory.
 #[test]
 fn dirty_failing_part_read(rt: HostRuntime) -> Result<(), Fail> {
-    let drives = alone(DirtyReader { reads: 0 }, false);
-    let mut bench = Bench::new(memory(rt.alloc(), 8192)?, drives);
-    bench.fill(0x1000, 1536, 0x77);
-    bench.execute(0, online(None));
+    let mut bench = dirty_bench(rt.alloc())?;
     bench.assert_moved(&rt, &[(read(0x1000, 514, 0), 0x000b, 512)]);
     bench.assert_filled(&rt, 0x1000, 512, 0x11);
-    bench.assert_filled(&rt, 0x1202, 1022, 0x77);
+    bench.assert_filled(&rt, 0x1200, 1536, 0x77);
     Ok(())
 }

@@ -57,6 +57,28 @@ impl Write for Narrow {
     }
 }
 
+/// A writer that is interrupted before each write, and counts what it takes.
+#[derive(Drop)]
+struct Hesitant {
+    ready: bool,
+    taken: usize,
+}
+
+impl Write for Hesitant {
+    fn write(&mut self, buf: &[u8]) -> io::Result<usize> {
+        self.ready = !self.ready;
+        if !self.ready {
+            return Err(io::Error::from(io::ErrorKind::Interrupted));
+        }
+        self.taken = self.taken.saturating_add(buf.len());
+        Ok(buf.len())
+    }
+
+    fn flush(&mut self) -> io::Result<()> {
+        Ok(())
+    }
+}
+
 // A driver of eight empty blocks as unit 0.
 fn driver(alloc: Global) -> Option<Driver<MemImage>> {
     let store = MemImage::new(alloc, 8).ok()?;
@@ -198,5 +220,17 @@ fn a_writer_that_is_full_is_told(rt: HostRuntime) -> Result<(), Fail> {
         assert_eq!(rt; done == Some(Ok(())), room == 512, "{room}");
         assert_eq!(rt; (out.taken, report.is_empty()), (room, room < 512));
     }
+    Ok(())
+}
+
+#[test]
+fn an_interrupted_write_is_tried_again(rt: HostRuntime) -> Result<(), Fail> {
+    let (ready, taken) = (true, 0);
+    let mut out = Hesitant { ready, taken };
+    let mut report = Vec::new(rt.alloc());
+    let text = "online 0\nread 0 0 1\nread 0 1 1\n";
+    let done = run(rt.alloc(), text, &mut [].as_slice(), &mut out, &mut report);
+    assert!(rt; done == Some(Ok(())));
+    assert_eq!(rt; out.taken, 1024);
     Ok(())
 }

@@ -1,5 +1,6 @@
 //! Scripts run over images in files.
 use super::Full;
+use std::alloc::Global;
 use std::fs::File;
 use std::io::{Read, Write};
 use std::path::PathBuf;
@@ -180,6 +181,46 @@ fn images_that_cannot_be_used(rt: HostRuntime) -> Result<(), Fail> {
     Ok(())
 }
 
+// To open a running program to be written fails, whoever does it: it is opened for reading alone where it is
+// locked, for then what is wrong is its length, or that there is no script.
+#[test]
+fn a_locked_image_is_opened_for_reading_alone(rt: HostRuntime) -> Result<(), Fail> {
+    let unopened = "uda: unit 0: cannot open\n";
+    assert!(rt; !is_told(&rt, "run none lock:/proc/self/exe", unopened)?);
+    Ok(())
+}
+
+#[test]
+fn one_lock_is_taken_off(rt: HostRuntime) -> Result<(), Fail> {
+    let path = file_of(&rt, "unlocked", &[0; 512])?;
+    let line = format!(in rt.alloc(); "run none lock:lock:{}", path.as_str())?;
+    assert!(rt; is_told(&rt, &line, "uda: unit 0: cannot open\n")?);
+    fs::remove_file(&rt, path.as_path())?;
+    Ok(())
+}
+
+// Whether unit 1 can't be opened where both units have these words.
+fn is_refused(rt: &HostRuntime, first: &str, second: &str) -> io::Result<bool> {
+    let line = format!(in rt.alloc(); "run none {first} {second}")?;
+    is_told(rt, &line, "uda: unit 1: cannot open\n")
+}
+
+#[test]
+fn a_file_to_be_written_serves_one_unit(rt: HostRuntime) -> Result<(), Fail> {
+    let path = file_of(&rt, "shared", &[0; 512])?;
+    let link = path_of(&rt, "link")?;
+    fs::hard_link(&rt, path.as_path(), link.as_path())?;
+    let locked = format!(in rt.alloc(); "lock:{}", link.as_str())?;
+    assert!(rt; is_refused(&rt, path.as_str(), path.as_str())?);
+    assert!(rt; is_refused(&rt, path.as_str(), link.as_str())?);
+    assert!(rt; is_refused(&rt, path.as_str(), &locked)?);
+    assert!(rt; is_refused(&rt, &locked, path.as_str())?);
+    assert!(rt; !is_refused(&rt, &locked, &locked)?);
+    fs::remove_file(&rt, link.as_path())?;
+    fs::remove_file(&rt, path.as_path())?;
+    Ok(())
+}
+
 #[test]
 fn scripts_that_cannot_be_used(rt: HostRuntime) -> Result<(), Fail> {
     let path = path_of(&rt, "long")?;
@@ -271,6 +312,25 @@ fn thousands_of_lines(rt: HostRuntime) -> Result<(), Fail> {
     Ok(())
 }
 
+// The longest line of a report: four digits, two words, and a size of six digits.
+#[test]
+fn the_longest_line(rt: HostRuntime) -> Result<(), Fail> {
+    let path = path_of(&rt, "longest")?;
+    File::create(&rt, path.as_path())?.set_len(891_072 * 512)?;
+    let mut script = Vec::new(rt.alloc());
+    for _ in 0..500 {
+        script.extend_from_slice(b"available 0\nonline 0 protect\n")?;
+    }
+    let left = run(&rt, &script, b"", path.as_str())?;
+    fs::remove_file(&rt, path.as_path())?;
+    assert_eq!(rt; left.status, 0);
+    assert!(rt;
+        left.report
+            .ends_with(b"\n999 0000\n1000 0000 1000 891072\n")
+    );
+    Ok(())
+}
+
 #[test]
 fn a_large_image(rt: HostRuntime) -> Result<(), Fail> {
     let path = path_of(&rt, "large")?;
@@ -317,6 +377,54 @@ fn a_report_that_is_full(rt: HostRuntime) -> Result<(), Fail> {
     let report = Full { room: 5, taken: 0 };
     let status = status_over(&rt, &script, &image, io::empty(), &mut out, report)?;
     assert_eq!(rt; (status, out.len()), (1, 512));
+    fs::remove_file(&rt, script.as_path())?;
+    fs::remove_file(&rt, image.as_path())?;
+    Ok(())
+}
+
+/// A writer that fails once, and then takes all that it is given.
+#[derive(Drop)]
+struct Recovering {
+    failed: bool,
+    taken: Vec<u8>,
+}
+
+impl Recovering {
+    fn new(alloc: Global) -> Recovering {
+        Recovering {
+            failed: false,
+            taken: Vec::new(alloc),
+        }
+    }
+}
+
+impl Write for Recovering {
+    fn write(&mut self, buf: &[u8]) -> io::Result<usize> {
+        if !self.failed {
+            self.failed = true;
+            return Err(io::Error::from(io::ErrorKind::StorageFull));
+        }
+        self.taken.extend_from_slice(buf)?;
+        Ok(buf.len())
+    }
+
+    fn flush(&mut self) -> io::Result<()> {
+        Ok(())
+    }
+}
+
+// Nothing that was gathered before a write failed comes after it.
+#[test]
+fn what_was_gathered_is_dropped(rt: HostRuntime) -> Result<(), Fail> {
+    let script = file_of(&rt, "gathered", b"online 0\nread 0 0 1\n")?;
+    let image = file_of(&rt, "dropped", &[0; 512])?;
+    let (mut out, mut report) = (Recovering::new(rt.alloc()), Vec::new(rt.alloc()));
+    status_over(&rt, &script, &image, io::empty(), &mut out, &mut report)?;
+    assert!(rt; out.failed && out.taken.is_empty());
+    assert_bytes(&rt, &report, b"uda: write failed\n");
+    let mut report = Recovering::new(rt.alloc());
+    status_over(&rt, &script, &image, io::empty(), io::sink(), &mut report)?;
+    assert_bytes(&rt, &report.taken, b"uda: write failed\n");
     fs::remove_file(&rt, script.as_path())?;
     fs::remove_file(&rt, image.as_path())?;
     Ok(())

@@ -4,7 +4,7 @@ use rand_core::{Rng, SeedableRng};
 use rand_pcg::Pcg32;
 use std::alloc::Global;
 use uda_mem::NoMemory;
-use uda_model::Request;
+use uda_disk::Request;
 
 /// Draws units and requests at random: the same for the same seed.
 #[derive(Drop)]

@@ -1,7 +1,7 @@
 //! Requests written as lines of a script.
 
 use std::alloc::{AllocError, Global};
-use uda_model::Request;
+use uda_disk::Request;
 
 /// A script, and the data that its `write` and `writeb` lines take.
 #[derive(Drop)]

@@ -1,6 +1,6 @@
 use Rattle.std.proofs.Common.{refl, ◌∙◌}
 use Rattle.std.proofs.lemmas.List.{map-append}
-use Rattle.uda_model.specs.Values.{request_value}
+use Rattle.uda_disk.specs.Values.{request_value}
 use Rattle.uda_batch.proofs.Readings.{lines_more, lines_idle}
 use Rattle.uda_batch.proofs.requests.read_requests.Goals as goal
 

@@ -1,5 +1,5 @@
 use Rattle.std.proofs.Common.{◌≡◌}
-use Rattle.uda_model.specs.Values.{request_values}
+use Rattle.uda_disk.specs.Values.{request_values}
 use Rattle.uda_batch.specs.Requests.{taken}
 use Rattle.uda_batch.proofs.Readings.{ReadsLines}
 use Rattle.uda_batch.proofs.requests.read_requests.Given as goal

@@ -2,7 +2,7 @@ use Rattle.std.proofs.Common.{◌≡◌, List, ℕ, ◌++◌, ap, ◌∙◌, sub
 use Rattle.std.specs.Io.KnownBytes.{Appends}
 use Rattle.std.proofs.lemmas.Fmt.{contents_after_writes}
 use Rattle.std.proofs.lemmas.Result.{on_ok_weaker, on_err_weaker}
-use Rattle.uda_model.specs.Values.{answer_value}
+use Rattle.uda_disk.specs.Values.{answer_value}
 use Rattle.uda_batch.specs.Texts.{report_line, AppendsBeginning}
 use Rattle.uda_batch.proofs.texts.put_line.Goals as goal
 use Rattle.uda_batch.proofs.texts.put_line.Given as given
@@ -16,7 +16,7 @@ told g c =
     c.as_bytes.ensures.value ∙ c.deref.ensures.0 ∙ made ∙ ap (λ (t : List ℕ). t ++ line) c.new-line.ensures
 
 pub returns-in-Ok-clause-whole : goal.returns-in-Ok-clause-whole
-returns-in-Ok-clause-whole g c = on_ok_weaker c.put.result (subst (λ (t : List ℕ). Appends (g.V.Write.contents c.args.report.now) (g.V.Write.contents c.put.new.writer) t) (told g c)) c.put.ensures.whole
+returns-in-Ok-clause-whole g c = on_ok_weaker c.put_all.result (subst (λ (t : List ℕ). Appends (g.V.Write.contents c.args.report.now) (g.V.Write.contents c.put_all.new.writer) t) (told g c)) c.put_all.ensures.whole
 
 pub returns-in-Ok-clause-begun : goal.returns-in-Ok-clause-begun
-returns-in-Ok-clause-begun g c = on_err_weaker c.put.result (subst (λ (t : List ℕ). AppendsBeginning (g.V.Write.contents c.args.report.now) (g.V.Write.contents c.put.new.writer) t) (told g c)) c.put.ensures.begun
+returns-in-Ok-clause-begun g c = on_err_weaker c.put_all.result (subst (λ (t : List ℕ). AppendsBeginning (g.V.Write.contents c.args.report.now) (g.V.Write.contents c.put_all.new.writer) t) (told g c)) c.put_all.ensures.begun

@@ -1,5 +1,5 @@
 use Rattle.std.proofs.Common.{suc, drop}
-use Rattle.uda_model.specs.Values.{answer_values}
+use Rattle.uda_disk.specs.Values.{answer_values}
 use Rattle.uda_batch.specs.Texts.{report_text, report_from}
 use Rattle.uda_batch.proofs.Puts.{LeavesRest}
 use Rattle.uda_batch.proofs.texts.put_report.Given as goal

@@ -1,6 +1,6 @@
 use Rattle.std.proofs.Common.{◌+◌, ap, ◌∙◌}
 use Rattle.std.proofs.lemmas.List.{length_push}
-use Rattle.uda_model.specs.Values.{answer_value}
+use Rattle.uda_disk.specs.Values.{answer_value}
 use Rattle.uda_driver.proofs.Blanks.{blank_more}
 use Rattle.uda_driver.proofs.answers.blanks.Goals as goal
 

@@ -1,5 +1,5 @@
 use Rattle.std.proofs.Common.{◌≡◌, length}
-use Rattle.uda_model.specs.Values.{request_values, answer_values}
+use Rattle.uda_disk.specs.Values.{request_values, answer_values}
 use Rattle.uda_driver.specs.Blank.{AreBlank}
 use Rattle.uda_driver.proofs.answers.blanks.Given as goal
 

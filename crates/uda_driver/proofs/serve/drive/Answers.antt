@@ -27,7 +27,7 @@ loop-host-preserved g c =
     let now = c.loop-host.invariant in
     let it : IsAt c.args.requests.now c.loop-n.n c.index-requests-n.result = record { low = c.loop-n-test.true; is = c.index-requests-n.is } in
     let short = sym c.is_too_long.ensures.long ∙ c.if-not-is_too_long.true in
-    underway_step now c.order_is_free.ensures.law c.step.ensures.adds_up c.step.ensures.images (wait_ends now it (sym c.loop-host-test.ensures.waits) short) c.step.ensures.steps
+    underway_step now c.step.ensures.adds_up c.step.ensures.images (wait_ends now it (sym c.loop-host-test.ensures.waits) short) c.step.ensures.steps
 
 pub post-requires : goal.post-requires
 post-requires g c =
@@ -71,7 +71,7 @@ loop-host-2-smaller g c =
 pub loop-host-2-preserved : goal.loop-host-2-preserved
 loop-host-2-preserved g c =
     let step = c.step-in-loop-host-2.ensures in
-    underway_step c.loop-host-2.invariant c.order_is_free.ensures.law step.adds_up step.images (drain_ends c.args.requests.now (omega arith)) step.steps
+    underway_step c.loop-host-2.invariant step.adds_up step.images (drain_ends c.args.requests.now (omega arith)) step.steps
 
 pub returns : goal.returns
 returns g c = ran c.requires.ready (omega arith) (omega (arith, c.loop-host-2-test.false, c.credits.ensures.credits)) c.loop-host-2.invariant

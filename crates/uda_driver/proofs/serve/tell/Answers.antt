@@ -1,7 +1,7 @@
 use Rattle.std.proofs.Common.{◌≡◌, ◌∙◌, ◌<◌, List, length, Option, Some, None, ap, map, sym, arith, rules}
 use Rattle.std.specs.Prelude.{slice_get, slice_set}
 use Rattle.uda_exec.specs.Disks.{PENDING_LIMIT}
-use Rattle.uda_model.specs.Values.{request_value}
+use Rattle.uda_disk.specs.Values.{request_value}
 use Rattle.uda_host.specs.Layout.{buffer_address}
 use Rattle.uda_driver.specs.Out.{refers}
 use Rattle.uda_driver.specs.Steps.{IsReferred}

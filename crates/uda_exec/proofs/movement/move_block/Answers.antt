@@ -18,7 +18,7 @@ returns-in-Erase-clause-moves g c faithful =
 pub returns-in-Read-clause-changes : goal.returns-in-Read-clause-changes
 returns-in-Read-clause-changes g c =
     let read = c.read_block.ensures.reads in
-    let size = length-take (c.args.t.count - 512 * c.args.k) read.to in
+    let size = length-take (c.args.t.bytes - 512 * c.args.k) read.to in
     let inside = c.requires.in_range in
     rw (c.in-Read.is, read.landed) (changes_by_put _ _ _ _ _ (omega arith) (omega arith))
 

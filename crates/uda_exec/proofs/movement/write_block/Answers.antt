@@ -1,6 +1,6 @@
 use Rattle.std.proofs.Common.{◌≡◌, ◌∙◌, sym, arith}
 use Rattle.uda_mem.specs.Put.{part}
-use Rattle.uda_exec.specs.Transfers.{first_block}
+use Rattle.uda_disk.specs.Request.{first_block}
 use Rattle.uda_exec.proofs.Blocks.{first_block-whole}
 use Rattle.uda_exec.proofs.movement.write_block.Goals as goal
 

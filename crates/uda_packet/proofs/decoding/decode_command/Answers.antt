@@ -20,5 +20,5 @@ returns-then-get-ne0 c =
 
 pub returns : goal.returns
 returns c =
-    let good : CommandText c.args.text.now (record { reference = c.get-reference.result; unit = c.get-unit.result; op = c.op_of.result }) = search rules in
+    let good : CommandText c.args.text.now (record { reference = c.get-reference.result; unit = c.get-unit.result; op = c.op_in_text.result }) = search rules in
     record { grammar = good; read = command_is_read _ _ good; command = only_command _ (Ok _) good; fault = only_fault _ (Ok _) good }

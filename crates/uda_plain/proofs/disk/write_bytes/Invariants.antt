@@ -1,9 +1,8 @@
 use Rattle.std.proofs.Common.{◌≡◌, length, take}
 use Rattle.uda_mem.specs.Put.{put}
-use Rattle.uda_exec.specs.Commands.{blocks_for}
-use Rattle.uda_exec.specs.Transfers.{in_blocks}
+use Rattle.uda_disk.specs.Request.{blocks_for, in_blocks}
 use Rattle.uda_plain.proofs.disk.write_bytes.Given as goal
 
 -- the first k blocks of the bytes stand
 abbrev pub invariant-loop-k : goal.invariant-loop-k
-invariant-loop-k l = l.blocks ≡ put l.fn.blocks l.first (take l.k (in_blocks (blocks_for (length l.bytes)) l.bytes))
+invariant-loop-k l = l.blocks ≡ put l.fn.blocks l.first (take l.k (in_blocks l.bytes))

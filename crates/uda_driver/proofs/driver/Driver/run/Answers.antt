@@ -1,8 +1,8 @@
 use Rattle.std.proofs.lemmas.List.Elements.{All-nil}
 use Rattle.std.proofs.Common.{◌≢◌, sym, ◌∙◌, rules}
 use Rattle.std.proofs.lemmas.List.{length-map}
-use Rattle.uda_model.specs.Values.{request_value, answer_value}
-use Rattle.uda_model.proofs.Owing.{owes_end, owes_plain}
+use Rattle.uda_disk.specs.Values.{request_value, answer_value}
+use Rattle.uda_posting.proofs.Owing.{owes_end, owes_plain}
 use Rattle.uda_driver.proofs.driver.Driver.run.Goals as goal
 
 pub invariant_of-self : goal.invariant_of-self

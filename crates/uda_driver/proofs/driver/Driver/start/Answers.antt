@@ -1,5 +1,6 @@
 use Rattle.std.proofs.Common.{◌∙◌, List, Option, ap, map}
-use Rattle.uda_exec.specs.Disks.{UnitState, ExecState}
+use Rattle.uda_disk.specs.Units.{UnitState}
+use Rattle.uda_exec.specs.Disks.{ExecState}
 use Rattle.uda_exec.specs.Drives.{reset_unit, drives_in}
 use Rattle.uda_driver.proofs.Drives.{drives_in_fresh, reset_fresh}
 use Rattle.uda_driver.proofs.driver.Driver.start.Goals as goal

@@ -1,18 +1,22 @@
-use Rattle.std.proofs.Common.{◌+◌, ◌-◌, ap, ◌∙◌, take, drop, arith}
+use Rattle.std.proofs.Common.{◌+◌, ◌-◌, ap, sym, ◌∙◌, take, drop, arith}
 use Rattle.std.specs.List.{concat}
-use Rattle.uda_exec.specs.Commands.{blocks_for}
-use Rattle.uda_model.specs.Answer.{Data}
+use Rattle.std.proofs.lemmas.List.{take-take}
+use Rattle.uda_mem.specs.Put.{part}
+use Rattle.uda_disk.specs.Request.{blocks_for}
+use Rattle.uda_disk.specs.Answer.{Data}
 use Rattle.uda_plain.proofs.Ranges.{part-range}
 use Rattle.uda_plain.proofs.disk.PlainDisk.read.Goals as goal
 
 pub returns : goal.returns
 returns c =
-    let count = blocks_for c.args.bytes in
-    let n = c.args.first + c.div_ceil-count.result - c.args.first in
+    let bytes = c.args.bytes in let count = blocks_for bytes in
+    let n = c.args.lbn + c.div_ceil-count.result - c.args.lbn in
     let blocks = c.deref.ensures.value ∙ ap (λ d. d.blocks) c.self.view_is in
+    let there = concat (part c.args.self.now.blocks c.args.lbn count) in
     record {
-      answer = λ unit. ap (λ bytes. Data 0 bytes) (c.truncate.ensures.items
-          ∙ ap (take c.args.bytes) (c.in_ok-data.ensures.bytes
-          ∙ ap (λ xs. concat (take n (drop c.args.first xs))) blocks
-          ∙ ap concat (part-range c.args.self.now.blocks c.args.first count n (omega (arith, c.div_ceil-count.ensures)))));
+      answer = ap (λ items. Data 0 items) (c.truncate.ensures.items
+          ∙ ap (take bytes) (c.in_ok-data.ensures.bytes
+          ∙ ap (λ xs. concat (take n (drop c.args.lbn xs))) blocks
+          ∙ ap concat (part-range c.args.self.now.blocks c.args.lbn count n (omega (arith, c.div_ceil-count.ensures))))
+          ∙ sym (take-take bytes bytes there (omega arith)));
     }

@@ -1,6 +1,6 @@
 use Rattle.std.proofs.Common.{◌+◌, ◌∷◌, drop, subst, sym, ap, ◌∙◌}
-use Rattle.uda_model.specs.Values.{request_value, request_values, answer_value, answer_values}
-use Rattle.uda_model.specs.declared.request.Request.{Request}
+use Rattle.uda_disk.specs.Values.{request_value, request_values, answer_value, answer_values}
+use Rattle.uda_disk.specs.declared.request.Request.{Request}
 use Rattle.uda_plain.proofs.Steps.{SoFar, SoFar-next, drop-values, answer_values-next}
 use Rattle.uda_plain.proofs.units.PlainUnits.run.Goals as goal
 

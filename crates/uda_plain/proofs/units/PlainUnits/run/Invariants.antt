@@ -1,5 +1,5 @@
 use Rattle.std.proofs.Common.{drop}
-use Rattle.uda_model.specs.Values.{request_values, answer_values}
+use Rattle.uda_disk.specs.Values.{request_values, answer_values}
 use Rattle.uda_plain.proofs.Steps.{SoFar}
 use Rattle.uda_plain.proofs.units.PlainUnits.run.Given as goal
 

@@ -1,0 +1,9 @@
+pub mod Slots
+pub mod Runs
+pub mod Swap
+pub mod OrderLaw
+pub mod Filling
+pub mod InBlocks
+pub mod Errors
+pub mod Outcomes
+pub mod Examples

@@ -1,0 +1,12 @@
+pub mod Status
+pub mod Disk
+pub mod Request
+pub mod Answer
+pub mod Plain
+pub mod Runs
+pub mod PlainRun
+pub mod Order
+pub mod Form
+pub mod Units
+pub mod Values
+pub mod Display

@@ -1,0 +1,65 @@
+-- The request that a command stands for.
+use Rattle.std.proofs.Common.{◌≡◌, ℕ, ◌≤◌, zero-le, true, false, List, length, Option, Some, None, refl, sym, ap, subst, arith, length-take}
+use Rattle.std.specs.Prelude.{IfSome, IsSome}
+use Rattle.std.specs.List.{concat}
+use Rattle.uda_mem.proofs.PutLaws.{part-put_apart}
+use Rattle.uda_packet.specs.declared.command.Op.TheVariants.{Status, Controller, Available, Online, Access, Erase, Read, Write}
+use Rattle.uda_exec.proofs.Words.{put, Meet, Op, Act, blank_answer, blocks_for, blocks_named, is_moving, brought, buffer_start, room_of, blocks_asked, is_controller, is_transfer, act_of, plain_body, body_for}
+use Rattle.uda_exec.proofs.Blocks.{length-bytes_at}
+
+-- what an operation and the act that it asks have in common
+pub record Asks (o : Op) (act : Act) : Type 0 where
+  pub speaks : is_controller o ≡ false
+  pub moving : is_transfer o ≡ is_moving act
+  pub count : blocks_asked o ≡ blocks_named act
+  pub blank : (status : ℕ) → body_for o (blank_answer act status) ≡ plain_body o 0
+  pub brings : (blocks : List (List ℕ)) → length (brought act blocks) ≤ room_of o
+
+asks_if : (o : Op) (memory : List ℕ) → IfSome (act_of o memory) (Asks o)
+asks_if Controller memory = tt
+asks_if (Read bytes address lbn) memory = record { speaks = refl; moving = refl; count = refl; blank = λ status. refl; brings = λ blocks. omega (arith, length-take bytes (concat blocks)) }
+asks_if (Write bytes address lbn) memory = record {
+  speaks = refl;
+  moving = refl;
+  count = ap blocks_for (sym (length-bytes_at memory address bytes));
+  blank = λ status. refl;
+  brings = λ blocks. zero-le;
+}
+asks_if Status memory = record { speaks = refl; moving = refl; count = refl; blank = λ status. refl; brings = λ blocks. zero-le }
+asks_if Available memory = record { speaks = refl; moving = refl; count = refl; blank = λ status. refl; brings = λ blocks. zero-le }
+asks_if (Online soft) memory = record { speaks = refl; moving = refl; count = refl; blank = λ status. refl; brings = λ blocks. zero-le }
+asks_if (Access bytes lbn) memory = record { speaks = refl; moving = refl; count = refl; blank = λ status. refl; brings = λ blocks. zero-le }
+asks_if (Erase bytes lbn) memory = record { speaks = refl; moving = refl; count = refl; blank = λ status. refl; brings = λ blocks. zero-le }
+
+pub asks : (o : Op) (memory : List ℕ) (act : Act) → act_of o memory ≡ Some act → Asks o act
+asks o memory act is = subst (λ (a : Option Act). IfSome a (Asks o)) is (asks_if o memory)
+
+-- any command but Set Controller Characteristics asks something of a unit
+pub asks_some : (o : Op) (memory : List ℕ) → is_controller o ≡ false → IsSome (act_of o memory)
+asks_some Controller memory speaks = absurd (cc)
+asks_some Status memory speaks = refl
+asks_some Available memory speaks = refl
+asks_some (Online soft) memory speaks = refl
+asks_some (Access bytes lbn) memory speaks = refl
+asks_some (Read bytes address lbn) memory speaks = refl
+asks_some (Write bytes address lbn) memory speaks = refl
+asks_some (Erase bytes lbn) memory speaks = refl
+
+pub asks_nothing : (o : Op) (memory : List ℕ) → is_controller o ≡ true → act_of o memory ≡ None
+asks_nothing Controller memory is = refl
+asks_nothing _ memory is = absurd (cc)
+
+pub act_from : (asked : Option Act) → IsSome asked → (act : Act) × (asked ≡ Some act)
+act_from None some = absurd (cc)
+act_from (Some act) some = (act, refl)
+
+-- it stays where a write is beside the buffer
+pub act_of-put : (o : Op) (memory : List ℕ) (at : ℕ) (bytes : List ℕ) → (Meet at (length bytes) (buffer_start o) (room_of o) → ⊥) → act_of o (put memory at bytes) ≡ act_of o memory
+act_of-put (Write n address lbn) memory at bytes h = rw (part-put_apart memory at bytes address n h) refl
+act_of-put Controller memory at bytes h = refl
+act_of-put Status memory at bytes h = refl
+act_of-put Available memory at bytes h = refl
+act_of-put (Online soft) memory at bytes h = refl
+act_of-put (Access n lbn) memory at bytes h = refl
+act_of-put (Read n address lbn) memory at bytes h = refl
+act_of-put (Erase n lbn) memory at bytes h = refl

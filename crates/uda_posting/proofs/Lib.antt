@@ -1,0 +1,5 @@
+pub mod Dues
+pub mod Serving
+pub mod Posts
+pub mod Owing
+pub mod Ending

@@ -1,0 +1,92 @@
+-- The command of a request: its buffer, what it asks, and which may pass which.
+use Rattle.std.proofs.Common.{◌≡◌, ℕ, zero, suc, ◌+◌, ◌%◌, ◌<◌, ◌≤◌, zero-le, false, true, List, [], ◌∷◌, length, Some, refl, ap, ◌∙◌, arith, subst₂}
+use Rattle.std.specs.Prelude.{slice_get, remove, All, AllPairs}
+use Rattle.std.proofs.lemmas.Bool.Decides.{nat_tests}
+use Rattle.std.proofs.lemmas.List.{length-map}
+use Rattle.uda_mem.specs.Put.{put}
+use Rattle.uda_mem.proofs.PutLaws.{length-put, part-put_at}
+use Rattle.uda_packet.specs.declared.command.Command.{Command}
+use Rattle.uda_disk.specs.Request.{Act, Online, Read, Write, Request, is_moving, blocks_named}
+use Rattle.uda_disk.specs.Order as disk
+use Rattle.uda_disk.specs.PlainRun.{too_long}
+use Rattle.uda_exec.specs.Commands.{is_controller, is_transfer, buffer_start, room_of, blocks_asked, act_of}
+use Rattle.uda_exec.specs.Order.{may_pass, MayGo}
+use Rattle.uda_exec.proofs.Blocks.{bytes_at-within}
+use Rattle.uda_posting.specs.Posting.{op_of, bytes_brought, Posted, posted_command, commands_in, requests_posted, Ready}
+use Rattle.uda_posting.specs.Keeping.{Beside}
+use Rattle.uda_model.proofs.Lists.{pairs_others}
+
+-- what an act names, its command names
+pub record NamesSame (act : Act) (address : ℕ) : Type 0 where
+  pub speaks : is_controller (op_of act address) ≡ false
+  pub moving : is_transfer (op_of act address) ≡ is_moving act
+  pub count : blocks_asked (op_of act address) ≡ blocks_named act
+
+pub names_same : (act : Act) (address : ℕ) → NamesSame act address
+names_same (Online protect) address = record { speaks = refl; moving = refl; count = refl }
+names_same _ address = record { speaks = refl; moving = refl; count = refl }
+
+-- ---- buffers
+
+-- where a command has a buffer, it begins at the address given, and it is small
+pub record BufferAt (act : Act) (address : ℕ) : Type 0 where
+  pub small : room_of (op_of act address) ≤ 16384
+  pub here : 0 < room_of (op_of act address) → buffer_start (op_of act address) ≡ address
+  pub low : buffer_start (op_of act address) ≤ address
+  pub even : address % 2 ≡ 0 → buffer_start (op_of act address) % 2 ≡ 0
+
+pub buffer-at : (unit : ℕ) (act : Act) (address : ℕ) → too_long (record { unit = unit; act = act }) ≡ false → BufferAt act address
+buffer-at unit (Read first bytes) address short = record { small = grind (arith, nat_tests); here = λ _. refl; low = omega arith; even = λ even. even }
+buffer-at unit (Write first payload) address short = record { small = grind (arith, nat_tests); here = λ _. refl; low = omega arith; even = λ even. even }
+buffer-at unit _ address short = record { small = omega arith; here = λ some. absurd (omega arith); low = zero-le; even = λ _. refl }
+
+-- what a request brings fits its buffer, and once it was put there the command asks the request's act
+pub record BytesFit (act : Act) (address : ℕ) : Type 0 where
+  pub fits : length (bytes_brought act) ≤ room_of (op_of act address)
+  pub asks : (memory : List ℕ) → buffer_start (op_of act address) + room_of (op_of act address) ≤ length memory → act_of (op_of act address) (put memory address (bytes_brought act)) ≡ Some act
+
+pub bytes_fit : (act : Act) (address : ℕ) → BytesFit act address
+bytes_fit (Write first payload) address = record {
+  fits = omega arith;
+  asks = λ memory within.
+      let there = bytes_at-within (put memory address payload) address (length payload) (omega (arith, length-put memory address payload)) in
+      ap (λ (bytes : List ℕ). Some (Write first bytes)) (there ∙ part-put_at memory address (length payload) payload within refl);
+}
+bytes_fit (Online protect) address = record { fits = omega arith; asks = λ _ _. refl }
+bytes_fit _ address = record { fits = omega arith; asks = λ _ _. refl }
+
+pub ready-put : (p : Posted) (memory : List ℕ) → too_long p.request ≡ false → p.address % 2 ≡ 0 → p.address + 16384 ≤ length memory → Ready p (put memory p.address (bytes_brought p.request.act))
+ready-put p memory short even room =
+    let buffer = buffer-at p.request.unit p.request.act p.address short in
+    let size = length-put memory p.address (bytes_brought p.request.act) in
+    record {
+      short = short;
+      even = buffer.even even;
+      within = omega (arith, buffer.small, buffer.low);
+      asks = (bytes_fit p.request.act p.address).asks memory (omega (arith, buffer.small, buffer.low));
+    }
+
+-- one command of a list is beside all others
+pub beside_others : (cs : List Command) (j : ℕ) (c : Command) → AllPairs Beside cs → slice_get cs j ≡ Some c → All (Beside c) (remove cs j)
+beside_others cs j c h at = pairs_others Beside Beside (λ x y r. (r, λ meet. r (omega arith))) cs j c h at
+
+-- ---- passing
+
+-- where a command may pass another, its request may pass the other's
+passes : (older p : Posted) → may_pass (posted_command older) (posted_command p) ≡ true → disk.passes older.request p.request ≡ true
+passes older p may =
+    let one = names_same older.request.act older.address in let other = names_same p.request.act p.address in
+    rw (one.speaks, other.speaks, one.moving, other.moving) at may
+
+pub posted_at : (due : List Posted) (j : ℕ) (r : Request) → slice_get (requests_posted due) j ≡ Some r → (p : Posted) × (slice_get (commands_in due) j ≡ Some (posted_command p)) × (p.request ≡ r)
+posted_at [] j r at = absurd (cc)
+posted_at (p ∷ rest) zero r at = (p, refl, cc)
+posted_at (p ∷ rest) (suc j) r at = posted_at rest j r at
+
+pub goes-request : (due : List Posted) (j : ℕ) → MayGo (commands_in due) j → disk.PassesOlder (requests_posted due) j
+goes-request due j goes = record {
+  stands = omega (arith, goes.stands, length-map due posted_command, length-map due (λ (p : Posted). p.request));
+  passes_each = λ i older r below at_i at_j.
+      let p = posted_at due i older at_i in let q = posted_at due j r at_j in
+      subst₂ (λ (x y : Request). disk.passes x y ≡ true) p.2 q.2 (passes p.0 q.0 (goes.passes i (posted_command p.0) (posted_command q.0) below p.1 q.1));
+}

@@ -8,7 +8,7 @@ use Rattle.uda_batch.proofs.texts.put_line.Goals as goal
 use Rattle.uda_batch.proofs.texts.put_line.Given as given
 
 -- what stands in the buffer is the line
-told : (g : given.Over) (c : goal.After-put g) → c.as_bytes.result.now ≡ report_line c.args.number (answer_value c.args.answer.now)
+told : (g : given.Over) (c : goal.After-put_all g) → c.as_bytes.result.now ≡ report_line c.args.number (answer_value c.args.answer.now)
 told g c =
     let line = report_line c.args.number (answer_value c.args.answer.now) in
     let made : c.writeln.new.self.bytes ≡ c.new-line.result.bytes ++ line =

@@ -17,7 +17,7 @@ pub record Serves (asked : List Request) (told : List Answer) (driver driver_aft
   pub shape : AreAnswersOf asked told
   pub headline : AllFaithful (units_of driver) → NoneFailed (units_of driver) (units_of driver_after) → IsPlainRun (units_of driver) asked told (units_of driver_after)
   pub losses : AllFaithful (units_of driver) → TellsLosses (units_of driver) asked told (units_of driver_after)
-  pub counts : CountsOn asked driver.port driver_after.port
+  pub counts : CountsOn asked driver driver_after
   pub rest : IsAtRest driver_after
 
 -- the lines' data is these bytes and no more, and the driver answered the requests that they make of it, whatever data follows
@@ -31,6 +31,9 @@ pub record Streams : Type 0 where
   pub input : Option (List ℕ)
   pub out : Option (List ℕ)
   pub report : Option (List ℕ)
+
+abbrev pub streams : Option (List ℕ) → Option (List ℕ) → Option (List ℕ) → Streams
+streams input out report = record { input = input; out = out; report = report }
 
 -- a script that was run to its end: both texts were written whole
 pub record EndsWhole (lines : List Line) (before after : Streams) (driver driver_after : DriverState) : Type 0 where

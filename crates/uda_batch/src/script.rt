@@ -8,7 +8,7 @@ ghost use Rattle.uda_driver.specs.Driver.{units_of};
 ghost use Rattle.uda_driver.specs.Run.{request_limit};
 ghost use Rattle.uda_batch.specs.Requests.{taken};
 ghost use Rattle.uda_batch.specs.Texts.{out_text, report_text};
-ghost use Rattle.uda_batch.specs.Script.{Serves, Streams, TextsBegin, EndsWhole, EndsInError};
+ghost use Rattle.uda_batch.specs.Script.{Serves, streams, TextsBegin, EndsWhole, EndsInError};
 
 use crate::requests::read_requests;
 use crate::texts::{put_out, put_report};
@@ -40,28 +40,12 @@ pub fn run_script<S: BlockStore, R: Read, W: Write, V: Write>(
     driver: &mut Driver<S>,
 ) -> Result<(), ScriptError>
     ensures whole { OnOk result (EndsWhole script.now
-        (record {
-          input = R.remaining input.old;
-          out = W.contents out.old;
-          report = V.contents report.old;
-        })
-        (record {
-          input = R.remaining input.new;
-          out = W.contents out.new;
-          report = V.contents report.new;
-        })
+        (streams (R.remaining input.old) (W.contents out.old) (V.contents report.old))
+        (streams (R.remaining input.new) (W.contents out.new) (V.contents report.new))
         driver.old driver.new) }
     ensures error { IfErr result (EndsInError script.now
-        (record {
-          input = R.remaining input.old;
-          out = W.contents out.old;
-          report = V.contents report.old;
-        })
-        (record {
-          input = R.remaining input.new;
-          out = W.contents out.new;
-          report = V.contents report.new;
-        })
+        (streams (R.remaining input.old) (W.contents out.old) (V.contents report.old))
+        (streams (R.remaining input.new) (W.contents out.new) (V.contents report.new))
         driver.old driver.new) }
     ensures idle { taken script.now ≡ 0 → input.new ≡ input.old }
     ensures natures { natures_of (units_of driver.new) ≡ natures_of (units_of driver.old) }

@@ -1,98 +1,59 @@
--- The steps of a driver: those of the ring protocol and those of what is owed, together.
-use Rattle.std.proofs.Common.{◌≡◌, ◌≢◌, ℕ, min, max, Bool, ◌+◌, ◌%◌, ◌<◌, ◌≤◌, false, true, List, [], ◌∷◌, ◌++◌, length, map, get_or, Some, refl, sym, ap, ap₂, ◌∙◌, arith, subst, subst₂, length-append}
-use Rattle.std.specs.Prelude.{slice_get, slice_set, remove, All, AllPairs, Ok, nat_eq, nat_lt, ◌&&◌, ◌||◌}
+-- The steps of a driver: those of its host and those of what is owed, together.
+use Rattle.std.proofs.Common.{◌≡◌, ◌≢◌, ℕ, zero, suc, min, max, Bool, ◌+◌, ◌<◌, ◌≤◌, inl, inr, false, true, List, [], ◌∷◌, ◌++◌, length, map, set, get_or, Option, Some, None, refl, sym, ap, ap₂, ◌∙◌, arith, subst, subst₂, length-append}
+use Rattle.std.specs.Prelude.{slice_get, slice_set, remove, replicate, All, AllPairs, nat_eq, nat_lt, ◌&&◌, ◌||◌}
 use Rattle.std.proofs.Math.Bool.{and_comm, or_comm}
 use Rattle.std.proofs.lemmas.Bool.Decides.{nat_tests}
-use Rattle.std.proofs.lemmas.List.{length-map, map_push, append_assoc, length_push, nil_from_length}
-use Rattle.std.proofs.lemmas.List.Edits.{length-remove}
-use Rattle.std.proofs.lemmas.List.Elements.{All-head, All-push, All-weaker, All-map}
-use Rattle.uda_mem.specs.Put.{put}
-use Rattle.uda_mem.specs.Words.{word_bytes}
-use Rattle.uda_mem.proofs.WordLaws.{length-word_bytes}
+use Rattle.std.proofs.lemmas.List.{length-map, map_push, append-nil, length_push, nil_from_length}
+use Rattle.std.proofs.lemmas.List.Elements.{All-nil, All-cons, All-head, All-tail, All-map}
+use Rattle.std.proofs.lemmas.Bool.{cases_eq}
+use Rattle.std.proofs.lemmas.Option.{slice_get_within}
+use Rattle.uda_mem.specs.Put.{put, part}
+use Rattle.uda_mem.proofs.PutLaws.{length-part, length-put}
 use Rattle.uda_packet.specs.declared.command.Command.{Command}
 use Rattle.uda_packet.specs.declared.end.End.{End}
-use Rattle.uda_packet.specs.Written.{written_command, written_end}
-use Rattle.uda_packet.specs.Reading.{read_command, read_end}
-use Rattle.uda_packet.proofs.WrittenLaws.{length-written_command, length-written_end}
-use Rattle.uda_port.specs.declared.phase.Phase.TheVariants.{Running}
-use Rattle.uda_port.specs.declared.turn.Turn.{Turn}
-use Rattle.uda_port.specs.declared.turn.Turn.TheVariants.{Fetched as TurnFetched, Executed, Delivered, Idle, Dead}
-use Rattle.uda_port.specs.Port.{PortState, CreditsAgree, next_grant}
-use Rattle.uda_port.specs.Turn.{TurnGoes}
+use Rattle.uda_exec.specs.Disks.{PENDING_LIMIT}
+use Rattle.uda_disk.proofs.Slots.{slice_get-set_same, slice_get-set_other}
 use Rattle.uda_disk.specs.Request.{Request, is_moving, is_writing, lbn_of, blocks_named}
-use Rattle.uda_disk.specs.Order.{clash, NoClash}
 use Rattle.uda_disk.specs.PlainRun.{too_long}
 use Rattle.uda_disk.specs.Answer.{Answer, TooLong}
+use Rattle.uda_disk.specs.Order.{clash, NoClash}
 use Rattle.uda_posting.specs.Posting.{Posted, posted_command, commands_in, answer_of, buffer_of, bytes_brought}
+use Rattle.uda_disk.specs.Values.{request_value, answer_value}
 use Rattle.uda_disk.specs.Units.{Units}
-use Rattle.uda_posting.specs.Keeping.{Misses, Beside, IsNotAt, Owes, Ended, answer_now, Keeps, HasEnded, RefersBack, AreTwo, Outs, IsBefore}
-use Rattle.uda_host.specs.Layout.{slots, buffers_start, flag_word, response_descriptor, response_packet, command_packet, command_descriptor, owner_word, packet, HoldsPacket, with_command, memory_reopened}
-use Rattle.uda_host.specs.InStep.{IsAbove}
-use Rattle.uda_driver.specs.Driving.{IsOut, Driving, posted_desk}
-use Rattle.uda_driver.specs.declared.desk.Desk.{Desk}
-use Rattle.uda_model.proofs.Lists.{All-remove, All-at}
+use Rattle.uda_posting.specs.Keeping.{Misses, Beside, Owes, Ended, answer_now, Keeps, Tells as TellsIn}
+use Rattle.uda_posting.proofs.Owing.{owes_start}
 use Rattle.uda_posting.proofs.Posts.{buffer-at, bytes_fit, ready-put}
 use Rattle.uda_posting.proofs.Ending.{keeps_put, keeps_skip, keeps_post, Ends, keeps_execute, keeps_deliver, keeps_end}
-use Rattle.uda_posting.proofs.Outs.{outs_post, outs_execute, outs_deliver}
-use Rattle.uda_host.proofs.Frames.{length-packet, length-two}
-use Rattle.uda_host.proofs.Steps.{StepFetches, StepExecutes, StepDelivers, StepGoes, turns_left, step_goes, step_post, step_put}
+use Rattle.uda_host.specs.Layout.{buffers_start, buffer_address, memory_size}
+use Rattle.uda_host.specs.InStep.{IsAbove}
+use Rattle.uda_host.specs.Host.{HostState, out_of, BuffersStay, Fetches, Does, Takes, Works, OneFetched, OneDone, AddsUp, IsIdle}
+use Rattle.uda_driver.specs.Blank.{Prepared}
+use Rattle.uda_driver.specs.Out.{posted_with, count_out, clashes_with, IsFit, AreFit}
+use Rattle.uda_driver.specs.Steps.{with_brought, PutsOut, IsReferred, Tells}
+use Rattle.uda_driver.specs.Underway.{IsOut, alive, Outs, Driving}
+use Rattle.uda_driver.specs.declared.out.Out.{Out}
+use Rattle.uda_driver.proofs.Outs.{none_at, outs_none, of_alive, outs_post, outs_execute, own, own_reference, TakenBack, outs_take}
 
--- ---- what a turn brings, by its kind
+-- ---- buffers
 
--- the driver's own places and credits once an end was taken
-abbrev pub taken_desk : Desk → ℕ → Desk
-taken_desk desk credits = record desk { response_place = (desk.response_place + 1) % slots; held = desk.held + credits }
+-- a posted request that isn't too long, with one of the host's buffers
+pub record IsBuffered (p : Posted) : Type 0 where
+  pub short : too_long p.request ≡ false
+  pub number : ℕ
+  pub within : number < PENDING_LIMIT
+  pub address_is : p.address ≡ buffer_address number
 
--- an end is of one that is out
-pub record IsOneOf (out : List Posted) (end : End) : Type 0 where
-  pub index : ℕ
-  pub posted : Posted
-  pub stands : slice_get out index ≡ Some posted
-  pub refers : posted.place + 1 ≡ end.reference
+pub is_above : (p : Posted) → IsBuffered p → IsAbove (posted_command p)
+is_above p is meet = let buffer = buffer-at p.request.unit p.request.act p.address is.short in omega (arith, buffer.here (omega arith), is.address_is)
 
-module _ (start : Units) (requests : List Request) (out : List Posted) (answers : List Answer) (desk : Desk) (port new : PortState) (after : List ℕ) where
-  -- a fetch tells and does nothing
-  pub record Fetches : Type 0 where
-    pub now : Driving start requests out answers desk new after
-    pub turns : new.turns ≡ port.turns + 1
-    pub load : new.load ≡ port.load
-    pub deliveries : new.deliveries ≡ port.deliveries
-    pub pending : length new.exec.pending ≡ length port.exec.pending + 1
-    pub waiting : length new.waiting ≡ length port.waiting
+-- what lies in one of two buffers misses the other
+misses_other : (p q : Posted) (at size : ℕ) → IsBuffered p → IsBuffered q → p.address ≢ q.address → at ≡ p.address → size ≤ 16384 → Misses at size (posted_command q)
+misses_other p q at size is that other here small meet =
+    let buffer = buffer-at q.request.unit q.request.act q.address that.short in other (omega (arith, buffer.small, buffer.here (omega arith), is.address_is, that.address_is))
 
-  -- a command is done only when all that are out were fetched
-  pub record Does : Type 0 where
-    pub now : Driving start requests out answers desk new after
-    pub all_fetched : length out ≡ length port.exec.pending + length port.waiting
-    pub turns : new.turns ≡ port.turns + 1
-    pub load : new.load ≡ port.load + length port.exec.pending
-    pub deliveries : new.deliveries ≡ port.deliveries
-    pub pending : length new.exec.pending + 1 ≡ length port.exec.pending
-    pub waiting : length new.waiting ≡ length port.waiting + 1
-
-  -- the memory where the driver has given the slot back
-  abbrev given_back : List ℕ
-  given_back = memory_reopened after desk.response_place
-
-  -- an end lies where the driver looks; once it is taken, the answer of its request is told
-  pub record Brings : Type 0 where
-    pub end : End
-    pub there : HoldsPacket after (response_packet desk.response_place) (next_grant port.deliveries) (written_end end)
-    pub legible : read_end (written_end end) ≡ Some end
-    pub some : IsOneOf out end
-    pub taken : (i : ℕ) (q : Posted) → slice_get out i ≡ Some q → q.place + 1 ≡ end.reference
-        → Driving start requests (remove out i) (slice_set answers q.place (answer_of q.request.act end (buffer_of q given_back))) (taken_desk desk (next_grant port.deliveries)) new given_back
-    pub turns : new.turns ≡ port.turns + 1
-    pub load : new.load ≡ port.load
-    pub deliveries : new.deliveries ≡ port.deliveries + 1
-    pub pending : length new.exec.pending ≡ length port.exec.pending
-    pub waiting : length new.waiting + 1 ≡ length port.waiting
-
-  abbrev pub DrivesOn : Turn → Type 0
-  DrivesOn TurnFetched = Fetches
-  DrivesOn Executed = Does
-  DrivesOn Delivered = Brings
-  DrivesOn _ = ⊥
+-- commands with two buffers are beside one another
+beside_from : (p q : Posted) → IsBuffered p → IsBuffered q → q.address ≢ p.address → Beside (posted_command q) (posted_command p)
+beside_from p q is that other meet = let buffer = buffer-at q.request.unit q.request.act q.address that.short in misses_other q p _ _ that is other (buffer.here (omega arith)) buffer.small meet
 
 -- two requests clash either way
 clash_turned : (r s : Request) → clash r s ≡ false → clash s r ≡ false
@@ -106,36 +67,71 @@ clash_turned r s h =
     ∙ ap (λ (b : Bool). joined (is_moving r.act && is_moving s.act) (nat_eq r.unit s.unit) b (max (lbn_of s.act) (lbn_of r.act)) (min (lbn_of s.act + blocks_named s.act) (lbn_of r.act + blocks_named r.act))) (or_comm (is_writing s.act) (is_writing r.act))
     ∙ ap₂ (joined (is_moving r.act && is_moving s.act) (nat_eq r.unit s.unit) (is_writing r.act || is_writing s.act)) starts ends ∙ h
 
--- ---- buffers
+-- ---- a list, and its parts
 
-is_above : (p : Posted) → IsOut p → IsAbove (posted_command p)
-is_above p is meet = let buffer = buffer-at p.request.unit p.request.act p.address is.short in omega (arith, buffer.here (omega arith), is.address_is)
+all_behind : {A : Type 0} (P : A → Type 0) (xs ys : List A) → All P (xs ++ ys) → All P ys
+all_behind P [] ys all = all
+all_behind P (x ∷ xs) ys all = all_behind P xs ys (All-tail P x (xs ++ ys) all)
 
--- what lies in one of two buffers misses the other
-misses_other : (p q : Posted) (at size : ℕ) → IsOut p → IsOut q → p.address ≢ q.address → at ≡ p.address → size ≤ 16384 → Misses at size (posted_command q)
-misses_other p q at size is that other here small meet =
-    let buffer = buffer-at q.request.unit q.request.act q.address that.short in other (omega (arith, buffer.small, buffer.here (omega arith), is.address_is, that.address_is))
+all_ended : (P : Posted → Type 0) (ended : List Ended) (due : List Posted) → All P (alive ended due) → All (λ d. P d.posted) ended
+all_ended P [] due all = All-nil (λ (d : Ended). P d.posted)
+all_ended P (e ∷ ended) due all = All-cons (λ (d : Ended). P d.posted) e ended (All-head P e.posted (alive ended due) all) (all_ended P ended due (All-tail P e.posted (alive ended due) all))
 
--- commands with two buffers are beside one another
-beside_from : (p q : Posted) → IsOut p → IsOut q → q.address ≢ p.address → Beside (posted_command q) (posted_command p)
-beside_from p q is that other meet = let buffer = buffer-at q.request.unit q.request.act q.address that.short in misses_other q p _ _ that is other (buffer.here (omega arith)) buffer.small meet
+-- ---- memory
 
--- what is so of all that are out is so of those that are due and of those that have ended
-module _ {out due : List Posted} {ended : List Ended} {waiting : List End} (outs : Outs out due ended waiting) where
-  of_due : (P : Posted → Type 0) → All P out → All P due
-  of_due P all k d low = let has = outs.has_due k d low in All-at P out has.0 _ all has.1
+-- what is written beside all their buffers changes nothing that is kept
+put_kept : {start : Units} {requests : List Request} {due : List Posted} {ended : List Ended} {answers : List Answer} {units : Units} {memory : List ℕ} (at : ℕ) (bytes : List ℕ)
+    → All (λ p. Misses at (length bytes) (posted_command p)) (alive ended due) → Keeps start requests due ended answers units memory → Keeps start requests due ended answers units (put memory at bytes)
+put_kept {due = due} {ended} at bytes misses keeps =
+    let Missed : Posted → Type 0 = λ p. Misses at (length bytes) (posted_command p) in
+    keeps_put keeps at bytes (All-map (Misses at (length bytes)) posted_command due (all_behind Missed (map (λ (d : Ended). d.posted) ended) due misses)) (all_ended Missed ended due misses)
 
-  of_ended : (P : Posted → Type 0) → All P out → All (λ d. P d.posted) ended
-  of_ended P all k d low = let has = outs.has_ended k d low in All-at P out has.0 _ all has.1
+-- while the buffers stay, so does what is kept
+stay_kept : {start : Units} {requests : List Request} {due : List Posted} {ended : List Ended} {answers : List Answer} {units : Units} {memory after : List ℕ}
+    → All IsBuffered (alive ended due) → BuffersStay memory after → Keeps start requests due ended answers units memory → Keeps start requests due ended answers units after
+stay_kept {start} {requests} {due} {ended} {answers} {units} {memory} {after} all stay keeps =
+    let short = length-part after 0 buffers_start in
+    subst (λ (m : List ℕ). Keeps start requests due ended answers units m) (sym stay.below)
+    (put_kept 0 (part after 0 buffers_start) (λ k d low meet. is_above (get_or (alive ended due) k d) (all k d low) (omega (arith, short))) keeps)
 
-  -- what is written where none of them has its buffer changes nothing that is kept
-  put_beside : {start : Units} {requests : List Request} {answers : List Answer} {units : Units} {memory : List ℕ} (at : ℕ) (bytes : List ℕ) → All (λ p. Misses at (length bytes) (posted_command p)) out
-      → Keeps start requests due ended answers units memory → Keeps start requests due ended answers units (put memory at bytes)
-  put_beside at bytes misses keeps = keeps_put keeps at bytes (All-map (Misses at (length bytes)) posted_command due (of_due (λ p. Misses at (length bytes) (posted_command p)) misses)) (of_ended (λ p. Misses at (length bytes) (posted_command p)) misses)
+has_buffer : {n : ℕ} (out : List (Option Out)) → length out ≡ PENDING_LIMIT → AreFit n out → (number : ℕ) (one : Out) → slice_get out number ≡ Some (Some one) → IsBuffered (posted_with number one)
+has_buffer {n} out sized fit number one stands = record { short = (fit number one stands).short; number = number; within = omega (arith, slice_get_within out number (Some one) stands, sized); address_is = refl }
 
-  put_below : {start : Units} {requests : List Request} {answers : List Answer} {units : Units} {memory : List ℕ} (at : ℕ) (bytes : List ℕ) → at + length bytes ≤ buffers_start → All IsOut out
-      → Keeps start requests due ended answers units memory → Keeps start requests due ended answers units (put memory at bytes)
-  put_below at bytes below buffered keeps = put_beside at bytes (λ k d low meet. is_above (get_or out k d) (buffered k d low) (omega arith)) keeps
+stays : {start : Units} {requests : List Request} {out : List (Option Out)} {answers : List Answer} {host : HostState} {after : List ℕ} (D : Driving start requests out answers host)
+    → BuffersStay host.memory after → Keeps start requests D.due D.ended answers host.units after
+stays D stay = stay_kept (of_alive D.outs IsBuffered (has_buffer _ D.outs.sized D.fit)) stay D.keeps
+
+-- ---- a turn
+
+module _ {start : Units} {requests : List Request} {out : List (Option Out)} {answers : List Answer} {host new : HostState} (D : Driving start requests out answers host) (adds_up : AddsUp new) where
+  driving_fetches : Fetches host new → Driving start requests out answers new
+  driving_fetches f = record {
+    due = D.due;
+    ended = D.ended;
+    are_due = ap (λ (h : HostState). h.due) f.is ∙ D.are_due;
+    keeps = subst (λ (us : Units). Keeps start requests D.due D.ended answers us new.memory) (sym (ap (λ (h : HostState). h.units) f.is)) (stays D f.buffers);
+    outs = subst (λ (w : List End). Outs out D.due D.ended w) (sym (ap (λ (h : HostState). h.waiting) f.is)) D.outs;
+    fit = D.fit;
+    adds_up = adds_up;
+  }
+
+  driving_does : Does host new → Driving start requests out answers new
+  driving_does x =
+      let t : Ends start requests D.due D.ended answers x.place x.end (record { units = new.units; pending = new.due }) [] new.memory = keeps_execute [] (append-nil host.due ∙ D.are_due) x.executes D.keeps in
+      let now : Ended = record { posted = t.posted; end = x.end } in
+      record {
+        due = remove D.due x.place;
+        ended = D.ended ++ now ∷ [];
+        are_due = sym (append-nil new.due) ∙ t.pending;
+        keeps = t.keeps;
+        outs = subst (λ (w : List End). Outs out (remove D.due x.place) (D.ended ++ now ∷ []) w) (sym (ap (λ (h : HostState). h.waiting) x.is)) (outs_execute D.outs x.place t.posted x.end t.stands t.reference);
+        fit = D.fit;
+        adds_up = adds_up;
+      }
+
+  pub driving_works : Works host new → Driving start requests out answers new
+  driving_works (OneFetched f) = driving_fetches f
+  driving_works (OneDone x) = driving_does x
 
 -- the end that waits first is that of the command that has ended first
 record FirstEnded (ended : List Ended) (e : End) : Type 0 where
@@ -148,200 +144,156 @@ first_ended : (ended : List Ended) (e : End) (rest : List End) → e ∷ rest �
 first_ended [] e rest waits = absurd (cc)
 first_ended (d ∷ later) e rest waits = record { first = d; later = later; is = refl; end_is = cc }
 
--- ---- a turn
+module _ {start : Units} {requests : List Request} {out : List (Option Out)} {answers : List Answer} {host new : HostState} {e : End} (D : Driving start requests out answers host) (takes : Takes host e new) where
+  split : FirstEnded D.ended e
+  split = first_ended D.ended e new.waiting (sym takes.waited ∙ D.outs.waits)
 
-module _ {start : Units} {requests : List Request} {out : List Posted} {answers : List Answer} {desk : Desk} {port : PortState} {memory : List ℕ} (D : Driving start requests out answers desk port memory) where
-  all_due : length port.exec.pending + length D.unfetched ≡ length D.due
-  all_due = sym (length-append port.exec.pending D.unfetched) ∙ ap length D.are_due ∙ length-map D.due posted_command
+  outs_split : Outs out D.due (split.first ∷ split.later) (e ∷ new.waiting)
+  outs_split = subst₂ (λ (es : List Ended) (w : List End). Outs out D.due es w) split.is takes.waited D.outs
 
-  all_ended : length port.waiting ≡ length D.ended
-  all_ended = ap length D.outs.waits ∙ length-map D.ended (λ (d : Ended). d.end)
+  -- an end is of one that is out
+  pub end_refers : IsReferred e.reference out
+  end_refers = let it = own outs_split in record { number = it.number; one = it.one; stands = it.stands; refers = own_reference outs_split }
 
-  -- as many are out as are unfetched, pending or waiting
-  pub many_out : length out ≡ length D.unfetched + (length port.exec.pending + length port.waiting)
-  many_out = omega (arith, D.outs.counted, all_due, all_ended)
+  -- once it is told, that one is out no more
+  pub driving_takes : AddsUp new → length requests ≤ length answers → (done : IsReferred e.reference out)
+      → Driving start requests (set out done.number None) (slice_set answers done.one.place (answer_of (request_value done.one.request.now).act e (buffer_of (posted_with done.number done.one) new.memory))) new
+  driving_takes adds_up room done =
+      let p = posted_with done.number done.one in
+      let back = outs_take outs_split done.number done.one done.stands done.refers in
+      let kept = subst (λ (us : Units). Keeps start requests D.due D.ended answers us new.memory) (sym (ap (λ (h : HostState). h.units) takes.is)) (stays D takes.buffers) in
+      let delivered = keeps_deliver room (subst (λ (es : List Ended). Keeps start requests D.due es answers new.units new.memory) split.is kept) in
+      let told : answer_now new.memory split.first ≡ answer_of p.request.act e (buffer_of p new.memory) = ap₂ (λ (q : Posted) (x : End). answer_of q.request.act x (buffer_of q new.memory)) (sym back.same) split.end_is in
+      let answers_are = ap₂ (slice_set answers) (ap (λ (q : Posted). q.place) (sym back.same)) told in
+      record {
+        due = D.due;
+        ended = split.later;
+        are_due = ap (λ (h : HostState). h.due) takes.is ∙ D.are_due;
+        keeps = subst (λ (now : List Answer). Keeps start requests D.due split.later now new.units new.memory) answers_are delivered;
+        outs = back.outs;
+        fit = λ k one stands. elim (cases_eq k done.number) [
+          | inl same ↦ (let both : Some None ≡ Some (Some one) = sym (slice_get-set_same out done.number None (slice_get_within out done.number _ done.stands)) ∙ ap (slice_get (set out done.number None)) (sym same) ∙ stands in absurd (cc))
+          | inr two ↦ D.fit k one (sym (slice_get-set_other out done.number k None two) ∙ stands)
+        ];
+        adds_up = adds_up;
+      }
 
-  module _ (new : PortState) (after : List ℕ) where
-    driving_fetch : StepFetches memory port D.unfetched desk.held new after → Fetches start requests out answers desk port new after
-    driving_fetch f =
-        let is = f.port_is in
-        let pending : new.exec.pending ≡ port.exec.pending ++ f.first ∷ [] = ap (λ (p : PortState). p.exec.pending) is in
-        let at = command_descriptor port.commands.place + 2 in
-        let size = length-word_bytes flag_word in let within = D.step.commands.within in
-        let kept = put_below D.outs at (word_bytes flag_word) (omega arith) D.buffered D.keeps in
-        record {
-          now = record {
-            unfetched = f.rest;
-            due = D.due;
-            ended = D.ended;
-            step = f.in_step;
-            posts_next = omega (arith, D.posts_next, ap length f.were, ap (λ (p : PortState). p.commands.place) is);
-            looks_next = D.looks_next ∙ sym (ap (λ (p : PortState). p.responses.place) is);
-            are_due = ap (λ (cs : List Command). cs ++ f.rest) pending ∙ append_assoc port.exec.pending (f.first ∷ []) f.rest ∙ ap (λ (cs : List Command). port.exec.pending ++ cs) (sym f.were) ∙ D.are_due;
-            keeps = subst₂ (λ (us : Units) (m : List ℕ). Keeps start requests D.due D.ended answers us m) (sym (ap (λ (p : PortState). p.exec.units) is)) (sym f.memory_is) kept;
-            outs = subst (λ (w : List End). Outs out D.due D.ended w) (sym (ap (λ (p : PortState). p.waiting) is)) D.outs;
-            buffered = D.buffered;
-            before = D.before;
-          };
-          turns = ap (λ (p : PortState). p.turns) is;
-          load = ap (λ (p : PortState). p.load) is;
-          deliveries = ap (λ (p : PortState). p.deliveries) is;
-          pending = ap length pending ∙ length_push port.exec.pending f.first;
-          waiting = ap (λ (p : PortState). length p.waiting) is;
-        }
+-- ---- one more request
 
-    driving_execute : StepExecutes memory port D.unfetched desk.held new after → Does start requests out answers desk port new after
-    driving_execute x =
-        let is = x.port_is in
-        let none = ap length x.none_unfetched in
-        let are_due : port.exec.pending ++ [] ≡ commands_in D.due = ap (λ (cs : List Command). port.exec.pending ++ cs) (sym x.none_unfetched) ∙ D.are_due in
-        let t : Ends start requests D.due D.ended answers x.place x.end new.exec [] after = keeps_execute [] are_due x.executes D.keeps in
-        let waiting : new.waiting ≡ port.waiting ++ x.end ∷ [] = ap (λ (p : PortState). p.waiting) is in
-        let distinct : AllPairs AreTwo D.due = λ i j d before within same. omega (arith, D.keeps.owes.in_order i j d before within) in
-        let taken = x.executes.taken in
-        record {
-          now = record {
-            unfetched = [];
-            due = remove D.due x.place;
-            ended = D.ended ++ record { posted = t.posted; end = x.end } ∷ [];
-            step = x.in_step;
-            posts_next = omega (arith, D.posts_next, none, ap (λ (p : PortState). p.commands.place) is);
-            looks_next = D.looks_next ∙ sym (ap (λ (p : PortState). p.responses.place) is);
-            are_due = t.pending;
-            keeps = t.keeps;
-            outs = subst (λ (w : List End). Outs out (remove D.due x.place) (D.ended ++ record { posted = t.posted; end = x.end } ∷ []) w) (sym waiting) (outs_execute D.outs x.place t.posted x.end t.stands t.reference distinct);
-            buffered = D.buffered;
-            before = D.before;
-          };
-          all_fetched = omega (arith, many_out, none);
-          turns = ap (λ (p : PortState). p.turns) is;
-          load = ap (λ (p : PortState). p.load) is;
-          deliveries = ap (λ (p : PortState). p.deliveries) is;
-          pending = omega (arith, ap length taken.taken, length-remove port.exec.pending x.place taken.may.stands, taken.may.stands);
-          waiting = ap length waiting ∙ length_push port.waiting x.end;
-        }
+pub still_fit : {n m : ℕ} {one : Out} → n ≤ m → IsFit n one → IsFit m one
+still_fit le fit = record { before = omega (arith, fit.before); short = fit.short; prepared = fit.prepared }
 
-    driving_deliver : length requests ≤ length answers → StepDelivers memory port D.unfetched desk.held new after → Brings start requests out answers desk port new after
-    driving_deliver room h =
-        let is = h.port_is in let e = h.end in
-        let credits = next_grant port.deliveries in
-        let i = port.responses.place in
-        let final = memory_reopened after i in
-        let split = first_ended D.ended e new.waiting (sym h.waited ∙ D.outs.waits) in
-        let outs : Outs out D.due (split.first ∷ split.later) (e ∷ new.waiting) = subst₂ (λ (es : List Ended) (w : List End). Outs out D.due es w) split.is h.waited D.outs in
-        let size = length-packet credits (written_end e) (length-written_end e) in let flag = length-word_bytes flag_word in let owner = length-word_bytes owner_word in let within = D.step.response_within in
-        let kept =
-        put_below D.outs (response_descriptor i + 2) (word_bytes owner_word) (omega arith) D.buffered
-        (put_below D.outs (response_descriptor i + 2) (word_bytes flag_word) (omega arith) D.buffered (put_below D.outs (response_packet i) (packet credits (written_end e)) (omega arith) D.buffered D.keeps)) in
-        let kept_now = subst₂ (λ (us : Units) (m : List ℕ). Keeps start requests D.due D.ended answers us (memory_reopened m i)) (sym (ap (λ (p : PortState). p.exec.units) is)) (sym h.memory_is) kept in
-        let delivered = keeps_deliver room (subst (λ (es : List Ended). Keeps start requests D.due es answers new.exec.units final) split.is kept_now) in
-        let own = All-head (HasEnded out) split.first split.later outs.has_ended in
-        let end_is : split.first.end.reference ≡ e.reference = ap (λ (x : End). x.reference) split.end_is in
-        let slot : i ≡ desk.response_place = sym D.looks_next in
-        record {
-          end = e;
-          there = subst (λ (k : ℕ). HoldsPacket after (response_packet k) credits (written_end e)) slot h.there;
-          legible = h.legible;
-          some = record { index = own.0; posted = split.first.posted; stands = own.1; refers = omega (arith, All-head RefersBack split.first split.later outs.refer) };
-          taken = λ k q stands refers.
-              let back = outs_deliver outs k q stands refers in
-              let told : answer_now final split.first ≡ answer_of q.request.act e (buffer_of q final) = ap₂ (λ (p : Posted) (x : End). answer_of p.request.act x (buffer_of p final)) (sym back.same) split.end_is in
-              let answers_are = ap₂ (slice_set answers) (ap (λ (p : Posted). p.place) (sym back.same)) told in
-              let now : Driving start requests (remove out k) (slice_set answers q.place (answer_of q.request.act e (buffer_of q final))) (record desk { response_place = (desk.response_place + 1) % slots; held = desk.held + credits }) new final = record {
-                unfetched = [];
-                due = D.due;
-                ended = split.later;
-                step = h.in_step;
-                posts_next = omega (arith, D.posts_next, ap length h.none_unfetched, ap (λ (p : PortState). p.commands.place) is);
-                looks_next = ap (λ (s : ℕ). (s + 1) % slots) D.looks_next ∙ sym (ap (λ (p : PortState). p.responses.place) is);
-                are_due = ap₂ (λ (cs ds : List Command). cs ++ ds) (ap (λ (p : PortState). p.exec.pending) is) (sym h.none_unfetched) ∙ D.are_due;
-                keeps = subst (λ (told_now : List Answer). Keeps start requests D.due split.later told_now new.exec.units final) answers_are delivered;
-                outs = back.outs;
-                buffered = All-remove IsOut out k D.buffered;
-                before = All-remove (IsBefore (length requests)) out k D.before;
-              } in
-              subst (λ (s : ℕ). Driving start requests (remove out k) (slice_set answers q.place (answer_of q.request.act e (buffer_of q (memory_reopened after s)))) (taken_desk desk credits) new (memory_reopened after s)) slot now;
-          turns = ap (λ (p : PortState). p.turns) is;
-          load = ap (λ (p : PortState). p.load) is;
-          deliveries = ap (λ (p : PortState). p.deliveries) is;
-          pending = ap (λ (p : PortState). length p.exec.pending) is;
-          waiting = sym (ap length h.waited ∙ omega arith);
-        }
-
-    pub driving_turn : (turn : Turn) → length requests ≤ length answers → 0 < length out → CreditsAgree new → TurnGoes Running port memory turn new after → DrivesOn start requests out answers desk port new after turn
-    driving_turn turn room some agree goes = by turn (step_goes turn new after D.step left agree goes)
-      where
-        left : 0 < turns_left port D.unfetched
-        left = omega (arith, many_out)
-
-        by : (turn : Turn) → StepGoes memory port D.unfetched desk.held turn new after → DrivesOn start requests out answers desk port new after turn
-        by TurnFetched step = driving_fetch step
-        by Executed step = driving_execute step
-        by Delivered step = driving_deliver room step
-        by Idle step = step
-        by Dead step = step
-
-  -- ---- one more request
-
-  still_before : (r : Request) → All (IsBefore (length (requests ++ r ∷ []))) out
-  still_before r = All-weaker (IsBefore (length requests)) (IsBefore (length (requests ++ r ∷ []))) (λ p low. omega (arith, length_push requests r)) out D.before
-
-  pub driving_skip : (r : Request) → too_long r ≡ true → slice_get answers (length requests) ≡ Some TooLong → Driving start (requests ++ r ∷ []) out answers desk port memory
+module _ {start : Units} {requests : List Request} {out : List (Option Out)} {answers : List Answer} {host : HostState} (D : Driving start requests out answers host) where
+  pub driving_skip : (r : Request) → too_long r ≡ true → slice_get answers (length requests) ≡ Some TooLong → Driving start (requests ++ r ∷ []) out answers host
   driving_skip r long blank = record {
-    unfetched = D.unfetched;
     due = D.due;
     ended = D.ended;
-    step = D.step;
-    posts_next = D.posts_next;
-    looks_next = D.looks_next;
     are_due = D.are_due;
     keeps = keeps_skip D.keeps r long blank;
     outs = D.outs;
-    buffered = D.buffered;
-    before = still_before r;
+    fit = λ number one stands. still_fit (omega (arith, length_push requests r)) (D.fit number one stands);
+    adds_up = D.adds_up;
   }
 
-  pub driving_post : (p : Posted) → 0 < desk.held → p.place ≡ length requests → IsOut p → read_command (written_command (posted_command p)) ≡ Ok (posted_command p)
-      → All (λ q. q.address ≢ p.address) out → All (λ q. clash p.request q.request ≡ false) out
-      → Driving start (requests ++ p.request ∷ []) (out ++ p ∷ []) answers (posted_desk desk) (record port { looking = true }) (with_command (put memory p.address (bytes_brought p.request.act)) desk.command_place (posted_command p))
-  driving_post p credit last is legible other clear =
-      let c = posted_command p in let i = desk.command_place in
-      let bytes = bytes_brought p.request.act in
-      let brought = put memory p.address bytes in
-      let in_ring : i < slots = omega (arith, D.posts_next) in
-      let size = D.step.commands.size in
-      -- memory
-      let fits = (bytes_fit p.request.act p.address).fits in let buffer = buffer-at p.request.unit p.request.act p.address is.short in
-      let misses : All (λ q. Misses p.address (length bytes) (posted_command q)) out = λ k d low. misses_other p (get_or out k d) p.address (length bytes) is (D.buffered k d low) (λ same. other k d low (sym same)) refl (omega arith) in
-      let ready = ready-put p memory is.short (omega (arith, is.address_is)) (omega (arith, is.address_is, is.within)) in
-      let text = length-packet 0 (written_command c) (length-written_command c) in let four = length-two (command_packet i + 4) owner_word in
-      -- what is out
-      let beside : All (λ q. Beside (posted_command q) c) out = λ k d low. beside_from p (get_or out k d) is (D.buffered k d low) (other k d low) in
-      let none : All (λ q. NoClash q.request p.request) out = λ k d low. clash_turned p.request (get_or out k d).request (clear k d low) in
-      let new : All (IsNotAt p.place) out = λ k d low same. omega (arith, D.before k d low, last) in
-      let outs = outs_post D.outs p new (λ k d low same. of_ended D.outs (IsNotAt p.place) new k d low (sym same)) in
-      let buffered : All IsOut (out ++ p ∷ []) = All-push IsOut out p D.buffered is in
-      let kept = keeps_post (put_beside D.outs p.address bytes misses D.keeps) p last ready (All-map (λ d. Beside d c) posted_command D.due (of_due D.outs (λ q. Beside (posted_command q) c) beside))
-      (All-map (λ r. NoClash r p.request) (λ (q : Posted). q.request) D.due (of_due D.outs (λ q. NoClash q.request p.request) none))
-      (of_ended D.outs (λ q. Beside (posted_command q) c) beside) in
-      record {
-        unfetched = D.unfetched ++ c ∷ [];
-        due = D.due ++ p ∷ [];
-        ended = D.ended;
-        step = step_post (step_put D.step p.address bytes (omega (arith, is.address_is))) i c credit D.posts_next (record { above = is_above p is; legible = legible });
-        posts_next = omega (arith, D.posts_next, length_push D.unfetched c);
-        looks_next = D.looks_next;
-        are_due = sym (append_assoc port.exec.pending D.unfetched (c ∷ [])) ∙ ap (λ (cs : List Command). cs ++ c ∷ []) D.are_due ∙ sym (map_push posted_command D.due p);
-        keeps = put_below outs (command_descriptor i) (word_bytes (command_packet i + 4) ++ word_bytes owner_word) (omega arith) buffered (put_below outs (command_packet i) (packet 0 (written_command c)) (omega arith) buffered kept);
-        outs = outs;
-        buffered = buffered;
-        before = All-push (IsBefore (length (requests ++ p.request ∷ []))) out p (still_before p.request) (omega (arith, length_push requests p.request, last));
-      }
+  -- an answer from there on is not shown yet
+  pub driving_unshown : (place : ℕ) (a : Answer) → length requests ≤ place → Driving start requests out (slice_set answers place a) host
+  driving_unshown place a later = record {
+    due = D.due;
+    ended = D.ended;
+    are_due = D.are_due;
+    keeps = record {
+      told = D.keeps.told;
+      owes = D.keeps.owes;
+      tell = D.keeps.tell;
+      left = D.keeps.left;
+      shown = λ k low not_due not_ended. slice_get-set_other answers place k a (λ same. omega (arith, same, low, later)) ∙ D.keeps.shown k low not_due not_ended;
+    };
+    outs = D.outs;
+    fit = D.fit;
+    adds_up = D.adds_up;
+  }
+
+  module _ {one : Out} {new : HostState} {after : List (Option Out)} (puts : PutsOut one host out new after) (fit : IsFit (length requests + 1) one) (last : one.place ≡ length requests)
+      (clear : (number : ℕ) (other : Out) → slice_get out number ≡ Some (Some other) → clashes_with (request_value one.request.now) (Some other) ≡ false) where
+    abbrev pub now : Posted
+    now = posted_with puts.number one
+
+    now_buffered : IsBuffered now
+    now_buffered = record { short = fit.short; number = puts.number; within = omega (arith, slice_get_within out puts.number None puts.free, D.outs.sized); address_is = refl }
+
+    other_buffer : (k : ℕ) (other : Out) → slice_get out k ≡ Some (Some other) → (posted_with k other).address ≢ now.address
+    other_buffer k other stands same =
+        let both : Some (Some other) ≡ Some None = sym stands ∙ ap (slice_get out) (omega (arith, same)) ∙ puts.free in cc
+
+    beside : (k : ℕ) (other : Out) → slice_get out k ≡ Some (Some other) → Beside (posted_command (posted_with k other)) (posted_command now)
+    beside k other stands = beside_from now (posted_with k other) now_buffered (has_buffer out D.outs.sized D.fit k other stands) (other_buffer k other stands)
+
+    kept_brought : Keeps start (requests ++ now.request ∷ []) (D.due ++ now ∷ []) D.ended answers host.units (put host.memory now.address (bytes_brought now.request.act))
+    kept_brought =
+        let fits = (bytes_fit now.request.act now.address).fits in let buffer = buffer-at now.request.unit now.request.act now.address fit.short in
+        let ready = ready-put now host.memory fit.short (omega arith) (omega (arith, slice_get_within out puts.number None puts.free, D.outs.sized, D.adds_up.size)) in
+        let Apart : Posted → Type 0 = λ q. Beside (posted_command q) (posted_command now) in
+        let Clear : Posted → Type 0 = λ q. NoClash q.request now.request in
+        let before = map (λ (d : Ended). d.posted) D.ended in
+        let all = of_alive D.outs Apart beside in
+        let none = of_alive D.outs Clear (λ k other stands. clash_turned now.request (posted_with k other).request (clear k other stands)) in
+        let Missed : Posted → Type 0 = λ q. Misses now.address (length (bytes_brought now.request.act)) (posted_command q) in
+        let misses = of_alive D.outs Missed (λ k other stands. misses_other now (posted_with k other) now.address (length (bytes_brought now.request.act)) now_buffered (has_buffer out D.outs.sized D.fit k other stands) (λ same. other_buffer k other stands (sym same)) refl (omega arith)) in
+        keeps_post (put_kept now.address (bytes_brought now.request.act) misses D.keeps) now last ready
+        (All-map (λ d. Beside d (posted_command now)) posted_command D.due (all_behind Apart before D.due all))
+        (All-map (λ r. NoClash r now.request) (λ (q : Posted). q.request) D.due (all_behind Clear before D.due none))
+        (all_ended Apart D.ended D.due all)
+
+    fit_after : AreFit (length (requests ++ now.request ∷ [])) (set out puts.number (Some one))
+    fit_after = λ k other stands. elim (cases_eq k puts.number) [
+      | inl same ↦ (let both : Some (Some one) ≡ Some (Some other) = sym (slice_get-set_same out puts.number (Some one) (slice_get_within out puts.number None puts.free)) ∙ ap (slice_get (set out puts.number (Some one))) (sym same) ∙ stands in
+          let is : one ≡ other = cc in subst (IsFit (length (requests ++ now.request ∷ []))) is (still_fit (omega (arith, length_push requests now.request)) fit))
+      | inr two ↦ still_fit (omega (arith, length_push requests now.request)) (D.fit k other (sym (slice_get-set_other out puts.number k (Some one) two) ∙ stands))
+    ]
+
+    -- what it brings stands in its buffer, and its command is posted
+    pub driving_post : AddsUp new → Driving start (requests ++ now.request ∷ []) after answers new
+    driving_post adds_up =
+        let posts = puts.posts in
+        let outs = outs_post D.outs puts.number one puts.free (λ k other stands same. omega (arith, (D.fit k other stands).before, last)) in
+        let kept = stay_kept (of_alive outs IsBuffered (has_buffer (set out puts.number (Some one)) outs.sized fit_after)) posts.buffers kept_brought in
+        subst (λ (o : List (Option Out)). Driving start (requests ++ now.request ∷ []) o answers new) (sym puts.out_is) (record {
+          due = D.due ++ now ∷ [];
+          ended = D.ended;
+          are_due = ap (λ (h : HostState). h.due) posts.is ∙ ap (λ (cs : List Command). cs ++ posted_command now ∷ []) D.are_due ∙ sym (map_push posted_command D.due now);
+          keeps = subst (λ (us : Units). Keeps start (requests ++ now.request ∷ []) (D.due ++ now ∷ []) D.ended answers us new.memory) (sym (ap (λ (h : HostState). h.units) posts.is)) kept;
+          outs = subst (λ (w : List End). Outs (set out puts.number (Some one)) (D.due ++ now ∷ []) D.ended w) (sym (ap (λ (h : HostState). h.waiting) posts.is)) outs;
+          fit = fit_after;
+          adds_up = adds_up;
+        })
 
 -- ---- nothing is out
 
-pub driving_end : {start : Units} {requests : List Request} {answers : List Answer} {desk : Desk} {port : PortState} {memory : List ℕ}
-    → length answers ≡ length requests → Driving start requests [] answers desk port memory → Owes start requests [] answers port.exec.units memory
-driving_end {start} {requests} {answers} {port = port} {memory} size D =
-    let none_due = nil_from_length D.due (omega (arith, D.outs.counted)) in let none_ended = nil_from_length D.ended (omega (arith, D.outs.counted)) in
-    keeps_end size (subst₂ (λ (due : List Posted) (ended : List Ended). Keeps start requests due ended answers port.exec.units memory) none_due none_ended D.keeps)
+pub driving_start : {host : HostState} {out : List (Option Out)} (answers : List Answer) → IsIdle host → AddsUp host → out ≡ replicate PENDING_LIMIT None → Driving host.units [] out answers host
+driving_start {host} {out} answers idle adds_up none = record {
+  due = [];
+  ended = [];
+  are_due = idle.none_due;
+  keeps = record {
+    told = [];
+    owes = owes_start host.units host.memory;
+    tell = All-nil (TellsIn [] host.memory);
+    left = All-nil (λ (d : Ended). All (Beside (posted_command d.posted)) (commands_in []));
+    shown = λ k low not_due not_ended. absurd (omega arith);
+  };
+  outs = outs_none out host.waiting none idle.none_wait;
+  fit = λ number one stands. absurd (none_at PENDING_LIMIT number one (sym (ap (λ (o : List (Option Out)). slice_get o number) none) ∙ stands));
+  adds_up = adds_up;
+}
+
+pub driving_end : {start : Units} {requests : List Request} {out : List (Option Out)} {answers : List Answer} {host : HostState}
+    → length answers ≡ length requests → out_of host ≡ 0 → Driving start requests out answers host → Owes start requests [] answers host.units host.memory
+driving_end {start} {requests} {answers = answers} {host} size none D =
+    let none_due = nil_from_length D.due (omega (arith, none, ap length D.are_due, length-map D.due posted_command)) in
+    let none_ended = nil_from_length D.ended (omega (arith, none, ap length D.outs.waits, length-map D.ended (λ (d : Ended). d.end))) in
+    keeps_end size (subst₂ (λ (due : List Posted) (ended : List Ended). Keeps start requests due ended answers host.units host.memory) none_due none_ended D.keeps)
+
+-- as many are out as the host has
+pub counted_out : {start : Units} {requests : List Request} {out : List (Option Out)} {answers : List Answer} {host : HostState} → Driving start requests out answers host → count_out out ≡ out_of host
+counted_out D =
+    omega (arith, D.outs.counted, length-append (map (λ (d : Ended). d.posted) D.ended) D.due, length-map D.ended (λ (d : Ended). d.posted), length-map D.ended (λ (d : Ended). d.end), ap length D.outs.waits, ap length D.are_due, length-map D.due posted_command)

@@ -1,5 +1,7 @@
-pub mod Buffers
 pub mod Drives
+pub mod Blanks
+pub mod Slots
+pub mod Outs
 pub mod Drivings
+pub mod Loads
 pub mod Underways
-pub mod Startings

@@ -1,25 +1,26 @@
 -- A driver as its callers see it.
-use Rattle.std.specs.Prelude.{ℕ, List, Option}
+use Rattle.std.specs.Prelude.{◌≡◌, ℕ, ◌<◌, List, Option}
 use Rattle.uda_disk.specs.Units.{UnitState, AreImages}
-use Rattle.uda_port.specs.Port.{PortState}
-use Rattle.uda_driver.specs.declared.desk.Desk.{Desk}
-use Rattle.uda_driver.specs.declared.driver.Driver.TheInside.{Inside}
-use Rattle.uda_driver.specs.Underway.{AtRest}
+use Rattle.uda_exec.specs.Disks.{PENDING_LIMIT}
+use Rattle.uda_port.specs.declared.phase.Phase.TheVariants.{Running}
+use Rattle.uda_host.specs.Host.{HostState, IsIdle, AddsUp}
 
--- its memory, its port, and what it keeps of that
-pub record DriverState : Type 0 where
-  pub memory : List ℕ
-  pub port : PortState
-  pub desk : Desk
+-- all that it keeps is its host
+abbrev pub DriverState : Type 0
+DriverState = HostState
 
 abbrev pub units_of : DriverState → List (Option UnitState)
-units_of driver = driver.port.exec.units
+units_of driver = driver.units
 
--- between two calls nothing is out, and all credits are back
-abbrev pub IsAtRest : DriverState → Type 0
-IsAtRest driver = AtRest driver.desk driver.port driver.memory
+-- between two calls the port runs, nothing is out, and all credits are back
+pub record IsAtRest (driver : DriverState) : Type 0 where
+  pub runs : driver.phase ≡ Running
+  pub idle : IsIdle driver
+  pub credits_are : driver.credits ≡ PENDING_LIMIT
+  pub begun : 0 < driver.taken
 
--- what is always true of its fields
-pub record IsDriver {S : Type 0} (d : Inside S) : Type 0 where
-  pub rest : AtRest d.desk d.port d.memory
-  pub images : AreImages d.port.exec.units
+-- what is always true of it
+pub record IsDriver (driver : DriverState) : Type 0 where
+  pub rest : IsAtRest driver
+  pub images : AreImages driver.units
+  pub adds_up : AddsUp driver

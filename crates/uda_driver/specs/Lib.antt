@@ -1,5 +1,7 @@
 pub mod Run
-pub mod Driving
+pub mod Blank
+pub mod Out
+pub mod Steps
+pub mod Load
 pub mod Underway
-pub mod Starting
 pub mod Driver

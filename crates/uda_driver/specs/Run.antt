@@ -1,12 +1,14 @@
 -- What a driver promises of a run of requests.
 use Rattle.std.specs.Prelude.{◌≡◌, ℕ, ◌+◌, ◌-◌, ◌*◌, ◌/◌, ◌≤◌, List, length, Some, slice_get, Option}
-use Rattle.uda_disk.specs.Units.{UnitState, disks_of, failures_at}
-use Rattle.uda_port.specs.Port.{PortState}
+use Rattle.uda_disk.specs.Units.{UnitState, disks_of}
+use Rattle.uda_disk.specs.Units.{failures_at}
+use Rattle.uda_host.specs.Host.{HostState}
 use Rattle.uda_disk.specs.Request.{Request}
 use Rattle.uda_disk.specs.Answer.{Answer}
-use Rattle.uda_disk.specs.PlainRun.{plain, PlainWithLosses, drive_errors, posted_count}
-use Rattle.uda_disk.specs.Order.{lead}
 use Rattle.uda_disk.specs.Form.{IsAnswerOf}
+use Rattle.uda_disk.specs.PlainRun.{plain, PlainWithLosses, drive_errors}
+use Rattle.uda_disk.specs.Order.{lead}
+use Rattle.uda_disk.specs.PlainRun.{posted_count}
 
 -- the most requests of one run
 abbrev pub request_limit : ℕ
@@ -15,28 +17,38 @@ request_limit = 4096
 -- as many answers as requests, each of its request's form, TooLong exactly where the request is too long
 pub record AreAnswersOf (requests : List Request) (answers : List Answer) : Type 0 where
   pub counted : length answers ≡ length requests
-  pub formed : (k : ℕ) (r : Request) (answer : Answer) → slice_get requests k ≡ Some r → slice_get answers k ≡ Some answer → IsAnswerOf r answer
+  pub formed :
+      (k : ℕ) (r : Request) (answer : Answer)
+      → slice_get requests k ≡ Some r → slice_get answers k ≡ Some answer → IsAnswerOf r answer
 
 -- answers and disks are those of one plain array of blocks for each unit, served in order
-abbrev pub IsPlainRun : List (Option UnitState) → List Request → List Answer → List (Option UnitState) → Type 0
-IsPlainRun units requests answers units_after = (answers, disks_of units_after) ≡ plain (disks_of units) requests
+abbrev pub IsPlainRun :
+    List (Option UnitState) → List Request → List Answer → List (Option UnitState) → Type 0
+IsPlainRun units requests answers units_after =
+    (answers, disks_of units_after) ≡ plain (disks_of units) requests
 
 -- no store failed
 abbrev pub NoneFailed : List (Option UnitState) → List (Option UnitState) → Type 0
-NoneFailed units units_after = (u : ℕ) → failures_at (slice_get units_after u) ≡ failures_at (slice_get units u)
+NoneFailed units units_after =
+    (u : ℕ) → failures_at (slice_get units_after u) ≡ failures_at (slice_get units u)
 
--- answers and disks are those of a plain run in which transfers may be lost, and each failure of a store was told once
-pub record TellsLosses (units : List (Option UnitState)) (requests : List Request) (answers : List Answer) (units_after : List (Option UnitState)) : Type 0 where
+-- answers and disks are those of a plain run in which transfers may be lost, and each failure of a store was
+-- told once
+pub record TellsLosses (units : List (Option UnitState)) (requests : List Request) (answers : List Answer)
+    (units_after : List (Option UnitState)) : Type 0 where
   pub run : PlainWithLosses (disks_of units) requests answers (disks_of units_after)
-  pub told : (u : ℕ) → failures_at (slice_get units_after u) ≡ failures_at (slice_get units u) + drive_errors u requests answers
+  pub told :
+      (u : ℕ)
+      → failures_at (slice_get units_after u)
+      ≡ failures_at (slice_get units u) + drive_errors u requests answers
 
 -- the least load of so many requests that are posted, of which these first can be out together
 abbrev pub least_load : ℕ → ℕ → ℕ
 least_load first posted = first * (first + 1) / 2 + (posted - first)
 
 -- three turns of the port for each request that is posted, one fetch and one delivery
-pub record CountsOn (requests : List Request) (port port_after : PortState) : Type 0 where
-  pub turns : port_after.turns ≡ port.turns + 3 * posted_count requests
-  pub fetches : port_after.fetches ≡ port.fetches + posted_count requests
-  pub deliveries : port_after.deliveries ≡ port.deliveries + posted_count requests
-  pub load : port.load + least_load (lead requests) (posted_count requests) ≤ port_after.load
+pub record CountsOn (requests : List Request) (host host_after : HostState) : Type 0 where
+  pub turns : host_after.turns ≡ host.turns + 3 * posted_count requests
+  pub fetches : host_after.fetches ≡ host.fetches + posted_count requests
+  pub deliveries : host_after.taken ≡ host.taken + posted_count requests
+  pub load : host.load + least_load (lead requests) (posted_count requests) ≤ host_after.load

@@ -1,20 +1,23 @@
 //! The driver.
-ghost use Rattle.std.specs.Prelude.{◌≡◌, ◌<◌, ◌↔◌, length, Err, IfOk, IfErr};
+ghost use Rattle.std.specs.Prelude.{◌≡◌, ◌<◌, ◌≤◌, ◌↔◌, length, Err, IfOk, IfErr};
 ghost use Rattle.uda_exec.specs.Drives.{drive_states, fresh_units, drives_in};
-ghost use Rattle.uda_disk.specs.Units.{natures_of, AllFaithful};
+ghost use Rattle.uda_disk.specs.Units.{natures_of};
+ghost use Rattle.uda_disk.specs.Units.{AllFaithful};
 ghost use Rattle.uda_disk.specs.Values.{request_values, answer_values};
-ghost use Rattle.uda_driver.specs.Run.{request_limit, AreAnswersOf, NoneFailed, IsPlainRun, TellsLosses, CountsOn};
+ghost use Rattle.uda_driver.specs.Run.{request_limit, AreAnswersOf, NoneFailed, IsPlainRun};
+ghost use Rattle.uda_driver.specs.Run.{TellsLosses, CountsOn};
+ghost use Rattle.uda_driver.specs.Blank.{AreBlank};
 ghost use Rattle.uda_driver.specs.Driver.{units_of, IsAtRest};
 
-use crate::desk::Desk;
-use crate::serve::run;
-use crate::start::{begin, host_memory, new_port, stores_of};
+use crate::answers::blanks;
+use crate::serve::drive;
 use std::alloc::Global;
 use std::marker::Model;
 use uda_disk::{Answer, Request};
+use uda_exec::Exec;
+use uda_host::Host;
 use uda_image::{BlockStore, Drive};
-use uda_mem::{HostMemory, NoMemory};
-use uda_port::Port;
+use uda_mem::NoMemory;
 
 /// The most requests of one run.
 pub const REQUEST_LIMIT: usize = 4096;
@@ -28,25 +31,25 @@ pub enum RunError {
     TooMany,
 }
 
-/// A class driver: host memory, a port over the units' executor, and what it keeps of that.
+/// A class driver: a host over the units' executor.
 ///
 /// It reaches its units through the port alone, and keeps nothing of their blocks.
 #[derive(Drop)]
 pub struct Driver<S: BlockStore> {
     alloc: Global,
-    memory: HostMemory,
-    desk: Desk,
-    port: Port<S>,
+    host: Host<S>,
 }
 
 impl<S: BlockStore> Model for Driver<S> {
-    ghost use Rattle.uda_driver.specs.Driver.{DriverState, IsDriver};
+    ghost use Rattle.uda_host.specs.Host.{HostState};
 
-    ghost Value = { DriverState };
+    ghost Value = { HostState };
 
-    ghost view = { λ d. record { memory = d.memory; port = d.port; desk = d.desk } };
+    ghost use Rattle.uda_driver.specs.Driver.{IsDriver};
 
-    ghost invariant = { IsDriver };
+    ghost view = { λ d. d.host };
+
+    ghost invariant = { λ d. IsDriver d.host };
 }
 
 impl<S: BlockStore> Driver<S> {
@@ -68,20 +71,9 @@ impl<S: BlockStore> Driver<S> {
         ensures refused { IfErr result (λ refusal.
             drive_states S.state refusal.1 ≡ drive_states S.state drives) }
     {
-        let Ok(mut memory) = host_memory(alloc) else {
-            return Err((NoMemory, drives));
-        };
-        match new_port(alloc, drives) {
-            Err(refusal) => Err(refusal),
-            Ok(mut port) => {
-                let desk = begin(&mut port, &mut memory);
-                Ok(Driver {
-                    alloc,
-                    memory,
-                    port,
-                    desk,
-                })
-            }
+        match Host::start(alloc, Exec::new(drives)) {
+            Err((error, exec)) => Err((error, exec.into_stores())),
+            Ok(host) => Ok(Driver { alloc, host }),
         }
     }
 
@@ -111,22 +103,34 @@ impl<S: BlockStore> Driver<S> {
             → TellsLosses (units_of self.old) (request_values requests.now)
             (answer_values answers.items) (units_of self.new)) }
         ensures counts { IfOk result (λ _.
-            CountsOn (request_values requests.now) self.old.port self.new.port) }
+            CountsOn (request_values requests.now) self.old self.new) }
     {
-        run(
-            self.alloc,
-            &mut self.port,
-            &mut self.memory,
-            &mut self.desk,
-            requests,
-        )
+        let answers = prepare(self.alloc, requests)?;
+        Ok(drive(&mut self.host, requests, answers))
     }
 
     /// The drives as the last run left them, hardware protection too. No store is called.
     pub fn into_stores(self) -> [Option<Drive<S>>; 4]
         ensures drives { drive_states S.state result ≡ drives_in (units_of self) }
     {
-        let Driver { port, .. } = self;
-        stores_of(port)
+        let Driver { host, .. } = self;
+        host.into_exec().into_stores()
+    }
+}
+
+// An answer for each request, with room for what it will tell.
+fn prepare(alloc: Global, requests: &[Request]) -> Result<Vec<Answer>, RunError>
+    ensures too_many { (result ≡ Err RunError.TooMany) ↔ (request_limit < length requests.now) }
+    ensures few { IfOk result (λ _. length requests.now ≤ request_limit) }
+    ensures counted { IfOk result (λ answers. length answers.items ≡ length requests.now) }
+    ensures blank { IfOk result (λ answers.
+        AreBlank (request_values requests.now) 0 (answer_values answers.items)) }
+{
+    if requests.len() > REQUEST_LIMIT {
+        return Err(RunError::TooMany);
+    }
+    match blanks(alloc, requests) {
+        Ok(answers) => Ok(answers),
+        Err(_) => Err(RunError::NoMemory),
     }
 }

@@ -1,4 +1,4 @@
--- A driver and its port between two turns.
+-- A host and its port between two turns.
 use Rattle.std.specs.Prelude.{◌≡◌, ℕ, ◌+◌, ◌<◌, true, List, length, All, Ok}
 use Rattle.uda_mem.specs.Put.{Meet}
 use Rattle.uda_packet.specs.declared.command.Command.{Command}
@@ -7,7 +7,8 @@ use Rattle.uda_packet.specs.Reading.{read_command}
 use Rattle.uda_exec.specs.Commands.{buffer_start, room_of}
 use Rattle.uda_port.specs.declared.phase.Phase.TheVariants.{Running}
 use Rattle.uda_port.specs.Port.{PortState, CreditsAgree}
-use Rattle.uda_host.specs.Layout.{slots, buffers_start, command_ring_at, response_ring_at, CommandSide, ResponseSide}
+use Rattle.uda_host.specs.Layout.{slots, buffers_start, command_ring_at, response_ring_at}
+use Rattle.uda_host.specs.Layout.{CommandSide, ResponseSide}
 
 -- no byte of its buffer lies below the buffers, among the rings and texts
 abbrev pub IsAbove : Command → Type 0
@@ -18,7 +19,8 @@ pub record IsSound (c : Command) : Type 0 where
   pub above : IsAbove c
   pub legible : read_command (written_command c) ≡ Ok c
 
--- Each sees what the other wrote: these commands are posted and not fetched yet, and the driver may post so many more.
+-- Each sees what the other wrote: these commands are posted and not fetched yet, and the host may post so
+-- many more.
 pub record InStep (memory : List ℕ) (port : PortState) (unfetched : List Command) (held : ℕ) : Type 0 where
   pub runs : port.phase ≡ Running
   pub looks : 0 < length unfetched → port.looking ≡ true

@@ -22,9 +22,11 @@ state_of memory port unfetched held = record {
   load = port.load;
 }
 
--- Its places and credits are those that its port sees; of the commands posted since start-up the port has fetched the
+-- Its places and credits are those that its port sees; of the commands posted since start-up the port has
+-- fetched the
 -- first so many; and each turn was a fetch, a command done or an end delivered.
-pub record InPlace (memory : List ℕ) (port : PortState) (posted : List Command) (command_place response_place held : ℕ) : Type 0 where
+pub record InPlace (memory : List ℕ) (port : PortState) (posted : List Command)
+    (command_place response_place held : ℕ) : Type 0 where
   pub step : InStep memory port (drop port.fetches posted) held
   pub counted : port.fetches ≤ length posted
   pub turned : port.turns ≡ port.fetches + (port.deliveries + length port.waiting) + port.deliveries

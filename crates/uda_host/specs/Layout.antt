@@ -1,4 +1,4 @@
--- Where a driver's rings, texts and buffers stand in its memory, and what stands there.
+-- Where a host's rings, texts and buffers stand in its memory, and what stands there.
 -- UDA50 Programmer's Documentation Kit: communication area, ring descriptors, message envelopes.
 use Rattle.std.specs.Prelude.{◌≡◌, ℕ, ◌+◌, ◌*◌, ◌%◌, ◌<◌, ◌≤◌, false, List, ◌++◌, length, get_or, Some}
 use Rattle.uda_mem.specs.Put.{put, part}
@@ -9,7 +9,8 @@ use Rattle.uda_packet.specs.Written.{written_command, written_end}
 use Rattle.uda_port.specs.declared.descriptor.Descriptor.{Descriptor}
 use Rattle.uda_port.specs.Ring.{is_owned, descriptor_at, RingState}
 
--- ---- the layout: the response ring at the ring base, the command ring behind it, then a packet for each descriptor, and
+-- ---- the layout: the response ring at the ring base, the command ring behind it, then a packet for each
+-- descriptor, and
 -- from 0x1000 on the buffers
 
 -- how many descriptors each ring has
@@ -83,7 +84,9 @@ posted_descriptor i = record { low = command_packet i + 4; high = owner_word }
 
 -- the memory where a command is posted at place i
 abbrev pub with_command : List ℕ → ℕ → Command → List ℕ
-with_command memory i c = put (put memory (command_packet i) (packet 0 (written_command c))) (command_descriptor i) (word_bytes (command_packet i + 4) ++ word_bytes owner_word)
+with_command memory i c =
+    put (put memory (command_packet i) (packet 0 (written_command c))) (command_descriptor i)
+    (word_bytes (command_packet i + 4) ++ word_bytes owner_word)
 
 -- a command is posted at place i
 pub record IsPosted (memory : List ℕ) (i : ℕ) (c : Command) : Type 0 where
@@ -101,7 +104,8 @@ pub record CommandSide (memory : List ℕ) (place : ℕ) (queue : List Command) 
   pub size : length memory ≡ memory_size
   pub within : place < slots
   pub few : length queue ≤ slots
-  pub posted : (k : ℕ) (d : Command) → k < length queue → IsPosted memory ((place + k) % slots) (get_or queue k d)
+  pub posted :
+      (k : ℕ) (d : Command) → k < length queue → IsPosted memory ((place + k) % slots) (get_or queue k d)
   pub free : (k : ℕ) → length queue ≤ k → k < slots → IsFree memory ((place + k) % slots)
 
 -- ---- the response ring
@@ -125,8 +129,9 @@ with_packet memory i credits e = put memory (response_packet i) (packet credits 
 
 -- where it was delivered
 abbrev pub with_response : List ℕ → ℕ → ℕ → End → List ℕ
-with_response memory i credits e = put (with_packet memory i credits e) (response_descriptor i + 2) (word_bytes flag_word)
+with_response memory i credits e =
+    put (with_packet memory i credits e) (response_descriptor i + 2) (word_bytes flag_word)
 
--- and where the driver has given the descriptor back to the port
+-- and where the host has given the descriptor back to the port
 abbrev pub memory_reopened : List ℕ → ℕ → List ℕ
 memory_reopened memory i = put memory (response_descriptor i + 2) (word_bytes owner_word)

@@ -17,4 +17,5 @@ pub record IsNew (port : PortState) : Type 0 where
 
 -- it runs, its rings where the host has them
 abbrev pub port_running : PortState → PortState
-port_running port = record port { phase = Running; responses = response_ring_at 0; commands = command_ring_at 0 }
+port_running port =
+    record port { phase = Running; responses = response_ring_at 0; commands = command_ring_at 0 }

@@ -147,7 +147,9 @@ impl<S: BlockStore> Host<S> {
     pub fn fill(&mut self, number: u8, bytes: &[u8])
         requires number { number < PENDING_LIMIT }
         requires room { length bytes.now ≤ buffer_size }
-        ensures filled { self.new ≡ record self.old { memory = put self.old.memory (buffer_address number) bytes.now } }
+        ensures filled { self.new ≡ record self.old {
+          memory = put self.old.memory (buffer_address number) bytes.now;
+        } }
     {
         self.memory
             .within(buffer_address(number), bytes.len() as u32)

@@ -1,8 +1,8 @@
-//! The host's side of a port's rings: where a driver's rings, texts and buffers stand in its memory, and
-//! that a driver which posts commands in order stays in step with its port.
+//! The host: its rings, texts and buffers in memory, the commands that it posts and the ends that it takes.
 //!
-//! Nothing here knows a request. What stands in memory is said by the layout (`specs/Layout.antt`), and
-//! what one turn of the port does to a driver in step with it by `specs/InStep.antt`.
+//! Nothing here knows a request. What callers see of a host is `HostState` (`specs/Host.antt`), with what a
+//! post and a turn do to it. Where its rings, texts and buffers stand is said by `specs/Layout.antt`, and
+//! that host and port stay in step by `specs/InStep.antt`.
 //!
 //! UDA50 Programmer's Documentation Kit: communication area, ring descriptors, message envelopes, credits.
 #![tactic(auto)]
@@ -13,7 +13,4 @@ mod ring;
 mod start;
 
 pub use host::Host;
-pub use ring::{
-    BUFFER_SIZE, COMMAND_PACKETS, COMMAND_RING, MEMORY_SIZE, OWNER, PACKET_STEP, RESPONSE_PACKETS,
-    RESPONSE_RING, RINGS, SLOTS, buffer_address, credits_at, end_at, reopen, write_command,
-};
+pub use ring::buffer_address;

@@ -1,40 +1,41 @@
-//! What a driver writes to its memory and reads there.
+//! What a host writes to its memory and reads there.
 ghost use Rattle.std.specs.Prelude.{◌≡◌, ℕ, ◌+◌, ◌*◌, ◌%◌, ◌<◌, ◌≤◌, length, Ok};
 ghost use Rattle.uda_mem.specs.Put.{put, part};
 ghost use Rattle.uda_mem.specs.Words.{word_at, word_bytes};
 ghost use Rattle.uda_packet.specs.Written.{written_command};
 ghost use Rattle.uda_packet.specs.Reading.{read_command, read_end};
-ghost use Rattle.uda_host.specs.Layout.{slots, buffer_address, memory_size, response_packet, with_command, memory_reopened};
+ghost use Rattle.uda_host.specs.Layout.{slots, buffer_address, memory_size, response_packet};
+ghost use Rattle.uda_host.specs.Layout.{with_command, memory_reopened};
 
 use uda_mem::HostMemory;
 use uda_packet::{Command, End, decode_end, encode_command};
 
-/// How many bytes the driver's memory has.
-pub const MEMORY_SIZE: u32 = 249_856;
+/// How many bytes the host's memory has.
+pub(crate) const MEMORY_SIZE: u32 = 249_856;
 
 /// How many descriptors each ring has.
-pub const SLOTS: u32 = 16;
+pub(crate) const SLOTS: u32 = 16;
 
 /// The first word of a start-up with such rings: their exponent, 4, stands in it twice.
-pub const RINGS: u16 = 0xA400;
+pub(crate) const RINGS: u16 = 0xA400;
 
 /// The address of the response ring, which is the ring base.
-pub const RESPONSE_RING: u32 = 8;
+pub(crate) const RESPONSE_RING: u32 = 8;
 
 /// The address of the command ring, behind it.
-pub const COMMAND_RING: u32 = 72;
+pub(crate) const COMMAND_RING: u32 = 72;
 
 /// The address of the packet of the first response descriptor.
-pub const RESPONSE_PACKETS: u32 = 0x100;
+pub(crate) const RESPONSE_PACKETS: u32 = 0x100;
 
 /// The address of the packet of the first command descriptor.
-pub const COMMAND_PACKETS: u32 = 0x500;
+pub(crate) const COMMAND_PACKETS: u32 = 0x500;
 
 /// How many bytes lie between two packets.
-pub const PACKET_STEP: u32 = 64;
+pub(crate) const PACKET_STEP: u32 = 64;
 
 /// The second word of a descriptor that the port owns.
-pub const OWNER: u16 = 0x8000;
+pub(crate) const OWNER: u16 = 0x8000;
 
 /// The address of a buffer, by its number.
 pub fn buffer_address(number: u8) -> u32
@@ -44,7 +45,7 @@ pub fn buffer_address(number: u8) -> u32
 }
 
 /// How many bytes each buffer has: room for 32 blocks.
-pub const BUFFER_SIZE: u32 = 0x4000;
+pub(crate) const BUFFER_SIZE: u32 = 0x4000;
 
 const BUFFERS: u32 = 0x1000;
 
@@ -58,7 +59,7 @@ fn put_text(memory: &mut HostMemory, at: u32, text: &[u8; 48])
 
 /// Posts a command at a place of the command ring: its packet, and then its descriptor, which the port
 /// owns from then on.
-pub fn write_command(memory: &mut HostMemory, place: u32, command: &Command)
+pub(crate) fn write_command(memory: &mut HostMemory, place: u32, command: &Command)
     requires size { length memory.old ≡ memory_size }
     requires within { place < slots }
     ensures posted { memory.new ≡ with_command memory.old place command.now }
@@ -74,9 +75,10 @@ pub fn write_command(memory: &mut HostMemory, place: u32, command: &Command)
 }
 
 /// The end message that lies at a place of the response ring.
-pub fn end_at(memory: &HostMemory, place: u32) -> Option<End>
+pub(crate) fn end_at(memory: &HostMemory, place: u32) -> Option<End>
     requires within { place < slots }
-    ensures end { length memory.now ≡ memory_size → result ≡ read_end (part memory.now (response_packet place + 4) 48) }
+    ensures end { length memory.now ≡ memory_size
+        → result ≡ read_end (part memory.now (response_packet place + 4) 48) }
 {
     let mut text = [0; 48];
     if let Some(window) = memory.window(RESPONSE_PACKETS + PACKET_STEP * place + 4, 48) {
@@ -86,7 +88,7 @@ pub fn end_at(memory: &HostMemory, place: u32) -> Option<End>
 }
 
 /// The credits that the end message there grants.
-pub fn credits_at(memory: &HostMemory, place: u32) -> u32
+pub(crate) fn credits_at(memory: &HostMemory, place: u32) -> u32
     requires within { place < slots }
     ensures few { result < 65536 }
     ensures word { length memory.now ≡ memory_size → result ≡ word_at memory.now (response_packet place + 2) }
@@ -98,7 +100,7 @@ pub fn credits_at(memory: &HostMemory, place: u32) -> u32
 }
 
 /// Gives the response descriptor at a place to the port.
-pub fn reopen(memory: &mut HostMemory, place: u32)
+pub(crate) fn reopen(memory: &mut HostMemory, place: u32)
     requires within { place < slots }
     ensures open { length memory.old ≡ memory_size → memory.new ≡ memory_reopened memory.old place }
 {

@@ -34,7 +34,6 @@ pub struct Port<S: BlockStore> {
     pub(crate) phase: Phase,
     // Whether an end was delivered since start-up.
     pub(crate) begun: bool,
-    pub(crate) exec: Exec<S>,
     pub(crate) responses: Ring,
     pub(crate) commands: Ring,
     // The ends that wait for delivery, the next one first.
@@ -47,6 +46,8 @@ pub struct Port<S: BlockStore> {
     pub(crate) fetches: Tally,
     pub(crate) deliveries: Tally,
     pub(crate) load: Tally,
+    // Last, as whatever has a store in it: that what moves has a size is found soonest there.
+    pub(crate) exec: Exec<S>,
 }
 
 impl<S: BlockStore> Model for Port<S> {

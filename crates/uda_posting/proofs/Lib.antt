@@ -3,4 +3,3 @@ pub mod Serving
 pub mod Posts
 pub mod Owing
 pub mod Ending
-pub mod Outs

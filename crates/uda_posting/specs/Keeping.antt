@@ -1,5 +1,5 @@
 -- What a driver keeps between two commands, of requests and disks.
-use Rattle.std.specs.Prelude.{◌≡◌, ◌≢◌, ℕ, ◌+◌, ◌<◌, true, List, length, map, All, AllPairs, Option, Some, slice_get}
+use Rattle.std.specs.Prelude.{◌≡◌, ◌≢◌, ℕ, ◌+◌, ◌<◌, List, length, All, AllPairs, Some, slice_get}
 use Rattle.uda_mem.specs.Put.{Meet}
 use Rattle.uda_packet.specs.declared.command.Command.{Command}
 use Rattle.uda_packet.specs.declared.end.End.{End}
@@ -107,34 +107,9 @@ pub record Keeps (start : Units) (requests : List Request) (due : List Posted) (
 
 -- ---- what is out
 
-abbrev pub Has : List Posted → Posted → Type 0
-Has out p = (k : ℕ) × (slice_get out k ≡ Some p)
-
-abbrev pub HasEnded : List Posted → Ended → Type 0
-HasEnded out d = Has out d.posted
-
 -- the end gives the request by its place, counted from 1
 abbrev pub RefersBack : Ended → Type 0
 RefersBack d = d.end.reference ≡ d.posted.place + 1
 
 abbrev pub AreTwo : Posted → Posted → Type 0
 AreTwo p q = p.place ≢ q.place
-
-abbrev pub EndedAreTwo : Ended → Ended → Type 0
-EndedAreTwo c d = AreTwo c.posted d.posted
-
-abbrev pub EndedIsNone : List Posted → Ended → Type 0
-EndedIsNone due d = IsNotDue d.posted.place due
-
--- The requests that are out are those that are due and those that have ended, each once; the ends wait in the order in
--- which they were made.
-pub record Outs (out : List Posted) (due : List Posted) (ended : List Ended) (waiting : List End)
-    : Type 0 where
-  pub counted : length out ≡ length ended + length due
-  pub has_due : All (Has out) due
-  pub has_ended : All (HasEnded out) ended
-  pub waits : waiting ≡ map (λ d. d.end) ended
-  pub refer : All RefersBack ended
-  pub distinct : AllPairs AreTwo out
-  pub ended_distinct : AllPairs EndedAreTwo ended
-  pub none_both : All (EndedIsNone due) ended

@@ -1,18 +1,19 @@
-use Rattle.uda_driver.specs.Underway.{turns_due}
-use Rattle.uda_driver.proofs.Underways.{Going, Draining}
+use Rattle.std.proofs.Common.{length}
+use Rattle.uda_host.specs.Host.{turns_left}
+use Rattle.uda_driver.specs.Underway.{Underway}
 use Rattle.uda_driver.proofs.serve.drive.Given as goal
 
 abbrev pub invariant-loop-n : goal.invariant-loop-n
-invariant-loop-n g l = Going l.fn.port l.requests l.n l.out.items l.answers.items l.desk l.port l.memory
+invariant-loop-n g l = Underway l.fn.host l.requests l.n l.out l.answers.items l.host
 
-abbrev pub invariant-loop-port : goal.invariant-loop-port
-invariant-loop-port g l = Going l.fn.port l.requests l.n l.out.items l.answers.items l.desk l.port l.memory
+abbrev pub invariant-loop-host : goal.invariant-loop-host
+invariant-loop-host g l = Underway l.fn.host l.requests l.n l.out l.answers.items l.host
 
-abbrev pub decreases-loop-port : goal.decreases-loop-port
-decreases-loop-port g l = turns_due l.port l.out.items
+abbrev pub decreases-loop-host : goal.decreases-loop-host
+decreases-loop-host g l = turns_left l.host
 
-abbrev pub invariant-loop-out : goal.invariant-loop-out
-invariant-loop-out g l = Draining l.fn.port l.requests l.out.items l.answers.items l.desk l.port l.memory
+abbrev pub invariant-loop-host-2 : goal.invariant-loop-host-2
+invariant-loop-host-2 g l = Underway l.fn.host l.requests (length l.requests) l.out l.answers.items l.host
 
-abbrev pub decreases-loop-out : goal.decreases-loop-out
-decreases-loop-out g l = turns_due l.port l.out.items
+abbrev pub decreases-loop-host-2 : goal.decreases-loop-host-2
+decreases-loop-host-2 g l = turns_left l.host

@@ -1,28 +1,29 @@
-use Rattle.std.specs.Prelude.{Result, Ok, Err, IfErr, ◌≡◌}
-use Rattle.std.proofs.Common.{◌∙◌}
-use Rattle.uda_driver.specs.Driver.{DriverState}
+use Rattle.std.proofs.lemmas.List.Elements.{All-nil}
+use Rattle.std.proofs.Common.{◌≢◌, sym, ◌∙◌, rules}
+use Rattle.std.proofs.lemmas.List.{length-map}
+use Rattle.uda_disk.specs.Values.{request_value, answer_value}
+use Rattle.uda_posting.proofs.Owing.{owes_end, owes_plain}
 use Rattle.uda_driver.proofs.driver.Driver.run.Goals as goal
 
-err_weaker : {A E : Type 0} (r : Result A E) (P Q : E → Type 0) → ((e : E) → P e → Q e) → IfErr r P → IfErr r Q
-err_weaker (Ok a) P Q f h = tt
-err_weaker (Err e) P Q f h = f e h
-
-pub returns-clause-unchanged : goal.returns-clause-unchanged
-returns-clause-unchanged g c =
-    err_weaker c.run.result _ _ (λ e same. (let is : ◌≡◌ {A = DriverState} (record { memory = c.run.new.memory; port = c.run.new.port; desk = c.run.new.desk }) (record { memory = c.self.inside.memory; port = c.self.inside.port; desk = c.self.inside.desk })
-    = λ i. record { memory = same.2 i; port = same.1 i; desk = same.0 i } in is ∙ c.self.view_is)) c.run.ensures.unchanged
-
 pub invariant_of-self : goal.invariant_of-self
-invariant_of-self g c = record { rest = c.run.ensures.rest; images = c.run.ensures.images }
+invariant_of-self g c = record { rest = c.drive.ensures.rest; images = c.drive.ensures.images; adds_up = c.drive.ensures.adds_up }
 
-pub returns-clause-natures : goal.returns-clause-natures
-returns-clause-natures g c = rw (← c.self.view_is) c.run.ensures.natures
+pub drive-requires : goal.drive-requires
+drive-requires g c =
+    let ready = c.in_ok-answers.ensures in
+    (search rules, (c.self.invariant, (ready.few, (ready.counted, ready.blank))))
+
+pub returns-clause-shape : goal.returns-clause-shape
+returns-clause-shape g c = record {
+  counted = length-map c.drive.result.items answer_value ∙ c.drive.ensures.counted ∙ sym (length-map c.args.requests.now request_value);
+  formed = λ k r a at told. c.drive.ensures.owes.formed k r a at told (All-nil (λ p. p.place ≢ k));
+}
 
 pub returns-clause-headline : goal.returns-clause-headline
-returns-clause-headline g c = rw (← c.self.view_is) c.run.ensures.headline
+returns-clause-headline g c = rw (← c.self.view_is) (λ faithful none. owes_plain faithful c.self.invariant.images c.drive.ensures.owes none)
 
 pub returns-clause-losses : goal.returns-clause-losses
-returns-clause-losses g c = rw (← c.self.view_is) c.run.ensures.losses
-
-pub returns-clause-counts : goal.returns-clause-counts
-returns-clause-counts g c = rw (← c.self.view_is) c.run.ensures.counts
+returns-clause-losses g c = rw (← c.self.view_is) (λ faithful. record {
+  run = owes_end faithful c.self.invariant.images c.drive.ensures.owes;
+  told = (c.drive.ensures.owes.sound faithful c.self.invariant.images).errors;
+})

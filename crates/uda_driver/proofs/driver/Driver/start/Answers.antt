@@ -1,12 +1,14 @@
-use Rattle.std.proofs.Common.{rules, subst, sym}
-use Rattle.uda_disk.specs.Units.{AreImages}
+use Rattle.std.proofs.Common.{◌∙◌, List, Option, ap, map}
+use Rattle.uda_disk.specs.Units.{UnitState}
+use Rattle.uda_exec.specs.Disks.{ExecState}
+use Rattle.uda_exec.specs.Drives.{reset_unit, drives_in}
+use Rattle.uda_driver.proofs.Drives.{drives_in_fresh, reset_fresh}
 use Rattle.uda_driver.proofs.driver.Driver.start.Goals as goal
 
-pub new_port-requires : goal.new_port-requires
-new_port-requires g c = (search rules, search rules)
+pub returns-in-Err-clause-refused : goal.returns-in-Err-clause-refused
+returns-in-Err-clause-refused g c =
+    c.into_stores.ensures.drives ∙ ap drives_in (ap (λ (exec : ExecState). exec.units) c.in-Err.ensures.refused ∙ c.new.ensures.units) ∙ drives_in_fresh _
 
-pub begin-desk-requires : goal.begin-desk-requires
-begin-desk-requires g c = (search rules, (c.in-Ok-new_port.ensures.new, c.in-Ok.ensures.size))
-
-pub invariant_of-result : goal.invariant_of-result
-invariant_of-result g c = record { rest = c.begin-desk.ensures.rest; images = subst AreImages (sym c.begin-desk.ensures.units) c.in-Ok-new_port.ensures.images }
+pub returns-in-Ok-clause-units : goal.returns-in-Ok-clause-units
+returns-in-Ok-clause-units g c =
+    c.in-Ok.ensures.started.units_are ∙ ap (λ (units : List (Option UnitState)). map reset_unit units) c.new.ensures.units ∙ reset_fresh _

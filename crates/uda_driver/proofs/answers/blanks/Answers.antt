@@ -1,8 +1,8 @@
 use Rattle.std.proofs.Common.{◌+◌, ap, ◌∙◌}
 use Rattle.std.proofs.lemmas.List.{length_push}
 use Rattle.uda_disk.specs.Values.{answer_value}
-use Rattle.uda_driver.proofs.Underways.{blank_more}
-use Rattle.uda_driver.proofs.serve.blanks.Goals as goal
+use Rattle.uda_driver.proofs.Blanks.{blank_more}
+use Rattle.uda_driver.proofs.answers.blanks.Goals as goal
 
 pub loop-request-preserved : goal.loop-request-preserved
 loop-request-preserved c =

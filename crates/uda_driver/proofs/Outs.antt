@@ -1,0 +1,163 @@
+-- What is out, as a request is posted, done, and taken back with its end.
+use Rattle.std.proofs.Common.{◌≡◌, ◌≢◌, ℕ, zero, suc, ◌+◌, ◌<◌, inl, inr, List, [], ◌∷◌, ◌++◌, length, map, set, get_or, Option, Some, None, refl, sym, ap, ap₂, ◌∙◌, arith, subst, subst₂, length-append}
+use Rattle.std.specs.Prelude.{slice_get, remove, replicate, All, AllPairs}
+use Rattle.std.proofs.lemmas.List.{map_push, append_assoc, length-set, length-map, length_push}
+use Rattle.std.proofs.lemmas.List.Edits.{length-remove}
+use Rattle.std.proofs.lemmas.List.Elements.{All-nil, All-cons, All-head, All-tail, All-push, All-weaker}
+use Rattle.std.proofs.lemmas.List.Quantifiers.{all_pairs_push, all_pairs_remove}
+use Rattle.std.proofs.lemmas.Bool.{cases_eq}
+use Rattle.std.proofs.lemmas.Option.{slice_get_within}
+use Rattle.uda_packet.specs.declared.end.End.{End}
+use Rattle.uda_exec.specs.Disks.{PENDING_LIMIT}
+use Rattle.uda_disk.proofs.Slots.{slice_get-set_same, slice_get-set_other}
+use Rattle.uda_posting.specs.Posting.{Posted}
+use Rattle.uda_posting.specs.Keeping.{Ended, RefersBack, AreTwo}
+use Rattle.uda_model.proofs.Lists.{All-remove, All-at, pairs_first, pairs_rest, pairs_others}
+use Rattle.uda_driver.specs.Out.{posted_with, count_out}
+use Rattle.uda_driver.specs.Underway.{IsOut, alive, HaveOwnPlaces, Outs}
+use Rattle.uda_driver.specs.declared.out.Out.{Out}
+use Rattle.uda_driver.proofs.Slots.{count-taken, count-freed}
+
+-- ---- one of a list stands before it
+
+pairs_cons : {A : Type 0} (R : A → A → Type 0) (x : A) (xs : List A) → All (R x) xs → AllPairs R xs → AllPairs R (x ∷ xs)
+pairs_cons R x xs first rest zero zero d before within = absurd (omega arith)
+pairs_cons R x xs first rest zero (suc j) d before within = first j d (omega arith)
+pairs_cons R x xs first rest (suc i) zero d before within = absurd (omega arith)
+pairs_cons R x xs first rest (suc i) (suc j) d before within = rest i j d (omega arith) (omega arith)
+
+module _ {A : Type 0} (ys : List A) (j : ℕ) (a : A) (stands : slice_get ys j ≡ Some a) where
+  all_moved : (P : A → Type 0) (xs : List A) → All P (xs ++ ys) → All P (xs ++ a ∷ remove ys j)
+  all_moved P [] all = All-cons P a (remove ys j) (All-at P ys j a all stands) (All-remove P ys j all)
+  all_moved P (x ∷ xs) all = All-cons P x (xs ++ a ∷ remove ys j) (All-head P x (xs ++ ys) all) (all_moved P xs (All-tail P x (xs ++ ys) all))
+
+  pairs_moved : (R : A → A → Type 0) → ((x y : A) → R x y → R y x) → (xs : List A) → AllPairs R (xs ++ ys) → AllPairs R (xs ++ a ∷ remove ys j)
+  pairs_moved R turned [] pairs =
+      pairs_cons R a (remove ys j) (pairs_others R R (λ x y two. (two, turned x y two)) ys j a pairs stands) (all_pairs_remove R ys j (slice_get_within ys j a stands) pairs)
+  pairs_moved R turned (x ∷ xs) pairs =
+      pairs_cons R x (xs ++ a ∷ remove ys j) (all_moved (R x) xs (pairs_first R x (xs ++ ys) pairs)) (pairs_moved R turned xs (pairs_rest R x (xs ++ ys) pairs))
+
+are_two_turned : (p q : Posted) → AreTwo p q → AreTwo q p
+are_two_turned p q two same = two (sym same)
+
+-- ---- nothing is out
+
+abbrev pub none_out : ℕ → List (Option Out)
+none_out n = replicate n None
+
+pub none_at : (n i : ℕ) (one : Out) → slice_get (none_out n) i ≡ Some (Some one) → ⊥
+none_at zero i one stands = cc
+none_at (suc n) zero one stands = cc
+none_at (suc n) (suc i) one stands = none_at n i one stands
+
+pub outs_none : (out : List (Option Out)) (waiting : List End) → out ≡ replicate PENDING_LIMIT None → waiting ≡ [] → Outs out [] [] waiting
+outs_none out waiting is none = subst₂ (λ (o : List (Option Out)) (w : List End). Outs o [] [] w) (sym is) (sym none) (record {
+  sized = refl;
+  counted = refl;
+  own_places = λ i k one other stands there same. absurd (none_at PENDING_LIMIT i one stands);
+  are_out = All-nil (IsOut (replicate PENDING_LIMIT None));
+  are_two = λ i j d before within. absurd (omega arith);
+  waits = refl;
+  refer = All-nil RefersBack;
+})
+
+-- ---- the steps
+
+module _ {out : List (Option Out)} {due : List Posted} {ended : List Ended} {waiting : List End} (outs : Outs out due ended waiting) where
+  -- what is so of all that are out is so of those that are due and of those that have ended
+  pub of_alive : (P : Posted → Type 0) → ((number : ℕ) (one : Out) → slice_get out number ≡ Some (Some one) → P (posted_with number one)) → All P (alive ended due)
+  of_alive P each k d low = let it = outs.are_out k d low in subst P it.is (each it.number it.one it.stands)
+
+  -- another buffer than one of which this is so is as it was
+  still_out : (number : ℕ) (slot : Option Out) (p : Posted) → (it : IsOut out p) → it.number ≢ number → IsOut (set out number slot) p
+  still_out number slot p it other = record { number = it.number; one = it.one; stands = slice_get-set_other out number it.number slot other ∙ it.stands; is = it.is }
+
+  pub outs_post : (number : ℕ) (one : Out) → slice_get out number ≡ Some None
+      → ((k : ℕ) (other : Out) → slice_get out k ≡ Some (Some other) → other.place ≢ one.place) → Outs (set out number (Some one)) (due ++ posted_with number one ∷ []) ended waiting
+  outs_post number one free apart =
+      let p = posted_with number one in let before = map (λ (d : Ended). d.posted) ended in
+      let new = slice_get-set_same out number (Some one) (slice_get_within out number None free) in
+      let more : alive ended (due ++ p ∷ []) ≡ alive ended due ++ p ∷ [] = sym (append_assoc before due (p ∷ [])) in
+      let taken : (k : ℕ) (other : Out) → slice_get out k ≡ Some (Some other) → k ≢ number = λ k other stands same. (let both : Some None ≡ Some (Some other) = sym free ∙ ap (slice_get out) (sym same) ∙ stands in cc) in
+      let was : (k : ℕ) (other : Out) → slice_get (set out number (Some one)) k ≡ Some (Some other) → k ≢ number → slice_get out k ≡ Some (Some other) = λ k other stands two. sym (slice_get-set_other out number k (Some one) two) ∙ stands in
+      let own : (k : ℕ) (other : Out) → slice_get (set out number (Some one)) k ≡ Some (Some other) → k ≡ number → other.place ≡ one.place = λ k other stands same. (let both : Some (Some one) ≡ Some (Some other) = sym new ∙ ap (slice_get (set out number (Some one))) (sym same) ∙ stands in let is : one ≡ other = cc in ap (λ (o : Out). o.place) (sym is)) in
+      record {
+        sized = length-set out number (Some one) ∙ outs.sized;
+        counted = omega (arith, count-taken out number one free, outs.counted, ap length more, length_push (alive ended due) p);
+        own_places = λ i k a b at_i at_k same. elim (cases_eq i number) [
+          | inl first ↦ elim (cases_eq k number) [
+            | inl second ↦ omega arith
+            | inr other ↦ absurd (apart k b (was k b at_k other) (sym same ∙ own i a at_i first))
+          ]
+          | inr here ↦ elim (cases_eq k number) [
+            | inl second ↦ absurd (apart i a (was i a at_i here) (same ∙ own k b at_k second))
+            | inr other ↦ outs.own_places i k a b (was i a at_i here) (was k b at_k other) same
+          ]
+        ];
+        are_out = subst (All (IsOut (set out number (Some one)))) (sym more) (All-push (IsOut (set out number (Some one))) (alive ended due) p
+            (λ k d low. let it = outs.are_out k d low in still_out number (Some one) _ it (taken it.number it.one it.stands))
+            (record { number = number; one = one; stands = new; is = refl }));
+        are_two = subst (AllPairs AreTwo) (sym more) (all_pairs_push AreTwo (alive ended due) p outs.are_two (of_alive (λ q. AreTwo q p) apart));
+        waits = outs.waits;
+        refer = outs.refer;
+      }
+
+  -- a command that was due has ended
+  pub outs_execute : (j : ℕ) (p : Posted) (e : End) → slice_get due j ≡ Some p → e.reference ≡ p.place + 1 → Outs out (remove due j) (ended ++ record { posted = p; end = e } ∷ []) (waiting ++ e ∷ [])
+  outs_execute j p e stands refers =
+      let new : Ended = record { posted = p; end = e } in
+      let before = map (λ (d : Ended). d.posted) ended in
+      let moved : alive (ended ++ new ∷ []) (remove due j) ≡ before ++ p ∷ remove due j =
+      ap (λ (ps : List Posted). ps ++ remove due j) (map_push (λ (d : Ended). d.posted) ended new) ∙ append_assoc before (p ∷ []) (remove due j) in
+      record {
+        sized = outs.sized;
+        counted = omega (arith, outs.counted, ap length moved, length-append before due, length-append before (p ∷ remove due j), length-remove due j (slice_get_within due j p stands), slice_get_within due j p stands);
+        own_places = outs.own_places;
+        are_out = subst (All (IsOut out)) (sym moved) (all_moved due j p stands (IsOut out) before outs.are_out);
+        are_two = subst (AllPairs AreTwo) (sym moved) (pairs_moved due j p stands AreTwo are_two_turned before outs.are_two);
+        waits = ap (λ (es : List End). es ++ e ∷ []) outs.waits ∙ sym (map_push (λ (d : Ended). d.end) ended new);
+        refer = All-push RefersBack ended new outs.refer refers;
+      }
+
+-- the request that an end refers to is the one whose command made it
+pub record TakenBack (out : List (Option Out)) (due : List Posted) (first : Ended) (ended : List Ended) (waiting : List End) (number : ℕ) (one : Out) : Type 0 where
+  pub same : posted_with number one ≡ first.posted
+  pub outs : Outs (set out number None) due ended waiting
+
+module _ {out : List (Option Out)} {due : List Posted} {first : Ended} {ended : List Ended} {e : End} {waiting : List End} (outs : Outs out due (first ∷ ended) (e ∷ waiting)) where
+  pub own : IsOut out first.posted
+  own = All-head (IsOut out) first.posted (alive ended due) outs.are_out
+
+  pub own_reference : own.one.place + 1 ≡ e.reference
+  own_reference =
+      let was = outs.waits in let is : e ≡ first.end = cc in
+      omega (arith, ap (λ (p : Posted). p.place) own.is, All-head RefersBack first ended outs.refer, ap (λ (x : End). x.reference) is)
+
+  pub outs_take : (number : ℕ) (one : Out) → slice_get out number ≡ Some (Some one) → one.place + 1 ≡ e.reference → TakenBack out due first ended waiting number one
+  outs_take number one stands refers =
+      let place : one.place ≡ own.one.place = omega (arith, own_reference) in
+      let index : number ≡ own.number = outs.own_places number own.number one own.one stands own.stands place in
+      let here : Some (Some one) ≡ Some (Some own.one) = sym stands ∙ ap (slice_get out) index ∙ own.stands in
+      let is : one ≡ own.one = cc in
+      let others = pairs_first AreTwo first.posted (alive ended due) outs.are_two in
+      let was : (k : ℕ) (other : Out) → slice_get (set out number None) k ≡ Some (Some other) → slice_get out k ≡ Some (Some other) = λ k other there. elim (cases_eq k number) [
+        | inl same ↦ (let both : Some None ≡ Some (Some other) = sym (slice_get-set_same out number None (slice_get_within out number _ stands)) ∙ ap (slice_get (set out number None)) (sym same) ∙ there in absurd (cc))
+        | inr two ↦ sym (slice_get-set_other out number k None two) ∙ there
+      ] in
+      let was_all = All-tail (IsOut out) first.posted (alive ended due) outs.are_out in
+      let waited = outs.waits in
+      record {
+        same = ap₂ posted_with index is ∙ own.is;
+        outs = record {
+          sized = length-set out number None ∙ outs.sized;
+          counted = omega (arith, count-freed out number one stands, outs.counted);
+          own_places = λ i k a b at_i at_k. outs.own_places i k a b (was i a at_i) (was k b at_k);
+          are_out = λ k d low.
+              let it = was_all k d low in
+              let two = others k d low in
+              still_out outs number None _ it (λ same. two (sym (ap (λ (p : Posted). p.place) own.is) ∙ sym place ∙ (let both : Some (Some it.one) ≡ Some (Some one) = sym it.stands ∙ ap (slice_get out) same ∙ stands in let one_is : it.one ≡ one = cc in sym (ap (λ (o : Out). o.place) one_is)) ∙ ap (λ (p : Posted). p.place) it.is));
+          are_two = pairs_rest AreTwo first.posted (alive ended due) outs.are_two;
+          waits = cc;
+          refer = All-tail RefersBack first ended outs.refer;
+        };
+      }

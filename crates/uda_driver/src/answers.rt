@@ -1,0 +1,94 @@
+//! The answers, as they are prepared before the first command, and as ends fill them.
+ghost use Rattle.std.specs.Prelude.{◌≡◌, ◌≤◌, true, false, length, take, IfOk};
+ghost use Rattle.uda_exec.specs.Commands.{room_of};
+ghost use Rattle.uda_disk.specs.PlainRun.{too_long};
+ghost use Rattle.uda_posting.specs.Posting.{op_of, answer_of};
+ghost use Rattle.uda_disk.specs.Values.{request_value, answer_value, request_values, answer_values};
+ghost use Rattle.uda_host.specs.Layout.{buffer_size};
+ghost use Rattle.uda_driver.specs.Blank.{Prepared, AreBlank};
+
+use std::alloc::{AllocError, Global};
+use uda_disk::{Answer, Request};
+use uda_packet::{End, EndBody};
+
+// The answer that stands before a request is posted.
+fn blank(alloc: Global, request: &Request) -> Result<Answer, AllocError>
+    ensures long { IfOk result (λ a.
+        too_long (request_value request.now) ≡ true → a ≡ Answer.TooLong) }
+    ensures room { IfOk result (λ a.
+        too_long (request_value request.now) ≡ false
+        → Prepared (request_value request.now) (answer_value a)) }
+{
+    match request {
+        Request::Read { bytes, .. } if !request.is_too_long() => Ok(Answer::Data {
+            status: 0,
+            bytes: Vec::from_elem(alloc, 0, *bytes as usize)?,
+        }),
+        _ => Ok(Answer::TooLong),
+    }
+}
+
+/// The answers before the first command: `TooLong` for a request that is, and room for a Read's bytes.
+pub(crate) fn blanks(alloc: Global, requests: &[Request]) -> Result<Vec<Answer>, AllocError>
+    ensures counted { IfOk result (λ answers. length answers.items ≡ length requests.now) }
+    ensures blank { IfOk result (λ answers.
+        AreBlank (request_values requests.now) 0 (answer_values answers.items)) }
+{
+    let mut answers = Vec::new(alloc);
+    for request in requests {
+        answers.push(blank(alloc, request)?)?;
+    }
+    Ok(answers)
+}
+
+/// The answer of a request by its end and its buffer, in place of the blank.
+pub(crate) fn answer_for(blank: Answer, request: &Request, end: End, buffer: &[u8]) -> Answer
+    requires short { too_long (request_value request.now) ≡ false }
+    requires whole { length buffer.now ≡ buffer_size }
+    ensures { Prepared (request_value request.now) (answer_value blank)
+        → answer_value result
+        ≡ answer_of (request_value request.now).act end
+        (take (room_of (op_of (request_value request.now).act 0)) buffer.now) }
+{
+    let (flags, size, moved) = match end.body {
+        EndBody::Status { flags } => (flags, 0, 0),
+        EndBody::Online { flags, size } => (flags, size, 0),
+        EndBody::Moved { kind: _, bytes } => (0, 0, bytes),
+        _ => (0, 0, 0),
+    };
+    let status = end.status;
+    match request {
+        Request::Online { .. } => Answer::Online {
+            status,
+            flags,
+            size,
+        },
+        Request::Available { .. } => Answer::Plain { status },
+        Request::Status { .. } => Answer::Status { status, flags },
+        Request::Read { bytes, .. } => {
+            let buffer = &buffer[..*bytes as usize];
+            let told = buffer.len().min(moved as usize);
+            match blank {
+                Answer::Data { mut bytes, .. } => {
+                    fill(&mut bytes, &buffer[..told]);
+                    Answer::Data { status, bytes }
+                }
+                other => other,
+            }
+        }
+        Request::Access { .. } | Request::Write { .. } | Request::Erase { .. } => Answer::Moved {
+            status,
+            bytes: moved,
+        },
+    }
+}
+
+// Makes the bytes these, where there are as many or more.
+fn fill(bytes: &mut Vec<u8>, from: &[u8])
+    ensures { length from.now ≤ length bytes.old.items → bytes.new.items ≡ from.now }
+{
+    if from.len() <= bytes.len() {
+        bytes.truncate(from.len());
+        bytes.copy_from_slice(from);
+    }
+}

@@ -10,9 +10,8 @@ use Rattle.uda_exec.specs.Disks.{PENDING_LIMIT}
 use Rattle.uda_packet.specs.declared.command.Command.{Command}
 use Rattle.uda_packet.specs.declared.end.End.{End}
 use Rattle.uda_disk.specs.Request.{Request}
-use Rattle.uda_disk.specs.PlainRun.{too_long}
+use Rattle.uda_disk.specs.PlainRun.{too_long, is_short, posted_count}
 use Rattle.uda_disk.specs.Order.{clash, lead_from, lead}
-use Rattle.uda_disk.specs.PlainRun.{is_short, posted_count}
 use Rattle.uda_posting.specs.Posting.{posted_command}
 use Rattle.uda_disk.specs.Values.{request_value}
 use Rattle.uda_host.specs.Host.{HostState, Posts, Fetches, Does, Works, OneFetched, OneDone, Takes}

@@ -7,16 +7,14 @@ use Rattle.std.proofs.lemmas.List.Edits.{length-remove}
 use Rattle.std.proofs.lemmas.Bool.{eqb-true, eqb-false}
 use Rattle.std.proofs.lemmas.Option.{slice_get_within, slice_get-map, slice_get-get_or}
 use Rattle.uda_packet.specs.declared.end.End.{End}
-use Rattle.uda_disk.specs.Units.{UnitState, AreImages}
+use Rattle.uda_disk.specs.Units.{UnitState, AreImages, Units}
 use Rattle.uda_exec.specs.Disks.{PENDING_LIMIT}
 use Rattle.uda_disk.proofs.Slots.{slice_get-set_other}
 use Rattle.uda_disk.specs.Request.{Request}
-use Rattle.uda_disk.specs.PlainRun.{too_long}
+use Rattle.uda_disk.specs.PlainRun.{too_long, posted_count}
 use Rattle.uda_disk.specs.Answer.{Answer, TooLong}
 use Rattle.uda_disk.specs.Order.{clash, lead, lead_from}
-use Rattle.uda_disk.specs.PlainRun.{posted_count}
 use Rattle.uda_posting.specs.Posting.{posted_command, answer_of, buffer_of}
-use Rattle.uda_disk.specs.Units.{Units}
 use Rattle.uda_posting.specs.Keeping.{Keeps}
 use Rattle.uda_disk.specs.Values.{request_value, answer_value, request_values, answer_values}
 use Rattle.uda_disk.specs.declared.request.Request.{Request as CodeRequest}

@@ -1,14 +1,12 @@
 -- What a driver promises of a run of requests.
 use Rattle.std.specs.Prelude.{◌≡◌, ℕ, ◌+◌, ◌-◌, ◌*◌, ◌/◌, ◌≤◌, List, length, Some, slice_get, Option}
-use Rattle.uda_disk.specs.Units.{UnitState, disks_of}
-use Rattle.uda_disk.specs.Units.{failures_at}
+use Rattle.uda_disk.specs.Units.{UnitState, disks_of, failures_at}
 use Rattle.uda_host.specs.Host.{HostState}
 use Rattle.uda_disk.specs.Request.{Request}
 use Rattle.uda_disk.specs.Answer.{Answer}
 use Rattle.uda_disk.specs.Form.{IsAnswerOf}
-use Rattle.uda_disk.specs.PlainRun.{plain, PlainWithLosses, drive_errors}
+use Rattle.uda_disk.specs.PlainRun.{plain, PlainWithLosses, drive_errors, posted_count}
 use Rattle.uda_disk.specs.Order.{lead}
-use Rattle.uda_disk.specs.PlainRun.{posted_count}
 
 -- the most requests of one run
 abbrev pub request_limit : ℕ

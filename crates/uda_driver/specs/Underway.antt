@@ -2,13 +2,12 @@
 use Rattle.std.specs.Prelude.{◌≡◌, ℕ, ◌+◌, ◌<◌, ◌≤◌, List, [], ◌++◌, length, map, take}
 use Rattle.std.specs.Prelude.{Option, Some, slice_get, All, AllPairs}
 use Rattle.uda_packet.specs.declared.end.End.{End}
-use Rattle.uda_disk.specs.Units.{AreImages}
+use Rattle.uda_disk.specs.Units.{AreImages, Units}
 use Rattle.uda_exec.specs.Disks.{PENDING_LIMIT}
 use Rattle.uda_disk.specs.Request.{Request}
 use Rattle.uda_disk.specs.Answer.{Answer}
 use Rattle.uda_disk.specs.PlainRun.{posted_count}
 use Rattle.uda_posting.specs.Posting.{Posted, commands_in}
-use Rattle.uda_disk.specs.Units.{Units}
 use Rattle.uda_posting.specs.Keeping.{Owes, Ended, Keeps, RefersBack, AreTwo}
 use Rattle.uda_disk.specs.Values.{request_values, answer_values}
 use Rattle.uda_disk.specs.declared.request.Request.{Request as CodeRequest}

@@ -1,14 +1,11 @@
 -- The blocks of a run of bytes, and the bytes of a run of blocks.
 use Rattle.std.proofs.Common.{◌≡◌, ℕ, zero, suc, ◌+◌, ◌-◌, ◌*◌, ◌<◌, ◌≤◌, List, [], ◌∷◌, ◌++◌, length, get_or, take, drop, replicate, sym, ap, ◌∙◌, arith, append-nil, length-append, length-drop}
 use Rattle.std.specs.List.{concat}
-use Rattle.std.specs.Simd.{first_chunks}
 use Rattle.std.specs.Prelude.{All}
 use Rattle.std.proofs.lemmas.List.Elements.{All-nil, All-head, All-tail, All-take, All-drop}
-use Rattle.std.proofs.lemmas.List.{same_lists, take_all, take_at, take-take, take-append-le, drop-append-le, length-replicate, length-take-le}
-use Rattle.std.proofs.lemmas.Option.{get_or_from_slice_get}
+use Rattle.std.proofs.lemmas.List.{same_lists, take_at, take-take, take-append-le, length-replicate, length-take-le}
 use Rattle.uda_mem.specs.Put.{part, put}
 use Rattle.uda_mem.proofs.PutLaws.{length-part, length-part-le, get_or-part, put-part}
-use Rattle.uda_image.proofs.Chunk.{slice_get-first_chunks}
 use Rattle.uda_image.specs.StoreLaws.{All-first_chunks}
 use Rattle.uda_disk.specs.Request.{blocks_for, in_blocks, first_block}
 use Rattle.uda_exec.specs.Commands.{bytes_at}

@@ -159,11 +159,7 @@ moved-lost k left blocks h =
     let more : take (suc k) blocks ≡ take k blocks ++ get_or blocks k [] ∷ [] = rw (← add-one) (take_more blocks k [] h) in
     ap (λ (b : List (List ℕ)). set b k left) more ∙ set_at (take k blocks) (get_or blocks k []) [] left k (length-take-le k blocks (omega arith))
 
--- the bytes that count as moved are among those that were
-pub told_within : (o : Outcome) (n : ℕ) → FitsCount (blocks_for n) o → transfer_bytes o n ≤ n
-told_within Done n f = omega arith
-told_within (Lost k left) n f = omega (arith, f.0)
-
+-- blocks that were moved are whole
 AreBlocks-moved : (o : Outcome) (n : ℕ) (bs : List (List ℕ)) → AreBlocks bs → FitsCount n o → AreBlocks (blocks_moved o bs)
 AreBlocks-moved Done n bs h f = h
 AreBlocks-moved (Lost k left) n bs h f = All-set (λ block. length block ≡ 512) (take (suc k) bs) k left f.1 (All-take (λ block. length block ≡ 512) (suc k) bs h)

@@ -7,8 +7,7 @@ use Rattle.uda_packet.specs.Reading.{read_command}
 use Rattle.uda_exec.specs.Commands.{buffer_start, room_of}
 use Rattle.uda_port.specs.declared.phase.Phase.TheVariants.{Running}
 use Rattle.uda_port.specs.Port.{PortState, CreditsAgree}
-use Rattle.uda_host.specs.Layout.{slots, buffers_start, command_ring_at, response_ring_at}
-use Rattle.uda_host.specs.Layout.{CommandSide, ResponseSide}
+use Rattle.uda_host.specs.Layout.{slots, buffers_start, command_ring_at, response_ring_at, CommandSide, ResponseSide}
 
 -- no byte of its buffer lies below the buffers, among the rings and texts
 abbrev pub IsAbove : Command → Type 0

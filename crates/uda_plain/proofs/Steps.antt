@@ -36,12 +36,6 @@ slot_left disks r (Some disk) here = slot_left-disk disks r disk (bar_at r.act (
 step_short : (disks : Disks) (r : Request) → too_long r ≡ false → step r disks ≡ serve_by Done r (bar disks r) disks
 step_short disks r short = rw short refl
 
--- a request that isn't too long, of a unit that isn't there
-pub step-none : (disks : Disks) (r : Request) (answer : Answer) → too_long r ≡ false → slice_get disks r.unit ≡ None
-    → answer ≡ answer_by Done r.act (bar_at r.act None) → ◌≡◌ {A = Answer × Disks} (answer, disks) (step r disks)
-step-none disks r answer short here told =
-    ap (λ a. (a, disks)) told ∙ ap (λ slot. serve_by Done r (bar_at r.act slot) disks) (sym here) ∙ sym (step_short disks r short)
-
 -- a request that isn't too long, done on the slot of its unit, is a step
 pub step-slot : (disks : Disks) (r : Request) (slot slot_after : Option Disk) (answer : Answer) → too_long r ≡ false → slice_get disks r.unit ≡ Some slot
     → answer ≡ answer_by Done r.act (bar_at r.act (Some slot)) → slot_after ≡ option_map (disk_by Done r.act (bar_at r.act (Some slot))) slot

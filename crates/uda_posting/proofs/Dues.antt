@@ -4,7 +4,7 @@ use Rattle.std.specs.Prelude.{All, AllPairs}
 use Rattle.std.proofs.lemmas.List.{length-map, get_or-map}
 use Rattle.std.proofs.lemmas.List.Elements.{All-map}
 use Rattle.uda_disk.specs.Request.{Request}
-use Rattle.uda_model.specs.Ledger.{Due, requests_due, AreBelow, ComesBefore}
+use Rattle.uda_model.specs.Ledger.{requests_due, AreBelow, ComesBefore}
 use Rattle.uda_posting.specs.Posting.{Posted, due_of, dues_of, requests_posted}
 use Rattle.uda_posting.specs.Keeping.{IsBefore, IsEarlier}
 

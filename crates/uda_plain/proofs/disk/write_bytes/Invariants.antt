@@ -1,6 +1,6 @@
-use Rattle.std.proofs.Common.{◌≡◌, length, take}
+use Rattle.std.proofs.Common.{◌≡◌, take}
 use Rattle.uda_mem.specs.Put.{put}
-use Rattle.uda_disk.specs.Request.{blocks_for, in_blocks}
+use Rattle.uda_disk.specs.Request.{in_blocks}
 use Rattle.uda_plain.proofs.disk.write_bytes.Given as goal
 
 -- the first k blocks of the bytes stand

@@ -12,8 +12,7 @@ use Rattle.uda_disk.specs.Answer.{Answer}
 use Rattle.uda_disk.specs.Values.{request_value, request_values, answer_values}
 use Rattle.uda_disk.specs.declared.answer.Answer.{Answer as Told}
 use Rattle.uda_disk.specs.declared.request.Request.{Request as Made}
-use Rattle.uda_driver.specs.Driver.{DriverState}
-use Rattle.uda_driver.specs.Run.{request_limit}
+use Rattle.uda_driver.specs.Run.{DriverState, request_limit}
 use Rattle.uda_batch.specs.Requests.{bytes_taken, requests}
 use Rattle.uda_batch.specs.Reading.{ReadsRequests}
 use Rattle.uda_batch.specs.Texts.{out_text, report_text}

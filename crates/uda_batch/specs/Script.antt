@@ -4,8 +4,8 @@ use Rattle.std.specs.Io.KnownBytes.{Appends, Consumes}
 use Rattle.uda_disk.specs.Units.{AllFaithful}
 use Rattle.uda_disk.specs.Answer.{Answer}
 use Rattle.uda_disk.specs.Request.{Request}
-use Rattle.uda_driver.specs.Driver.{DriverState, units_of, IsAtRest}
-use Rattle.uda_driver.specs.Run.{AreAnswersOf, IsPlainRun, NoneFailed, TellsLosses, CountsOn}
+use Rattle.uda_driver.specs.Run.{DriverState, units_of, AreAnswersOf, IsPlainRun, NoneFailed, TellsLosses, CountsOn}
+use Rattle.uda_driver.specs.Driver.{IsAtRest}
 use Rattle.uda_grammar.specs.declared.error.ScriptError.{ScriptError}
 use Rattle.uda_grammar.specs.declared.error.ScriptError.TheVariants.{NoMemory, Syntax, TooManyLines, ShortData, Read, Write}
 use Rattle.uda_grammar.specs.declared.script.Line.{Line}

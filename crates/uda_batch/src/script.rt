@@ -4,8 +4,7 @@ ghost use Rattle.std.specs.Prelude.{◌≡◌, ◌≤◌, length, OnOk, OnErr, I
 ghost use Rattle.std.specs.Io.KnownBytes.{Appends};
 ghost use Rattle.uda_disk.specs.Units.{natures_of};
 ghost use Rattle.uda_disk.specs.Values.{request_values, answer_values};
-ghost use Rattle.uda_driver.specs.Driver.{units_of};
-ghost use Rattle.uda_driver.specs.Run.{request_limit};
+ghost use Rattle.uda_driver.specs.Run.{units_of, request_limit};
 ghost use Rattle.uda_batch.specs.Requests.{taken};
 ghost use Rattle.uda_batch.specs.Texts.{out_text, report_text};
 ghost use Rattle.uda_batch.specs.Script.{Serves, streams, TextsBegin, EndsWhole, EndsInError};

@@ -26,10 +26,10 @@ use Rattle.uda_posting.proofs.Posts.{buffer-at, bytes_fit, ready-put}
 use Rattle.uda_posting.proofs.Ending.{keeps_put, keeps_skip, keeps_post, Ends, keeps_execute, keeps_deliver, keeps_end}
 use Rattle.uda_host.specs.Layout.{buffers_start, buffer_address, memory_size}
 use Rattle.uda_host.specs.InStep.{IsAbove}
-use Rattle.uda_host.specs.Host.{HostState, out_of, BuffersStay, Fetches, Does, Takes, Works, OneFetched, OneDone, AddsUp, IsIdle}
+use Rattle.uda_host.specs.Host.{HostState, out_of, BuffersStay, Fetches, Does, TakesEnd, Works, OneFetched, OneDone, AddsUp, IsIdle}
 use Rattle.uda_driver.specs.Blank.{Prepared}
 use Rattle.uda_driver.specs.Out.{posted_with, count_out, clashes_with, IsFit, AreFit}
-use Rattle.uda_driver.specs.Steps.{with_brought, PutsOut, IsReferred, Tells}
+use Rattle.uda_driver.specs.Steps.{with_brought, PutsOut, IsReferred, TellsEnd}
 use Rattle.uda_driver.specs.Underway.{IsOut, alive, Outs, Driving}
 use Rattle.uda_driver.specs.declared.out.Out.{Out}
 use Rattle.uda_driver.proofs.Outs.{none_at, outs_none, of_alive, outs_post, outs_execute, own, own_reference, TakenBack, outs_take}
@@ -144,7 +144,7 @@ first_ended : (ended : List Ended) (e : End) (rest : List End) → e ∷ rest �
 first_ended [] e rest waits = absurd (cc)
 first_ended (d ∷ later) e rest waits = record { first = d; later = later; is = refl; end_is = cc }
 
-module _ {start : Units} {requests : List Request} {out : List (Option Out)} {answers : List Answer} {host new : HostState} {e : End} (D : Driving start requests out answers host) (takes : Takes host e new) where
+module _ {start : Units} {requests : List Request} {out : List (Option Out)} {answers : List Answer} {host new : HostState} {e : End} (D : Driving start requests out answers host) (takes : TakesEnd host e new) where
   split : FirstEnded D.ended e
   split = first_ended D.ended e new.waiting (sym takes.waited ∙ D.outs.waits)
 

@@ -14,7 +14,7 @@ use Rattle.uda_disk.specs.PlainRun.{too_long, is_short, posted_count}
 use Rattle.uda_disk.specs.Order.{clash, lead_from, lead}
 use Rattle.uda_posting.specs.Posting.{posted_command}
 use Rattle.uda_disk.specs.Values.{request_value}
-use Rattle.uda_host.specs.Host.{HostState, Posts, Fetches, Does, Works, OneFetched, OneDone, Takes}
+use Rattle.uda_host.specs.Host.{HostState, Posts, Fetches, Does, Works, OneFetched, OneDone, TakesEnd}
 use Rattle.uda_driver.specs.Out.{posted_with, clashes_with_any}
 use Rattle.uda_driver.specs.Steps.{with_brought, PutsOut}
 use Rattle.uda_driver.specs.Load.{triangle, InLead, LeadOver, LoadAt, GoesOn, IsOver}
@@ -103,7 +103,7 @@ module _ {start host new : HostState} {requests : List Request} {n : ℕ} (over 
       let fewer : length host.due ≡ length new.due + 1 = omega (arith, ap length taken.taken, length-remove host.due x.place taken.may.stands, taken.may.stands) in
       record { within = over.within; load = omega (arith, over.load, ap (λ (h : HostState). h.load) x.is, ap triangle fewer, triangle-more (length new.due), fewer) }
 
-  pub over_takes : {e : End} → Takes host e new → LeadOver start requests n new
+  pub over_takes : {e : End} → TakesEnd host e new → LeadOver start requests n new
   over_takes t = record { within = over.within; load = omega (arith, over.load, ap (λ (h : HostState). h.load) t.is, ap (λ (h : HostState). triangle (length h.due)) t.is) }
 
 module _ {start host : HostState} {requests : List Request} {n : ℕ} {out : List (Option Out)} {r : Request} (it : Next requests n r) where

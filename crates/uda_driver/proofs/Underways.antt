@@ -20,11 +20,11 @@ use Rattle.uda_disk.specs.Values.{request_value, answer_value, request_values, a
 use Rattle.uda_disk.specs.declared.request.Request.{Request as CodeRequest}
 use Rattle.uda_disk.specs.declared.answer.Answer.{Answer as CodeAnswer}
 use Rattle.uda_disk.specs.declared.answer.Answer.TheVariants.{TooLong as CodeTooLong}
-use Rattle.uda_host.specs.Host.{HostState, out_of, turns_left, Works, OneFetched, OneDone, Takes, AddsUp}
+use Rattle.uda_host.specs.Host.{HostState, out_of, turns_left, Works, OneFetched, OneDone, TakesEnd, AddsUp}
 use Rattle.uda_driver.specs.Driver.{IsDriver}
 use Rattle.uda_driver.specs.Blank.{Prepared, AreBlank}
 use Rattle.uda_driver.specs.Out.{posted_with, count_out, clashes_with_any, must_wait, IsFit}
-use Rattle.uda_driver.specs.Steps.{PutsOut, Tells, Steps, TellsNone, TellsOne}
+use Rattle.uda_driver.specs.Steps.{PutsOut, TellsEnd, Steps, TellsNone, TellsOne}
 use Rattle.uda_driver.specs.Load.{triangle, InLead, LoadAt, IsOver}
 use Rattle.uda_driver.specs.Underway.{Driving, Underway, IsDriving, Ran}
 use Rattle.uda_driver.specs.declared.out.Out.{Out}
@@ -54,7 +54,7 @@ turned_works {host} {new} (OneDone x) =
       taken = omega (arith, ap (λ (h : HostState). h.taken) x.is);
     }
 
-turned_takes : {host new : HostState} {e : End} → Takes host e new → Turned host new
+turned_takes : {host new : HostState} {e : End} → TakesEnd host e new → Turned host new
 turned_takes t = record {
   all = omega (arith, ap (λ (h : HostState). length h.due) t.is, ap length t.waited, ap (λ (h : HostState). h.taken) t.is);
   turns = ap (λ (h : HostState). h.turns) t.is;

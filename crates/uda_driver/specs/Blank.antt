@@ -7,13 +7,13 @@ use Rattle.uda_disk.specs.Answer as tell
 use Rattle.uda_disk.specs.Answer.{Answer}
 
 -- an answer that has room for the bytes that a Read brings
-abbrev pub HasRoom : Act → Answer → Type 0
-HasRoom (ask.Read lbn bytes) (tell.Data status held) = bytes ≤ length held
-HasRoom (ask.Read lbn bytes) answer = ⊥
-HasRoom act answer = Unit {0}
+abbrev pub AnswerHasRoom : Act → Answer → Type 0
+AnswerHasRoom (ask.Read lbn bytes) (tell.Data status held) = bytes ≤ length held
+AnswerHasRoom (ask.Read lbn bytes) answer = ⊥
+AnswerHasRoom act answer = Unit {0}
 
 abbrev pub Prepared : Request → Answer → Type 0
-Prepared r answer = HasRoom r.act answer
+Prepared r answer = AnswerHasRoom r.act answer
 
 -- the answer that stands before a request is posted
 pub record IsBlank (r : Request) (answer : Answer) : Type 0 where

@@ -1,16 +1,10 @@
 -- A driver as its callers see it.
-use Rattle.std.specs.Prelude.{◌≡◌, ℕ, ◌<◌, List, Option}
-use Rattle.uda_disk.specs.Units.{UnitState, AreImages}
+use Rattle.std.specs.Prelude.{◌≡◌, ◌<◌}
+use Rattle.uda_disk.specs.Units.{AreImages}
 use Rattle.uda_exec.specs.Disks.{PENDING_LIMIT}
 use Rattle.uda_port.specs.declared.phase.Phase.TheVariants.{Running}
-use Rattle.uda_host.specs.Host.{HostState, IsIdle, AddsUp}
-
--- all that it keeps is its host
-abbrev pub DriverState : Type 0
-DriverState = HostState
-
-abbrev pub units_of : DriverState → List (Option UnitState)
-units_of driver = driver.units
+use Rattle.uda_host.specs.Host.{IsIdle, AddsUp}
+use Rattle.uda_driver.specs.Run.{DriverState}
 
 -- between two calls the port runs, nothing is out, and all credits are back
 pub record IsAtRest (driver : DriverState) : Type 0 where

@@ -1,7 +1,6 @@
 -- What is out: requests whose commands were posted and whose ends weren't taken, by the numbers of their
 -- buffers.
-use Rattle.std.specs.Prelude.{◌≡◌, ℕ, suc, ◌+◌, ◌<◌, Bool, false, ◌||◌, nat_eq}
-use Rattle.std.specs.Prelude.{List, [], ◌∷◌, Option, Some, None, slice_get}
+use Rattle.std.specs.Prelude.{◌≡◌, ℕ, suc, ◌+◌, ◌<◌, Bool, false, ◌||◌, nat_eq, List, [], ◌∷◌, Option, Some, None, slice_get}
 use Rattle.std.specs.List.{list_any}
 use Rattle.uda_disk.specs.Request.{Request}
 use Rattle.uda_disk.specs.PlainRun.{too_long}

@@ -1,12 +1,39 @@
 -- What a driver promises of a run of requests.
-use Rattle.std.specs.Prelude.{◌≡◌, ℕ, ◌+◌, ◌-◌, ◌*◌, ◌/◌, ◌≤◌, List, length, Some, slice_get, Option}
-use Rattle.uda_disk.specs.Units.{UnitState, disks_of, failures_at}
+use Rattle.std.specs.Prelude.{◌≡◌, ℕ, ◌+◌, ◌-◌, ◌*◌, ◌/◌, ◌≤◌, List, length, Some, slice_get}
+use Rattle.uda_disk.specs.Units.{Units, disks_of, failures_at}
 use Rattle.uda_host.specs.Host.{HostState}
 use Rattle.uda_disk.specs.Request.{Request}
 use Rattle.uda_disk.specs.Answer.{Answer}
 use Rattle.uda_disk.specs.Form.{IsAnswerOf}
 use Rattle.uda_disk.specs.PlainRun.{plain, PlainWithLosses, drive_errors, posted_count}
 use Rattle.uda_disk.specs.Order.{lead}
+
+-- all that a driver keeps is its host, whose units are its own
+abbrev pub DriverState : Type 0
+DriverState = HostState
+
+abbrev pub units_of : DriverState → Units
+units_of driver = driver.units
+
+-- answers and disks are those of one plain array of blocks for each unit, served in order
+abbrev pub IsPlainRun : Units → List Request → List Answer → Units → Type 0
+IsPlainRun units requests answers units_after =
+    (answers, disks_of units_after) ≡ plain (disks_of units) requests
+
+-- no store failed
+abbrev pub NoneFailed : Units → Units → Type 0
+NoneFailed units units_after =
+    (u : ℕ) → failures_at (slice_get units_after u) ≡ failures_at (slice_get units u)
+
+-- answers and disks are those of a plain run in which transfers may be lost, and each failure of a store was
+-- told once
+pub record TellsLosses (units : Units) (requests : List Request) (answers : List Answer)
+    (units_after : Units) : Type 0 where
+  pub run : PlainWithLosses (disks_of units) requests answers (disks_of units_after)
+  pub told :
+      (u : ℕ)
+      → failures_at (slice_get units_after u)
+      ≡ failures_at (slice_get units u) + drive_errors u requests answers
 
 -- the most requests of one run
 abbrev pub request_limit : ℕ
@@ -19,33 +46,12 @@ pub record AreAnswersOf (requests : List Request) (answers : List Answer) : Type
       (k : ℕ) (r : Request) (answer : Answer)
       → slice_get requests k ≡ Some r → slice_get answers k ≡ Some answer → IsAnswerOf r answer
 
--- answers and disks are those of one plain array of blocks for each unit, served in order
-abbrev pub IsPlainRun :
-    List (Option UnitState) → List Request → List Answer → List (Option UnitState) → Type 0
-IsPlainRun units requests answers units_after =
-    (answers, disks_of units_after) ≡ plain (disks_of units) requests
-
--- no store failed
-abbrev pub NoneFailed : List (Option UnitState) → List (Option UnitState) → Type 0
-NoneFailed units units_after =
-    (u : ℕ) → failures_at (slice_get units_after u) ≡ failures_at (slice_get units u)
-
--- answers and disks are those of a plain run in which transfers may be lost, and each failure of a store was
--- told once
-pub record TellsLosses (units : List (Option UnitState)) (requests : List Request) (answers : List Answer)
-    (units_after : List (Option UnitState)) : Type 0 where
-  pub run : PlainWithLosses (disks_of units) requests answers (disks_of units_after)
-  pub told :
-      (u : ℕ)
-      → failures_at (slice_get units_after u)
-      ≡ failures_at (slice_get units u) + drive_errors u requests answers
-
 -- the least load of so many requests that are posted, of which these first can be out together
 abbrev pub least_load : ℕ → ℕ → ℕ
 least_load first posted = first * (first + 1) / 2 + (posted - first)
 
 -- three turns of the port for each request that is posted, one fetch and one delivery
-pub record CountsOn (requests : List Request) (host host_after : HostState) : Type 0 where
+pub record CountsOn (requests : List Request) (host host_after : DriverState) : Type 0 where
   pub turns : host_after.turns ≡ host.turns + 3 * posted_count requests
   pub fetches : host_after.fetches ≡ host.fetches + posted_count requests
   pub deliveries : host_after.taken ≡ host.taken + posted_count requests

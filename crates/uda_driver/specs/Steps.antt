@@ -6,7 +6,7 @@ use Rattle.uda_posting.specs.Posting.{posted_command, answer_of, buffer_of, byte
 use Rattle.uda_disk.specs.Values.{request_value, answer_values}
 use Rattle.uda_disk.specs.declared.answer.Answer.{Answer}
 use Rattle.uda_host.specs.Layout.{buffer_address}
-use Rattle.uda_host.specs.Host.{HostState, Posts, Works, Takes}
+use Rattle.uda_host.specs.Host.{HostState, Posts, Works, TakesEnd}
 use Rattle.uda_driver.specs.Out.{posted_with}
 use Rattle.uda_driver.specs.declared.out.Out.{Out}
 
@@ -33,7 +33,7 @@ pub record IsReferred (reference : ℕ) (out : List (Option Out)) : Type 0 where
   pub refers : one.place + 1 ≡ reference
 
 -- the request that an end is of is out no more, and its answer stands at its place
-pub record Tells (end : End) (memory : List ℕ) (out : List (Option Out)) (answers : List Answer)
+pub record TellsEnd (end : End) (memory : List ℕ) (out : List (Option Out)) (answers : List Answer)
     (out_after : List (Option Out)) (answers_after : List Answer) : Type 0 where
   pub done : IsReferred end.reference out
   pub out_is : out_after ≡ slice_set out done.number None
@@ -48,6 +48,6 @@ pub data Steps (host : HostState) (out : List (Option Out)) (answers : List Answ
     (host_after : HostState) (out_after : List (Option Out)) (answers_after : List Answer) : Type 0 where
   TellsNone : Works host host_after → out_after ≡ out → answers_after ≡ answers
       → Steps host out answers host_after out_after answers_after
-  TellsOne : (end : End) → Takes host end host_after
-      → Tells end host_after.memory out answers out_after answers_after
+  TellsOne : (end : End) → TakesEnd host end host_after
+      → TellsEnd end host_after.memory out answers out_after answers_after
       → Steps host out answers host_after out_after answers_after

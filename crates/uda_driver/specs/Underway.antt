@@ -1,6 +1,5 @@
 -- What a driver knows between two steps of a run.
-use Rattle.std.specs.Prelude.{◌≡◌, ℕ, ◌+◌, ◌<◌, ◌≤◌, List, [], ◌++◌, length, map, take}
-use Rattle.std.specs.Prelude.{Option, Some, slice_get, All, AllPairs}
+use Rattle.std.specs.Prelude.{◌≡◌, ℕ, ◌+◌, ◌<◌, ◌≤◌, List, [], ◌++◌, length, map, take, Option, Some, slice_get, All, AllPairs}
 use Rattle.uda_packet.specs.declared.end.End.{End}
 use Rattle.uda_disk.specs.Units.{AreImages, Units}
 use Rattle.uda_exec.specs.Disks.{PENDING_LIMIT}

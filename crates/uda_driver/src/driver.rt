@@ -1,13 +1,11 @@
 //! The driver.
 ghost use Rattle.std.specs.Prelude.{◌≡◌, ◌<◌, ◌≤◌, ◌↔◌, length, Err, IfOk, IfErr};
 ghost use Rattle.uda_exec.specs.Drives.{drive_states, fresh_units, drives_in};
-ghost use Rattle.uda_disk.specs.Units.{natures_of};
-ghost use Rattle.uda_disk.specs.Units.{AllFaithful};
+ghost use Rattle.uda_disk.specs.Units.{natures_of, AllFaithful};
 ghost use Rattle.uda_disk.specs.Values.{request_values, answer_values};
-ghost use Rattle.uda_driver.specs.Run.{request_limit, AreAnswersOf, NoneFailed, IsPlainRun};
-ghost use Rattle.uda_driver.specs.Run.{TellsLosses, CountsOn};
+ghost use Rattle.uda_driver.specs.Run.{request_limit, AreAnswersOf, NoneFailed, IsPlainRun, TellsLosses, CountsOn, units_of};
 ghost use Rattle.uda_driver.specs.Blank.{AreBlank};
-ghost use Rattle.uda_driver.specs.Driver.{units_of, IsAtRest};
+ghost use Rattle.uda_driver.specs.Driver.{IsAtRest};
 
 use crate::answers::blanks;
 use crate::serve::drive;

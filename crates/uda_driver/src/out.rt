@@ -1,6 +1,5 @@
 //! The requests that are out, by the numbers of their buffers.
-ghost use Rattle.std.specs.Prelude.{◌≡◌, ◌<◌, Some, None, replicate, position, is_none};
-ghost use Rattle.std.specs.Prelude.{slice_set, slice_index_or};
+ghost use Rattle.std.specs.Prelude.{◌≡◌, ◌<◌, Some, None, replicate, position, is_none, slice_set, slice_index_or};
 ghost use Rattle.uda_exec.specs.Disks.{PENDING_LIMIT};
 ghost use Rattle.uda_disk.specs.Values.{request_value};
 ghost use Rattle.uda_driver.specs.Out.{refers, clashes_with, clashes_with_any};

@@ -13,7 +13,7 @@ ghost use Rattle.uda_driver.specs.Blank.{AreBlank};
 ghost use Rattle.uda_driver.specs.Run.{request_limit};
 ghost use Rattle.uda_driver.specs.Driver.{IsDriver};
 ghost use Rattle.uda_driver.specs.Out.{must_wait, AreFit};
-ghost use Rattle.uda_driver.specs.Steps.{PutsOut, IsReferred, Tells, Steps};
+ghost use Rattle.uda_driver.specs.Steps.{PutsOut, IsReferred, TellsEnd, Steps};
 ghost use Rattle.uda_driver.specs.Underway.{IsDriving, Ran};
 
 use crate::answers::answer_for;
@@ -130,7 +130,7 @@ fn tell<S: BlockStore>(
     requires sized { length out.old ≡ PENDING_LIMIT }
     requires fit { AreFit (length answers.old.items) out.old }
     requires referred { IsReferred end.reference out.old }
-    ensures { Tells end host.now.memory out.old answers.old.items out.new answers.new.items }
+    ensures { TellsEnd end host.now.memory out.old answers.old.items out.new answers.new.items }
 {
     let Some(number) = buffer_of(out, end.reference) else {
         unreachable!()

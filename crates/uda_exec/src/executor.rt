@@ -50,7 +50,7 @@ impl<S: BlockStore> Model for Exec<S> {
     ghost invariant = { λ e. (length e.units ≡ 4) × AreImages e.units };
 }
 
-fn unit_of<S: BlockStore>(drive: Option<Drive<S>>) -> Option<DriveUnit<S>>
+fn unit_from<S: BlockStore>(drive: Option<Drive<S>>) -> Option<DriveUnit<S>>
     ensures unit { result ≡ option_map fresh_unit (option_map (drive_state S.state) drive) }
     ensures image { HoldsImage result }
 {
@@ -60,13 +60,13 @@ fn unit_of<S: BlockStore>(drive: Option<Drive<S>>) -> Option<DriveUnit<S>>
     }
 }
 
-fn units_of<S: BlockStore>(drives: [Option<Drive<S>>; 4]) -> [Option<DriveUnit<S>>; 4]
+fn units_from<S: BlockStore>(drives: [Option<Drive<S>>; 4]) -> [Option<DriveUnit<S>>; 4]
     ensures units { result ≡ fresh_units (drive_states S.state drives) }
     ensures four { length result ≡ 4 }
     ensures images { AreImages result }
 {
     let [a, b, c, d] = drives;
-    [unit_of(a), unit_of(b), unit_of(c), unit_of(d)]
+    [unit_from(a), unit_from(b), unit_from(c), unit_from(d)]
 }
 
 impl<S: BlockStore> Exec<S> {
@@ -83,7 +83,7 @@ impl<S: BlockStore> Exec<S> {
         ensures images { AreImages result.units }
     {
         Exec {
-            units: units_of(drives),
+            units: units_from(drives),
             pending: ArrayVec::new(),
             position: Position::START,
         }

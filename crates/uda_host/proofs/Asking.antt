@@ -9,7 +9,7 @@ use Rattle.uda_packet.specs.declared.end.End.{End}
 use Rattle.uda_disk.specs.Units.{UnitState}
 use Rattle.uda_exec.specs.Execution.{Executes}
 use Rattle.uda_port.specs.Port.{next_grant}
-use Rattle.uda_host.specs.Host.{HostState, out_of, BuffersStay, Posts, Does, Takes, Works, OneFetched, OneDone, HostGoes, AddsUp, IsIdle, IsStarted, Asked}
+use Rattle.uda_host.specs.Host.{HostState, out_of, BuffersStay, Posts, Does, TakesEnd, Works, OneFetched, OneDone, HostGoes, AddsUp, IsIdle, IsStarted, Asked}
 use Rattle.uda_host.proofs.Hosts.{both_stay}
 
 -- it is due alone, and of the commands whose ends aren't taken so many were fetched
@@ -98,7 +98,7 @@ pub end_waits : {start host : HostState} {c : Command} → IsDone start c host �
 end_waits done = omega (arith, ap length done.waits)
 
 module _ {start old new : HostState} {c : Command} (was : IsDone start c old) where
-  pub is_taken : (end : End) → Takes old end new → Asked start c end new
+  pub is_taken : (end : End) → TakesEnd old end new → Asked start c end new
   is_taken end d =
       let same : end ∷ new.waiting ≡ was.end ∷ [] = sym d.waited ∙ was.waits in
       let end_is : was.end ≡ end = cc in

@@ -20,7 +20,7 @@ use Rattle.uda_port.specs.Port.{PortState, CreditsAgree, next_grant, port_asked}
 use Rattle.uda_port.specs.Turn.{TurnGoes}
 use Rattle.uda_host.specs.Layout.{slots, memory_size, command_descriptor, response_descriptor, command_packet, response_packet, owner_word, flag_word, packet, with_command, with_packet, with_response, memory_reopened, buffers_start}
 use Rattle.uda_host.specs.InStep.{IsAbove, IsSound, InStep}
-use Rattle.uda_host.specs.Host.{HostState, out_of, BuffersStay, Posts, Takes, Works, OneFetched, OneDone, AddsUp}
+use Rattle.uda_host.specs.Host.{HostState, out_of, BuffersStay, Posts, TakesEnd, Works, OneFetched, OneDone, AddsUp}
 use Rattle.uda_host.specs.IsHost.{state_of, InPlace}
 use Rattle.uda_host.proofs.Frames.{length-packet, length-two}
 use Rattle.uda_host.proofs.Steps.{port_fetched, StepFetches, StepExecutes, StepDelivers, StepGoes, step_goes, step_post, step_put}
@@ -184,7 +184,7 @@ module _ {memory after : List ℕ} {port new : PortState} {posted : List Command
             looks_next = ap (λ at. (at + 1) % slots) place.looks_next ∙ sym (ap (λ (p : PortState). p.responses.place) d.port_is);
           }
 
-      pub takes : Takes (state_of memory port (drop port.fetches posted) held) d.end (state_of left new (drop new.fetches posted) (held + credits))
+      pub takes : TakesEnd (state_of memory port (drop port.fetches posted) held) d.end (state_of left new (drop new.fetches posted) (held + credits))
       takes =
           let at = port.responses.place in
           let pending = port.exec.pending in
@@ -220,7 +220,7 @@ pub record WorksTo (value : HostState) (memory : List ℕ) (port : PortState) (p
 
 pub record TakesTo (value : HostState) (end : End) (memory : List ℕ) (port : PortState) (posted : List Command) (command_place response_place held : ℕ) : Type 0 where
   pub place : InPlace memory port posted command_place response_place held
-  pub takes : Takes value end (state_of memory port (drop port.fetches posted) held)
+  pub takes : TakesEnd value end (state_of memory port (drop port.fetches posted) held)
 
 module _ {value : HostState} {memory : List ℕ} {port : PortState} {posted : List Command} {command_place response_place held : ℕ} (is : state_of memory port (drop port.fetches posted) held ≡ value) (place : InPlace memory port posted command_place response_place held) where
   pub host_posts : (c : Command) (after : List ℕ) (new : PortState) (more : List Command) → 0 < value.credits → IsAbove c → read_command (written_command c) ≡ Ok c

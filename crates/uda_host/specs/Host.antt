@@ -73,7 +73,7 @@ pub record Does (old new : HostState) : Type 0 where
       }
 
 -- none is due, and the end that waits first is taken: it grants credits
-pub record Takes (old : HostState) (end : End) (new : HostState) : Type 0 where
+pub record TakesEnd (old : HostState) (end : End) (new : HostState) : Type 0 where
   pub none_due : old.due ≡ []
   pub waited : old.waiting ≡ end ∷ new.waiting
   pub buffers : BuffersStay old.memory new.memory
@@ -95,7 +95,7 @@ pub data Works (old new : HostState) : Type 0 where
 -- a turn, by the end that was taken
 abbrev pub HostGoes : HostState → Option End → HostState → Type 0
 HostGoes old None new = Works old new
-HostGoes old (Some end) new = Takes old end new
+HostGoes old (Some end) new = TakesEnd old end new
 
 -- ---- the numbers
 

@@ -4,6 +4,6 @@ use Rattle.uda_packet.specs.declared.command.Command.{Command}
 use Rattle.uda_host.specs.declared.posted.Queue.{Queue, Empty, Then'}
 
 -- in the order in which they were posted
-abbrev pub commands_of : Queue → List Command
-commands_of Empty = []
-commands_of (Then' _ before command) = commands_of before ++ command ∷ []
+abbrev pub posted_commands : Queue → List Command
+posted_commands Empty = []
+posted_commands (Then' _ before command) = posted_commands before ++ command ∷ []

@@ -8,7 +8,7 @@ ghost use Rattle.uda_host.specs.Layout.{buffer_address, buffer_size};
 ghost use Rattle.uda_host.specs.InStep.{IsAbove};
 ghost use Rattle.uda_host.specs.Host.{out_of, Posts, HostGoes, AddsUp, IsIdle, IsStarted, Asked};
 
-use crate::posted::Posted;
+use crate::posted::PostedSoFar;
 use crate::ring::{BUFFER_SIZE, SLOTS, buffer_address, credits_at, end_at, reopen, write_command};
 use crate::start::{host_memory, initialise, open_all};
 use std::alloc::Global;
@@ -29,7 +29,7 @@ pub struct Host<S: BlockStore> {
     command_place: u32,
     response_place: u32,
     held: u32,
-    posted: Posted,
+    posted: PostedSoFar,
     port: Port<S>,
 }
 
@@ -71,7 +71,7 @@ impl<S: BlockStore> Host<S> {
                     command_place: 0,
                     response_place: 0,
                     held: 1,
-                    posted: Posted::new(),
+                    posted: PostedSoFar::new(),
                     port,
                 };
                 host.ask(&Command {

@@ -14,26 +14,26 @@ enum Queue {
 
 /// Every command that was posted since start-up: it takes no byte, and nothing reads it.
 #[derive(Drop)]
-pub(crate) struct Posted {
+pub(crate) struct PostedSoFar {
     queue: Snapshot<Queue>,
 }
 
-impl Model for Posted {
+impl Model for PostedSoFar {
     ghost use Rattle.std.specs.Prelude.{List};
     ghost use Rattle.uda_packet.specs.declared.command.Command.{Command};
-    ghost use Rattle.uda_host.specs.Posted.{commands_of};
+    ghost use Rattle.uda_host.specs.Posted.{posted_commands};
 
     ghost Value = { List Command };
 
-    ghost view = { λ p. commands_of p.queue.value };
+    ghost view = { λ p. posted_commands p.queue.value };
 }
 
-impl Posted {
+impl PostedSoFar {
     /// None.
-    pub(crate) fn new() -> Posted
+    pub(crate) fn new() -> PostedSoFar
         ensures { result ≡ [] }
     {
-        Posted {
+        PostedSoFar {
             queue: Snapshot::of(&Queue::Empty),
         }
     }

@@ -4,8 +4,7 @@ ghost use Rattle.uda_mem.specs.Put.{put, part};
 ghost use Rattle.uda_mem.specs.Words.{word_at, word_bytes};
 ghost use Rattle.uda_packet.specs.Written.{written_command};
 ghost use Rattle.uda_packet.specs.Reading.{read_command, read_end};
-ghost use Rattle.uda_host.specs.Layout.{slots, buffer_address, memory_size, response_packet};
-ghost use Rattle.uda_host.specs.Layout.{with_command, memory_reopened};
+ghost use Rattle.uda_host.specs.Layout.{slots, buffer_address, memory_size, response_packet, with_command, memory_reopened};
 
 use uda_mem::HostMemory;
 use uda_packet::{Command, End, decode_end, encode_command};

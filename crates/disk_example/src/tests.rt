@@ -6,7 +6,7 @@ ghost use Rattle.std.specs.Simd.{first_chunks};
 ghost use Rattle.uda_image.specs.Image.{blocks_of};
 ghost use Rattle.uda_disk.specs.Units.{AreImages, is_faithful, is_sure};
 ghost use Rattle.uda_exec.specs.Commands.{is_transfer, landing_of};
-ghost use Rattle.uda_exec.specs.Effect.{is_acting, verdict};
+ghost use Rattle.uda_exec.specs.Effect.{acts};
 ghost use Rattle.uda_exec.specs.Execution.{Executes, world_of};
 
 use super::read;
@@ -71,7 +71,7 @@ fn units_kept<S: BlockStore>(
     command: Command,
 ) -> Option<End>
     requires alone { exec.old.pending ≡ [] }
-    requires refused { is_acting (verdict command (world_of exec.old.units memory.old)) ≡ false }
+    requires refused { acts command (world_of exec.old.units memory.old) ≡ false }
     ensures kept { exec.new.units ≡ exec.old.units }
     ensures idle { exec.new.pending ≡ [] }
 {
@@ -88,7 +88,7 @@ fn transferred<S: BlockStore>(
     requires transfer { is_transfer command.op ≡ true }
     requires faithful { is_faithful (slice_get exec.old.units command.unit) ≡ true }
     requires sure { is_sure (slice_get exec.old.units command.unit) ≡ true }
-    requires passes { is_acting (verdict command (world_of exec.old.units memory.old)) ≡ true }
+    requires passes { acts command (world_of exec.old.units memory.old) ≡ true }
     ensures success { IfSome result (λ end. end.status ≡ 0) }
     ensures idle { exec.new.pending ≡ [] }
 {

@@ -57,10 +57,8 @@ answer-in_buffer unit (Write lbn payload) e memory address size short is = refl
 answer-in_buffer unit (Erase lbn bytes) e memory address size short is = refl
 
 -- the answer that is told is by the request's end and its buffer
-pub answer_told : (answers : List CodeAnswer) (place : ℕ) (r : Request) (e : End) (memory : List ℕ) (address : ℕ) (buffer : List ℕ) (blank told : CodeAnswer)
-    → too_long r ≡ false → buffer ≡ part memory address 16384 → Prepared r (answer_value blank)
-    → (Prepared r (answer_value blank) → answer_value told ≡ answer_of r.act e (take (room_of (op_of r.act 0)) buffer))
+pub answer_told : (answers : List CodeAnswer) (place : ℕ) (r : Request) (e : End) (memory : List ℕ) (address : ℕ) (told : CodeAnswer) → too_long r ≡ false
+    → answer_value told ≡ answer_of r.act e (take (room_of (op_of r.act 0)) (part memory address 16384))
     → answer_values (set answers place told) ≡ set (answer_values answers) place (answer_of r.act e (part memory (buffer_start (op_of r.act address)) (room_of (op_of r.act address))))
-answer_told answers place r e memory address buffer blank told short is prepared tells =
-    map-set answer_value answers place told
-    ∙ ap (set (answer_values answers) place) (tells prepared ∙ ap (λ (b : List ℕ). answer_of r.act e (take (room_of (op_of r.act 0)) b)) is ∙ answer-in_buffer r.unit r.act e memory address 16384 short refl)
+answer_told answers place r e memory address told short tells =
+    map-set answer_value answers place told ∙ ap (set (answer_values answers) place) (tells ∙ answer-in_buffer r.unit r.act e memory address 16384 short refl)

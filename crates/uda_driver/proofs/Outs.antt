@@ -5,6 +5,7 @@ use Rattle.std.proofs.lemmas.List.{map_push, append_assoc, length-set, length-ma
 use Rattle.std.proofs.lemmas.List.Edits.{length-remove}
 use Rattle.std.proofs.lemmas.List.Elements.{All-nil, All-cons, All-head, All-tail, All-push, All-weaker}
 use Rattle.std.proofs.lemmas.List.Quantifiers.{all_pairs_push, all_pairs_remove}
+use Rattle.std.proofs.lemmas.List.Kept.{AllPairs-cons}
 use Rattle.std.proofs.lemmas.Bool.{cases_eq}
 use Rattle.std.proofs.lemmas.Option.{slice_get_within}
 use Rattle.uda_packet.specs.declared.end.End.{End}
@@ -20,12 +21,6 @@ use Rattle.uda_driver.proofs.Slots.{count-taken, count-freed}
 
 -- ---- one of a list stands before it
 
-pairs_cons : {A : Type 0} (R : A → A → Type 0) (x : A) (xs : List A) → All (R x) xs → AllPairs R xs → AllPairs R (x ∷ xs)
-pairs_cons R x xs first rest zero zero d before within = absurd (omega arith)
-pairs_cons R x xs first rest zero (suc j) d before within = first j d (omega arith)
-pairs_cons R x xs first rest (suc i) zero d before within = absurd (omega arith)
-pairs_cons R x xs first rest (suc i) (suc j) d before within = rest i j d (omega arith) (omega arith)
-
 module _ {A : Type 0} (ys : List A) (j : ℕ) (a : A) (stands : slice_get ys j ≡ Some a) where
   all_moved : (P : A → Type 0) (xs : List A) → All P (xs ++ ys) → All P (xs ++ a ∷ remove ys j)
   all_moved P [] all = All-cons P a (remove ys j) (All-at P ys j a all stands) (All-remove P ys j all)
@@ -33,9 +28,9 @@ module _ {A : Type 0} (ys : List A) (j : ℕ) (a : A) (stands : slice_get ys j �
 
   pairs_moved : (R : A → A → Type 0) → ((x y : A) → R x y → R y x) → (xs : List A) → AllPairs R (xs ++ ys) → AllPairs R (xs ++ a ∷ remove ys j)
   pairs_moved R turned [] pairs =
-      pairs_cons R a (remove ys j) (pairs_others R R (λ x y two. (two, turned x y two)) ys j a pairs stands) (all_pairs_remove R ys j (slice_get_within ys j a stands) pairs)
+      AllPairs-cons R a (remove ys j) (pairs_others R R (λ x y two. (two, turned x y two)) ys j a pairs stands) (all_pairs_remove R ys j (slice_get_within ys j a stands) pairs)
   pairs_moved R turned (x ∷ xs) pairs =
-      pairs_cons R x (xs ++ a ∷ remove ys j) (all_moved (R x) xs (pairs_first R x (xs ++ ys) pairs)) (pairs_moved R turned xs (pairs_rest R x (xs ++ ys) pairs))
+      AllPairs-cons R x (xs ++ a ∷ remove ys j) (all_moved (R x) xs (pairs_first R x (xs ++ ys) pairs)) (pairs_moved R turned xs (pairs_rest R x (xs ++ ys) pairs))
 
 are_two_turned : (p q : Posted) → AreTwo p q → AreTwo q p
 are_two_turned p q two same = two (sym same)

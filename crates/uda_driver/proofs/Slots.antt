@@ -1,13 +1,15 @@
 -- Buffers that are free or not: one is taken, and one is given back.
-use Rattle.std.proofs.Common.{◌≡◌, ℕ, zero, suc, ◌+◌, ◌<◌, Bool, true, false, List, [], ◌∷◌, length, set, get_or, Some, None, refl, sym, ap, ◌∙◌, arith, cond}
-use Rattle.std.specs.Prelude.{Option, slice_get, ◌||◌, is_none, nat_lt}
+use Rattle.std.proofs.Common.{◌≡◌, ℕ, zero, suc, ◌+◌, ◌<◌, Bool, true, false, List, [], ◌∷◌, length, set, get_or, Some, None, refl, sym, ap, ◌∙◌, inl, inr, arith}
+use Rattle.std.specs.Prelude.{Option, slice_get, ◌||◌, is_none}
 use Rattle.std.specs.List.{list_any, position, position_or_len}
 use Rattle.std.proofs.lemmas.List.Quantifiers.{position-Some}
-use Rattle.std.proofs.lemmas.Bool.{lt-ltb, ltb-true, eqb-true, eq-eqb}
+use Rattle.std.proofs.lemmas.List.Sums.{fails_before_first}
+use Rattle.std.proofs.lemmas.Bool.{cases_lt, lt-ltb}
 use Rattle.std.proofs.lemmas.List.Folds.{list_any_at}
 use Rattle.std.proofs.lemmas.Option.{slice_get_within, slice_get-get_or, get_or_from_slice_get}
 use Rattle.uda_disk.specs.Request.{Request}
-use Rattle.uda_driver.specs.Out.{count_out, refers, clashes_with, clashes_with_any}
+use Rattle.uda_driver.specs.Out.{count_out, clashes_with, clashes_with_any}
+use Rattle.uda_driver.specs.Steps.{HasFree}
 use Rattle.uda_driver.specs.declared.out.Out.{Out}
 
 -- ---- how many are out
@@ -27,10 +29,10 @@ count-freed (None ∷ rest) (suc number) one stands = count-freed rest number on
 count-freed (Some other ∷ rest) (suc number) one stands = omega (arith, count-freed rest number one stands)
 
 -- while fewer are out than there are buffers, one is free
-pub some_free : (out : List (Option Out)) → count_out out < length out → list_any (λ slot. is_none slot) out ≡ true
+pub some_free : (out : List (Option Out)) → count_out out < length out → HasFree out
 some_free [] few = absurd (omega arith)
-some_free (None ∷ rest) few = refl
-some_free (Some one ∷ rest) few = some_free rest (omega arith)
+some_free (None ∷ rest) few = record { number = 0; stands = refl }
+some_free (Some one ∷ rest) few = let it = some_free rest (omega arith) in record { number = suc it.number; stands = it.stands }
 
 -- ---- clashes
 
@@ -40,17 +42,11 @@ clashing_out r (None ∷ rest) met = clashing_out r rest met
 clashing_out r (Some one ∷ rest) met = omega arith
 
 pub no_clash_at : (r : Request) (out : List (Option Out)) (number : ℕ) (one : Out) → clashes_with_any r out ≡ false → slice_get out number ≡ Some (Some one) → clashes_with r (Some one) ≡ false
-no_clash_at r [] number one none stands = absurd (cc)
-no_clash_at r (slot ∷ rest) zero one none stands = let is : slot ≡ Some one = cc in ap (clashes_with r) (sym is) ∙ first (clashes_with r slot) (clashes_with_any r rest) none
+no_clash_at r out number one none stands = by (clashes_with r (Some one)) refl
   where
-    first : (a b : Bool) → a || b ≡ false → a ≡ false
-    first false b h = refl
-    first true b h = h
-no_clash_at r (slot ∷ rest) (suc number) one none stands = no_clash_at r rest number one (later (clashes_with r slot) (clashes_with_any r rest) none) stands
-  where
-    later : (a b : Bool) → a || b ≡ false → b ≡ false
-    later false b h = h
-    later true b h = absurd (cc)
+    by : (met : Bool) → clashes_with r (Some one) ≡ met → met ≡ false
+    by false is = refl
+    by true is = let some = list_any_at (clashes_with r) out number None (slice_get_within out number (Some one) stands) (ap (clashes_with r) (get_or_from_slice_get out number (Some one) None stands) ∙ is) in sym some ∙ none
 
 -- one more clashes as it does, and else those that were out
 pub clashes-taken : (r : Request) (out : List (Option Out)) (number : ℕ) (one : Out) → slice_get out number ≡ Some None
@@ -66,54 +62,32 @@ clashes-taken r (slot ∷ rest) (suc number) one free =
     between true false c = refl
     between false b c = refl
 
--- ---- the first that passes a test
+-- ---- the first buffer that passes a test
 
-pub first_low : {A : Type 0} (p : A → Bool) (xs : List A) (i : ℕ) → Some i ≡ position p xs → i < length xs
-first_low p xs i is = low (nat_lt (position_or_len p xs) (length xs)) refl is
+-- a buffer that passes isn't missed
+pub never_missed : (p : Option Out → Bool) (out : List (Option Out)) (number : ℕ) (slot : Option Out) → slice_get out number ≡ Some slot → p slot ≡ true → None ≡ position p out → ⊥
+never_missed p out number slot stands passes none = elim (cases_lt (position_or_len p out) (length out)) [
+  | inl low ↦ (let is : None ≡ Some (position_or_len p out) = none ∙ rw (lt-ltb (position_or_len p out) (length out) low) refl in cc)
+  | inr past ↦
+      let fails = fails_before_first p out number None (omega (arith, past, slice_get_within out number slot stands)) in
+      let same = get_or_from_slice_get out number slot None stands in
+      let both : true ≡ false = sym passes ∙ ap p (sym same) ∙ fails in absurd (cc)
+]
+
+-- what the first that passes holds
+pub record IsFound (p : Option Out → Bool) (out : List (Option Out)) (number : ℕ) (slot : Option Out) : Type 0 where
+  pub low : number < length out
+  pub stands : slice_get out number ≡ Some slot
+  pub passes : p slot ≡ true
+
+pub is_found : (p : Option Out → Bool) (out : List (Option Out)) (number : ℕ) (d slot : Option Out) → Some number ≡ position p out → slot ≡ get_or out number d → IsFound p out number slot
+is_found p out number d slot is same =
+    let it = position-Some p out number d (sym is) in
+    record { low = it.0; stands = slice_get-get_or out number d it.0 ∙ ap Some (sym same); passes = ap p same ∙ it.1 }
+
+pub found_free : (out : List (Option Out)) (number : ℕ) → Some number ≡ position (λ slot. is_none slot) out → IsFound (λ slot. is_none slot) out number None
+found_free out number is = by (get_or out number None) (is_found (λ slot. is_none slot) out number None _ is refl)
   where
-    low : (b : Bool) → nat_lt (position_or_len p xs) (length xs) ≡ b → Some i ≡ cond b (Some (position_or_len p xs)) None → i < length xs
-    low true lt is = let same : i ≡ position_or_len p xs = cc in omega (arith, same, ltb-true (position_or_len p xs) (length xs) lt)
-    low false lt is = absurd (cc)
-
-pub passes_at : {A : Type 0} (p : A → Bool) (xs : List A) (i : ℕ) (a : A) → Some i ≡ position p xs → slice_get xs i ≡ Some a → p a ≡ true
-passes_at p xs i a is stands = let it = position-Some p xs i a (sym is) in ap p (sym (get_or_from_slice_get xs i a a stands)) ∙ it.1
-
-first_within : {A : Type 0} (p : A → Bool) (xs : List A) → list_any p xs ≡ true → position_or_len p xs < length xs
-first_within p [] any = absurd (cc)
-first_within p (x ∷ xs) any = by (p x) refl (first_within p xs) any
-  where
-    by : (b : Bool) → p x ≡ b → (list_any p xs ≡ true → position_or_len p xs < length xs) → list_any p (x ∷ xs) ≡ true → position_or_len p (x ∷ xs) < length (x ∷ xs)
-    by true is later any = rw is (omega arith)
-    by false is later any = let low = later (rw is at any) in rw is (omega arith)
-
-pub some_passes : {A : Type 0} (p : A → Bool) (xs : List A) → list_any p xs ≡ true → None ≡ position p xs → ⊥
-some_passes p xs any none =
-    let low : nat_lt (position_or_len p xs) (length xs) ≡ true = lt-ltb (position_or_len p xs) (length xs) (first_within p xs any) in
-    let is : None ≡ Some (position_or_len p xs) = none ∙ rw low refl in
-    cc
-
--- ---- a reference, and the buffer of its command
-
-pub is_referred : (out : List (Option Out)) (reference number : ℕ) (one : Out) → slice_get out number ≡ Some (Some one) → one.place + 1 ≡ reference → list_any (refers reference) out ≡ true
-is_referred out reference number one stands is =
-    list_any_at (refers reference) out number None (slice_get_within out number (Some one) stands) (ap (refers reference) (get_or_from_slice_get out number (Some one) None stands) ∙ eq-eqb (one.place + 1) reference is)
-
-pub refers_back : (out : List (Option Out)) (reference number : ℕ) (one : Out) → Some number ≡ position (refers reference) out → slice_get out number ≡ Some (Some one) → one.place + 1 ≡ reference
-refers_back out reference number one is stands = eqb-true (one.place + 1) reference (passes_at (refers reference) out number (Some one) is stands)
-
-pub never_none : (out : List (Option Out)) (reference number : ℕ) → Some number ≡ position (refers reference) out → slice_get out number ≡ Some None → ⊥
-never_none out reference number is stands = let passes = passes_at (refers reference) out number None is stands in cc
-
-pub is_free : (out : List (Option Out)) (number : ℕ) → Some number ≡ position (λ slot. is_none slot) out → slice_get out number ≡ Some None
-is_free out number is = by (get_or out number None) refl
-  where
-    there : slice_get out number ≡ Some (get_or out number None)
-    there = slice_get-get_or out number None (first_low (λ (slot : Option Out). is_none slot) out number is)
-
-    by : (slot : Option Out) → get_or out number None ≡ slot → slice_get out number ≡ Some None
-    by None same = there ∙ ap Some same
-    by (Some one) same = let passes = passes_at (λ (slot : Option Out). is_none slot) out number (Some one) is (there ∙ ap Some same) in absurd (cc)
-
--- what is read at a place stands there
-pub read_at : {A : Type 0} (xs : List A) (i : ℕ) (a b : A) → i < length xs → a ≡ get_or xs i a → a ≡ b → slice_get xs i ≡ Some b
-read_at xs i a b low is same = slice_get-get_or xs i a low ∙ ap Some (sym is ∙ same)
+    by : (slot : Option Out) → IsFound (λ s. is_none s) out number slot → IsFound (λ s. is_none s) out number None
+    by None found = found
+    by (Some one) found = let passes = found.passes in absurd (cc)

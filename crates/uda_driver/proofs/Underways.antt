@@ -1,10 +1,9 @@
 -- The steps of a run of requests.
 use Rattle.std.proofs.Common.{◌≡◌, ℕ, zero, suc, ◌+◌, ◌-◌, ◌*◌, ◌<◌, ◌≤◌, ◌⊎◌, inl, inr, Bool, true, false, List, [], ◌∷◌, ◌++◌, length, map, take, drop, set, get_or, nat_eq, Option, Some, None, refl, sym, ap, ap₂, ◌∙◌, arith, subst, subst₂}
-use Rattle.std.specs.Prelude.{slice_get, slice_set, option_map, replicate, ◌||◌, is_none}
-use Rattle.std.specs.List.{list_any}
+use Rattle.std.specs.Prelude.{slice_get, slice_set, option_map, replicate, ◌||◌}
 use Rattle.std.proofs.lemmas.List.{length-map, length-take, length-set, length_push, map-set, take_all, drop_all, nil_from_length}
 use Rattle.std.proofs.lemmas.List.Edits.{length-remove}
-use Rattle.std.proofs.lemmas.Bool.{eqb-true, eqb-false}
+use Rattle.std.proofs.lemmas.Bool.{eqb-true, eqb-false, or_cases, or_parts}
 use Rattle.std.proofs.lemmas.Option.{slice_get_within, slice_get-map, slice_get-get_or}
 use Rattle.uda_packet.specs.declared.end.End.{End}
 use Rattle.uda_disk.specs.Units.{UnitState, AreImages, Units}
@@ -24,7 +23,7 @@ use Rattle.uda_host.specs.Host.{HostState, out_of, turns_left, Works, OneFetched
 use Rattle.uda_driver.specs.Driver.{IsDriver}
 use Rattle.uda_driver.specs.Blank.{Prepared, AreBlank}
 use Rattle.uda_driver.specs.Out.{posted_with, count_out, clashes_with_any, must_wait, IsFit}
-use Rattle.uda_driver.specs.Steps.{PutsOut, TellsEnd, Steps, TellsNone, TellsOne}
+use Rattle.uda_driver.specs.Steps.{HasFree, PutsOut, TellsEnd, Steps, TellsNone, TellsOne}
 use Rattle.uda_driver.specs.Load.{triangle, InLead, LoadAt, IsOver}
 use Rattle.uda_driver.specs.Underway.{Driving, Underway, IsDriving, Ran}
 use Rattle.uda_driver.specs.declared.out.Out.{Out}
@@ -129,14 +128,6 @@ at_place {requests} {n} {request} it = slice_get-map request_value requests n �
 next_at : {requests : List CodeRequest} {n : ℕ} {request : CodeRequest} → IsAt requests n request → Next (request_values requests) n (request_value request)
 next_at {requests} {n} {request} it = next (request_values requests) n (request_value request) (at_place it)
 
-or_cases : (a b : Bool) → a || b ≡ true → (a ≡ true) ⊎ (b ≡ true)
-or_cases true b h = inl refl
-or_cases false b h = inr h
-
-or_none : (a b : Bool) → a || b ≡ false → (a ≡ false) × (b ≡ false)
-or_none true b h = absurd (cc)
-or_none false b h = (refl, h)
-
 module _ {start : HostState} {requests : List CodeRequest} {n : ℕ} {out : List (Option Out)} {answers : List CodeAnswer} {host : HostState} {request : CodeRequest} (U : Underway start requests n out answers host) (it : IsAt requests n request) where
   r : Request
   r = request_value request
@@ -178,9 +169,9 @@ module _ {start : HostState} {requests : List CodeRequest} {n : ℕ} {out : List
   -- one that needn't is posted
   module _ (free : must_wait host out (request_value request) ≡ false) where
     pub credit_left : 0 < host.credits
-    credit_left = omega (arith, eqb-false host.credits 0 (or_none (nat_eq host.credits 0) (clashes_with_any (request_value request) out) free).0)
+    credit_left = omega (arith, eqb-false host.credits 0 (or_parts (nat_eq host.credits 0) (clashes_with_any (request_value request) out) free).0)
 
-    pub buffer_left : list_any (λ slot. is_none slot) out ≡ true
+    pub buffer_left : HasFree out
     buffer_left = some_free out (omega (arith, credit_left, all_credits U, counted_out U.driving, U.driving.outs.sized))
 
     pub underway_post : {one : Out} {new : HostState} {after : List (Option Out)} {left : List CodeAnswer} (d : CodeAnswer) → too_long (request_value request) ≡ false → one.place ≡ n → one.request.now ≡ request
@@ -195,7 +186,7 @@ module _ {start : HostState} {requests : List CodeRequest} {n : ℕ} {out : List
           short = ap too_long request_is ∙ short;
           prepared = subst (λ (q : Request). Prepared q (answer_value one.answer)) (sym request_is) (own.room short);
         } in
-        let clear = (or_none (nat_eq host.credits 0) (clashes_with_any (request_value request) out) free).1 in
+        let clear = (or_parts (nat_eq host.credits 0) (clashes_with_any (request_value request) out) free).1 in
         let last : one.place ≡ length (take n rs) = place ∙ sym w.counted in
         let told_is : answer_values left ≡ slice_set (answer_values answers) n TooLong = ap (map answer_value) left_is ∙ map-set answer_value answers n CodeTooLong in
         let unshown = driving_unshown U.driving n TooLong (omega (arith, w.counted)) in

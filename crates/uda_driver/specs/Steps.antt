@@ -25,6 +25,11 @@ pub record PutsOut (one : Out) (host : HostState) (out : List (Option Out)) (hos
   pub posts : Posts (posted_command (posted_with number one)) (with_brought host number one) host_after
   pub out_is : out_after ≡ slice_set out number (Some one)
 
+-- a buffer is free
+pub record HasFree (out : List (Option Out)) : Type 0 where
+  pub number : ℕ
+  pub stands : slice_get out number ≡ Some None
+
 -- a reference is of one that is out
 pub record IsReferred (reference : ℕ) (out : List (Option Out)) : Type 0 where
   pub number : ℕ

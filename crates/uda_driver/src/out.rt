@@ -1,8 +1,9 @@
 //! The requests that are out, by the numbers of their buffers.
-ghost use Rattle.std.specs.Prelude.{◌≡◌, ◌<◌, Some, None, replicate, position, is_none, slice_set, slice_index_or};
+ghost use Rattle.std.specs.Prelude.{◌≡◌, ◌+◌, ◌<◌, Some, None, length, replicate, position, is_none, slice_get, slice_set};
 ghost use Rattle.uda_exec.specs.Disks.{PENDING_LIMIT};
 ghost use Rattle.uda_disk.specs.Values.{request_value};
 ghost use Rattle.uda_driver.specs.Out.{refers, clashes_with, clashes_with_any};
+ghost use Rattle.uda_driver.specs.Steps.{IsReferred};
 
 use uda_disk::{Answer, Request};
 use uda_exec::PENDING;
@@ -35,13 +36,25 @@ pub(crate) fn put_out<'a>(out: &mut [Option<Out<'a>>; PENDING], number: usize, o
     out[number] = Some(one);
 }
 
-/// The one with this buffer, which is out no more.
-pub(crate) fn take_out<'a>(out: &mut [Option<Out<'a>>; PENDING], number: usize) -> Option<Out<'a>>
-    requires { number < PENDING_LIMIT }
-    ensures one { result ≡ slice_index_or out.old number result }
-    ensures left { out.new ≡ slice_set out.old number None }
+/// The one that this reference is of, which is out no more, with the number of its buffer.
+pub(crate) fn take_out<'a>(
+    out: &mut [Option<Out<'a>>; PENDING],
+    reference: u32,
+) -> (usize, Out<'a>)
+    requires sized { length out.old ≡ PENDING_LIMIT }
+    requires referred { IsReferred reference out.old }
+    ensures within { result.0 < PENDING_LIMIT }
+    ensures stands { slice_get out.old result.0 ≡ Some (Some result.1) }
+    ensures refers { result.1.place + 1 ≡ reference }
+    ensures left { out.new ≡ slice_set out.old result.0 None }
 {
-    out[number].take()
+    let Some(number) = buffer_of(out, reference) else {
+        unreachable!()
+    };
+    let Some(one) = out[number].take() else {
+        unreachable!()
+    };
+    (number, one)
 }
 
 /// The number of the first buffer that none has that is out.
@@ -51,8 +64,8 @@ pub(crate) fn free_buffer(out: &[Option<Out<'_>>; PENDING]) -> Option<usize>
     out.iter().position(|slot| slot.is_none())
 }
 
-/// The number of the buffer of the command of this reference.
-pub(crate) fn buffer_of(out: &[Option<Out<'_>>; PENDING], reference: u32) -> Option<usize>
+// The number of the buffer of the command of this reference.
+fn buffer_of(out: &[Option<Out<'_>>; PENDING], reference: u32) -> Option<usize>
     ensures { result ≡ position (refers reference) out.now }
 {
     out.iter().position(|slot| is_referred(slot, reference))

@@ -1,6 +1,5 @@
 //! A list of requests had done by commands, of which up to fifteen are out at once.
-ghost use Rattle.std.specs.Prelude.{◌≡◌, ◌<◌, ◌≤◌, true, false, length, is_none};
-ghost use Rattle.std.specs.List.{list_any};
+ghost use Rattle.std.specs.Prelude.{◌≡◌, ◌<◌, ◌≤◌, false, length};
 ghost use Rattle.uda_mem.specs.Put.{put};
 ghost use Rattle.uda_disk.specs.Units.{AreImages};
 ghost use Rattle.uda_exec.specs.Disks.{PENDING_LIMIT};
@@ -13,11 +12,11 @@ ghost use Rattle.uda_driver.specs.Blank.{AreBlank};
 ghost use Rattle.uda_driver.specs.Run.{request_limit};
 ghost use Rattle.uda_driver.specs.Driver.{IsDriver};
 ghost use Rattle.uda_driver.specs.Out.{must_wait, AreFit};
-ghost use Rattle.uda_driver.specs.Steps.{PutsOut, IsReferred, TellsEnd, Steps};
+ghost use Rattle.uda_driver.specs.Steps.{HasFree, PutsOut, IsReferred, TellsEnd, Steps};
 ghost use Rattle.uda_driver.specs.Underway.{IsDriving, Ran};
 
 use crate::answers::answer_for;
-use crate::out::{Out, buffer_of, clashes_with_any, free_buffer, none_out, put_out, take_out};
+use crate::out::{Out, clashes_with_any, free_buffer, none_out, put_out, take_out};
 use uda_disk::{Answer, Request};
 use uda_exec::PENDING;
 use uda_host::{Host, buffer_address};
@@ -78,7 +77,7 @@ fn post<'a, S: BlockStore>(host: &mut Host<S>, out: &mut [Option<Out<'a>>; PENDI
     requires sized { length out.old ≡ PENDING_LIMIT }
     requires short { too_long (request_value one.request.now) ≡ false }
     requires credit { 0 < host.old.credits }
-    requires free { list_any (λ slot. is_none slot) out.old ≡ true }
+    requires free { HasFree out.old }
     ensures posts { PutsOut one.entry host.old out.old host.new out.new }
     ensures adds_up { AddsUp host.new }
 {
@@ -132,12 +131,7 @@ fn tell<S: BlockStore>(
     requires referred { IsReferred end.reference out.old }
     ensures { TellsEnd end host.now.memory out.old answers.old.items out.new answers.new.items }
 {
-    let Some(number) = buffer_of(out, end.reference) else {
-        unreachable!()
-    };
-    let Some(one) = take_out(out, number) else {
-        unreachable!()
-    };
+    let (number, one) = take_out(out, end.reference);
     let Out {
         place,
         request,

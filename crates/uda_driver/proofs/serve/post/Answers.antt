@@ -1,34 +1,32 @@
-use Rattle.std.proofs.Common.{◌≡◌, ◌∙◌, ◌<◌, rules, refl, ap, ap₂, sym, subst, subst₂, arith, length}
-use Rattle.std.specs.Prelude.{is_none}
-use Rattle.uda_packet.specs.declared.command.Command.{Command}
+use Rattle.std.proofs.Common.{◌∙◌, ◌<◌, ℕ, rules, refl, sym, subst, arith}
+use Rattle.std.specs.Prelude.{None, is_none}
 use Rattle.uda_exec.specs.Disks.{PENDING_LIMIT}
-use Rattle.uda_host.specs.Host.{HostState, Posts}
+use Rattle.uda_host.specs.Host.{HostState}
 use Rattle.uda_driver.specs.Out.{posted_with}
-use Rattle.uda_driver.specs.Steps.{with_brought}
-use Rattle.uda_driver.proofs.Slots.{some_passes, first_low, is_free}
+use Rattle.uda_driver.proofs.Slots.{never_missed, found_free}
 use Rattle.uda_driver.proofs.Drivings.{IsBuffered, is_above}
 use Rattle.uda_driver.proofs.serve.post.Goals as goal
 
 pub unreachable-requires : goal.unreachable-requires
-unreachable-requires g c = some_passes (λ slot. is_none slot) c.args.out.now c.requires.free (sym c.in_default.is ∙ c.free_buffer.ensures)
+unreachable-requires g c = never_missed (λ slot. is_none slot) c.args.out.now c.requires.free.number None c.requires.free.stands refl (sym c.in_default.is ∙ c.free_buffer.ensures)
 
 pub overflow_cast-number : goal.overflow_cast-number
-overflow_cast-number g c = let low = first_low (λ slot. is_none slot) c.args.out.now c.in-Some.number c.in-Some.ensures in omega (arith, low, c.requires.sized)
+overflow_cast-number g c = omega (arith, (found_free c.args.out.now c.in-Some.number c.in-Some.ensures).low, c.requires.sized)
 
 pub bring-requires : goal.bring-requires
-bring-requires g c = let low = first_low (λ slot. is_none slot) c.args.out.now c.in-Some.number c.in-Some.ensures in (search rules, (omega (arith, low, c.requires.sized), c.requires.short))
+bring-requires g c = (search rules, (omega (arith, (found_free c.args.out.now c.in-Some.number c.in-Some.ensures).low, c.requires.sized), c.requires.short))
 
 pub overflow_cast-number-2 : goal.overflow_cast-number-2
-overflow_cast-number-2 g c = let low = first_low (λ slot. is_none slot) c.args.out.now c.in-Some.number c.in-Some.ensures in omega (arith, low, c.requires.sized)
+overflow_cast-number-2 g c = omega (arith, (found_free c.args.out.now c.in-Some.number c.in-Some.ensures).low, c.requires.sized)
 
 pub post-requires : goal.post-requires
 post-requires g c =
-    let low = first_low (λ slot. is_none slot) c.args.out.now c.in-Some.number c.in-Some.ensures in
+    let low = (found_free c.args.out.now c.in-Some.number c.in-Some.ensures).low in
     let buffered : IsBuffered (posted_with c.in-Some.number c.args.one) = record { short = c.requires.short; number = c.in-Some.number; within = omega (arith, low, c.requires.sized); address_is = refl } in
     (search rules, (subst (λ (h : HostState). 0 < h.credits) (sym c.bring.ensures.brought) c.requires.credit, search (rules, is_above (posted_with c.in-Some.number c.args.one) buffered)))
 
 pub put_out-requires : goal.put_out-requires
-put_out-requires g c = let low = first_low (λ slot. is_none slot) c.args.out.now c.in-Some.number c.in-Some.ensures in omega (arith, low, c.requires.sized)
+put_out-requires g c = omega (arith, (found_free c.args.out.now c.in-Some.number c.in-Some.ensures).low, c.requires.sized)
 
 pub returns-clause-posts : goal.returns-clause-posts
-returns-clause-posts g c = record { number = c.in-Some.number; free = is_free c.args.out.now c.in-Some.number c.in-Some.ensures; posts = search rules; out_is = c.put_out.ensures }
+returns-clause-posts g c = record { number = c.in-Some.number; free = (found_free c.args.out.now c.in-Some.number c.in-Some.ensures).stands; posts = search rules; out_is = c.put_out.ensures }

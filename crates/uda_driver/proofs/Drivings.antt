@@ -5,14 +5,13 @@ use Rattle.std.proofs.Math.Bool.{and_comm, or_comm}
 use Rattle.std.proofs.lemmas.Bool.Decides.{nat_tests}
 use Rattle.std.proofs.lemmas.List.{length-map, map_push, append-nil, length_push, nil_from_length}
 use Rattle.std.proofs.lemmas.List.Elements.{All-nil, All-cons, All-head, All-tail, All-map}
-use Rattle.std.proofs.lemmas.Bool.{cases_eq}
 use Rattle.std.proofs.lemmas.Option.{slice_get_within}
 use Rattle.uda_mem.specs.Put.{put, part}
 use Rattle.uda_mem.proofs.PutLaws.{length-part, length-put}
 use Rattle.uda_packet.specs.declared.command.Command.{Command}
 use Rattle.uda_packet.specs.declared.end.End.{End}
 use Rattle.uda_exec.specs.Disks.{PENDING_LIMIT}
-use Rattle.uda_disk.proofs.Slots.{slice_get-set_same, slice_get-set_other}
+use Rattle.uda_disk.proofs.Slots.{slice_get-set_other}
 use Rattle.uda_disk.specs.Request.{Request, is_moving, is_writing, lbn_of, blocks_named}
 use Rattle.uda_disk.specs.PlainRun.{too_long}
 use Rattle.uda_disk.specs.Answer.{Answer, TooLong}
@@ -28,10 +27,11 @@ use Rattle.uda_host.specs.Layout.{buffers_start, buffer_address, memory_size}
 use Rattle.uda_host.specs.InStep.{IsAbove}
 use Rattle.uda_host.specs.Host.{HostState, out_of, BuffersStay, Fetches, Does, TakesEnd, Works, OneFetched, OneDone, AddsUp, IsIdle}
 use Rattle.uda_driver.specs.Blank.{Prepared}
-use Rattle.uda_driver.specs.Out.{posted_with, count_out, clashes_with, IsFit, AreFit}
+use Rattle.uda_driver.specs.Out.{posted_with, count_out, clashes_with, IsFit, AreFit, IsOut}
 use Rattle.uda_driver.specs.Steps.{with_brought, PutsOut, IsReferred, TellsEnd}
-use Rattle.uda_driver.specs.Underway.{IsOut, alive, Outs, Driving}
+use Rattle.uda_driver.specs.Underway.{alive, Outs, Driving}
 use Rattle.uda_driver.specs.declared.out.Out.{Out}
+use Rattle.uda_driver.proofs.Slots.{set_at, freed_at}
 use Rattle.uda_driver.proofs.Outs.{none_at, outs_none, of_alive, outs_post, outs_execute, own, own_reference, TakenBack, outs_take}
 
 -- ---- buffers
@@ -103,35 +103,19 @@ stays D stay = stay_kept (of_alive D.outs IsBuffered (has_buffer _ D.outs.sized 
 
 -- ---- a turn
 
-module _ {start : Units} {requests : List Request} {out : List (Option Out)} {answers : List Answer} {host new : HostState} (D : Driving start requests out answers host) (adds_up : AddsUp new) where
-  driving_fetches : Fetches host new → Driving start requests out answers new
-  driving_fetches f = record {
-    due = D.due;
-    ended = D.ended;
-    are_due = ap (λ (h : HostState). h.due) f.is ∙ D.are_due;
-    keeps = subst (λ (us : Units). Keeps start requests D.due D.ended answers us new.memory) (sym (ap (λ (h : HostState). h.units) f.is)) (stays D f.buffers);
-    outs = subst (λ (w : List End). Outs out D.due D.ended w) (sym (ap (λ (h : HostState). h.waiting) f.is)) D.outs;
-    fit = D.fit;
-    adds_up = adds_up;
-  }
-
-  driving_does : Does host new → Driving start requests out answers new
-  driving_does x =
+module _ {start : Units} {requests : List Request} {out : List (Option Out)} {answers : List Answer} {host new : HostState} (D : Driving start requests out answers host) where
+  pub driving_works : Works host new → Driving start requests out answers new
+  driving_works (OneFetched f) = rw f.is (record { due = D.due; ended = D.ended; are_due = D.are_due; keeps = stays D f.buffers; outs = D.outs; fit = D.fit })
+  driving_works (OneDone x) =
       let t : Ends start requests D.due D.ended answers x.place x.end (record { units = new.units; pending = new.due }) [] new.memory = keeps_execute [] (append-nil host.due ∙ D.are_due) x.executes D.keeps in
-      let now : Ended = record { posted = t.posted; end = x.end } in
-      record {
+      rw x.is (record {
         due = remove D.due x.place;
-        ended = D.ended ++ now ∷ [];
+        ended = D.ended ++ record { posted = t.posted; end = x.end } ∷ [];
         are_due = sym (append-nil new.due) ∙ t.pending;
         keeps = t.keeps;
-        outs = subst (λ (w : List End). Outs out (remove D.due x.place) (D.ended ++ now ∷ []) w) (sym (ap (λ (h : HostState). h.waiting) x.is)) (outs_execute D.outs x.place t.posted x.end t.stands t.reference);
+        outs = outs_execute D.outs x.place t.posted x.end t.stands t.reference;
         fit = D.fit;
-        adds_up = adds_up;
-      }
-
-  pub driving_works : Works host new → Driving start requests out answers new
-  driving_works (OneFetched f) = driving_fetches f
-  driving_works (OneDone x) = driving_does x
+      })
 
 -- the end that waits first is that of the command that has ended first
 record FirstEnded (ended : List Ended) (e : End) : Type 0 where
@@ -156,27 +140,22 @@ module _ {start : Units} {requests : List Request} {out : List (Option Out)} {an
   end_refers = let it = own outs_split in record { number = it.number; one = it.one; stands = it.stands; refers = own_reference outs_split }
 
   -- once it is told, that one is out no more
-  pub driving_takes : AddsUp new → length requests ≤ length answers → (done : IsReferred e.reference out)
+  pub driving_takes : length requests ≤ length answers → (done : IsReferred e.reference out)
       → Driving start requests (set out done.number None) (slice_set answers done.one.place (answer_of (request_value done.one.request.now).act e (buffer_of (posted_with done.number done.one) new.memory))) new
-  driving_takes adds_up room done =
+  driving_takes room done =
       let p = posted_with done.number done.one in
       let back = outs_take outs_split done.number done.one done.stands done.refers in
-      let kept = subst (λ (us : Units). Keeps start requests D.due D.ended answers us new.memory) (sym (ap (λ (h : HostState). h.units) takes.is)) (stays D takes.buffers) in
-      let delivered = keeps_deliver room (subst (λ (es : List Ended). Keeps start requests D.due es answers new.units new.memory) split.is kept) in
+      let delivered = keeps_deliver room (subst (λ (es : List Ended). Keeps start requests D.due es answers host.units new.memory) split.is (stays D takes.buffers)) in
       let told : answer_now new.memory split.first ≡ answer_of p.request.act e (buffer_of p new.memory) = ap₂ (λ (q : Posted) (x : End). answer_of q.request.act x (buffer_of q new.memory)) (sym back.same) split.end_is in
       let answers_are = ap₂ (slice_set answers) (ap (λ (q : Posted). q.place) (sym back.same)) told in
-      record {
+      rw takes.is (record {
         due = D.due;
         ended = split.later;
-        are_due = ap (λ (h : HostState). h.due) takes.is ∙ D.are_due;
-        keeps = subst (λ (now : List Answer). Keeps start requests D.due split.later now new.units new.memory) answers_are delivered;
+        are_due = D.are_due;
+        keeps = subst (λ (now : List Answer). Keeps start requests D.due split.later now host.units new.memory) answers_are delivered;
         outs = back.outs;
-        fit = λ k one stands. elim (cases_eq k done.number) [
-          | inl same ↦ (let both : Some None ≡ Some (Some one) = sym (slice_get-set_same out done.number None (slice_get_within out done.number _ done.stands)) ∙ ap (slice_get (set out done.number None)) (sym same) ∙ stands in absurd (cc))
-          | inr two ↦ D.fit k one (sym (slice_get-set_other out done.number k None two) ∙ stands)
-        ];
-        adds_up = adds_up;
-      }
+        fit = λ k one stands. D.fit k one (freed_at out done.number k one (slice_get_within out done.number _ done.stands) stands).1;
+      })
 
 -- ---- one more request
 
@@ -192,29 +171,20 @@ module _ {start : Units} {requests : List Request} {out : List (Option Out)} {an
     keeps = keeps_skip D.keeps r long blank;
     outs = D.outs;
     fit = λ number one stands. still_fit (omega (arith, length_push requests r)) (D.fit number one stands);
-    adds_up = D.adds_up;
   }
 
-  -- an answer from there on is not shown yet
-  pub driving_unshown : (place : ℕ) (a : Answer) → length requests ≤ place → Driving start requests out (slice_set answers place a) host
-  driving_unshown place a later = record {
-    due = D.due;
-    ended = D.ended;
-    are_due = D.are_due;
-    keeps = record {
-      told = D.keeps.told;
-      owes = D.keeps.owes;
-      tell = D.keeps.tell;
-      left = D.keeps.left;
-      shown = λ k low not_due not_ended. slice_get-set_other answers place k a (λ same. omega (arith, same, low, later)) ∙ D.keeps.shown k low not_due not_ended;
-    };
-    outs = D.outs;
-    fit = D.fit;
-    adds_up = D.adds_up;
+  -- an answer that stands there is not shown yet
+  unshown : (a : Answer) → Keeps start requests D.due D.ended (slice_set answers (length requests) a) host.units host.memory
+  unshown a = record {
+    told = D.keeps.told;
+    owes = D.keeps.owes;
+    tell = D.keeps.tell;
+    left = D.keeps.left;
+    shown = λ k low not_due not_ended. slice_get-set_other answers (length requests) k a (λ same. omega (arith, same, low)) ∙ D.keeps.shown k low not_due not_ended;
   }
 
   module _ {one : Out} {new : HostState} {after : List (Option Out)} (puts : PutsOut one host out new after) (fit : IsFit (length requests + 1) one) (last : one.place ≡ length requests)
-      (clear : (number : ℕ) (other : Out) → slice_get out number ≡ Some (Some other) → clashes_with (request_value one.request.now) (Some other) ≡ false) where
+      (clear : (number : ℕ) (other : Out) → slice_get out number ≡ Some (Some other) → clashes_with (request_value one.request.now) (Some other) ≡ false) (size : length host.memory ≡ memory_size) (left : Answer) where
     abbrev pub now : Posted
     now = posted_with puts.number one
 
@@ -228,10 +198,10 @@ module _ {start : Units} {requests : List Request} {out : List (Option Out)} {an
     beside : (k : ℕ) (other : Out) → slice_get out k ≡ Some (Some other) → Beside (posted_command (posted_with k other)) (posted_command now)
     beside k other stands = beside_from now (posted_with k other) now_buffered (has_buffer out D.outs.sized D.fit k other stands) (other_buffer k other stands)
 
-    kept_brought : Keeps start (requests ++ now.request ∷ []) (D.due ++ now ∷ []) D.ended answers host.units (put host.memory now.address (bytes_brought now.request.act))
+    kept_brought : Keeps start (requests ++ now.request ∷ []) (D.due ++ now ∷ []) D.ended (slice_set answers (length requests) left) host.units (put host.memory now.address (bytes_brought now.request.act))
     kept_brought =
         let fits = (bytes_fit now.request.act now.address).fits in let buffer = buffer-at now.request.unit now.request.act now.address fit.short in
-        let ready = ready-put now host.memory fit.short (omega arith) (omega (arith, slice_get_within out puts.number None puts.free, D.outs.sized, D.adds_up.size)) in
+        let ready = ready-put now host.memory fit.short (omega arith) (omega (arith, slice_get_within out puts.number None puts.free, D.outs.sized, size)) in
         let Apart : Posted → Type 0 = λ q. Beside (posted_command q) (posted_command now) in
         let Clear : Posted → Type 0 = λ q. NoClash q.request now.request in
         let before = map (λ (d : Ended). d.posted) D.ended in
@@ -239,38 +209,35 @@ module _ {start : Units} {requests : List Request} {out : List (Option Out)} {an
         let none = of_alive D.outs Clear (λ k other stands. clash_turned now.request (posted_with k other).request (clear k other stands)) in
         let Missed : Posted → Type 0 = λ q. Misses now.address (length (bytes_brought now.request.act)) (posted_command q) in
         let misses = of_alive D.outs Missed (λ k other stands. misses_other now (posted_with k other) now.address (length (bytes_brought now.request.act)) now_buffered (has_buffer out D.outs.sized D.fit k other stands) (λ same. other_buffer k other stands (sym same)) refl (omega arith)) in
-        keeps_post (put_kept now.address (bytes_brought now.request.act) misses D.keeps) now last ready
+        keeps_post (put_kept now.address (bytes_brought now.request.act) misses (unshown left)) now last ready
         (All-map (λ d. Beside d (posted_command now)) posted_command D.due (all_behind Apart before D.due all))
         (All-map (λ r. NoClash r now.request) (λ (q : Posted). q.request) D.due (all_behind Clear before D.due none))
         (all_ended Apart D.ended D.due all)
 
     fit_after : AreFit (length (requests ++ now.request ∷ [])) (set out puts.number (Some one))
-    fit_after = λ k other stands. elim (cases_eq k puts.number) [
-      | inl same ↦ (let both : Some (Some one) ≡ Some (Some other) = sym (slice_get-set_same out puts.number (Some one) (slice_get_within out puts.number None puts.free)) ∙ ap (slice_get (set out puts.number (Some one))) (sym same) ∙ stands in
-          let is : one ≡ other = cc in subst (IsFit (length (requests ++ now.request ∷ []))) is (still_fit (omega (arith, length_push requests now.request)) fit))
-      | inr two ↦ still_fit (omega (arith, length_push requests now.request)) (D.fit k other (sym (slice_get-set_other out puts.number k (Some one) two) ∙ stands))
-    ]
+    fit_after = λ k other stands. still_fit (omega (arith, length_push requests now.request)) (elim (set_at out puts.number k (Some one) (Some other) (slice_get_within out puts.number None puts.free) stands) [
+      | inl it ↦ (let same = it.1 in let is : one ≡ other = cc in subst (IsFit (length requests + 1)) is fit)
+      | inr it ↦ still_fit (omega arith) (D.fit k other it.1)
+    ])
 
     -- what it brings stands in its buffer, and its command is posted
-    pub driving_post : AddsUp new → Driving start (requests ++ now.request ∷ []) after answers new
-    driving_post adds_up =
-        let posts = puts.posts in
+    pub driving_post : Driving start (requests ++ now.request ∷ []) after (slice_set answers (length requests) left) new
+    driving_post =
         let outs = outs_post D.outs puts.number one puts.free (λ k other stands same. omega (arith, (D.fit k other stands).before, last)) in
-        let kept = stay_kept (of_alive outs IsBuffered (has_buffer (set out puts.number (Some one)) outs.sized fit_after)) posts.buffers kept_brought in
-        subst (λ (o : List (Option Out)). Driving start (requests ++ now.request ∷ []) o answers new) (sym puts.out_is) (record {
+        let kept = stay_kept (of_alive outs IsBuffered (has_buffer (set out puts.number (Some one)) outs.sized fit_after)) puts.posts.buffers kept_brought in
+        rw (puts.out_is, puts.posts.is) (record {
           due = D.due ++ now ∷ [];
           ended = D.ended;
-          are_due = ap (λ (h : HostState). h.due) posts.is ∙ ap (λ (cs : List Command). cs ++ posted_command now ∷ []) D.are_due ∙ sym (map_push posted_command D.due now);
-          keeps = subst (λ (us : Units). Keeps start (requests ++ now.request ∷ []) (D.due ++ now ∷ []) D.ended answers us new.memory) (sym (ap (λ (h : HostState). h.units) posts.is)) kept;
-          outs = subst (λ (w : List End). Outs (set out puts.number (Some one)) (D.due ++ now ∷ []) D.ended w) (sym (ap (λ (h : HostState). h.waiting) posts.is)) outs;
+          are_due = ap (λ (cs : List Command). cs ++ posted_command now ∷ []) D.are_due ∙ sym (map_push posted_command D.due now);
+          keeps = kept;
+          outs = outs;
           fit = fit_after;
-          adds_up = adds_up;
         })
 
 -- ---- nothing is out
 
-pub driving_start : {host : HostState} {out : List (Option Out)} (answers : List Answer) → IsIdle host → AddsUp host → out ≡ replicate PENDING_LIMIT None → Driving host.units [] out answers host
-driving_start {host} {out} answers idle adds_up none = record {
+pub driving_start : {host : HostState} {out : List (Option Out)} (answers : List Answer) → IsIdle host → out ≡ replicate PENDING_LIMIT None → Driving host.units [] out answers host
+driving_start {host} {out} answers idle none = record {
   due = [];
   ended = [];
   are_due = idle.none_due;
@@ -283,7 +250,6 @@ driving_start {host} {out} answers idle adds_up none = record {
   };
   outs = outs_none out host.waiting none idle.none_wait;
   fit = λ number one stands. absurd (none_at PENDING_LIMIT number one (sym (ap (λ (o : List (Option Out)). slice_get o number) none) ∙ stands));
-  adds_up = adds_up;
 }
 
 pub driving_end : {start : Units} {requests : List Request} {out : List (Option Out)} {answers : List Answer} {host : HostState}

@@ -96,15 +96,14 @@ over_from none (IsOver over) = over
 
 module _ {start host new : HostState} {requests : List Request} {n : ℕ} (over : LeadOver start requests n host) where
   pub over_works : Works host new → LeadOver start requests n new
-  over_works (OneFetched f) =
-      record { within = over.within; load = omega (arith, over.load, ap (λ (h : HostState). h.load) f.is, ap (λ (h : HostState). triangle (length h.due)) f.is) }
+  over_works (OneFetched f) = rw f.is (record { within = over.within; load = over.load })
   over_works (OneDone x) =
       let taken = x.executes.taken in
       let fewer : length host.due ≡ length new.due + 1 = omega (arith, ap length taken.taken, length-remove host.due x.place taken.may.stands, taken.may.stands) in
-      record { within = over.within; load = omega (arith, over.load, ap (λ (h : HostState). h.load) x.is, ap triangle fewer, triangle-more (length new.due), fewer) }
+      rw x.is (record { within = over.within; load = omega (arith, over.load, ap triangle fewer, triangle-more (length new.due), fewer) })
 
   pub over_takes : {e : End} → TakesEnd host e new → LeadOver start requests n new
-  over_takes t = record { within = over.within; load = omega (arith, over.load, ap (λ (h : HostState). h.load) t.is, ap (λ (h : HostState). triangle (length h.due)) t.is) }
+  over_takes t = rw t.is (record { within = over.within; load = over.load })
 
 module _ {start host : HostState} {requests : List Request} {n : ℕ} {out : List (Option Out)} {r : Request} (it : Next requests n r) where
   pub load_skip : too_long r ≡ true → LoadAt start requests n out host → LoadAt start requests (n + 1) out host

@@ -1,5 +1,5 @@
 -- What is out, as a request is posted, done, and taken back with its end.
-use Rattle.std.proofs.Common.{◌≡◌, ◌≢◌, ℕ, zero, suc, ◌+◌, ◌<◌, inl, inr, List, [], ◌∷◌, ◌++◌, length, map, set, get_or, Option, Some, None, refl, sym, ap, ap₂, ◌∙◌, arith, subst, subst₂, length-append}
+use Rattle.std.proofs.Common.{◌≡◌, ◌≢◌, ℕ, zero, suc, ◌+◌, ◌<◌, ◌⊎◌, inl, inr, List, [], ◌∷◌, ◌++◌, length, map, set, get_or, Option, Some, None, refl, sym, ap, ap₂, ◌∙◌, arith, subst, subst₂, length-append}
 use Rattle.std.specs.Prelude.{slice_get, remove, replicate, All, AllPairs}
 use Rattle.std.proofs.lemmas.List.{map_push, append_assoc, length-set, length-map, length_push}
 use Rattle.std.proofs.lemmas.List.Edits.{length-remove}
@@ -14,10 +14,10 @@ use Rattle.uda_disk.proofs.Slots.{slice_get-set_same, slice_get-set_other}
 use Rattle.uda_posting.specs.Posting.{Posted}
 use Rattle.uda_posting.specs.Keeping.{Ended, RefersBack, AreTwo}
 use Rattle.uda_model.proofs.Lists.{All-remove, All-at, pairs_first, pairs_rest, pairs_others}
-use Rattle.uda_driver.specs.Out.{posted_with, count_out}
-use Rattle.uda_driver.specs.Underway.{IsOut, alive, HaveOwnPlaces, Outs}
+use Rattle.uda_driver.specs.Out.{posted_with, count_out, IsOut, HaveOwnPlaces}
+use Rattle.uda_driver.specs.Underway.{alive, Outs}
 use Rattle.uda_driver.specs.declared.out.Out.{Out}
-use Rattle.uda_driver.proofs.Slots.{count-taken, count-freed}
+use Rattle.uda_driver.proofs.Slots.{set_at, freed_at, count-taken, count-freed}
 
 -- ---- one of a list stands before it
 
@@ -70,32 +70,30 @@ module _ {out : List (Option Out)} {due : List Posted} {ended : List Ended} {wai
   pub outs_post : (number : ℕ) (one : Out) → slice_get out number ≡ Some None
       → ((k : ℕ) (other : Out) → slice_get out k ≡ Some (Some other) → other.place ≢ one.place) → Outs (set out number (Some one)) (due ++ posted_with number one ∷ []) ended waiting
   outs_post number one free apart =
-      let p = posted_with number one in let before = map (λ (d : Ended). d.posted) ended in
-      let new = slice_get-set_same out number (Some one) (slice_get_within out number None free) in
-      let more : alive ended (due ++ p ∷ []) ≡ alive ended due ++ p ∷ [] = sym (append_assoc before due (p ∷ [])) in
-      let taken : (k : ℕ) (other : Out) → slice_get out k ≡ Some (Some other) → k ≢ number = λ k other stands same. (let both : Some None ≡ Some (Some other) = sym free ∙ ap (slice_get out) (sym same) ∙ stands in cc) in
-      let was : (k : ℕ) (other : Out) → slice_get (set out number (Some one)) k ≡ Some (Some other) → k ≢ number → slice_get out k ≡ Some (Some other) = λ k other stands two. sym (slice_get-set_other out number k (Some one) two) ∙ stands in
-      let own : (k : ℕ) (other : Out) → slice_get (set out number (Some one)) k ≡ Some (Some other) → k ≡ number → other.place ≡ one.place = λ k other stands same. (let both : Some (Some one) ≡ Some (Some other) = sym new ∙ ap (slice_get (set out number (Some one))) (sym same) ∙ stands in let is : one ≡ other = cc in ap (λ (o : Out). o.place) (sym is)) in
+      let p = posted_with number one in
+      let within = slice_get_within out number None free in
+      let after = set out number (Some one) in
+      let more : alive ended (due ++ p ∷ []) ≡ alive ended due ++ p ∷ [] = sym (append_assoc (map (λ (d : Ended). d.posted) ended) due (p ∷ [])) in
+      let here : IsOut after p = record { number = number; one = one; stands = slice_get-set_same out number (Some one) within; is = refl } in
+      let still : (q : Posted) → IsOut out q → IsOut after q = λ q it. still_out number (Some one) q it (λ same. let both : Some None ≡ Some (Some it.one) = sym free ∙ ap (slice_get out) (sym same) ∙ it.stands in cc) in
       record {
         sized = length-set out number (Some one) ∙ outs.sized;
         counted = omega (arith, count-taken out number one free, outs.counted, ap length more, length_push (alive ended due) p);
-        own_places = λ i k a b at_i at_k same. elim (cases_eq i number) [
-          | inl first ↦ elim (cases_eq k number) [
-            | inl second ↦ omega arith
-            | inr other ↦ absurd (apart k b (was k b at_k other) (sym same ∙ own i a at_i first))
-          ]
-          | inr here ↦ elim (cases_eq k number) [
-            | inl second ↦ absurd (apart i a (was i a at_i here) (same ∙ own k b at_k second))
-            | inr other ↦ outs.own_places i k a b (was i a at_i here) (was k b at_k other) same
-          ]
-        ];
-        are_out = subst (All (IsOut (set out number (Some one)))) (sym more) (All-push (IsOut (set out number (Some one))) (alive ended due) p
-            (λ k d low. let it = outs.are_out k d low in still_out number (Some one) _ it (taken it.number it.one it.stands))
-            (record { number = number; one = one; stands = new; is = refl }));
+        own_places = λ i k a b at_i at_k same. own i k a b same (set_at out number i (Some one) (Some a) within at_i) (set_at out number k (Some one) (Some b) within at_k);
+        are_out = subst (All (IsOut after)) (sym more) (All-push (IsOut after) (alive ended due) p (λ k d low. still _ (outs.are_out k d low)) here);
         are_two = subst (AllPairs AreTwo) (sym more) (all_pairs_push AreTwo (alive ended due) p outs.are_two (of_alive (λ q. AreTwo q p) apart));
         waits = outs.waits;
         refer = outs.refer;
       }
+    where
+      Now : ℕ → Out → Type 0
+      Now k a = ((k ≡ number) × (Some one ≡ Some a)) ⊎ ((k ≢ number) × (slice_get out k ≡ Some (Some a)))
+
+      own : (i k : ℕ) (a b : Out) → a.place ≡ b.place → Now i a → Now k b → i ≡ k
+      own i k a b same (inl x) (inl y) = x.0 ∙ sym y.0
+      own i k a b same (inl x) (inr y) = let s = x.1 in let is : one ≡ a = cc in absurd (apart k b y.1 (sym same ∙ ap (λ (o : Out). o.place) (sym is)))
+      own i k a b same (inr x) (inl y) = let s = y.1 in let is : one ≡ b = cc in absurd (apart i a x.1 (same ∙ ap (λ (o : Out). o.place) (sym is)))
+      own i k a b same (inr x) (inr y) = outs.own_places i k a b x.1 y.1 same
 
   -- a command that was due has ended
   pub outs_execute : (j : ℕ) (p : Posted) (e : End) → slice_get due j ≡ Some p → e.reference ≡ p.place + 1 → Outs out (remove due j) (ended ++ record { posted = p; end = e } ∷ []) (waiting ++ e ∷ [])
@@ -135,10 +133,7 @@ module _ {out : List (Option Out)} {due : List Posted} {first : Ended} {ended : 
       let here : Some (Some one) ≡ Some (Some own.one) = sym stands ∙ ap (slice_get out) index ∙ own.stands in
       let is : one ≡ own.one = cc in
       let others = pairs_first AreTwo first.posted (alive ended due) outs.are_two in
-      let was : (k : ℕ) (other : Out) → slice_get (set out number None) k ≡ Some (Some other) → slice_get out k ≡ Some (Some other) = λ k other there. elim (cases_eq k number) [
-        | inl same ↦ (let both : Some None ≡ Some (Some other) = sym (slice_get-set_same out number None (slice_get_within out number _ stands)) ∙ ap (slice_get (set out number None)) (sym same) ∙ there in absurd (cc))
-        | inr two ↦ sym (slice_get-set_other out number k None two) ∙ there
-      ] in
+      let was : (k : ℕ) (other : Out) → slice_get (set out number None) k ≡ Some (Some other) → slice_get out k ≡ Some (Some other) = λ k other there. (freed_at out number k other (slice_get_within out number _ stands) there).1 in
       let was_all = All-tail (IsOut out) first.posted (alive ended due) outs.are_out in
       let waited = outs.waits in
       record {

@@ -1,16 +1,33 @@
 -- Buffers that are free or not: one is taken, and one is given back.
-use Rattle.std.proofs.Common.{◌≡◌, ℕ, zero, suc, ◌+◌, ◌<◌, Bool, true, false, List, [], ◌∷◌, length, set, get_or, Some, None, refl, sym, ap, ◌∙◌, inl, inr, arith}
+use Rattle.std.proofs.Common.{◌≡◌, ◌≢◌, ℕ, zero, suc, ◌+◌, ◌<◌, ◌⊎◌, Bool, true, false, List, [], ◌∷◌, length, set, get_or, Some, None, refl, sym, ap, ◌∙◌, inl, inr, arith}
 use Rattle.std.specs.Prelude.{Option, slice_get, ◌||◌, is_none}
 use Rattle.std.specs.List.{list_any, position, position_or_len}
 use Rattle.std.proofs.lemmas.List.Quantifiers.{position-Some}
 use Rattle.std.proofs.lemmas.List.Sums.{fails_before_first}
-use Rattle.std.proofs.lemmas.Bool.{cases_lt, lt-ltb}
+use Rattle.std.proofs.lemmas.Bool.{cases_lt, cases_eq, lt-ltb}
+use Rattle.uda_disk.proofs.Slots.{slice_get-set_same, slice_get-set_other}
 use Rattle.std.proofs.lemmas.List.Folds.{list_any_at}
 use Rattle.std.proofs.lemmas.Option.{slice_get_within, slice_get-get_or, get_or_from_slice_get}
 use Rattle.uda_disk.specs.Request.{Request}
 use Rattle.uda_driver.specs.Out.{count_out, clashes_with, clashes_with_any}
 use Rattle.uda_driver.specs.Steps.{HasFree}
 use Rattle.uda_driver.specs.declared.out.Out.{Out}
+
+-- ---- one buffer is set
+
+-- what stands in a list where an item was set is that item, or stood there
+pub set_at : {A : Type 0} (xs : List A) (i k : ℕ) (a b : A) → i < length xs → slice_get (set xs i a) k ≡ Some b → ((k ≡ i) × (a ≡ b)) ⊎ ((k ≢ i) × (slice_get xs k ≡ Some b))
+set_at xs i k a b within stands = elim (cases_eq k i) [
+  | inl same ↦ (let both : Some a ≡ Some b = sym (slice_get-set_same xs i a within) ∙ ap (slice_get (set xs i a)) (sym same) ∙ stands in let is : a ≡ b = cc in inl (same, is))
+  | inr other ↦ inr (other, sym (slice_get-set_other xs i k a other) ∙ stands)
+]
+
+-- where one was taken back, what is out was so with another buffer
+pub freed_at : (out : List (Option Out)) (number k : ℕ) (one : Out) → number < length out → slice_get (set out number None) k ≡ Some (Some one) → (k ≢ number) × (slice_get out k ≡ Some (Some one))
+freed_at out number k one within stands = elim (set_at out number k None (Some one) within stands) [
+  | inl it ↦ (let is = it.1 in absurd (cc))
+  | inr it ↦ it
+]
 
 -- ---- how many are out
 

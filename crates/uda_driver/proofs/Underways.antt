@@ -25,10 +25,11 @@ use Rattle.uda_driver.specs.Blank.{Prepared, AreBlank}
 use Rattle.uda_driver.specs.Out.{posted_with, count_out, clashes_with_any, must_wait, IsFit}
 use Rattle.uda_driver.specs.Steps.{HasFree, PutsOut, TellsEnd, Steps, TellsNone, TellsOne}
 use Rattle.uda_driver.specs.Load.{triangle, InLead, LoadAt, IsOver}
-use Rattle.uda_driver.specs.Underway.{Driving, Underway, IsDriving, Ran}
+use Rattle.uda_driver.specs.Underway.{Driving, IsAtWork, Underway}
+use Rattle.uda_driver.specs.Drive.{IsDriving, Ran}
 use Rattle.uda_driver.specs.declared.out.Out.{Out}
 use Rattle.uda_driver.proofs.Slots.{some_free, clashing_out, no_clash_at}
-use Rattle.uda_driver.proofs.Drivings.{driving_works, driving_takes, driving_skip, driving_unshown, driving_post, driving_start, driving_end, counted_out}
+use Rattle.uda_driver.proofs.Drivings.{driving_works, driving_takes, driving_skip, driving_post, driving_start, driving_end, counted_out}
 use Rattle.uda_driver.proofs.Loads.{triangle-is, lead-full, lead-clash, lead-none, Next, next, load_start, over_from, over_works, over_takes, load_skip, load_post}
 
 -- ---- a turn of a host
@@ -40,25 +41,13 @@ record Turned (host new : HostState) : Type 0 where
   taken : host.taken ≤ new.taken
 
 turned_works : {host new : HostState} → Works host new → Turned host new
-turned_works (OneFetched f) = record {
-  all = ap (λ (h : HostState). h.taken + out_of h) f.is;
-  turns = ap (λ (h : HostState). h.turns) f.is;
-  taken = omega (arith, ap (λ (h : HostState). h.taken) f.is);
-}
+turned_works (OneFetched f) = rw f.is (record { all = refl; turns = refl; taken = omega arith })
 turned_works {host} {new} (OneDone x) =
     let out = x.executes.taken in
-    record {
-      all = omega (arith, ap length out.taken, length-remove host.due x.place out.may.stands, out.may.stands, ap (λ (h : HostState). length h.waiting) x.is, length_push host.waiting x.end, ap (λ (h : HostState). h.taken) x.is);
-      turns = ap (λ (h : HostState). h.turns) x.is;
-      taken = omega (arith, ap (λ (h : HostState). h.taken) x.is);
-    }
+    rw x.is (record { all = omega (arith, ap length out.taken, length-remove host.due x.place out.may.stands, out.may.stands, length_push host.waiting x.end); turns = refl; taken = omega arith })
 
 turned_takes : {host new : HostState} {e : End} → TakesEnd host e new → Turned host new
-turned_takes t = record {
-  all = omega (arith, ap (λ (h : HostState). length h.due) t.is, ap length t.waited, ap (λ (h : HostState). h.taken) t.is);
-  turns = ap (λ (h : HostState). h.turns) t.is;
-  taken = omega (arith, ap (λ (h : HostState). h.taken) t.is);
-}
+turned_takes t = rw t.is (record { all = omega (arith, ap length t.waited); turns = refl; taken = omega arith })
 
 turned : {host new : HostState} {out after : List (Option Out)} {answers told : List CodeAnswer} → Steps host out answers new after told → Turned host new
 turned (TellsNone works out_is answers_are) = turned_works works
@@ -78,11 +67,28 @@ module _ {start : HostState} {requests : List CodeRequest} {n : ℕ} {out : List
   is_driving = record { start = start.units; requests = take n (request_values requests); driving = U.driving; room = omega (arith, room, length-map answers answer_value) }
 
   pub all_credits : host.credits + out_of host ≡ PENDING_LIMIT
-  all_credits = U.driving.adds_up.credits_are U.begun
+  all_credits = U.at_work.adds_up.credits_are U.at_work.begun
+
+  -- a request that must wait finds some out
+  pub wait_some : (r : Request) → must_wait host out r ≡ true → 0 < out_of host
+  wait_some r waits = elim (or_cases (nat_eq host.credits 0) (clashes_with_any r out) waits) [
+    | inl none ↦ omega (arith, all_credits, eqb-true host.credits 0 none)
+    | inr met ↦ omega (arith, clashing_out r out met, counted_out U.driving)
+  ]
+
+  -- one that needn't finds a credit and a buffer
+  pub credit_left : (r : Request) → must_wait host out r ≡ false → 0 < host.credits
+  credit_left r free = omega (arith, eqb-false host.credits 0 (or_parts (nat_eq host.credits 0) (clashes_with_any r out) free).0)
+
+  pub buffer_left : (r : Request) → must_wait host out r ≡ false → HasFree out
+  buffer_left r free = some_free out (omega (arith, credit_left r free, all_credits, counted_out U.driving, U.driving.outs.sized))
 
   -- an answer that is told leaves the blanks as they are
   blank_told : (place : ℕ) (a : Answer) (told : List CodeAnswer) → place < n → answer_values told ≡ slice_set (answer_values answers) place a → AreBlank (request_values requests) n (answer_values told)
   blank_told place a told low is = λ k r b from stands at. U.blank k r b from stands (sym (slice_get-set_other (answer_values answers) place k a (λ same. omega (arith, same, from, low))) ∙ ap (λ (as' : List Answer). slice_get as' k) (sym is) ∙ at)
+
+  still_works : {new : HostState} → AddsUp new → AreImages new.units → Turned host new → IsAtWork new
+  still_works adds_up images t = record { begun = omega (arith, U.at_work.begun, t.taken); images = images; adds_up = adds_up }
 
   module _ {new : HostState} {after : List (Option Out)} {told : List CodeAnswer} (adds_up : AddsUp new) (images : AreImages new.units)
       (ends : (l : InLead start (request_values requests) n out host) → lead_from host.credits l.seen (drop n (request_values requests)) ≡ 0) where
@@ -90,12 +96,11 @@ module _ {start : HostState} {requests : List CodeRequest} {n : ℕ} {out : List
     pub underway_step : Steps host out answers new after told → Underway start requests n after told new
     underway_step (TellsNone works out_is answers_are) =
         let t = turned_works works in
-        subst₂ (λ (o : List (Option Out)) (as' : List CodeAnswer). Underway start requests n o as' new) (sym out_is) (sym answers_are) (record {
-          driving = driving_works U.driving adds_up works;
+        rw (out_is, answers_are) (record {
+          driving = driving_works U.driving works;
           blank = U.blank;
           sized = U.sized;
-          begun = omega (arith, U.begun, t.taken);
-          images = images;
+          at_work = still_works adds_up images t;
           posted = omega (arith, U.posted, t.all);
           load = IsOver (over_works (over_from ends U.load) works);
         })
@@ -104,13 +109,11 @@ module _ {start : HostState} {requests : List CodeRequest} {n : ℕ} {out : List
         let place = tells.done.one.place in
         let low : place < n = omega (arith, (U.driving.fit tells.done.number tells.done.one tells.done.stands).before, length-take n (request_values requests)) in
         let a = answer_of (request_value tells.done.one.request.now).act e (buffer_of (posted_with tells.done.number tells.done.one) new.memory) in
-        let driving = driving_takes U.driving takes adds_up room tells.done in
-        subst (λ (o : List (Option Out)). Underway start requests n o told new) (sym tells.out_is) (record {
-          driving = subst (λ (as' : List Answer). Driving start.units (take n (request_values requests)) (set out tells.done.number None) as' new) (sym tells.answers_are) driving;
+        rw tells.out_is (record {
+          driving = rw tells.answers_are (driving_takes U.driving takes room tells.done);
           blank = blank_told place a told low tells.answers_are;
           sized = sym (length-map told answer_value) ∙ ap length tells.answers_are ∙ length-set (answer_values answers) place a ∙ length-map answers answer_value ∙ U.sized;
-          begun = omega (arith, U.begun, t.taken);
-          images = images;
+          at_work = still_works adds_up images t;
           posted = omega (arith, U.posted, t.all);
           load = IsOver (over_takes (over_from ends U.load) takes);
         })
@@ -146,34 +149,21 @@ module _ {start : HostState} {requests : List CodeRequest} {n : ℕ} {out : List
         driving = subst (λ (rs : List Request). Driving start.units rs out (answer_values answers) host) (sym w.more) (driving_skip U.driving (request_value request) long blank);
         blank = λ k q a from. U.blank k q a (omega (arith, from));
         sized = U.sized;
-        begun = U.begun;
-        images = U.images;
+        at_work = U.at_work;
         posted = omega (arith, U.posted, w.skipped long);
         load = load_skip w long U.load;
       }
 
-  -- a request that must wait finds some out, and comes in no lead
-  module _ (waits : must_wait host out (request_value request) ≡ true) where
-    pub wait_some : 0 < out_of host
-    wait_some = elim (or_cases (nat_eq host.credits 0) (clashes_with_any (request_value request) out) waits) [
-      | inl none ↦ omega (arith, all_credits U, eqb-true host.credits 0 none)
-      | inr met ↦ omega (arith, clashing_out (request_value request) out met, counted_out U.driving)
-    ]
-
-    pub wait_ends : too_long (request_value request) ≡ false → (l : InLead start (request_values requests) n out host) → lead_from host.credits l.seen (drop n (request_values requests)) ≡ 0
-    wait_ends short l = ap (lead_from host.credits l.seen) w.rest ∙ elim (or_cases (nat_eq host.credits 0) (clashes_with_any (request_value request) out) waits) [
-      | inl none ↦ lead-full host.credits l.seen (request_value request) (drop (n + 1) (request_values requests)) (eqb-true host.credits 0 none)
-      | inr met ↦ lead-clash host.credits l.seen (request_value request) (drop (n + 1) (request_values requests)) short (l.clash_alike (request_value request) ∙ met)
-    ]
+  -- one that must wait comes in no lead
+  pub wait_ends : must_wait host out (request_value request) ≡ true → too_long (request_value request) ≡ false
+      → (l : InLead start (request_values requests) n out host) → lead_from host.credits l.seen (drop n (request_values requests)) ≡ 0
+  wait_ends waits short l = ap (lead_from host.credits l.seen) w.rest ∙ elim (or_cases (nat_eq host.credits 0) (clashes_with_any (request_value request) out) waits) [
+    | inl none ↦ lead-full host.credits l.seen (request_value request) (drop (n + 1) (request_values requests)) (eqb-true host.credits 0 none)
+    | inr met ↦ lead-clash host.credits l.seen (request_value request) (drop (n + 1) (request_values requests)) short (l.clash_alike (request_value request) ∙ met)
+  ]
 
   -- one that needn't is posted
   module _ (free : must_wait host out (request_value request) ≡ false) where
-    pub credit_left : 0 < host.credits
-    credit_left = omega (arith, eqb-false host.credits 0 (or_parts (nat_eq host.credits 0) (clashes_with_any (request_value request) out) free).0)
-
-    pub buffer_left : HasFree out
-    buffer_left = some_free out (omega (arith, credit_left, all_credits U, counted_out U.driving, U.driving.outs.sized))
-
     pub underway_post : {one : Out} {new : HostState} {after : List (Option Out)} {left : List CodeAnswer} (d : CodeAnswer) → too_long (request_value request) ≡ false → one.place ≡ n → one.request.now ≡ request
         → one.answer ≡ get_or answers n d → left ≡ slice_set answers n CodeTooLong → PutsOut one host out new after → AddsUp new → Underway start requests (n + 1) after left new
     underway_post {one} {new} {after} {left} d short place is answer_is left_is puts adds_up =
@@ -184,24 +174,20 @@ module _ {start : HostState} {requests : List CodeRequest} {n : ℕ} {out : List
         let fit : IsFit (length (take n rs) + 1) one = record {
           before = omega (arith, place, w.counted);
           short = ap too_long request_is ∙ short;
-          prepared = subst (λ (q : Request). Prepared q (answer_value one.answer)) (sym request_is) (own.room short);
+          prepared = rw request_is (own.room short);
         } in
         let clear = (or_parts (nat_eq host.credits 0) (clashes_with_any (request_value request) out) free).1 in
-        let last : one.place ≡ length (take n rs) = place ∙ sym w.counted in
-        let told_is : answer_values left ≡ slice_set (answer_values answers) n TooLong = ap (map answer_value) left_is ∙ map-set answer_value answers n CodeTooLong in
-        let unshown = driving_unshown U.driving n TooLong (omega (arith, w.counted)) in
-        let posted = driving_post unshown puts fit last (λ number other stands. no_clash_at (request_value one.request.now) out number other (ap (λ (q : Request). clashes_with_any q out) request_is ∙ clear) stands) adds_up in
+        let told_is : answer_values left ≡ slice_set (answer_values answers) (length (take n rs)) TooLong = ap (map answer_value) left_is ∙ map-set answer_value answers n CodeTooLong ∙ ap (λ (k : ℕ). set (answer_values answers) k TooLong) (sym w.counted) in
+        let posted = driving_post U.driving puts fit (place ∙ sym w.counted) (λ number other stands. no_clash_at (request_value one.request.now) out number other (ap (λ (q : Request). clashes_with_any q out) request_is ∙ clear) stands) U.at_work.adds_up.size TooLong in
         let more : take n rs ++ request_value one.request.now ∷ [] ≡ take (n + 1) rs = ap (λ (q : Request). take n rs ++ q ∷ []) request_is ∙ sym w.more in
-        let driving = subst₂ (λ (qs : List Request) (as' : List Answer). Driving start.units qs after as' new) more (sym told_is) posted in
         let changed = puts.posts.is in
         record {
-          driving = driving;
-          blank = λ k q a from stands at. U.blank k q a (omega (arith, from)) stands (sym (slice_get-set_other (answer_values answers) n k TooLong (λ same. omega (arith, same, from))) ∙ ap (λ (as' : List Answer). slice_get as' k) (sym told_is) ∙ at);
+          driving = rw (← more, told_is) posted;
+          blank = λ k q a from stands at. U.blank k q a (omega (arith, from)) stands (sym (slice_get-set_other (answer_values answers) _ k TooLong (λ same. omega (arith, same, from, w.counted))) ∙ ap (λ (as' : List Answer). slice_get as' k) (sym told_is) ∙ at);
           sized = ap length left_is ∙ length-set answers n CodeTooLong ∙ U.sized;
-          begun = omega (arith, U.begun, ap (λ (h : HostState). h.taken) changed);
-          images = subst AreImages (sym (ap (λ (h : HostState). h.units) changed)) U.images;
-          posted = omega (arith, U.posted, w.posted short, ap (λ (h : HostState). h.taken) changed, ap (λ (h : HostState). length h.due) changed, length_push host.due (posted_command (posted_with puts.number one)), ap (λ (h : HostState). length h.waiting) changed);
-          load = subst (λ (o : List (Option Out)). LoadAt start rs (n + 1) o new) (sym puts.out_is) (load_post w request_is short credit_left clear puts U.load);
+          at_work = record { begun = rw changed U.at_work.begun; images = rw changed U.at_work.images; adds_up = adds_up };
+          posted = rw changed (omega (arith, U.posted, w.posted short, length_push host.due (posted_command (posted_with puts.number one))));
+          load = rw puts.out_is (load_post w request_is short (credit_left U (request_value request) free) clear puts U.load);
         }
 
 -- ---- the beginning and the end
@@ -211,11 +197,10 @@ pub underway_start : {start : HostState} {requests : List CodeRequest} {out : Li
 underway_start {start} {requests} {answers = answers} ready none sized blank =
     let rest = ready.rest in
     record {
-      driving = driving_start (answer_values answers) rest.idle ready.adds_up none;
+      driving = driving_start (answer_values answers) rest.idle none;
       blank = blank;
       sized = sized;
-      begun = rest.begun;
-      images = ready.images;
+      at_work = record { begun = rest.begun; images = ready.images; adds_up = ready.adds_up };
       posted = omega (arith, ap length rest.idle.none_due, ap length rest.idle.none_wait);
       load = load_start (request_values requests) none rest.idle.none_due rest.credits_are;
     }
@@ -232,7 +217,7 @@ ran {start} {requests} {n} {out} {answers} {host} ready all back U =
     let whole : take n rs ≡ rs = take_all n rs (omega (arith, all, length-map requests request_value)) in
     let none : out_of host ≡ 0 = omega (arith, all_credits U, back) in
     let before = ready.adds_up in
-    let after = U.driving.adds_up in
+    let after = U.at_work.adds_up in
     let idle = ready.rest.idle in
     let fetches : start.fetches ≡ start.taken = omega (arith, before.done_were_fetched, before.fetched_were_posted, ap length idle.none_due, ap length idle.none_wait) in
     let fetches_now : host.fetches ≡ host.taken = omega (arith, after.done_were_fetched, after.fetched_were_posted, none) in
@@ -241,15 +226,17 @@ ran {start} {requests} {n} {out} {answers} {host} ready all back U =
     let p = ap posted_count whole in
     let none_due = nil_from_length host.due (omega (arith, none)) in
     record {
-      rest = record {
-        runs = after.runs;
-        idle = record { none_due = none_due; none_wait = nil_from_length host.waiting (omega (arith, none)) };
-        credits_are = omega (arith, all_credits U, none);
-        begun = U.begun;
+      ready = record {
+        rest = record {
+          runs = after.runs;
+          idle = record { none_due = none_due; none_wait = nil_from_length host.waiting (omega (arith, none)) };
+          credits_are = omega (arith, all_credits U, none);
+          begun = U.at_work.begun;
+        };
+        images = U.at_work.images;
+        adds_up = after;
       };
       counted = U.sized;
-      images = U.images;
-      adds_up = after;
       owes = driving_end (omega (arith, length-map answers answer_value, length-map requests request_value, U.sized)) none (subst (λ (qs : List Request). Driving start.units qs out (answer_values answers) host) whole U.driving);
       counts = record {
         turns = omega (arith, before.turns_are, after.turns_are, fetches, fetches_now, taken, none, ap length idle.none_wait);

@@ -5,3 +5,4 @@ pub mod Steps
 pub mod Load
 pub mod Underway
 pub mod Driver
+pub mod Drive

@@ -46,3 +46,17 @@ pub record IsFit (n : ℕ) (one : Out) : Type 0 where
 
 abbrev pub AreFit : ℕ → List (Option Out) → Type 0
 AreFit n out = (number : ℕ) (one : Out) → slice_get out number ≡ Some (Some one) → IsFit n one
+
+-- a posted request is one of those that are out, with its buffer
+pub record IsOut (out : List (Option Out)) (p : Posted) : Type 0 where
+  pub number : ℕ
+  pub one : Out
+  pub stands : slice_get out number ≡ Some (Some one)
+  pub is : posted_with number one ≡ p
+
+-- Of two that are out each has a place of its own.
+abbrev pub HaveOwnPlaces : List (Option Out) → Type 0
+HaveOwnPlaces out =
+    (i k : ℕ) (one other : Out)
+    → slice_get out i ≡ Some (Some one) → slice_get out k ≡ Some (Some other)
+    → one.place ≡ other.place → i ≡ k

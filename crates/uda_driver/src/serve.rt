@@ -13,7 +13,7 @@ ghost use Rattle.uda_driver.specs.Run.{request_limit};
 ghost use Rattle.uda_driver.specs.Driver.{IsDriver};
 ghost use Rattle.uda_driver.specs.Out.{must_wait, AreFit};
 ghost use Rattle.uda_driver.specs.Steps.{HasFree, PutsOut, IsReferred, TellsEnd, Steps};
-ghost use Rattle.uda_driver.specs.Underway.{IsDriving, Ran};
+ghost use Rattle.uda_driver.specs.Drive.{IsDriving, Ran};
 
 use crate::answers::answer_for;
 use crate::out::{Out, clashes_with_any, free_buffer, none_out, put_out, take_out};

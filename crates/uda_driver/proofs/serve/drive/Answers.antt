@@ -13,14 +13,12 @@ loop-n-init g c = underway_start c.requires.ready c.none_out-out.ensures c.requi
 pub step-requires : goal.step-requires
 step-requires g c =
     let now = c.loop-host.invariant in
-    let it : IsAt c.args.requests.now c.loop-n.n c.index-requests-n.result = record { low = c.loop-n-test.true; is = c.index-requests-n.is } in
-    (search rules, (wait_some now it (sym c.loop-host-test.ensures.waits), is_driving now))
+    (search rules, (wait_some now _ (sym c.loop-host-test.ensures.waits), is_driving now))
 
 pub loop-host-smaller : goal.loop-host-smaller
 loop-host-smaller g c =
     let now = c.loop-host.invariant in
-    let it : IsAt c.args.requests.now c.loop-n.n c.index-requests-n.result = record { low = c.loop-n-test.true; is = c.index-requests-n.is } in
-    steps_less now.driving.adds_up (wait_some now it (sym c.loop-host-test.ensures.waits)) c.step.ensures.steps
+    steps_less now.at_work.adds_up (wait_some now _ (sym c.loop-host-test.ensures.waits)) c.step.ensures.steps
 
 pub loop-host-preserved : goal.loop-host-preserved
 loop-host-preserved g c =
@@ -32,11 +30,10 @@ loop-host-preserved g c =
 pub post-requires : goal.post-requires
 post-requires g c =
     let now = c.loop-host.invariant in
-    let it : IsAt c.args.requests.now c.loop-n.n c.index-requests-n.result = record { low = c.loop-n-test.true; is = c.index-requests-n.is } in
     let free = sym c.loop-host-test.ensures.waits in
     let short = sym c.is_too_long.ensures.long ∙ c.if-not-is_too_long.true in
     let low : c.loop-n.n < length c.args.requests.now = c.loop-n-test.true in
-    (search rules, (omega (arith, low, c.requires.few), (now.driving.outs.sized, (short, (credit_left now it free, buffer_left now it free)))))
+    (search rules, (omega (arith, low, c.requires.few), (now.driving.outs.sized, (short, (credit_left now _ free, buffer_left now _ free)))))
 
 pub loop-n-preserved : goal.loop-n-preserved
 loop-n-preserved g c =
@@ -66,7 +63,7 @@ step-requires-in-loop-host-2 g c =
 pub loop-host-2-smaller : goal.loop-host-2-smaller
 loop-host-2-smaller g c =
     let now = c.loop-host-2.invariant in
-    steps_less now.driving.adds_up (omega (arith, all_credits now, c.loop-host-2-test.true, c.credits.ensures.credits)) c.step-in-loop-host-2.ensures.steps
+    steps_less now.at_work.adds_up (omega (arith, all_credits now, c.loop-host-2-test.true, c.credits.ensures.credits)) c.step-in-loop-host-2.ensures.steps
 
 pub loop-host-2-preserved : goal.loop-host-2-preserved
 loop-host-2-preserved g c =

@@ -6,7 +6,7 @@ use Rattle.uda_posting.proofs.Owing.{owes_end, owes_plain}
 use Rattle.uda_driver.proofs.driver.Driver.run.Goals as goal
 
 pub invariant_of-self : goal.invariant_of-self
-invariant_of-self g c = record { rest = c.drive.ensures.rest; images = c.drive.ensures.images; adds_up = c.drive.ensures.adds_up }
+invariant_of-self g c = c.drive.ensures.ready
 
 pub drive-requires : goal.drive-requires
 drive-requires g c =

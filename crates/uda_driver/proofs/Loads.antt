@@ -1,8 +1,9 @@
 -- The load of a run, step by step.
 use Rattle.std.proofs.Common.{◌≡◌, ℕ, zero, suc, ◌+◌, ◌-◌, ◌*◌, ◌/◌, ◌<◌, ◌≤◌, Bool, true, false, List, [], ◌∷◌, ◌++◌, length, take, drop, set, get_or, Some, None, refl, sym, ap, ap₂, ◌∙◌, arith, add-one}
-use Rattle.std.specs.Prelude.{Option, slice_get, replicate, ◌||◌, not}
+use Rattle.std.specs.Prelude.{Option, slice_get, replicate, ◌||◌, not, nat_eq}
 use Rattle.std.specs.List.{list_any}
 use Rattle.std.proofs.lemmas.List.{length-take, length_push, take_more, drop_more}
+use Rattle.std.proofs.Math.Dec.{eqb-suc-zero}
 use Rattle.std.proofs.lemmas.List.Edits.{length-remove}
 use Rattle.std.proofs.lemmas.List.Sums.{count_by_more_no, count_by_more_yes}
 use Rattle.std.proofs.lemmas.Option.{slice_get_within, get_or_from_slice_get}
@@ -42,13 +43,12 @@ lead-skip zero seen r [] long = refl
 lead-skip zero seen r (s ∷ rest) long = refl
 lead-skip (suc room) seen r rest long = rw long refl
 
-pub lead-full : (room : ℕ) (seen : List Request) (r : Request) (rest : List Request) → room ≡ 0 → lead_from room seen (r ∷ rest) ≡ 0
-lead-full zero seen r rest e = refl
-lead-full (suc room) seen r rest e = absurd (omega arith)
-
-pub lead-clash : (room : ℕ) (seen : List Request) (r : Request) (rest : List Request) → too_long r ≡ false → list_any (clash r) seen ≡ true → lead_from room seen (r ∷ rest) ≡ 0
-lead-clash zero seen r rest short clash = refl
-lead-clash (suc room) seen r rest short clash = rw (short, clash) refl
+-- one that must wait ends it
+pub lead-waits : (room : ℕ) (seen : List Request) (r : Request) (rest : List Request) → too_long r ≡ false → nat_eq room 0 || list_any (clash r) seen ≡ true → lead_from room seen (r ∷ rest) ≡ 0
+lead-waits zero seen r rest short waits = refl
+lead-waits (suc room) seen r rest short waits =
+    let some : nat_eq (suc room) 0 ≡ false = eqb-suc-zero room in
+    let met : list_any (clash r) seen ≡ true = ap (λ (b : Bool). b || list_any (clash r) seen) (sym some) ∙ waits in rw (short, met) refl
 
 pub lead-none : (room : ℕ) (seen : List Request) → lead_from room seen [] ≡ 0
 lead-none zero seen = refl

@@ -30,7 +30,7 @@ use Rattle.uda_driver.specs.Drive.{IsDriving, Ran}
 use Rattle.uda_driver.specs.declared.out.Out.{Out}
 use Rattle.uda_driver.proofs.Slots.{some_free, clashing_out, no_clash_at}
 use Rattle.uda_driver.proofs.Drivings.{driving_works, driving_takes, driving_skip, driving_post, driving_start, driving_end, counted_out}
-use Rattle.uda_driver.proofs.Loads.{triangle-is, lead-full, lead-clash, lead-none, Next, next, load_start, over_from, over_works, over_takes, load_skip, load_post}
+use Rattle.uda_driver.proofs.Loads.{triangle-is, lead-waits, lead-none, Next, next, load_start, over_from, over_works, over_takes, load_skip, load_post}
 
 -- ---- a turn of a host
 
@@ -157,10 +157,9 @@ module _ {start : HostState} {requests : List CodeRequest} {n : ℕ} {out : List
   -- one that must wait comes in no lead
   pub wait_ends : must_wait host out (request_value request) ≡ true → too_long (request_value request) ≡ false
       → (l : InLead start (request_values requests) n out host) → lead_from host.credits l.seen (drop n (request_values requests)) ≡ 0
-  wait_ends waits short l = ap (lead_from host.credits l.seen) w.rest ∙ elim (or_cases (nat_eq host.credits 0) (clashes_with_any (request_value request) out) waits) [
-    | inl none ↦ lead-full host.credits l.seen (request_value request) (drop (n + 1) (request_values requests)) (eqb-true host.credits 0 none)
-    | inr met ↦ lead-clash host.credits l.seen (request_value request) (drop (n + 1) (request_values requests)) short (l.clash_alike (request_value request) ∙ met)
-  ]
+  wait_ends waits short l =
+      let waits_too = ap (λ (met : Bool). nat_eq host.credits 0 || met) (l.clash_alike (request_value request)) ∙ waits in
+      ap (lead_from host.credits l.seen) w.rest ∙ lead-waits host.credits l.seen (request_value request) (drop (n + 1) (request_values requests)) short waits_too
 
   -- one that needn't is posted
   module _ (free : must_wait host out (request_value request) ≡ false) where

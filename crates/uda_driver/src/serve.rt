@@ -1,12 +1,9 @@
 //! A list of requests had done by commands, of which up to fifteen are out at once.
 ghost use Rattle.std.specs.Prelude.{◌≡◌, ◌<◌, ◌≤◌, false, length};
-ghost use Rattle.uda_mem.specs.Put.{put};
 ghost use Rattle.uda_disk.specs.Units.{AreImages};
 ghost use Rattle.uda_exec.specs.Disks.{PENDING_LIMIT};
 ghost use Rattle.uda_disk.specs.PlainRun.{too_long};
-ghost use Rattle.uda_posting.specs.Posting.{bytes_brought};
 ghost use Rattle.uda_disk.specs.Values.{request_value, request_values, answer_values};
-ghost use Rattle.uda_host.specs.Layout.{buffer_address};
 ghost use Rattle.uda_host.specs.Host.{out_of, AddsUp};
 ghost use Rattle.uda_driver.specs.Blank.{AreBlank};
 ghost use Rattle.uda_driver.specs.Run.{request_limit};
@@ -22,7 +19,7 @@ use uda_exec::PENDING;
 use uda_host::{Host, buffer_address};
 use uda_image::BlockStore;
 use uda_packet::End;
-use uda_posting::command_of;
+use uda_posting::{bytes_brought, command_of};
 
 /// Has the requests done, and tells their answers in place of the blanks. Nothing is taken from memory
 /// once a command is posted.
@@ -71,7 +68,7 @@ fn must_wait<S: BlockStore>(
     host.credits() == 0 || clashes_with_any(request, out)
 }
 
-// Posts a request with a buffer that none has that is out.
+// Posts a request with a buffer that none has that is out, and what it brings in that buffer.
 fn post<'a, S: BlockStore>(host: &mut Host<S>, out: &mut [Option<Out<'a>>; PENDING], one: Out<'a>)
     requires few { one.place < request_limit }
     requires sized { length out.old ≡ PENDING_LIMIT }
@@ -84,22 +81,9 @@ fn post<'a, S: BlockStore>(host: &mut Host<S>, out: &mut [Option<Out<'a>>; PENDI
     let Some(number) = free_buffer(out) else {
         unreachable!()
     };
-    bring(host, one.request, number as u8);
+    host.fill(number as u8, bytes_brought(one.request));
     host.post(&command_of(one.request, one.place + 1, buffer_address(number as u8)));
     put_out(out, number, one);
-}
-
-// Puts what a request brings into its buffer.
-fn bring<S: BlockStore>(host: &mut Host<S>, request: &Request, number: u8)
-    requires number { number < PENDING_LIMIT }
-    requires short { too_long (request_value request.now) ≡ false }
-    ensures brought { host.new ≡ record host.old {
-      memory = put host.old.memory (buffer_address number) (bytes_brought (request_value request.now).act);
-    } }
-{
-    if let Request::Write { payload, .. } = request {
-        host.fill(number, payload);
-    }
 }
 
 // Takes a turn, and tells the answer of the end that it brings.

@@ -1,8 +1,8 @@
-//! The command that does a request.
+//! The command that does a request, and the bytes that it brings.
 ghost use Rattle.std.specs.Prelude.{◌≡◌, false};
 ghost use Rattle.uda_disk.specs.PlainRun.{too_long};
 ghost use Rattle.uda_disk.specs.Values.{request_value};
-ghost use Rattle.uda_posting.specs.Posting.{command_of};
+ghost use Rattle.uda_posting.specs.Posting.{command_of, bytes_brought};
 
 use uda_disk::Request;
 use uda_packet::{Command, Op};
@@ -41,5 +41,15 @@ pub fn command_of(request: &Request, reference: u32, address: u32) -> Command
         reference,
         unit: request.unit(),
         op,
+    }
+}
+
+/// The bytes that a request brings to its command's buffer: a Write's payload, and else none.
+pub fn bytes_brought(request: &Request) -> &[u8]
+    ensures bytes { result.now ≡ bytes_brought (request_value request.now).act }
+{
+    match request {
+        Request::Write { payload, .. } => payload,
+        _ => &[],
     }
 }

@@ -9,4 +9,4 @@
 
 mod command;
 
-pub use command::command_of;
+pub use command::{bytes_brought, command_of};

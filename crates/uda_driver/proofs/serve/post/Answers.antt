@@ -1,4 +1,6 @@
-use Rattle.std.proofs.Common.{◌∙◌, ◌<◌, ℕ, rules, refl, sym, subst, arith}
+use Rattle.std.proofs.Common.{◌∙◌, ◌<◌, ℕ, length, rules, refl, sym, ap, subst, arith}
+use Rattle.uda_disk.specs.Values.{request_value}
+use Rattle.uda_posting.proofs.Posts.{buffer-at, bytes_fit}
 use Rattle.std.specs.Prelude.{None, is_none}
 use Rattle.uda_exec.specs.Disks.{PENDING_LIMIT}
 use Rattle.uda_host.specs.Host.{HostState}
@@ -13,8 +15,11 @@ unreachable-requires g c = never_missed (λ slot. is_none slot) c.args.out.now c
 pub overflow_cast-number : goal.overflow_cast-number
 overflow_cast-number g c = omega (arith, (found_free c.args.out.now c.in-Some.number c.in-Some.ensures).low, c.requires.sized)
 
-pub bring-requires : goal.bring-requires
-bring-requires g c = (search rules, (omega (arith, (found_free c.args.out.now c.in-Some.number c.in-Some.ensures).low, c.requires.sized), c.requires.short))
+pub fill-requires : goal.fill-requires
+fill-requires g c =
+    let r = request_value c.args.one.request.now in
+    let room = (bytes_fit r.act 0).fits in let small = (buffer-at r.unit r.act 0 c.requires.short).small in
+    (search rules, (omega (arith, (found_free c.args.out.now c.in-Some.number c.in-Some.ensures).low, c.requires.sized), omega (arith, room, small, ap length c.bytes_brought.ensures.bytes)))
 
 pub overflow_cast-number-2 : goal.overflow_cast-number-2
 overflow_cast-number-2 g c = omega (arith, (found_free c.args.out.now c.in-Some.number c.in-Some.ensures).low, c.requires.sized)
@@ -23,7 +28,7 @@ pub post-requires : goal.post-requires
 post-requires g c =
     let low = (found_free c.args.out.now c.in-Some.number c.in-Some.ensures).low in
     let buffered : IsBuffered (posted_with c.in-Some.number c.args.one) = record { short = c.requires.short; number = c.in-Some.number; within = omega (arith, low, c.requires.sized); address_is = refl } in
-    (search rules, (subst (λ (h : HostState). 0 < h.credits) (sym c.bring.ensures.brought) c.requires.credit, search (rules, is_above (posted_with c.in-Some.number c.args.one) buffered)))
+    (search rules, (subst (λ (h : HostState). 0 < h.credits) (sym c.fill.ensures.filled) c.requires.credit, search (rules, is_above (posted_with c.in-Some.number c.args.one) buffered)))
 
 pub put_out-requires : goal.put_out-requires
 put_out-requires g c = omega (arith, (found_free c.args.out.now c.in-Some.number c.in-Some.ensures).low, c.requires.sized)

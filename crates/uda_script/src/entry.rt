@@ -9,7 +9,7 @@ ghost use Rattle.uda_script.specs.Statuses.{exit_status_of};
 
 use crate::fault::Fault;
 use crate::hexadecimal::hexadecimal;
-use crate::run::run;
+use crate::run::{Streams, run};
 use crate::words::{Task, read_words};
 use std::alloc::Global;
 use std::io;
@@ -34,7 +34,12 @@ pub fn program<R: Read + Drop, W: Write + Drop, V: Write + Drop>(
     let done = match read_words(rt.alloc(), words) {
         Ok(Task::Probe) => print_probe(rt.alloc(), &mut out),
         Ok(Task::Run { script, units }) => {
-            run(rt, script, &units, &mut input, &mut out, &mut report)
+            let streams = Streams {
+                input: &mut input,
+                out: &mut out,
+                report: &mut report,
+            };
+            run(rt, script, &units, streams)
         }
         Err(fault) => Err(fault),
     };

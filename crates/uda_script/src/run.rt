@@ -12,25 +12,33 @@ use uda_image::{Drive, FileImage};
 /// How many bytes are gathered before they are written.
 const GATHERED: usize = 65_536;
 
-/// Opens the images, reads the script and runs it: data comes from `input`, what is read of the images
-/// goes to `out`, and a line a request to `report`.
+/// Where a run's data come from, and where its texts go.
+#[derive(Drop)]
+pub(crate) struct Streams<'a, R, W, V> {
+    /// The data of the script's writes.
+    pub(crate) input: &'a mut R,
+    /// Gets what is read of the images.
+    pub(crate) out: &'a mut W,
+    /// Gets a line a request.
+    pub(crate) report: &'a mut V,
+}
+
+/// Opens the images, reads the script and runs it over the streams.
 ///
 /// `out` is written and flushed before the first byte of `report`. Where a write fails, what was gathered
 /// and not written is dropped. Each image that was written is synced last, and a line of `report` tells of
 /// one that can't be.
-pub fn run<R: Read, W: Write + Drop, V: Write + Drop>(
+pub(crate) fn run<R: Read, W: Write + Drop, V: Write + Drop>(
     rt: &HostRuntime,
     script: &str,
     units: &[&str],
-    input: &mut R,
-    out: &mut W,
-    report: &mut V,
+    streams: Streams<'_, R, W, V>,
 ) -> Result<(), Fault> {
-    let streams = fill_closed_streams(rt)?;
+    let held = fill_closed_streams(rt)?;
     let drives = open_units(rt, units)?;
     let script = script_in(rt, script)?;
-    let done = run_over(rt.alloc(), drives, &script, input, out, report);
-    drop(streams);
+    let done = run_over(rt.alloc(), drives, &script, streams);
+    drop(held);
     done
 }
 
@@ -45,14 +53,12 @@ fn run_over<R: Read, W: Write + Drop, V: Write + Drop>(
     alloc: Global,
     drives: [Option<Drive<FileImage>>; 4],
     script: &Script,
-    input: &mut R,
-    out: &mut W,
-    report: &mut V,
+    mut streams: Streams<'_, R, W, V>,
 ) -> Result<(), Fault> {
     match Driver::start(alloc, drives) {
         Ok(mut driver) => {
-            let done = gather(alloc, script, input, out, report, &mut driver);
-            sync(driver.into_stores(), done, report)
+            let done = gather(alloc, script, &mut streams, &mut driver);
+            sync(driver.into_stores(), done, streams.report)
         }
         Err(_) => Err(Fault::NoMemory),
     }
@@ -83,18 +89,23 @@ fn sync<V: Write>(
 fn gather<R: Read, W: Write + Drop, V: Write + Drop>(
     alloc: Global,
     script: &Script,
-    input: &mut R,
-    out: &mut W,
-    report: &mut V,
+    streams: &mut Streams<'_, R, W, V>,
     driver: &mut Driver<FileImage>,
 ) -> Result<(), Fault> {
-    let Ok(mut out) = BufWriter::with_capacity(alloc, GATHERED, out) else {
+    let Ok(mut out) = BufWriter::with_capacity(alloc, GATHERED, &mut *streams.out) else {
         return Err(Fault::NoMemory);
     };
-    let Ok(mut report) = BufWriter::with_capacity(alloc, GATHERED, report) else {
+    let Ok(mut report) = BufWriter::with_capacity(alloc, GATHERED, &mut *streams.report) else {
         return Err(Fault::NoMemory);
     };
-    let done = run_script(alloc, script, input, &mut out, &mut report, driver);
+    let done = run_script(
+        alloc,
+        script,
+        &mut *streams.input,
+        &mut out,
+        &mut report,
+        driver,
+    );
     drop((out.into_parts(), report.into_parts()));
     Ok(done?)
 }

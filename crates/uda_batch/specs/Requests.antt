@@ -1,7 +1,9 @@
 -- The requests that a script makes of the data that its `write` and `writeb` lines take.
-use Rattle.std.specs.Prelude.{ℕ, ◌-◌, ◌*◌, nat_lt, List, [], ◌∷◌, take, drop, replicate, sum_by, Option, Some, None, if◌then◌else◌}
+use Rattle.std.specs.Prelude.{ℕ, ◌-◌, ◌*◌, nat_lt, List, [], ◌∷◌, take, drop, replicate, sum_by, Option, Some}
+use Rattle.std.specs.Prelude.{None, if◌then◌else◌}
 use Rattle.uda_grammar.specs.declared.statement.Statement.{Statement}
-use Rattle.uda_grammar.specs.declared.statement.Statement.TheVariants.{Online, Available, Status, Read, Access, Erase, Write, Fill}
+use Rattle.uda_grammar.specs.declared.statement.Statement.TheVariants.{Online, Available, Status, Read}
+use Rattle.uda_grammar.specs.declared.statement.Statement.TheVariants.{Access, Erase, Write, Fill}
 use Rattle.uda_grammar.specs.declared.script.Line.{Line}
 use Rattle.uda_grammar.specs.Amounts.{bytes_in}
 use Rattle.uda_disk.specs.Request as ask
@@ -22,7 +24,8 @@ taken lines = sum_by bytes_taken lines
 abbrev pub asked_of : ℕ → Act → Request
 asked_of unit act = record { unit = unit; act = act }
 
--- what a line asks for, where the data goes on so: `write` and `writeb` take its first bytes, `fill` makes its own
+-- what a line asks for, where the data goes on so: `write` and `writeb` take its first bytes, `fill` makes
+-- its own
 abbrev pub request_made : Statement → List ℕ → Request
 request_made (Online unit protect) bytes = asked_of unit (ask.Online protect)
 request_made (Available unit) bytes = asked_of unit ask.Available
@@ -36,9 +39,11 @@ request_made (Fill unit lbn count byte) bytes = asked_of unit (ask.Write lbn (re
 -- what the lines ask for: each that takes data takes the bytes behind those that were taken before it
 abbrev pub requests : List Line → List ℕ → List Request
 requests [] bytes = []
-requests (line ∷ rest) bytes = request_made line.statement bytes ∷ requests rest (drop (bytes_taken line) bytes)
+requests (line ∷ rest) bytes =
+    request_made line.statement bytes ∷ requests rest (drop (bytes_taken line) bytes)
 
 -- the number of the first line whose bytes so many bytes of data don't hold
 abbrev pub first_short : List Line → ℕ → Option ℕ
 first_short [] held = None
-first_short (line ∷ rest) held = if nat_lt held (bytes_taken line) then Some line.number else first_short rest (held - bytes_taken line)
+first_short (line ∷ rest) held =
+    if nat_lt held (bytes_taken line) then Some line.number else first_short rest (held - bytes_taken line)

@@ -30,7 +30,7 @@ use Rattle.uda_driver.specs.Blank.{Prepared}
 use Rattle.uda_driver.specs.Out.{posted_with, count_out, clashes_with, IsFit, AreFit, IsOut}
 use Rattle.uda_driver.specs.Steps.{with_brought, PutsOut, IsReferred, TellsEnd}
 use Rattle.uda_driver.specs.Underway.{alive, Outs, Driving}
-use Rattle.uda_driver.specs.declared.out.Out.{Out}
+use Rattle.uda_driver.specs.declared.buffers.Out.{Out}
 use Rattle.uda_driver.proofs.Slots.{set_at, freed_at}
 use Rattle.uda_driver.proofs.Outs.{none_at, outs_none, of_alive, outs_post, outs_execute, own, own_reference, TakenBack, outs_take}
 

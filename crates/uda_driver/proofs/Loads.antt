@@ -19,7 +19,7 @@ use Rattle.uda_host.specs.Host.{HostState, Posts, Fetches, Does, Works, OneFetch
 use Rattle.uda_driver.specs.Out.{posted_with, clashes_with_any}
 use Rattle.uda_driver.specs.Steps.{with_brought, PutsOut}
 use Rattle.uda_driver.specs.Load.{triangle, InLead, LeadOver, LoadAt, GoesOn, IsOver}
-use Rattle.uda_driver.specs.declared.out.Out.{Out}
+use Rattle.uda_driver.specs.declared.buffers.Out.{Out}
 use Rattle.uda_driver.proofs.Slots.{clashes-taken}
 
 triangle-more : (n : ℕ) → triangle (n + 1) ≡ n + 1 + triangle n

@@ -16,7 +16,7 @@ use Rattle.uda_posting.specs.Keeping.{Ended, RefersBack, AreTwo}
 use Rattle.uda_model.proofs.Lists.{All-remove, All-at, pairs_first, pairs_rest, pairs_others}
 use Rattle.uda_driver.specs.Out.{posted_with, count_out, IsOut, HaveOwnPlaces}
 use Rattle.uda_driver.specs.Underway.{alive, Outs}
-use Rattle.uda_driver.specs.declared.out.Out.{Out}
+use Rattle.uda_driver.specs.declared.buffers.Out.{Out}
 use Rattle.uda_driver.proofs.Slots.{set_at, freed_at, count-taken, count-freed}
 
 -- ---- one of a list stands before it

@@ -11,7 +11,7 @@ use Rattle.std.proofs.lemmas.Option.{slice_get_within, slice_get-get_or, get_or_
 use Rattle.uda_disk.specs.Request.{Request}
 use Rattle.uda_driver.specs.Out.{count_out, clashes_with, clashes_with_any}
 use Rattle.uda_driver.specs.Steps.{HasFree}
-use Rattle.uda_driver.specs.declared.out.Out.{Out}
+use Rattle.uda_driver.specs.declared.buffers.Out.{Out}
 
 -- ---- one buffer is set
 

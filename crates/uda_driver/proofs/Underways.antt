@@ -27,7 +27,7 @@ use Rattle.uda_driver.specs.Steps.{HasFree, PutsOut, TellsEnd, Steps, TellsNone,
 use Rattle.uda_driver.specs.Load.{triangle, InLead, LoadAt, IsOver}
 use Rattle.uda_driver.specs.Underway.{Driving, IsAtWork, Underway}
 use Rattle.uda_driver.specs.Drive.{IsDriving, Ran}
-use Rattle.uda_driver.specs.declared.out.Out.{Out}
+use Rattle.uda_driver.specs.declared.buffers.Out.{Out}
 use Rattle.uda_driver.proofs.Slots.{some_free, clashing_out, no_clash_at}
 use Rattle.uda_driver.proofs.Drivings.{driving_works, driving_takes, driving_skip, driving_post, driving_start, driving_end, counted_out}
 use Rattle.uda_driver.proofs.Loads.{triangle-is, lead-waits, lead-none, Next, next, load_start, over_from, over_works, over_takes, load_skip, load_post}

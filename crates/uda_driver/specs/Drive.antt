@@ -10,7 +10,7 @@ use Rattle.uda_host.specs.Host.{HostState, AddsUp}
 use Rattle.uda_driver.specs.Run.{CountsOn}
 use Rattle.uda_driver.specs.Driver.{IsDriver}
 use Rattle.uda_driver.specs.Underway.{Driving}
-use Rattle.uda_driver.specs.declared.out.Out.{Out}
+use Rattle.uda_driver.specs.declared.buffers.Out.{Out}
 
 -- whichever the requests so far, and whatever stood on the units before
 pub record IsDriving (out : List (Option Out)) (answers : List CodeAnswer) (host : HostState) : Type 0 where

@@ -7,7 +7,7 @@ use Rattle.uda_disk.specs.Order.{clash, lead, lead_from}
 use Rattle.uda_disk.specs.PlainRun.{posted_count}
 use Rattle.uda_host.specs.Host.{HostState}
 use Rattle.uda_driver.specs.Out.{clashes_with_any}
-use Rattle.uda_driver.specs.declared.out.Out.{Out}
+use Rattle.uda_driver.specs.declared.buffers.Out.{Out}
 
 -- 1 + 2 + .. + n
 abbrev pub triangle : ℕ → ℕ

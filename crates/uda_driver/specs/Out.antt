@@ -1,6 +1,7 @@
 -- What is out: requests whose commands were posted and whose ends weren't taken, by the numbers of their
 -- buffers.
-use Rattle.std.specs.Prelude.{◌≡◌, ℕ, suc, ◌+◌, ◌<◌, Bool, false, ◌||◌, nat_eq, List, [], ◌∷◌, Option, Some, None, slice_get}
+use Rattle.std.specs.Prelude.{◌≡◌, ℕ, suc, ◌+◌, ◌<◌, Bool, false, ◌||◌, nat_eq, List, [], ◌∷◌, Option, Some}
+use Rattle.std.specs.Prelude.{None, slice_get}
 use Rattle.std.specs.List.{list_any}
 use Rattle.uda_disk.specs.Request.{Request}
 use Rattle.uda_disk.specs.PlainRun.{too_long}
@@ -10,7 +11,7 @@ use Rattle.uda_disk.specs.Values.{request_value, answer_value}
 use Rattle.uda_host.specs.Layout.{buffer_address}
 use Rattle.uda_host.specs.Host.{HostState}
 use Rattle.uda_driver.specs.Blank.{Prepared}
-use Rattle.uda_driver.specs.declared.out.Out.{Out}
+use Rattle.uda_driver.specs.declared.buffers.Out.{Out}
 
 -- one that is out with this buffer, as it was posted
 abbrev pub posted_with : ℕ → Out → Posted

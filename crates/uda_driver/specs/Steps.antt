@@ -8,7 +8,7 @@ use Rattle.uda_disk.specs.declared.answer.Answer.{Answer}
 use Rattle.uda_host.specs.Layout.{buffer_address}
 use Rattle.uda_host.specs.Host.{HostState, Posts, Works, TakesEnd}
 use Rattle.uda_driver.specs.Out.{posted_with}
-use Rattle.uda_driver.specs.declared.out.Out.{Out}
+use Rattle.uda_driver.specs.declared.buffers.Out.{Out}
 
 -- the host with what a request brings in this buffer
 abbrev pub with_brought : HostState → ℕ → Out → HostState

@@ -1,5 +1,6 @@
 -- What a driver knows between two steps of a run: four records, of which `Underway` is the whole.
-use Rattle.std.specs.Prelude.{◌≡◌, ℕ, ◌+◌, ◌<◌, ◌≤◌, List, [], ◌++◌, length, map, take, Option, Some, slice_get, All, AllPairs}
+use Rattle.std.specs.Prelude.{◌≡◌, ℕ, ◌+◌, ◌<◌, ◌≤◌, List, [], ◌++◌, length, map, take, Option, Some}
+use Rattle.std.specs.Prelude.{slice_get, All, AllPairs}
 use Rattle.uda_packet.specs.declared.end.End.{End}
 use Rattle.uda_disk.specs.Units.{AreImages, Units}
 use Rattle.uda_exec.specs.Disks.{PENDING_LIMIT}
@@ -17,7 +18,7 @@ use Rattle.uda_driver.specs.Driver.{IsDriver}
 use Rattle.uda_driver.specs.Blank.{AreBlank}
 use Rattle.uda_driver.specs.Out.{count_out, AreFit, IsOut, HaveOwnPlaces}
 use Rattle.uda_driver.specs.Load.{LoadAt}
-use Rattle.uda_driver.specs.declared.out.Out.{Out}
+use Rattle.uda_driver.specs.declared.buffers.Out.{Out}
 
 -- those that have ended, the next end first, and those that are due
 abbrev pub alive : List Ended → List Posted → List Posted

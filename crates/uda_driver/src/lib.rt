@@ -2,8 +2,8 @@
 #![tactic(auto)]
 
 mod answers;
+mod buffers;
 mod driver;
-mod out;
 mod serve;
 
 pub use driver::{Driver, RunError};

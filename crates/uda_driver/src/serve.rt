@@ -13,7 +13,7 @@ ghost use Rattle.uda_driver.specs.Steps.{HasFree, PutsOut, IsReferred, TellsEnd,
 ghost use Rattle.uda_driver.specs.Drive.{IsDriving, Ran};
 
 use crate::answers::answer_for;
-use crate::out::{Out, clashes_with_any, free_buffer, none_out, put_out, take_out};
+use crate::buffers::{Out, clashes_with_any, free_buffer, none_out, put_out, take_out};
 use uda_disk::{Answer, Request};
 use uda_exec::PENDING;
 use uda_host::{Host, buffer_address};

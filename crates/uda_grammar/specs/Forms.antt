@@ -57,7 +57,8 @@ statement_behind (verb.Access measure) words =
 statement_behind (verb.Erase measure) words =
     option_map (λ t. form.Erase t.unit t.lbn (amount_of measure t.count)) (transfer_form most_number words)
 statement_behind (verb.Write measure) words =
-    option_map (λ t. form.Write t.unit t.lbn (amount_of measure t.count)) (transfer_form (most_written measure) words)
+    option_map (λ t. form.Write t.unit t.lbn (amount_of measure t.count))
+    (transfer_form (most_written measure) words)
 statement_behind verb.Fill words = fill_of words
 
 -- what a line asks for by its words, where they are of one of the forms

@@ -1,7 +1,8 @@
 //! How a script is read.
 ghost use Rattle.std.specs.Prelude.{◌≡◌, ℕ, true, false, ◌<◌, ◌≤◌, ◌++◌, length, OnOk, IfOk, IfErr};
 ghost use Rattle.uda_grammar.specs.Limit.{script_limit};
-ghost use Rattle.uda_grammar.specs.Reading.{is_silent, is_fault, request_in, requests_in, fault_in, IsReadingError};
+ghost use Rattle.uda_grammar.specs.Reading.{is_silent, is_fault, request_in, requests_in, fault_in};
+ghost use Rattle.uda_grammar.specs.Reading.{IsReadingError};
 
 use crate::cut::cut;
 use crate::error::ScriptError;

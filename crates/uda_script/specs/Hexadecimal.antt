@@ -1,4 +1,5 @@
--- Bytes as the program prints them: 16 a line, each as two lower-case hexadecimal digits, parted by single spaces.
+-- Bytes as the program prints them: 16 a line, each as two lower-case hexadecimal digits, parted by single
+-- spaces.
 use Rattle.std.specs.Prelude.{ℕ, suc, ◌+◌, ◌/◌, ◌%◌, nat_lt, nat_eq, List, [], ◌∷◌, ◌++◌, if◌then◌else◌}
 
 -- the character of a digit: 0 to 9, then a to f

@@ -1,5 +1,6 @@
 //! The requests that are out, by the numbers of their buffers.
-ghost use Rattle.std.specs.Prelude.{◌≡◌, ◌+◌, ◌<◌, Some, None, length, replicate, position, is_none, slice_get, slice_set};
+ghost use Rattle.std.specs.Prelude.{◌≡◌, ◌+◌, ◌<◌, Some, None, length, replicate, position, is_none};
+ghost use Rattle.std.specs.Prelude.{slice_get, slice_set};
 ghost use Rattle.uda_exec.specs.Disks.{PENDING_LIMIT};
 ghost use Rattle.uda_disk.specs.Values.{request_value};
 ghost use Rattle.uda_driver.specs.Out.{refers, clashes_with, clashes_with_any};

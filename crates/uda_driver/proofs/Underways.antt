@@ -20,7 +20,8 @@ use Rattle.uda_disk.specs.declared.request.Request.{Request as CodeRequest}
 use Rattle.uda_disk.specs.declared.answer.Answer.{Answer as CodeAnswer}
 use Rattle.uda_disk.specs.declared.answer.Answer.TheVariants.{TooLong as CodeTooLong}
 use Rattle.uda_host.specs.Host.{HostState, out_of, turns_left, Works, OneFetched, OneDone, TakesEnd, AddsUp}
-use Rattle.uda_driver.specs.Driver.{IsDriver}
+use Rattle.uda_driver.specs.Run.{CountsOn}
+use Rattle.uda_driver.specs.Driver.{IsAtRest, IsDriver}
 use Rattle.uda_driver.specs.Blank.{Prepared, AreBlank}
 use Rattle.uda_driver.specs.Out.{posted_with, count_out, clashes_with_any, must_wait, IsFit}
 use Rattle.uda_driver.specs.Steps.{HasFree, PutsOut, TellsEnd, Steps, TellsNone, TellsOne}
@@ -209,38 +210,45 @@ pub drain_ends : {start host : HostState} (requests : List CodeRequest) {n : ℕ
     → (l : InLead start (request_values requests) n out host) → lead_from host.credits l.seen (drop n (request_values requests)) ≡ 0
 drain_ends {host = host} requests {n} all l = ap (lead_from host.credits l.seen) (drop_all n (request_values requests) (omega (arith, all, length-map requests request_value))) ∙ lead-none host.credits l.seen
 
-pub ran : {start : HostState} {requests : List CodeRequest} {n : ℕ} {out : List (Option Out)} {answers : List CodeAnswer} {host : HostState} → IsDriver start → length requests ≤ n → PENDING_LIMIT ≤ host.credits
-    → Underway start requests n out answers host → Ran start requests answers host
-ran {start} {requests} {n} {out} {answers} {host} ready all back U =
-    let rs = request_values requests in
-    let whole : take n rs ≡ rs = take_all n rs (omega (arith, all, length-map requests request_value)) in
-    let none : out_of host ≡ 0 = omega (arith, all_credits U, back) in
-    let before = ready.adds_up in
-    let after = U.at_work.adds_up in
-    let idle = ready.rest.idle in
-    let fetches : start.fetches ≡ start.taken = omega (arith, before.done_were_fetched, before.fetched_were_posted, ap length idle.none_due, ap length idle.none_wait) in
-    let fetches_now : host.fetches ≡ host.taken = omega (arith, after.done_were_fetched, after.fetched_were_posted, none) in
-    let taken : host.taken ≡ start.taken + posted_count rs = omega (arith, U.posted, none, ap posted_count whole) in
-    let over = over_from (drain_ends requests all) U.load in
-    let p = ap posted_count whole in
-    let none_due = nil_from_length host.due (omega (arith, none)) in
-    record {
-      ready = record {
-        rest = record {
-          runs = after.runs;
-          idle = record { none_due = none_due; none_wait = nil_from_length host.waiting (omega (arith, none)) };
-          credits_are = omega (arith, all_credits U, none);
-          begun = U.at_work.begun;
-        };
-        images = U.at_work.images;
-        adds_up = after;
-      };
-      counted = U.sized;
-      owes = driving_end (omega (arith, length-map answers answer_value, length-map requests request_value, U.sized)) none (subst (λ (qs : List Request). Driving start.units qs out (answer_values answers) host) whole U.driving);
-      counts = record {
-        turns = omega (arith, before.turns_are, after.turns_are, fetches, fetches_now, taken, none, ap length idle.none_wait);
+module _ {start : HostState} {requests : List CodeRequest} {n : ℕ} {out : List (Option Out)} {answers : List CodeAnswer} {host : HostState} (ready : IsDriver start) (all : length requests ≤ n) (back : PENDING_LIMIT ≤ host.credits)
+    (U : Underway start requests n out answers host) where
+  whole : take n (request_values requests) ≡ request_values requests
+  whole = take_all n (request_values requests) (omega (arith, all, length-map requests request_value))
+
+  none : out_of host ≡ 0
+  none = omega (arith, all_credits U, back)
+
+  none_due : host.due ≡ []
+  none_due = nil_from_length host.due (omega (arith, none))
+
+  rests : IsAtRest host
+  rests = record {
+    runs = U.at_work.adds_up.runs;
+    idle = record { none_due = none_due; none_wait = nil_from_length host.waiting (omega (arith, none)) };
+    credits_are = omega (arith, all_credits U, none);
+    begun = U.at_work.begun;
+  }
+
+  counted_on : CountsOn (request_values requests) start host
+  counted_on =
+      let before = ready.adds_up in let after = U.at_work.adds_up in
+      let due = ap length ready.rest.idle.none_due in let waiting = ap length ready.rest.idle.none_wait in
+      let fetches : start.fetches ≡ start.taken = omega (arith, before.done_were_fetched, before.fetched_were_posted, due, waiting) in
+      let fetches_now : host.fetches ≡ host.taken = omega (arith, after.done_were_fetched, after.fetched_were_posted, none) in
+      let p = ap posted_count whole in
+      let taken : host.taken ≡ start.taken + posted_count (request_values requests) = omega (arith, U.posted, none, p) in
+      let over = over_from (drain_ends requests all) U.load in
+      record {
+        turns = omega (arith, before.turns_are, after.turns_are, fetches, fetches_now, taken, none, waiting);
         fetches = omega (arith, fetches, fetches_now, taken);
         deliveries = taken;
-        load = omega (arith, over.load, over.within, p, triangle-is (lead rs), ap (λ (h : List _). triangle (length h)) none_due);
-      };
-    }
+        load = omega (arith, over.load, over.within, p, triangle-is (lead (request_values requests)), ap (λ (h : List _). triangle (length h)) none_due);
+      }
+
+  pub ran : Ran start requests answers host
+  ran = record {
+    ready = record { rest = rests; images = U.at_work.images; adds_up = U.at_work.adds_up };
+    counted = U.sized;
+    owes = driving_end (omega (arith, length-map answers answer_value, length-map requests request_value, U.sized)) none (subst (λ (qs : List Request). Driving start.units qs out (answer_values answers) host) whole U.driving);
+    counts = counted_on;
+  }

@@ -137,34 +137,54 @@ requests-same : (fixed : List FixedDue) → requests_of (map fixed_request fixed
 requests-same [] = refl
 requests-same (f ∷ fs) = ap (λ (rs : List Request). f.due.request ∷ rs) (requests-same fs)
 
+-- a request that is taken out, with its outcome, among those that were left: all again, in their places
+module _ (due : List Due) (j : ℕ) (p : Due) (o : Outcome) (at : slice_get due j ≡ Some p) (fixed : List FixedDue) (e : dues_in fixed ≡ remove due j) where
+  abbrev pub all_fixed : List FixedDue
+  all_fixed = insert fixed j (record { due = p; outcome = o })
+
+  abbrev pub fixed_here : FixedRequest
+  fixed_here = fixed_request (record { due = p; outcome = o })
+
+  size : length fixed ≡ length (remove due j)
+  size = sym (length-map fixed (λ (x : FixedDue). x.due)) ∙ ap length e
+
+  inserted : map fixed_request all_fixed ≡ insert (map fixed_request fixed) j fixed_here
+  inserted = map-insert fixed_request fixed j (record { due = p; outcome = o })
+
+  dues_are : dues_in all_fixed ≡ due
+  dues_are = map-insert (λ (x : FixedDue). x.due) fixed j (record { due = p; outcome = o }) ∙ ap (λ (ps : List Due). insert ps j p) e ∙ put_back due j p at
+
+  requests_are : requests_of (map fixed_request all_fixed) ≡ requests_due due
+  requests_are = requests-same all_fixed ∙ ap requests_due dues_are
+
+  there : (slice_get (insert (map fixed_request fixed) j fixed_here) j ≡ Some fixed_here) × (remove (insert (map fixed_request fixed) j fixed_here) j ≡ map fixed_request fixed)
+  there = put_in (map fixed_request fixed) j fixed_here (omega (arith, size, length-remove due j (slice_get_within due j p at), slice_get_within due j p at, length-map fixed fixed_request))
+
+  stands : slice_get (map fixed_request all_fixed) j ≡ Some fixed_here
+  stands = ap (λ (ys : List FixedRequest). slice_get ys j) inserted ∙ there.0
+
+  others : remove (map fixed_request all_fixed) j ≡ map fixed_request fixed
+  others = ap (λ (ys : List FixedRequest). remove ys j) inserted ∙ there.1
+
 -- a request that may go is done
 pub ledger_carries_out : CarriesOut
 ledger_carries_out start requests due told disks j p o clear rising goes at f h fixed e fit =
-    let it : FixedDue = record { due = p; outcome = o } in
-    let all_fixed = insert fixed j it in
-    let xs = map fixed_request all_fixed in
-    let x = fixed_request it in
-    let back : insert (remove due j) j p ≡ due = put_back due j p at in
-    let dues_are : dues_in all_fixed ≡ due = map-insert (λ (x : FixedDue). x.due) fixed j it ∙ ap (λ (ps : List Due). insert ps j p) e ∙ back in
-    let requests_are : requests_of xs ≡ requests_due due = requests-same all_fixed ∙ ap requests_due dues_are in
-    let inserted : xs ≡ insert (map fixed_request fixed) j x = map-insert fixed_request fixed j it in
-    let all_fit : All FitsRequest xs = subst (All FitsRequest) (sym inserted) (All-insert FitsRequest (map fixed_request fixed) j x f fit) in
-    let size : length fixed ≡ length (remove due j) = sym (length-map fixed (λ (x : FixedDue). x.due)) ∙ ap length e in
-    let within = slice_get_within due j p at in
-    let room : j ≤ length (map fixed_request fixed) = omega (arith, size, length-remove due j within, length-map fixed fixed_request) in
-    let there = put_in (map fixed_request fixed) j x room in
-    let stands : slice_get xs j ≡ Some x = ap (λ (ys : List FixedRequest). slice_get ys j) inserted ∙ there.0 in
-    let others : remove xs j ≡ map fixed_request fixed = ap (λ (ys : List FixedRequest). remove ys j) inserted ∙ there.1 in
-    let law = request_order_is_free xs j x disks (subst (AllPairs NoClash) (sym requests_are) clear) (subst (λ (rs : List Request). PassesOlder rs j) (sym requests_are) goes) stands in
+    let all = all_fixed due j p o at fixed e in
+    let xs = map fixed_request all in
+    let x = fixed_here due j p o at fixed e in
+    let asked = requests_are due j p o at fixed e in
+    let all_fit : All FitsRequest xs = subst (All FitsRequest) (sym (inserted due j p o at fixed e)) (All-insert FitsRequest (map fixed_request fixed) j x f fit) in
+    let law = request_order_is_free xs j x disks (subst (AllPairs NoClash) (sym asked) clear) (subst (λ (rs : List Request). PassesOlder rs j) (sym asked) goes) (stands due j p o at fixed e) in
     let now = step_as o p.request disks in
     let later = plain_as now.1 (map fixed_request fixed) in
-    let first : (insert later.0 j now.0, later.1) ≡ plain_as disks xs = ap (λ (ys : List FixedRequest). let l = plain_as now.1 ys in (insert l.0 j now.0, l.1)) (sym others) ∙ law in
-    let n : length later.0 ≡ length (remove due j) = length-runs step_of (map fixed_request fixed) now.1 ∙ length-map fixed fixed_request ∙ size in
+    let first : (insert later.0 j now.0, later.1) ≡ plain_as disks xs =
+    ap (λ (ys : List FixedRequest). let l = plain_as now.1 ys in (insert l.0 j now.0, l.1)) (sym (others due j p o at fixed e)) ∙ law in
+    let n : length later.0 ≡ length (remove due j) = length-runs step_of (map fixed_request fixed) now.1 ∙ length-map fixed fixed_request ∙ size due j p o at fixed e in
     let P : List Answer → Disks → Type 0 = λ answers left. PlainWithLosses start requests answers left in
     subst₂ P
     (sym (ap (λ (x : List Answer × Disks). with_answers told due x.0) first) ∙ with_answers-insert told due j p later.0 now.0 rising at n)
     (sym (ap (λ (x : List Answer × Disks). x.1) first))
-    (h all_fixed dues_are all_fit)
+    (h all (dues_are due j p o at fixed e) all_fit)
 
 -- nothing is due
 pub ledger_closes : Closes

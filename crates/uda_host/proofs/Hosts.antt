@@ -10,10 +10,10 @@ use Rattle.uda_packet.specs.Reading.{read_command}
 use Rattle.uda_port.specs.declared.phase.Phase.{Phase}
 use Rattle.uda_port.specs.Port.{PortState, port_asked}
 use Rattle.uda_host.specs.Layout.{slots, command_descriptor, command_packet, buffers_start}
-use Rattle.uda_host.specs.InStep.{IsAbove, IsSound}
+use Rattle.uda_host.specs.InStep.{IsAbove, IsSound, unfetched}
 use Rattle.uda_host.specs.Host.{HostState, Posts, AddsUp}
 use Rattle.uda_host.specs.Slots.{posted_slot, Writes}
-use Rattle.uda_host.specs.IsHost.{unfetched, host_view, IsHost}
+use Rattle.uda_host.specs.IsHost.{host_view, IsHost}
 use Rattle.uda_host.specs.declared.host.Host.TheInside.{Inside}
 use Rattle.uda_host.proofs.Slots.{rings-put, rings_posted}
 

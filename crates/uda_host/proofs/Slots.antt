@@ -45,7 +45,7 @@ module _ {memory m : List ℕ} {d p : ℕ} {s : Slot} (w : Writes d p s memory m
   module _ (word : ℕ) (fits : word < 2 ^ 16) where
     pub low_written : Writes d p (record s { descriptor = record s.descriptor { low = word } }) memory (put m d (word_bytes word))
     low_written =
-        let two = length-word_bytes word in let here = w.place in let long = w.size in
+        let width = length-word_bytes word in let here = w.place in let room = w.size in
         let is = word_at-put_at m d word (omega arith) fits in
         let same = word_at-put_apart m d (word_bytes word) in
         let high = same (d + 2) (λ meet. omega arith) in let size = same p (λ meet. omega arith) in let credits = same (p + 2) (λ meet. omega arith) in
@@ -55,7 +55,7 @@ module _ {memory m : List ℕ} {d p : ℕ} {s : Slot} (w : Writes d p s memory m
 
     pub high_written : Writes d p (record s { descriptor = record s.descriptor { high = word } }) memory (put m (d + 2) (word_bytes word))
     high_written =
-        let two = length-word_bytes word in let here = w.place in let long = w.size in
+        let width = length-word_bytes word in let here = w.place in let room = w.size in
         let is = word_at-put_at m (d + 2) word (omega arith) fits in
         let same = word_at-put_apart m (d + 2) (word_bytes word) in
         let low = same d (λ meet. omega arith) in let size = same p (λ meet. omega arith) in let credits = same (p + 2) (λ meet. omega arith) in
@@ -65,7 +65,7 @@ module _ {memory m : List ℕ} {d p : ℕ} {s : Slot} (w : Writes d p s memory m
 
     pub size_written : Writes d p (record s { size = word }) memory (put m p (word_bytes word))
     size_written =
-        let two = length-word_bytes word in let here = w.place in let long = w.size in
+        let width = length-word_bytes word in let here = w.place in let room = w.size in
         let is = word_at-put_at m p word (omega arith) fits in
         let same = word_at-put_apart m p (word_bytes word) in
         let low = same d (λ meet. omega arith) in let high = same (d + 2) (λ meet. omega arith) in let credits = same (p + 2) (λ meet. omega arith) in
@@ -75,7 +75,7 @@ module _ {memory m : List ℕ} {d p : ℕ} {s : Slot} (w : Writes d p s memory m
 
     pub credits_written : Writes d p (record s { credits = word }) memory (put m (p + 2) (word_bytes word))
     credits_written =
-        let two = length-word_bytes word in let here = w.place in let long = w.size in
+        let width = length-word_bytes word in let here = w.place in let room = w.size in
         let is = word_at-put_at m (p + 2) word (omega arith) fits in
         let same = word_at-put_apart m (p + 2) (word_bytes word) in
         let low = same d (λ meet. omega arith) in let high = same (d + 2) (λ meet. omega arith) in let size = same p (λ meet. omega arith) in

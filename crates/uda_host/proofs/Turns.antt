@@ -30,9 +30,9 @@ use Rattle.uda_port.specs.Port.{PortState, CreditsAgree, next_grant}
 use Rattle.uda_port.specs.Turn.{port_turn_on, port_with_message, FetchesOne, NothingToFetch, FetchLine, GoesOn, Fails, InFetch, InRest, RunningTurn, TurnGoes}
 use Rattle.uda_host.specs.Layout.{slots, memory_size, response_descriptor, command_descriptor, response_packet, command_packet, owner_word, flag_word}
 use Rattle.uda_host.specs.Slots.{Slot, slot_at, command_at, response_at, owned, RingsHold, Writes}
-use Rattle.uda_host.specs.InStep.{IsSound}
+use Rattle.uda_host.specs.InStep.{IsSound, unfetched}
 use Rattle.uda_host.specs.Host.{HostState, out_of, TakesEnd, Works, OneFetched, OneDone}
-use Rattle.uda_host.specs.IsHost.{unfetched, host_view, IsHost}
+use Rattle.uda_host.specs.IsHost.{host_view, IsHost}
 use Rattle.uda_host.specs.declared.host.Host.TheInside.{Inside}
 use Rattle.uda_host.proofs.Lists.{All-remove, All-at}
 use Rattle.uda_host.proofs.Slots.{unwritten, high_written, size_written, credits_written, text_written, command_place, response_place, rings-put, rings_answered, rings_fetched, first_posted, first_free}

@@ -52,7 +52,8 @@ pub record IsOpen (packet : ℕ) (s : Slot) : Type 0 where
   pub owned_is : s.descriptor ≡ owned packet
   pub room : 48 ≤ s.size
 
--- both rings: from this place on, going round, exactly these commands are posted, and every response slot is open
+-- Both rings: from this place on, going round, exactly these commands are posted; and every response slot is
+-- open.
 pub record RingsHold (memory : List ℕ) (place : ℕ) (queue : List Command) : Type 0 where
   pub size : length memory ≡ memory_size
   pub within : place < slots

@@ -37,7 +37,8 @@ pub(crate) fn open_all(memory: &mut HostMemory)
     requires size { length memory.old ≡ memory_size }
     ensures size { length memory.new ≡ memory_size }
     ensures responses { (i : ℕ) → i < slots → IsOpen (response_packet i) (response_at memory.new i) }
-    ensures commands { (i : ℕ) → i < slots → IsFree (command_at memory.old i) → IsFree (command_at memory.new i) }
+    ensures commands { (i : ℕ) → i < slots
+        → IsFree (command_at memory.old i) → IsFree (command_at memory.new i) }
 {
     for i in 0..SLOTS {
         let packet = RESPONSE_PACKETS + PACKET_STEP * i;

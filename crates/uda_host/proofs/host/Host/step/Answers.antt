@@ -1,4 +1,4 @@
-use Rattle.std.proofs.Common.{None}
+use Rattle.std.proofs.Common.{None, rules}
 use Rattle.uda_host.proofs.Hosts.{adds_up}
 use Rattle.uda_host.proofs.Turns.{host_works, end_read, host_takes}
 use Rattle.uda_host.proofs.host.Host.step.Goals as goal
@@ -20,11 +20,11 @@ unreachable-requires g c = let none = end_read c.self.invariant c.turn.new.self 
 
 pub invariant_of-self-2 : goal.invariant_of-self-2
 invariant_of-self-2 g c =
-    (host_takes c.self.invariant c.turn.new.self c.turn.new.memory c.in-Delivered.ensures.goes c.self.view_is c.turn.ensures.credits c.in-Some.ensures.end c.credits_at-credits.ensures.word c.reopen.ensures.open).host
+    (host_takes c.self.invariant c.turn.new.self c.turn.new.memory c.in-Delivered.ensures.goes c.self.view_is c.turn.ensures.credits c.in-Some.ensures.end c.credits_at-credits.ensures.word (search rules)).host
 
 pub returns-clause-goes : goal.returns-clause-goes
 returns-clause-goes g c =
-    (host_takes c.self.invariant c.turn.new.self c.turn.new.memory c.in-Delivered.ensures.goes c.self.view_is c.turn.ensures.credits c.in-Some.ensures.end c.credits_at-credits.ensures.word c.reopen.ensures.open).so
+    (host_takes c.self.invariant c.turn.new.self c.turn.new.memory c.in-Delivered.ensures.goes c.self.view_is c.turn.ensures.credits c.in-Some.ensures.end c.credits_at-credits.ensures.word (search rules)).so
 
 pub returns-clause-adds_up : goal.returns-clause-adds_up
 returns-clause-adds_up g c = adds_up (invariant_of-self-2 g c)

@@ -1,8 +1,6 @@
 pub mod Lists
-pub mod Frames
-pub mod CommandSides
-pub mod ResponseSides
-pub mod Steps
+pub mod Slots
 pub mod Startings
 pub mod Hosts
+pub mod Turns
 pub mod Asking

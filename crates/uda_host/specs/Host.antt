@@ -13,11 +13,9 @@ use Rattle.uda_port.specs.Port.{next_grant}
 use Rattle.uda_host.specs.Layout.{buffers_start, memory_size}
 
 -- its port's phase; its memory, of which callers know the buffers; the units; the commands that are posted
--- and not done
--- yet, in the order of their posts; the ends of those that are done and that it has not taken yet, the next
--- one first; its
--- credits; and since start-up the turns, the commands that the port fetched, the ends that the host took, and
--- the load
+-- and not done yet, in the order of their posts; the ends of those that are done and that it has not taken
+-- yet, the next one first; its credits; and since start-up the turns, the commands that the port fetched, the
+-- ends that the host took, and the load
 pub record HostState : Type 0 where
   pub phase : Phase
   pub memory : List ℕ
@@ -100,8 +98,7 @@ HostGoes old (Some end) new = TakesEnd old end new
 -- ---- the numbers
 
 -- What is true of every host's numbers: each credit was spent on a command that is out; a command was fetched
--- before it
--- was done; and each turn was a fetch, a command done or an end taken.
+-- before it was done; and each turn was a fetch, a command done or an end taken.
 pub record AddsUp (host : HostState) : Type 0 where
   pub runs : host.phase ≡ Running
   pub size : length host.memory ≡ memory_size

@@ -52,6 +52,7 @@ impl<S: BlockStore> Host<S> {
     /// Where `alloc` has no memory the answer is [`NoMemory`] with `exec` as it was.
     ///
     /// UDA50 Programmer's Documentation Kit: initialisation, credits.
+    #[tactic(auto, using(uda_port::proofs::Length::lengths))]
     pub fn start(alloc: Global, exec: Exec<S>) -> Result<Host<S>, (NoMemory, Exec<S>)>
         ensures started { IfOk result (λ host. IsStarted (map reset_unit exec.units) host) }
         ensures images { IfOk result (λ host. AreImages host.units) }

@@ -4,7 +4,8 @@ ghost use Rattle.uda_mem.specs.Put.{put, part};
 ghost use Rattle.uda_mem.specs.Words.{word_at, word_bytes};
 ghost use Rattle.uda_packet.specs.Written.{written_command};
 ghost use Rattle.uda_packet.specs.Reading.{read_command, read_end};
-ghost use Rattle.uda_host.specs.Layout.{slots, buffer_address, memory_size, response_packet, with_command, memory_reopened};
+ghost use Rattle.uda_host.specs.Layout.{slots, buffer_address, memory_size, command_descriptor, command_packet, response_descriptor, response_packet, owner_word};
+ghost use Rattle.uda_host.specs.Slots.{posted_slot, Writes};
 
 use uda_mem::HostMemory;
 use uda_packet::{Command, End, decode_end, encode_command};
@@ -58,10 +59,12 @@ fn put_text(memory: &mut HostMemory, at: u32, text: &[u8; 48])
 
 /// Posts a command at a place of the command ring: its packet, and then its descriptor, which the port
 /// owns from then on.
+#[tactic(auto, using(uda_port::proofs::Length::lengths))]
 pub(crate) fn write_command(memory: &mut HostMemory, place: u32, command: &Command)
     requires size { length memory.old ≡ memory_size }
     requires within { place < slots }
-    ensures posted { memory.new ≡ with_command memory.old place command.now }
+    ensures posted { Writes (command_descriptor place) (command_packet place) (posted_slot place command.now)
+        memory.old memory.new }
     ensures legible { read_command (written_command command.now) ≡ Ok command.now }
 {
     let packet = COMMAND_PACKETS + PACKET_STEP * place;
@@ -101,7 +104,8 @@ pub(crate) fn credits_at(memory: &HostMemory, place: u32) -> u32
 /// Gives the response descriptor at a place to the port.
 pub(crate) fn reopen(memory: &mut HostMemory, place: u32)
     requires within { place < slots }
-    ensures open { length memory.old ≡ memory_size → memory.new ≡ memory_reopened memory.old place }
+    ensures open { length memory.old ≡ memory_size
+        → memory.new ≡ put memory.old (response_descriptor place + 2) (word_bytes owner_word) }
 {
     memory.write_word(RESPONSE_RING + 4 * place + 2, OWNER);
 }

@@ -2,7 +2,8 @@
 ghost use Rattle.std.specs.Prelude.{◌≡◌, ℕ, ◌+◌, ◌-◌, ◌*◌, ◌<◌, ◌≤◌, length, replicate, IfOk};
 ghost use Rattle.uda_mem.specs.Put.{put};
 ghost use Rattle.uda_port.specs.declared.phase.Phase.TheVariants.{Step1};
-ghost use Rattle.uda_host.specs.Layout.{slots, area_size, memory_size, IsFree, ResponseSide};
+ghost use Rattle.uda_host.specs.Layout.{slots, area_size, memory_size, response_packet};
+ghost use Rattle.uda_host.specs.Slots.{command_at, response_at, IsFree, IsOpen};
 ghost use Rattle.uda_host.specs.Starting.{port_running};
 
 use crate::ring::{MEMORY_SIZE, OWNER, PACKET_STEP, RESPONSE_PACKETS, RESPONSE_RING, RINGS, SLOTS};
@@ -31,10 +32,13 @@ pub(crate) fn initialise<S: BlockStore>(port: &mut Port<S>, memory: &mut HostMem
 }
 
 /// Gives the port every response descriptor.
+#[tactic(auto, using(uda_port::proofs::Length::lengths))]
 pub(crate) fn open_all(memory: &mut HostMemory)
     requires size { length memory.old ≡ memory_size }
-    ensures responses { ResponseSide memory.new }
-    ensures commands { (k : ℕ) → k < slots → IsFree memory.old k → IsFree memory.new k }
+    ensures size { length memory.new ≡ memory_size }
+    ensures responses { (i : ℕ) → i < slots → IsOpen (response_packet i) (response_at memory.new i) }
+    ensures commands { (i : ℕ) → i < slots
+        → IsFree (command_at memory.old i) → IsFree (command_at memory.new i) }
 {
     for i in 0..SLOTS {
         let packet = RESPONSE_PACKETS + PACKET_STEP * i;

@@ -1,30 +1,30 @@
-use Rattle.uda_host.proofs.Hosts.{host_works, never_no_end, host_takes, adds_up}
+use Rattle.std.proofs.Common.{None, rules}
+use Rattle.uda_host.proofs.Hosts.{adds_up}
+use Rattle.uda_host.proofs.Turns.{host_works, end_read, host_takes}
 use Rattle.uda_host.proofs.host.Host.step.Goals as goal
 
 -- a turn that takes no end
 pub invariant_of-self : goal.invariant_of-self
-invariant_of-self g c = (host_works c.self.view_is c.self.invariant c.turn.new.memory c.turn.new.self c.requires.some c.turn.ensures.credits c.turn.result c.in_default.not-Delivered c.turn.ensures.goes).place
+invariant_of-self g c = (host_works c.self.view_is c.self.invariant c.turn.new.self c.turn.new.memory c.turn.ensures.credits c.turn.result c.in_default.not-Delivered c.requires.some c.turn.ensures.goes).host
 
 pub returns-in_default : goal.returns-in_default
 returns-in_default g c = record {
-  goes = (host_works c.self.view_is c.self.invariant c.turn.new.memory c.turn.new.self c.requires.some c.turn.ensures.credits c.turn.result c.in_default.not-Delivered c.turn.ensures.goes).works;
+  goes = (host_works c.self.view_is c.self.invariant c.turn.new.self c.turn.new.memory c.turn.ensures.credits c.turn.result c.in_default.not-Delivered c.requires.some c.turn.ensures.goes).so;
   adds_up = adds_up (invariant_of-self g c);
   images = c.turn.ensures.images;
 }
 
 -- a turn that takes one
 pub unreachable-requires : goal.unreachable-requires
-unreachable-requires g c = never_no_end c.self.view_is c.self.invariant c.turn.new.memory c.turn.new.self c.requires.some c.turn.ensures.credits c.in-Delivered.ensures.goes c.in_default-end_at.ensures.end
+unreachable-requires g c = let none = end_read c.self.invariant c.turn.new.self c.turn.new.memory c.in-Delivered.ensures.goes None c.in_default-end_at.ensures.end in absurd (cc)
 
 pub invariant_of-self-2 : goal.invariant_of-self-2
 invariant_of-self-2 g c =
-    (host_takes c.self.view_is c.self.invariant c.turn.new.memory c.turn.new.self c.requires.some c.turn.ensures.credits c.in-Delivered.ensures.goes
-    c.in-Some.end c.credits_at-credits.result c.reopen.new.memory c.in-Some.ensures.end c.credits_at-credits.ensures.word c.reopen.ensures.open).place
+    (host_takes c.self.invariant c.turn.new.self c.turn.new.memory c.in-Delivered.ensures.goes c.self.view_is c.turn.ensures.credits c.in-Some.ensures.end c.credits_at-credits.ensures.word (search rules)).host
 
 pub returns-clause-goes : goal.returns-clause-goes
 returns-clause-goes g c =
-    (host_takes c.self.view_is c.self.invariant c.turn.new.memory c.turn.new.self c.requires.some c.turn.ensures.credits c.in-Delivered.ensures.goes
-    c.in-Some.end c.credits_at-credits.result c.reopen.new.memory c.in-Some.ensures.end c.credits_at-credits.ensures.word c.reopen.ensures.open).takes
+    (host_takes c.self.invariant c.turn.new.self c.turn.new.memory c.in-Delivered.ensures.goes c.self.view_is c.turn.ensures.credits c.in-Some.ensures.end c.credits_at-credits.ensures.word (search rules)).so
 
 pub returns-clause-adds_up : goal.returns-clause-adds_up
 returns-clause-adds_up g c = adds_up (invariant_of-self-2 g c)

@@ -1,0 +1,83 @@
+-- What stands in a host's rings: at each place a slot, which is a descriptor with its packet.
+-- UDA50 Programmer's Documentation Kit: ring descriptors, message envelopes.
+use Rattle.std.specs.Prelude.{◌≡◌, ℕ, ◌+◌, ◌%◌, ◌<◌, ◌≤◌, List, length, get_or}
+use Rattle.uda_mem.specs.Put.{part, Meet}
+use Rattle.uda_mem.specs.Words.{word_at}
+use Rattle.uda_packet.specs.declared.command.Command.{Command}
+use Rattle.uda_packet.specs.Written.{written_command}
+use Rattle.uda_port.specs.declared.descriptor.Descriptor.{Descriptor}
+use Rattle.uda_host.specs.Layout.{slots, response_descriptor, command_descriptor, response_packet, command_packet, buffers_start, memory_size, owner_word}
+use Rattle.uda_host.specs.Host.{BuffersStay}
+
+-- a descriptor; and of its packet the two words of the envelope, which are a length and credits, and the text
+pub record Slot : Type 0 where
+  pub descriptor : Descriptor
+  pub size : ℕ
+  pub credits : ℕ
+  pub text : List ℕ
+
+-- what stands at a descriptor and at a packet
+abbrev pub slot_at : List ℕ → ℕ → ℕ → Slot
+slot_at memory at packet = record {
+  descriptor = record { low = word_at memory at; high = word_at memory (at + 2) };
+  size = word_at memory packet;
+  credits = word_at memory (packet + 2);
+  text = part memory (packet + 4) 48;
+}
+
+-- place i of the command ring, and place i of the response ring
+abbrev pub command_at : List ℕ → ℕ → Slot
+command_at memory i = slot_at memory (command_descriptor i) (command_packet i)
+
+abbrev pub response_at : List ℕ → ℕ → Slot
+response_at memory i = slot_at memory (response_descriptor i) (response_packet i)
+
+-- ---- what a slot may hold
+
+-- a descriptor that the port owns, of the packet at this address
+abbrev pub owned : ℕ → Descriptor
+owned packet = record { low = packet + 4; high = owner_word }
+
+-- a command is posted at place i
+abbrev pub posted_slot : ℕ → Command → Slot
+posted_slot i c =
+    record { descriptor = owned (command_packet i); size = 48; credits = 0; text = written_command c }
+
+-- the port does not own it, so a command may be posted there
+abbrev pub IsFree : Slot → Type 0
+IsFree s = s.descriptor.high < owner_word
+
+-- the port owns it, and may deliver an end to the packet at this address
+pub record IsOpen (packet : ℕ) (s : Slot) : Type 0 where
+  pub owned_is : s.descriptor ≡ owned packet
+  pub room : 48 ≤ s.size
+
+-- Both rings: from this place on, going round, exactly these commands are posted; and every response slot is
+-- open.
+pub record RingsHold (memory : List ℕ) (place : ℕ) (queue : List Command) : Type 0 where
+  pub size : length memory ≡ memory_size
+  pub within : place < slots
+  pub few : length queue ≤ slots
+  pub posted :
+      (k : ℕ) (d : Command) → k < length queue
+      → command_at memory ((place + k) % slots) ≡ posted_slot ((place + k) % slots) (get_or queue k d)
+  pub free : (k : ℕ) → length queue ≤ k → k < slots → IsFree (command_at memory ((place + k) % slots))
+  pub opens : (i : ℕ) → i < slots → IsOpen (response_packet i) (response_at memory i)
+
+-- ---- a slot is written
+
+-- descriptors lie below packets, and packets below buffers
+pub record IsPlace (at packet : ℕ) : Type 0 where
+  pub ring : at + 4 ≤ response_packet 0
+  pub packets : response_packet 0 ≤ packet
+  pub below : packet + 52 ≤ buffers_start
+
+-- one slot is written and holds s then; the others and every buffer stay as they were
+pub record Writes (at packet : ℕ) (s : Slot) (memory after : List ℕ) : Type 0 where
+  pub place : IsPlace at packet
+  pub size : length after ≡ memory_size
+  pub buffers : BuffersStay memory after
+  pub holds : slot_at after at packet ≡ s
+  pub rest :
+      (a p : ℕ) → IsPlace a p → (Meet at 4 a 4 → ⊥) → (Meet packet 52 p 52 → ⊥)
+      → slot_at after a p ≡ slot_at memory a p

@@ -2,7 +2,7 @@
 use Rattle.std.proofs.Common.{◌≡◌, ℕ, ◌+◌, ◌-◌, ◌<◌, ◌≤◌, inl, inr, List, length, get_or, sym, ap, ◌∙◌, arith}
 use Rattle.std.proofs.lemmas.List.{same_lists}
 use Rattle.std.proofs.lemmas.Bool.{cases_lt}
-use Rattle.uda_mem.proofs.PutLaws.{length-put, length-part, get_or-part, get_or-put_before, get_or-put_at, get_or-put_behind, put-part, put-part_none, put-put_same}
+use Rattle.uda_mem.proofs.PutLaws.{length-put, length-part, get_or-part, get_or-put_before, get_or-put_at, get_or-put_behind, put-part, put-part_none, put-put_same, put-whole}
 use Rattle.uda_packet.specs.declared.command.Op.TheVariants.{Read}
 use Rattle.uda_exec.proofs.Words.{put, part, Op, landing_of, room_of, ChangesAt}
 
@@ -40,3 +40,6 @@ changes_again a b c at n h g =
 pub landing-le : (op : Op) → landing_of op ≤ room_of op
 landing-le (Read bytes address lbn) = omega arith
 landing-le _ = omega arith
+
+-- what a search needs of a memory that was handed on as a slice
+pub ruleset wholes = put-whole

@@ -3,6 +3,7 @@
 //! MSCP Basic Disk Functions Manual: Access, Available, Erase, Get Unit Status, Online, Read and Write
 //! commands.
 ghost use Rattle.std.specs.Prelude.{◌≡◌, [], Some, None, IsSome, IfSome};
+ghost use Rattle.uda_mem.specs.Slices.{IsMemory};
 ghost use Rattle.uda_packet.specs.Transfer.{transfer_of};
 ghost use Rattle.uda_disk.specs.Request.{Act};
 ghost use Rattle.uda_disk.specs.Plain.{Done, mode_after, answer_on};
@@ -18,7 +19,6 @@ use crate::reply::{plain_body, refuse, reply};
 use std::marker::Model;
 use uda_disk::Mode;
 use uda_image::{BlockStore, Drive};
-use uda_mem::HostMemory;
 use uda_packet::{Command, End, EndBody, Op, Transfer, status};
 
 /// The store of a unit's blocks, and the unit's mode.
@@ -70,13 +70,19 @@ impl<S: BlockStore> DriveUnit<S> {
     }
 
     // Access, Erase, Read or Write: all checks, and then the blocks.
-    fn transfer(&mut self, command: Command, t: Transfer, memory: &mut HostMemory) -> End
-        requires { transfer_of command.op ≡ Some t }
+    fn transfer(&mut self, command: Command, t: Transfer, memory: &mut [u8]) -> End
+        requires memory { IsMemory memory.old }
+        requires transfer { transfer_of command.op ≡ Some t }
         ensures serves { (act : Act) → act_of command.op memory.old ≡ Some act
             → ServesUnit command act self.old memory.old result self.new memory.new }
         ensures image { HoldsImage (Some self.new) }
     {
-        if let Some(refusal) = transfer_refusal(t, memory.len(), self.store.size(), self.mode) {
+        if let Some(refusal) = transfer_refusal(
+            t,
+            uda_mem::len(memory),
+            self.store.size(),
+            self.mode,
+        ) {
             return refuse(command, refusal);
         }
         let (status, bytes) = match move_blocks(t, &mut self.store, memory) {
@@ -127,7 +133,8 @@ impl<S: BlockStore> DriveUnit<S> {
 
     /// Does a command of this unit, any but Set Controller Characteristics, and answers its end
     /// message.
-    pub fn execute(&mut self, command: Command, memory: &mut HostMemory) -> End
+    pub fn execute(&mut self, command: Command, memory: &mut [u8]) -> End
+        requires memory { IsMemory memory.old }
         requires unit { IsSome (act_of command.op []) }
         ensures serves { (act : Act) → act_of command.op memory.old ≡ Some act
             → ServesUnit command act self.old memory.old result self.new memory.new }

@@ -2,6 +2,7 @@
 //!
 //! MSCP Basic Disk Functions Manual: unit states, command ordering.
 ghost use Rattle.std.specs.Prelude.{◌≡◌, ℕ, ◌+◌, ◌<◌, ◌≤◌, [], ◌∷◌, ◌++◌, length, map, option_map, IsNone, IfNone, IfSome, ◌↔◌, slice_get};
+ghost use Rattle.uda_mem.specs.Slices.{IsMemory};
 ghost use Rattle.uda_disk.specs.Units.{HoldsImage, AreImages, is_faithful, is_sure};
 ghost use Rattle.uda_exec.specs.Disks.{PENDING_LIMIT};
 ghost use Rattle.uda_exec.specs.Commands.{is_controller};
@@ -139,7 +140,29 @@ impl<S: BlockStore> Exec<S> {
     ///
     /// MSCP Basic Disk Functions Manual: commands and end messages, status and event codes, command
     /// ordering.
+    #[tactic(auto, using(crate::proofs::Changes::wholes))]
     pub fn execute_one(&mut self, memory: &mut HostMemory) -> Option<End>
+        ensures idle { IsNone result ↔ (self.old.pending ≡ []) }
+        ensures unchanged { IfNone result ((self.new ≡ self.old) × (memory.new ≡ memory.old)) }
+        ensures fewer { IfSome result (λ _. length self.new.pending + 1 ≡ length self.old.pending) }
+        ensures four { length self.new.units ≡ 4 }
+        ensures images { AreImages self.new.units }
+        ensures length { length memory.new ≡ length memory.old }
+        ensures faithful { (u : ℕ) → is_faithful (slice_get self.new.units u)
+            ≡ is_faithful (slice_get self.old.units u) }
+        ensures sure { (u : ℕ) → is_sure (slice_get self.new.units u)
+            ≡ is_sure (slice_get self.old.units u) }
+        ensures executes { IfSome result (λ end.
+            (j : ℕ) × ExecutesAt j self.old memory.old end self.new memory.new) }
+    {
+        self.execute_one_in(memory.as_mut_slice())
+    }
+
+    /// The same over memory that is somebody else's: [`execute_one`](Exec::execute_one) on a slice of an even
+    /// length, at most [`SLICE_LIMIT`](uda_mem::SLICE_LIMIT) ([`is_memory`](uda_mem::is_memory)). It may be
+    /// another slice at each call.
+    pub fn execute_one_in(&mut self, memory: &mut [u8]) -> Option<End>
+        requires memory { IsMemory memory.old }
         ensures idle { IsNone result ↔ (self.old.pending ≡ []) }
         ensures unchanged { IfNone result ((self.new ≡ self.old) × (memory.new ≡ memory.old)) }
         ensures fewer { IfSome result (λ _. length self.new.pending + 1 ≡ length self.old.pending) }
@@ -227,8 +250,9 @@ fn is_controller(op: Op) -> bool
 fn execute<S: BlockStore>(
     units: &mut [Option<DriveUnit<S>>],
     command: Command,
-    memory: &mut HostMemory,
+    memory: &mut [u8],
 ) -> End
+    requires memory { IsMemory memory.old }
     ensures executes { Executes command units.old memory.old result units.new memory.new }
     ensures images { AreImages units.old → AreImages units.new }
 {

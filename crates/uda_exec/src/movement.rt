@@ -3,14 +3,14 @@
 //! MSCP Basic Disk Functions Manual: transfer commands, logical blocks.
 ghost use Rattle.std.specs.Prelude.{◌≡◌, ◌+◌, ◌<◌, ◌≤◌, ◌^◌, true, length, IsOk, MatchResult, IfErr, if◌then◌else◌};
 ghost use Rattle.uda_mem.specs.Put.{part};
-ghost use Rattle.uda_image.specs.Store.{KeepsNature, Writes};
+ghost use Rattle.uda_image.specs.Store.{KeepsNature, Reads, Writes};
 ghost use Rattle.uda_exec.specs.Commands.{block_count, room_in, changes_memory};
 ghost use Rattle.uda_exec.specs.Transfers.{ChangesAt, ReadsInto, MovesBlock, LosesBlock, Progress, StopsAt};
 ghost use Rattle.uda_disk.specs.Request.{first_block};
 
 use uda_disk::first_block;
 use uda_image::{BlockStore, StoreError};
-use uda_mem::HostMemory;
+use uda_mem::as_block;
 use uda_packet::{Kind, Transfer};
 
 /// The bytes of a block.
@@ -30,12 +30,25 @@ pub fn block_count(t: Transfer) -> u32
     t.bytes.div_ceil(BLOCK)
 }
 
+// Reads block `n` into the bytes of a slice of a block's length, with nothing between.
+fn read_whole<S: BlockStore>(store: &mut S, n: u32, to: &mut [u8]) -> Result<(), StoreError>
+    requires on_unit { n < (S.state store.old).size }
+    requires long { length to.old ≡ 512 }
+    ensures nature { KeepsNature (S.state store.old) (S.state store.new) }
+    ensures sure { (S.state store.old).never_fails ≡ true → IsOk result }
+    ensures reads { (S.state store.old).faithful ≡ true
+        → Reads (S.state store.old) n (S.state store.new) to.new result }
+    ensures whole { length to.new ≡ 512 }
+{
+    store.read(n, as_block(to))
+}
+
 // Reads block `n` for so many bytes of memory. A whole block the store reads into memory itself; of a part
 // block the first bytes are copied, and none where the store fails.
 fn read_block<S: BlockStore>(
     store: &mut S,
     n: u32,
-    memory: &mut HostMemory,
+    memory: &mut [u8],
     address: u32,
     bytes: u32,
 ) -> Result<(), StoreError>
@@ -46,13 +59,12 @@ fn read_block<S: BlockStore>(
     ensures reads { ReadsInto n address bytes (S.state store.old) memory.old (S.state store.new) memory.new result }
 {
     if bytes >= BLOCK {
-        return store.read(n, memory.block_within(address));
+        let start = address as usize;
+        return read_whole(store, n, &mut memory[start..start + 512]);
     }
     let mut block = [0; 512];
     store.read(n, &mut block)?;
-    memory
-        .within(address, bytes)
-        .copy_from_slice(&block[..bytes as usize]);
+    uda_mem::put_bytes(memory, address, &block[..bytes as usize]);
     Ok(())
 }
 
@@ -61,7 +73,7 @@ fn read_block<S: BlockStore>(
 fn write_block<S: BlockStore>(
     store: &mut S,
     n: u32,
-    memory: &HostMemory,
+    memory: &[u8],
     address: u32,
     bytes: u32,
 ) -> Result<(), StoreError>
@@ -73,9 +85,10 @@ fn write_block<S: BlockStore>(
         → Writes (S.state store.old) n (S.state store.new) (first_block (part memory.now address bytes)) result }
 {
     if bytes >= BLOCK {
-        return store.write(n, memory.block_at(address));
+        return store.write(n, uda_mem::block_at(memory, address));
     }
-    store.write(n, &first_block(memory.window(address, bytes).unwrap()))
+    let window = uda_mem::window(memory, address, bytes).unwrap();
+    store.write(n, &first_block(window))
 }
 
 // Moves block `k` of a transfer's range, counted from 0. An Access has a block of its own to read into, and
@@ -85,7 +98,7 @@ fn move_block<S: BlockStore>(
     t: Transfer,
     k: u32,
     store: &mut S,
-    memory: &mut HostMemory,
+    memory: &mut [u8],
 ) -> Result<(), StoreError>
     requires in_range { k < block_count t }
     requires on_unit { t.lbn + block_count t ≤ (S.state store.old).size }
@@ -111,11 +124,7 @@ fn move_block<S: BlockStore>(
 // Moves the blocks of a transfer's range in rising order, up to the first at which the store fails; that
 // block, or its bytes of a Read's buffer, may then hold anything. A transfer without blocks doesn't
 // call the store. The range lies on the unit and the buffer in memory, which the caller checks.
-pub fn move_blocks<S: BlockStore>(
-    t: Transfer,
-    store: &mut S,
-    memory: &mut HostMemory,
-) -> Result<(), Lost>
+pub fn move_blocks<S: BlockStore>(t: Transfer, store: &mut S, memory: &mut [u8]) -> Result<(), Lost>
     requires on_unit { t.lbn + block_count t ≤ (S.state store.old).size }
     requires in_memory { t.buffer + room_in t ≤ length memory.old }
     requires addressable { t.buffer + room_in t < 2 ^ 32 }

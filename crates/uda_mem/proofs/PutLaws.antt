@@ -1,6 +1,7 @@
 -- The laws of `put` and `part`, on which every layer above memory stands.
 use Rattle.std.proofs.Common.{◌≡◌, ℕ, ◌+◌, ◌-◌, ◌<◌, ◌≤◌, inl, inr, min, List, [], ◌++◌, length, get_or, take, drop, refl, sym, ap, ◌∙◌, arith, length-append, length-drop, length-take}
-use Rattle.std.proofs.lemmas.List.{same_lists, get_or_append_left, get_or-append_right, get_or-take, get_or-drop}
+use borrow.Rule.Slice.PartMut.{put_mid}
+use Rattle.std.proofs.lemmas.List.{same_lists, get_or_append_left, get_or-append_right, get_or-take, get_or-drop, drop-drop, take_all}
 use Rattle.std.proofs.lemmas.Bool.{cases_lt}
 use Rattle.uda_mem.specs.Put.{part, put, Meet}
 
@@ -170,3 +171,20 @@ module _ {A : Type 0} where
         | inside from to ↦ get_or-put_at (put xs at ys) at zs k d mid from to ∙ sym (get_or-put_at xs at zs k d within from to)
         | behind high ↦ get_or-put_behind (put xs at ys) at zs k d mid high ∙ get_or-put_behind xs at ys k d within (omega arith) ∙ sym (get_or-put_behind xs at zs k d within high)
       ])
+
+  -- a write of a whole list leaves what was written
+  pub put-whole : (xs ys : List A) → length ys ≡ length xs → put xs 0 ys ≡ ys
+  put-whole xs ys e =
+      same_lists _ _ (length-put xs 0 ys ∙ sym e) (λ k d below.
+      let within : k < length xs = omega (arith, length-put xs 0 ys) in
+      get_or-put_at xs 0 ys k d within (omega arith) (omega arith) ∙ ap (λ i. get_or ys i d) (omega arith))
+
+  -- a part of a slice that was lent, with what it holds then
+  pub put_mid-put : (xs : List A) (at n : ℕ) (ys : List A) → length ys ≡ n → at + n ≤ length xs → put_mid at n xs ys ≡ put xs at ys
+  unfolding put
+  put_mid-put xs at n ys e h =
+      let rest : drop n (drop at xs) ≡ drop (at + length ys) xs = drop-drop n at xs ∙ ap (λ m. drop m xs) (omega arith) in
+      let long : length (take at xs ++ (ys ++ drop (at + length ys) xs)) ≡ length xs = simp (length-take, length-append, length-drop) (omega arith) in
+      ap (λ l. take at xs ++ (ys ++ l)) rest ∙ sym (take_all (length xs) _ (omega (arith, long)))
+
+pub ruleset wholes = put-whole

@@ -4,5 +4,11 @@
 
 mod block;
 mod memory;
+mod slice;
 
+pub use block::as_block;
 pub use memory::{HostMemory, MEMORY_LIMIT, NoMemory};
+pub use slice::{
+    SLICE_LIMIT, block_at, has, is_memory, len, put_bytes, put_word, put_zeros, read_word, window,
+    write_word,
+};

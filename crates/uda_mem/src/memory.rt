@@ -2,9 +2,10 @@
 ghost use Rattle.std.specs.Prelude.{◌≡◌, ℕ, ◌+◌, ◌%◌, ◌≤◌, ◌↔◌, List, length, IsTrue, IsSome, IfOk, IfSome, replicate, if◌then◌else◌};
 ghost use Rattle.uda_mem.specs.Put.{put, part};
 ghost use Rattle.uda_mem.specs.Words.{HasWord, word_at, word_bytes};
+ghost use Rattle.uda_mem.specs.Slices.{IsMemory};
 
 use crate::block::as_block;
-use byteorder::{ByteOrder, LittleEndian};
+use crate::slice;
 use std::alloc::{AllocError, Global};
 use std::error::Error;
 use std::fmt;
@@ -71,6 +72,14 @@ impl HostMemory {
         })
     }
 
+    /// The bytes of the memory, to be read.
+    pub fn as_slice(&self) -> &[u8]
+        ensures bytes { result.now ≡ self.now }
+        ensures memory { IsMemory result.now }
+    {
+        self.bytes.as_slice()
+    }
+
     /// How many bytes the memory has: an even number, at most [`MEMORY_LIMIT`].
     pub fn len(&self) -> u32
         ensures len { result ≡ length self.now }
@@ -85,35 +94,26 @@ impl HostMemory {
     pub fn has(&self, addr: u32, len: u32) -> bool
         ensures inside { IsTrue result ↔ (addr + len ≤ length self.now) }
     {
-        addr as usize + len as usize <= self.bytes.len()
+        slice::has(self.as_slice(), addr, len)
     }
 
     /// The word at the even address `addr`, low byte first; None where `addr` is odd or the two
     /// bytes don't both lie in the memory.
-    #[tactic(auto, unfolding(crate::specs::Put::part, crate::specs::Words::word_at))]
     pub fn read_word(&self, addr: u32) -> Option<u16>
         ensures present { IsSome result ↔ HasWord self.now addr }
         ensures value { IfSome result (λ word. word ≡ word_at self.now addr) }
     {
-        if addr % 2 != 0 {
-            return None;
-        }
-        let bytes = self.window(addr, 2)?;
-        Some(LittleEndian::read_u16(bytes))
+        slice::read_word(self.as_slice(), addr)
     }
 
     /// Writes `word` at the even address `addr`, low byte first, and no other byte; false, with
     /// nothing changed, where `addr` is odd or the two bytes don't both lie in the memory.
-    #[tactic(auto, unfolding(crate::specs::Put::part, crate::specs::Put::put, crate::specs::Words::word_bytes))]
+    #[tactic(auto, using(crate::proofs::PutLaws::wholes))]
     pub fn write_word(&mut self, addr: u32, word: u16) -> bool
         ensures written { IsTrue result ↔ HasWord self.old addr }
         ensures memory { self.new ≡ (if result then put self.old addr (word_bytes word) else self.old) }
     {
-        if addr % 2 != 0 || !self.has(addr, 2) {
-            return false;
-        }
-        LittleEndian::write_u16(self.within(addr, 2), word);
-        true
+        slice::write_word(self.as_mut_slice(), addr, word)
     }
 
     /// Writes `word` at the even address `addr`, low byte first, and no other byte, where the two
@@ -127,14 +127,12 @@ impl HostMemory {
 
     /// The `len` bytes from address `addr` on, to be read; None where they don't all lie in the
     /// memory. An odd address is allowed.
-    #[tactic(auto, unfolding(crate::specs::Put::part))]
     pub fn window(&self, addr: u32, len: u32) -> Option<&[u8]>
         ensures present { IsSome result ↔ (addr + len ≤ length self.now) }
         ensures value { IfSome result (λ bytes. bytes.now ≡ part self.now addr len) }
         ensures len { IfSome result (λ bytes. length bytes.now ≡ len) }
     {
-        let start = addr as usize;
-        self.bytes.get(start..start + len as usize)
+        slice::window(self.as_slice(), addr, len)
     }
 
     /// The 512 bytes of a block from address `addr` on, to be read; None where they don't all lie in
@@ -143,7 +141,7 @@ impl HostMemory {
         ensures present { IsSome result ↔ (addr + 512 ≤ length self.now) }
         ensures value { IfSome result (λ block. block.now ≡ part self.now addr 512) }
     {
-        self.window(addr, 512)?.as_array()
+        slice::block(self.as_slice(), addr)
     }
 
     /// The 512 bytes of a block from address `addr` on, to be read, where they are known to lie in
@@ -152,10 +150,7 @@ impl HostMemory {
         requires inside { addr + 512 ≤ length self.now }
         ensures value { result.now ≡ part self.now addr 512 }
     {
-        let Some(block) = self.block(addr) else {
-            unreachable!()
-        };
-        block
+        slice::block_at(self.as_slice(), addr)
     }
 }
 
@@ -163,7 +158,18 @@ impl HostMemory {
     ghost use Rattle.std.specs.Prelude.{◌≡◌, ℕ, ◌+◌, ◌≤◌, ◌↔◌, length, IsTrue, IsSome, IfSome};
     ghost use Rattle.uda_mem.specs.Put.{part};
     ghost use Rattle.std.specs.Borrow.{sem};
+    ghost use Rattle.uda_mem.specs.Slices.{IsMemory};
     ghost use Rattle.uda_mem.specs.Windows.{LendsWindow, LendsWindowIf};
+
+    /// The bytes of the memory, to be written.
+    #[tactic(auto, unfolding(crate::specs::Put::part, crate::specs::Put::put))]
+    pub fn as_mut_slice(&mut self) -> &mut [u8]
+        ensures* writes_back { sem 𝓛 (LendsWindow self.entry 0 result) }
+        ensures bytes { result.now ≡ self.old }
+        ensures memory { IsMemory result.now }
+    {
+        self.bytes.as_mut_slice()
+    }
 
     /// The `len` bytes from address `addr` on, to be written, where they are known to lie in the
     /// memory ([`has`](HostMemory::has)). What is written lands there and nowhere else.

@@ -1,6 +1,6 @@
 use Rattle.uda_exec.proofs.Changes.{length-changes}
 use Rattle.uda_exec.proofs.Units.{faithful_stays, sure_stays}
-use Rattle.uda_exec.proofs.executor.Exec.execute_one.Goals as goal
+use Rattle.uda_exec.proofs.executor.Exec.execute_one_in.Goals as goal
 
 pub returns-clause-length : goal.returns-clause-length
 returns-clause-length g c = length-changes _ _ _ _ c.execute.ensures.executes.memory_stays

@@ -1,0 +1,126 @@
+//! Memory that is somebody else's: its bytes as a slice, read and written in words, windows and blocks.
+//!
+//! An address is the place of a byte in the slice. A call that asks nothing of the slice's length works on any
+//! slice; whoever hands one to a port or an executor tests it once by [`is_memory`].
+ghost use Rattle.std.specs.Prelude.{◌≡◌, ℕ, ◌+◌, ◌≤◌, ◌↔◌, length, IsTrue, IsSome, IfSome, replicate, if◌then◌else◌};
+ghost use Rattle.uda_mem.specs.Put.{put, part};
+ghost use Rattle.uda_mem.specs.Words.{HasWord, word_at, word_bytes};
+ghost use Rattle.uda_mem.specs.Slices.{IsMemory};
+
+use byteorder::{ByteOrder, LittleEndian};
+
+/// The most bytes that a memory in a slice has: the 4,194,304 addresses of a Q-bus, which are of 22 bits.
+pub const SLICE_LIMIT: u32 = 4_194_304;
+
+/// Whether these bytes can be the memory of a host: they are an even number, at most [`SLICE_LIMIT`].
+pub fn is_memory(bytes: &[u8]) -> bool
+    ensures memory { IsTrue result ↔ IsMemory bytes.now }
+{
+    bytes.len() % 2 == 0 && bytes.len() <= SLICE_LIMIT as usize
+}
+
+/// How many bytes a memory has.
+pub fn len(memory: &[u8]) -> u32
+    requires within { length memory.now ≤ SLICE_LIMIT }
+    ensures len { result ≡ length memory.now }
+{
+    memory.len() as u32
+}
+
+/// Whether the `len` bytes from address `addr` on all lie in the memory. `addr + len` is taken as a whole
+/// number, so no sum wraps, and an odd address is allowed.
+pub fn has(memory: &[u8], addr: u32, len: u32) -> bool
+    ensures inside { IsTrue result ↔ (addr + len ≤ length memory.now) }
+{
+    addr as usize + len as usize <= memory.len()
+}
+
+/// The word at the even address `addr`, low byte first; None where `addr` is odd or the two bytes don't both
+/// lie in the memory.
+#[tactic(auto, unfolding(crate::specs::Put::part, crate::specs::Words::word_at))]
+pub fn read_word(memory: &[u8], addr: u32) -> Option<u16>
+    ensures present { IsSome result ↔ HasWord memory.now addr }
+    ensures value { IfSome result (λ word. word ≡ word_at memory.now addr) }
+{
+    if addr % 2 != 0 {
+        return None;
+    }
+    let bytes = window(memory, addr, 2)?;
+    Some(LittleEndian::read_u16(bytes))
+}
+
+/// Writes `word` at the even address `addr`, low byte first, and no other byte; false, with nothing changed,
+/// where `addr` is odd or the two bytes don't both lie in the memory.
+#[tactic(auto, unfolding(crate::specs::Put::put, crate::specs::Words::word_bytes))]
+pub fn write_word(memory: &mut [u8], addr: u32, word: u16) -> bool
+    ensures written { IsTrue result ↔ HasWord memory.old addr }
+    ensures memory { memory.new ≡ (if result then put memory.old addr (word_bytes word) else memory.old) }
+{
+    if addr % 2 != 0 || !has(memory, addr, 2) {
+        return false;
+    }
+    let start = addr as usize;
+    LittleEndian::write_u16(&mut memory[start..start + 2], word);
+    true
+}
+
+/// Writes `word` at the even address `addr`, low byte first, and no other byte, where the two bytes are known
+/// to lie in the memory.
+pub fn put_word(memory: &mut [u8], addr: u32, word: u16)
+    requires word { HasWord memory.old addr }
+    ensures memory { memory.new ≡ put memory.old addr (word_bytes word) }
+{
+    write_word(memory, addr, word);
+}
+
+/// Writes these bytes from address `addr` on, and no other byte, where they are known to lie in the memory.
+#[tactic(auto, unfolding(crate::specs::Put::put))]
+pub fn put_bytes(memory: &mut [u8], addr: u32, bytes: &[u8])
+    requires inside { addr + length bytes.now ≤ length memory.old }
+    ensures memory { memory.new ≡ put memory.old addr bytes.now }
+{
+    let start = addr as usize;
+    memory[start..start + bytes.len()].copy_from_slice(bytes);
+}
+
+/// Writes `len` zeros from address `addr` on, and no other byte, where they are known to lie in the memory.
+#[tactic(auto, unfolding(crate::specs::Put::put))]
+pub fn put_zeros(memory: &mut [u8], addr: u32, len: u32)
+    requires inside { addr + len ≤ length memory.old }
+    ensures memory { memory.new ≡ put memory.old addr (replicate len 0) }
+{
+    let start = addr as usize;
+    memory[start..start + len as usize].fill(0);
+}
+
+/// The `len` bytes from address `addr` on, to be read; None where they don't all lie in the memory. An odd
+/// address is allowed.
+#[tactic(auto, unfolding(crate::specs::Put::part))]
+pub fn window(memory: &[u8], addr: u32, len: u32) -> Option<&[u8]>
+    ensures present { IsSome result ↔ (addr + len ≤ length memory.now) }
+    ensures value { IfSome result (λ bytes. bytes.now ≡ part memory.now addr len) }
+    ensures len { IfSome result (λ bytes. length bytes.now ≡ len) }
+{
+    let start = addr as usize;
+    memory.get(start..start + len as usize)
+}
+
+/// The 512 bytes of a block from address `addr` on, to be read; None where they don't all lie in the memory.
+/// An odd address is allowed.
+pub fn block(memory: &[u8], addr: u32) -> Option<&[u8; 512]>
+    ensures present { IsSome result ↔ (addr + 512 ≤ length memory.now) }
+    ensures value { IfSome result (λ block. block.now ≡ part memory.now addr 512) }
+{
+    window(memory, addr, 512)?.as_array()
+}
+
+/// The 512 bytes of a block from address `addr` on, to be read, where they are known to lie in the memory.
+pub fn block_at(memory: &[u8], addr: u32) -> &[u8; 512]
+    requires inside { addr + 512 ≤ length memory.now }
+    ensures value { result.now ≡ part memory.now addr 512 }
+{
+    let Some(block) = block(memory, addr) else {
+        unreachable!()
+    };
+    block
+}

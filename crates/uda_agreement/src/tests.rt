@@ -7,7 +7,7 @@ use std::alloc::Global;
 use std::io::Write;
 use std::test::Fail;
 use text::{Text, text_of};
-use uda_batch::run_script;
+use uda_script_run::run_script;
 use uda_disk::{Answer, Request};
 use uda_driver::Driver;
 use uda_grammar::parse;

@@ -1,4 +1,5 @@
--- The units as requests see them. MSCP Basic Disk Functions Manual: unit states, write protection, unit flags.
+-- The units as requests see them. MSCP Basic Disk Functions Manual: unit states, write protection, unit
+-- flags.
 use Rattle.std.specs.Prelude.{ℕ, ◌+◌, List, Option, if◌then◌else◌}
 use Rattle.uda_disk.specs.declared.mode.Mode.{Mode}
 

@@ -1,4 +1,5 @@
--- The form of an answer, which is its request's whatever the stores. MSCP Basic Disk Functions Manual: end messages.
+-- The form of an answer, which is its request's whatever the stores. MSCP Basic Disk Functions Manual: end
+-- messages.
 use Rattle.std.specs.Prelude.{◌≡◌, true, false}
 use Rattle.uda_disk.specs.Request.{Request}
 use Rattle.uda_disk.specs.Answer.{Answer, TooLong, Plain, Online, Status, Moved, Data, blank_answer}

@@ -1,6 +1,7 @@
 -- Which of several requests may be done out of order, and which may be out together.
 -- MSCP Basic Disk Functions Manual: command ordering.
-use Rattle.std.specs.Prelude.{◌≡◌, ℕ, zero, suc, ◌+◌, ◌<◌, min, max, Bool, true, false, ◌&&◌, ◌||◌, not, nat_lt, nat_eq, List, [], ◌∷◌, length, AllPairs, Some, slice_get, if◌then◌else◌}
+use Rattle.std.specs.Prelude.{◌≡◌, ℕ, zero, suc, ◌+◌, ◌<◌, min, max, Bool, true, false, ◌&&◌, ◌||◌, not}
+use Rattle.std.specs.Prelude.{nat_lt, nat_eq, List, [], ◌∷◌, length, AllPairs, Some, slice_get, if◌then◌else◌}
 use Rattle.std.specs.List.{list_any}
 use Rattle.uda_disk.specs.Disk.{Disks}
 use Rattle.uda_disk.specs.Request.{Act, Request, is_moving, is_writing, lbn_of, blocks_named}
@@ -31,8 +32,8 @@ pub record PassesOlder (requests : List Request) (j : ℕ) : Type 0 where
   pub passes_each : (i : ℕ) (older r : Request) → i < j → slice_get requests i ≡ Some older
       → slice_get requests j ≡ Some r → passes older r ≡ true
 
--- of requests of which no two clash, whichever may go is done first, the answers are the same, each its own, and so
--- are the disks
+-- of requests of which no two clash, whichever may go is done first, the answers are the same, each its own,
+-- and so are the disks
 abbrev pub RequestOrderIsFree : Type 0
 RequestOrderIsFree =
     (xs : List FixedRequest) (j : ℕ) (x : FixedRequest) (disks : Disks)
@@ -41,8 +42,8 @@ RequestOrderIsFree =
 
 -- ---- the beginning of a list that can be out together
 
--- the longest beginning of the requests that aren't too long, at most so many, of which none clashes with another or
--- with these
+-- the longest beginning of the requests that aren't too long, at most so many, of which none clashes with
+-- another or with these
 abbrev pub lead_from : ℕ → List Request → List Request → ℕ
 lead_from free out [] = 0
 lead_from zero out (r ∷ rest) = 0

@@ -1,11 +1,16 @@
 -- One plain array of blocks for each unit, and what one request does to it.
 -- MSCP Basic Disk Functions Manual: the commands, unit states, write protection.
-use Rattle.std.specs.Prelude.{◌≡◌, ℕ, suc, ◌+◌, ◌*◌, ◌%◌, ◌<◌, Bool, true, false, ◌&&◌, not, nat_lt, nat_le, nat_eq, List, [], length, take, replicate, Option, Some, None, slice_get, slice_set, if◌then◌else◌}
+use Rattle.std.specs.Prelude.{◌≡◌, ℕ, suc, ◌+◌, ◌*◌, ◌%◌, ◌<◌, Bool, true, false, ◌&&◌, not, nat_lt, nat_le}
+use Rattle.std.specs.Prelude.{nat_eq, List, [], length, take, replicate, Option, Some, None, slice_get}
+use Rattle.std.specs.Prelude.{slice_set, if◌then◌else◌}
 use Rattle.std.specs.List.{concat}
 use Rattle.uda_mem.specs.Put.{part, put}
 use Rattle.uda_disk.specs.declared.mode.Mode.{Mode}
 use Rattle.uda_disk.specs.declared.refusal.Refusal.{Refusal}
-use Rattle.uda_disk.specs.declared.refusal.Refusal.TheVariants.{UnitUnknown, NoVolume, NotOnline, OddAddress, OddCount, BlockPastEnd, RangePastEnd, HardwareProtected, SoftwareProtected, NoSuchMemory}
+use Rattle.uda_disk.specs.declared.refusal.Refusal.TheVariants.{UnitUnknown, NoVolume, NotOnline, OddAddress}
+use Rattle.uda_disk.specs.declared.refusal.Refusal.TheVariants.{OddCount, BlockPastEnd, RangePastEnd}
+use Rattle.uda_disk.specs.declared.refusal.Refusal.TheVariants.{HardwareProtected, SoftwareProtected}
+use Rattle.uda_disk.specs.declared.refusal.Refusal.TheVariants.{NoSuchMemory}
 use Rattle.uda_disk.specs.Status as status
 use Rattle.uda_disk.specs.Status.{SUCCESS, ALREADY_ONLINE, AVAILABLE, DRIVE_ERROR}
 use Rattle.uda_disk.specs.Disk.{Disk, Disks, flags_of}
@@ -65,7 +70,8 @@ is_free (Free disk) = true
 
 -- ---- how a transfer ends
 
--- it is done, or lost at block k of its range, counted from 0, where the store failed and these 512 bytes are there now
+-- it is done, or lost at block k of its range, counted from 0, where the store failed and these 512 bytes are
+-- there now
 pub data Outcome : Type 0 where
   Done : Outcome
   Lost : ℕ → List ℕ → Outcome

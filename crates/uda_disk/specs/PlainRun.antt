@@ -1,5 +1,7 @@
--- A list of requests served in order, as a driver is given it. MSCP Basic Disk Functions Manual: the commands.
-use Rattle.std.specs.Prelude.{◌≡◌, ℕ, ◌+◌, ◌&&◌, not, Bool, false, nat_lt, nat_eq, List, [], ◌∷◌, map, All, if◌then◌else◌}
+-- A list of requests served in order, as a driver is given it. MSCP Basic Disk Functions Manual: the
+-- commands.
+use Rattle.std.specs.Prelude.{◌≡◌, ℕ, ◌+◌, ◌&&◌, not, Bool, false, nat_lt, nat_eq, List, [], ◌∷◌, map, All}
+use Rattle.std.specs.Prelude.{if◌then◌else◌}
 use Rattle.std.specs.List.{count_by}
 use Rattle.std.specs.Option.{option_map_or}
 use Rattle.uda_disk.specs.Status.{DRIVE_ERROR}

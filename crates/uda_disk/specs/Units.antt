@@ -46,8 +46,8 @@ HoldsImage (Some unit) = unit.store.faithful ≡ true → IsImage unit.store.siz
 abbrev pub AreImages : Units → Type 0
 AreImages units = All HoldsImage units
 
--- what nothing that is asked of a unit changes, whatever its store: its size, its hardware protection, whether its
--- store is faithful, and whether that never fails
+-- what nothing that is asked of a unit changes, whatever its store: its size, its hardware protection,
+-- whether its store is faithful, and whether that never fails
 pub record Nature : Type 0 where
   pub size : ℕ
   pub hard : Bool

@@ -4,7 +4,8 @@ use Rattle.uda_disk.specs.Request as ask
 use Rattle.uda_disk.specs.Answer as tell
 use Rattle.uda_disk.specs.declared.extent.Extent.{Extent}
 use Rattle.uda_disk.specs.declared.request.Request.{Request}
-use Rattle.uda_disk.specs.declared.request.Request.TheVariants.{Online, Available, Status, Read, Access, Write, Erase}
+use Rattle.uda_disk.specs.declared.request.Request.TheVariants.{Online, Available, Status, Read, Access}
+use Rattle.uda_disk.specs.declared.request.Request.TheVariants.{Write, Erase}
 use Rattle.uda_disk.specs.declared.answer.Answer.{Answer}
 use Rattle.uda_disk.specs.declared.answer.Answer.TheVariants as answer
 

@@ -1,9 +1,10 @@
 //! One plain array of blocks for each unit, what requests do to it, and what they are answered.
 //!
-//! Nothing here knows a host, its memory, a command or a message: this is what all that stands above promises.
-//! What one request answers and leaves is a definition (`specs/Plain.antt`), with each transfer's outcome fixed:
-//! done, or lost at some block; a list of them served in order is another (`specs/PlainRun.antt`). Which requests
-//! may be done in another order is in `order`, and that each loss is told in `losses`.
+//! Nothing here knows a host, its memory, a command or a message: this is what all that stands above
+//! promises. What one request answers and leaves is a definition (`specs/Plain.antt`), with each transfer's
+//! outcome fixed: done, or lost at some block; a list of them served in order is another
+//! (`specs/PlainRun.antt`). Which requests may be done in another order is in `order`, and that each loss is
+//! told in `losses`.
 //!
 //! Its tests are computed lemmas (`proofs/Examples.antt`), and `uda_plain` runs the definitions.
 //!

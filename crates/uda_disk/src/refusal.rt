@@ -6,8 +6,8 @@ ghost use Rattle.uda_disk.specs.Plain.{refusal_status};
 
 use crate::status;
 
-/// Why a request is refused. A refused request changes nothing. An odd address and memory that isn't there are
-/// of a host's buffer, and no fault of a request by itself.
+/// Why a request is refused. A refused request changes nothing. An odd address and memory that isn't there
+/// are of a host's buffer, and no fault of a request by itself.
 ///
 /// MSCP Basic Disk Functions Manual: status and event codes.
 #[derive(Clone, Copy, Debug, PartialEq, Eq)]

@@ -38,10 +38,7 @@ pub(crate) fn put_out<'a>(out: &mut [Option<Out<'a>>; PENDING], number: usize, o
 }
 
 /// The one that this reference is of, which is out no more, with the number of its buffer.
-pub(crate) fn take_out<'a>(
-    out: &mut [Option<Out<'a>>; PENDING],
-    reference: u32,
-) -> (usize, Out<'a>)
+pub(crate) fn take_out<'a>(out: &mut [Option<Out<'a>>; PENDING], reference: u32) -> (usize, Out<'a>)
     requires sized { length out.old ≡ PENDING_LIMIT }
     requires referred { IsReferred reference out.old }
     ensures within { result.0 < PENDING_LIMIT }

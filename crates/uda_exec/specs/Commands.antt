@@ -1,6 +1,8 @@
--- What a command names: the blocks of its range and the bytes of its buffer; and the request that it stands for.
+-- What a command names: the blocks of its range and the bytes of its buffer; and the request that it stands
+-- for.
 -- MSCP Basic Disk Functions Manual: transfer commands.
-use Rattle.std.specs.Prelude.{ℕ, ◌-◌, Bool, true, false, List, ◌++◌, length, replicate, Option, Some, None, option_map, unwrap_or, is_some, if◌then◌else◌}
+use Rattle.std.specs.Prelude.{ℕ, ◌-◌, Bool, true, false, List, ◌++◌, length, replicate, Option, Some, None}
+use Rattle.std.specs.Prelude.{option_map, unwrap_or, is_some, if◌then◌else◌}
 use Rattle.std.specs.Option.{option_map_or}
 use Rattle.uda_packet.specs.declared.command.Command.{Command}
 use Rattle.uda_packet.specs.declared.command.Op.{Op}
@@ -62,7 +64,8 @@ asks_by Erase t memory = ask.Erase t.lbn t.bytes
 asks_by Read t memory = ask.Read t.lbn t.bytes
 asks_by Write t memory = ask.Write t.lbn (bytes_at memory t.buffer t.bytes)
 
--- what a command asks of its unit: a Write brings its buffer's bytes; Set Controller Characteristics asks nothing of one
+-- what a command asks of its unit: a Write brings its buffer's bytes; Set Controller Characteristics asks
+-- nothing of one
 abbrev pub act_of : Op → List ℕ → Option Act
 act_of Controller memory = None
 act_of Status memory = Some ask.Status

@@ -1,4 +1,5 @@
--- What a command does to memory and to the units, and what its end message says: what the request does that it stands for.
+-- What a command does to memory and to the units, and what its end message says: what the request does that
+-- it stands for.
 -- MSCP Basic Disk Functions Manual: the commands, status and event codes.
 use Rattle.std.specs.Prelude.{◌≡◌, ℕ, Bool, true, false, List, length, Option, Some, None, slice_get}
 use Rattle.uda_mem.specs.Put.{put}
@@ -12,7 +13,8 @@ use Rattle.uda_disk.specs.Status.{SUCCESS}
 use Rattle.uda_disk.specs.Disk.{Disk, Disks}
 use Rattle.uda_disk.specs.Request.{Act}
 use Rattle.uda_disk.specs.Answer.{Answer, Online, Status, Moved, Data, status_of}
-use Rattle.uda_disk.specs.Plain.{Bar, Barred, Free, bar_at, Outcome, is_lost, FitsCount, bytes_on, answer_by, disks_by, is_free}
+use Rattle.uda_disk.specs.Plain.{Bar, Barred, Free, bar_at, Outcome, is_lost, FitsCount, bytes_on, answer_by}
+use Rattle.uda_disk.specs.Plain.{disks_by, is_free}
 use Rattle.uda_exec.specs.Commands.{act_of, buffer_start, room_of}
 use Rattle.uda_exec.specs.Refusal.{is_odd, is_missing, bar_with}
 

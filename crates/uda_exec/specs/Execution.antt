@@ -1,6 +1,7 @@
 -- What one execution does: a pending command that may go is taken out and done.
 -- MSCP Basic Disk Functions Manual: command ordering, end messages.
-use Rattle.std.specs.Prelude.{◌≡◌, ◌≢◌, ℕ, ◌+◌, ◌≤◌, true, false, ◌&&◌, List, length, Some, slice_get, nat_lt, remove, if◌then◌else◌}
+use Rattle.std.specs.Prelude.{◌≡◌, ◌≢◌, ℕ, ◌+◌, ◌≤◌, true, false, ◌&&◌, List, length, Some, slice_get, nat_lt}
+use Rattle.std.specs.Prelude.{remove, if◌then◌else◌}
 use Rattle.uda_packet.specs.declared.command.Command.{Command}
 use Rattle.uda_packet.specs.declared.command.Op.{Op}
 use Rattle.uda_packet.specs.declared.end.End.{End}
@@ -9,7 +10,8 @@ use Rattle.uda_packet.specs.declared.end.EndBody.TheVariants.{Moved}
 use Rattle.uda_packet.specs.Opcode.{opcode_of, answered_opcode}
 use Rattle.uda_disk.specs.Request.{Act}
 use Rattle.uda_disk.specs.Plain.{Bar, Outcome, Done, is_lost, answer_by, is_free, disk_by}
-use Rattle.uda_disk.specs.Units.{UnitState, Units, disk_of, disks_of, is_faithful, is_sure, failures_at, nature_of, natures_of, modes_of}
+use Rattle.uda_disk.specs.Units.{UnitState, Units, disk_of, disks_of, is_faithful, is_sure, failures_at}
+use Rattle.uda_disk.specs.Units.{nature_of, natures_of, modes_of}
 use Rattle.uda_exec.specs.Disks.{ExecState}
 use Rattle.uda_exec.specs.Commands.{is_transfer, blocks_asked, bytes_asked, buffer_start, landing_of}
 use Rattle.uda_exec.specs.Transfers.{ChangesAt}
@@ -41,8 +43,8 @@ pub record Answers (c : Command) (e : End) : Type 0 where
 abbrev pub world_of : Units → List ℕ → World
 world_of units memory = record { memory = memory; disks = disks_of units }
 
--- a command is carried out or lost, and the store of its unit failed once more exactly where it is lost, which it is
--- never where that store never fails
+-- a command is carried out or lost, and the store of its unit failed once more exactly where it is lost,
+-- which it is never where that store never fails
 pub record TakesEffect (c : Command) (units : Units) (memory : List ℕ) (e : End) (units_after : Units)
     (memory_left : List ℕ) : Type 0 where
   pub outcome : Outcome
@@ -57,9 +59,9 @@ abbrev pub IsTrusted : Command → Units → List ℕ → Type 0
 IsTrusted c units memory = nat_lt 0 (blocks_asked c.op) && acts c (world_of units memory) ≡ true
     → is_faithful (slice_get units c.unit) ≡ true
 
--- a command was executed. Whatever its store: the end answers the command; memory changes only in a Read's buffer; no
--- other unit changes, and of its own not the nature; a transfer leaves the mode, and a command that doesn't act
--- everything. It takes effect where it calls no store, and over a faithful one.
+-- a command was executed. Whatever its store: the end answers the command; memory changes only in a Read's
+-- buffer; no other unit changes, and of its own not the nature; a transfer leaves the mode, and a command
+-- that doesn't act everything. It takes effect where it calls no store, and over a faithful one.
 pub record Executes (c : Command) (units : Units) (memory : List ℕ) (e : End) (units_after : Units)
     (memory_left : List ℕ) : Type 0 where
   pub answers : Answers c e
@@ -93,7 +95,8 @@ pub record TakesEffectOn (c : Command) (act : Act) (b : Bar) (unit : UnitState) 
 abbrev pub bar_on : Command → Act → UnitState → List ℕ → Bar
 bar_on c act unit memory = bar_in c.op act (length memory) (Some (Some (disk_of unit)))
 
--- a command of this act is served by the unit that it speaks of: what holds whatever the store, and what over a faithful one
+-- a command of this act is served by the unit that it speaks of: what holds whatever the store, and what over
+-- a faithful one
 pub record ServesUnit (c : Command) (act : Act) (unit : UnitState) (memory : List ℕ) (e : End)
     (unit_after : UnitState) (memory_left : List ℕ) : Type 0 where
   pub answers : Answers c e

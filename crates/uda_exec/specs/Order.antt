@@ -1,6 +1,7 @@
 -- Which pending command may go, and what a list of commands does in order and out of it.
 -- MSCP Basic Disk Functions Manual: command ordering.
-use Rattle.std.specs.Prelude.{◌≡◌, ℕ, ◌<◌, Bool, true, false, ◌&&◌, ◌||◌, not, nat_eq, List, [], ◌∷◌, ◌++◌, length, map, Some, slice_get, All, AllPairs, if◌then◌else◌}
+use Rattle.std.specs.Prelude.{◌≡◌, ℕ, ◌<◌, Bool, true, false, ◌&&◌, ◌||◌, not, nat_eq, List, [], ◌∷◌, ◌++◌}
+use Rattle.std.specs.Prelude.{length, map, Some, slice_get, All, AllPairs, if◌then◌else◌}
 use Rattle.uda_mem.specs.Put.{put, Meet}
 use Rattle.uda_packet.specs.declared.command.Command.{Command}
 use Rattle.uda_packet.specs.declared.end.End.{End}
@@ -27,8 +28,8 @@ pub record MayGo (pending : List Command) (j : ℕ) : Type 0 where
   pub passes : (i : ℕ) (older c : Command) → i < j → slice_get pending i ≡ Some older
       → slice_get pending j ≡ Some c → may_pass older c ≡ true
 
--- two commands are apart: whatever memory holds, the requests that they stand for don't clash; and their buffers have no
--- byte in common
+-- two commands are apart: whatever memory holds, the requests that they stand for don't clash; and their
+-- buffers have no byte in common
 pub record Apart (c d : Command) : Type 0 where
   pub no_clash : (memory : List ℕ) (r s : Request) → request_asked c memory ≡ Some r
       → request_asked d memory ≡ Some s → clash r s ≡ false
@@ -53,7 +54,8 @@ effects xs w = runs effect_of xs w
 abbrev pub effects_first : ℕ → FixedCommand → List FixedCommand → World → List End × World
 effects_first j x xs w = runs_first effect_of j x xs w
 
--- whichever command that may go is done first, the ends are the same, each its own, and so are the units and memory
+-- whichever command that may go is done first, the ends are the same, each its own, and so are the units and
+-- memory
 abbrev pub OrderIsFree : Type 0
 OrderIsFree =
     (xs : List FixedCommand) (j : ℕ) (x : FixedCommand) (w : World)

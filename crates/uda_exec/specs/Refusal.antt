@@ -1,11 +1,13 @@
 -- Where the faults of a host's buffer stand among the checks of a transfer.
 -- MSCP Basic Disk Functions Manual: transfer commands, status and event codes.
-use Rattle.std.specs.Prelude.{ℕ, ◌+◌, ◌%◌, Bool, true, false, nat_eq, nat_lt, not, Option, Some, None, if◌then◌else◌}
+use Rattle.std.specs.Prelude.{ℕ, ◌+◌, ◌%◌, Bool, true, false, nat_eq, nat_lt, not, Option, Some, None}
+use Rattle.std.specs.Prelude.{if◌then◌else◌}
 use Rattle.uda_packet.specs.declared.transfer.Transfer.{Transfer}
 use Rattle.uda_packet.specs.Transfer.{changes_blocks}
 use Rattle.uda_disk.specs.declared.mode.Mode.{Mode}
 use Rattle.uda_disk.specs.declared.refusal.Refusal.{Refusal}
-use Rattle.uda_disk.specs.declared.refusal.Refusal.TheVariants.{UnitUnknown, NoVolume, NotOnline, OddAddress, NoSuchMemory}
+use Rattle.uda_disk.specs.declared.refusal.Refusal.TheVariants.{UnitUnknown, NoVolume, NotOnline, OddAddress}
+use Rattle.uda_disk.specs.declared.refusal.Refusal.TheVariants.{NoSuchMemory}
 use Rattle.uda_disk.specs.Request.{Extent}
 use Rattle.uda_disk.specs.Plain.{extent_refusal, Bar, Barred, Free, bar_by}
 use Rattle.uda_exec.specs.Commands.{room_in}

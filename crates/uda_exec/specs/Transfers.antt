@@ -1,6 +1,7 @@
 -- What a transfer moves, and how far it has come at block k of its range, counted from 0.
 -- MSCP Basic Disk Functions Manual: transfer commands, logical blocks.
-use Rattle.std.specs.Prelude.{◌≡◌, ℕ, true, Result, ◌+◌, ◌-◌, ◌*◌, List, [], ◌∷◌, ◌++◌, length, take, slice_index_or, if◌then◌else◌}
+use Rattle.std.specs.Prelude.{◌≡◌, ℕ, true, Result, ◌+◌, ◌-◌, ◌*◌, List, [], ◌∷◌, ◌++◌, length, take}
+use Rattle.std.specs.Prelude.{slice_index_or, if◌then◌else◌}
 use Rattle.std.specs.List.{concat}
 use Rattle.uda_mem.specs.Put.{put, part}
 use Rattle.uda_image.specs.declared.store.StoreError.{StoreError}
@@ -18,8 +19,8 @@ due_by kind t blocks memory = due (asks_by kind t memory) blocks
 abbrev pub blocks_due : Transfer → List (List ℕ) → List ℕ → List (List ℕ)
 blocks_due t blocks memory = due_by t.kind t blocks memory
 
--- of blocks that were moved, the bytes that stand in memory then, no more than the count, and the blocks that stand on
--- the unit
+-- of blocks that were moved, the bytes that stand in memory then, no more than the count, and the blocks that
+-- stand on the unit
 abbrev pub bytes_landing : Transfer → List (List ℕ) → List ℕ
 bytes_landing t blocks = if changes_memory t.kind then take t.bytes (concat blocks) else []
 

@@ -2,7 +2,8 @@
 //! transfer that comes next on the way up through units and blocks, beginning anew behind the last.
 //!
 //! MSCP Basic Disk Functions Manual: command ordering, which leaves this open.
-ghost use Rattle.std.specs.Prelude.{◌≡◌, ◌↔◌, ◌<◌, [], length, true, IsTrue, IsNone, IfSome, slice_get, slice_index};
+ghost use Rattle.std.specs.Prelude.{◌≡◌, ◌↔◌, ◌<◌, [], length, true, IsTrue, IsNone, IfSome, slice_get};
+ghost use Rattle.std.specs.Prelude.{slice_index};
 ghost use Rattle.uda_exec.specs.Order.{MayGo, may_pass, same_unit};
 ghost use Rattle.uda_exec.specs.Commands.{is_controller, is_transfer};
 

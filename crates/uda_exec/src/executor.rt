@@ -1,12 +1,14 @@
 //! The executor: four units, and the commands that it has accepted.
 //!
 //! MSCP Basic Disk Functions Manual: unit states, command ordering.
-ghost use Rattle.std.specs.Prelude.{◌≡◌, ℕ, ◌+◌, ◌<◌, ◌≤◌, [], ◌∷◌, ◌++◌, length, map, option_map, IsNone, IfNone, IfSome, ◌↔◌, slice_get};
+ghost use Rattle.std.specs.Prelude.{◌≡◌, ℕ, ◌+◌, ◌<◌, ◌≤◌, [], ◌∷◌, ◌++◌, length, map, option_map, IsNone};
+ghost use Rattle.std.specs.Prelude.{IfNone, IfSome, ◌↔◌, slice_get};
 ghost use Rattle.uda_mem.specs.Slices.{IsMemory};
 ghost use Rattle.uda_disk.specs.Units.{HoldsImage, AreImages, is_faithful, is_sure};
 ghost use Rattle.uda_exec.specs.Disks.{PENDING_LIMIT};
 ghost use Rattle.uda_exec.specs.Commands.{is_controller};
-ghost use Rattle.uda_exec.specs.Drives.{drive_state, drive_states, drive_in, fresh_unit, fresh_units, drives_in, reset_unit};
+ghost use Rattle.uda_exec.specs.Drives.{drive_state, drive_states, drive_in, fresh_unit, fresh_units};
+ghost use Rattle.uda_exec.specs.Drives.{drives_in, reset_unit};
 ghost use Rattle.uda_exec.specs.Execution.{Executes, ExecutesAt};
 
 use crate::choice::{Position, next_place};

@@ -2,9 +2,9 @@
 //! them, with blocks moved between host memory and the stores of the units.
 //!
 //! A command stands for a request of `uda_disk`, and what it does is said by what that request does
-//! (`specs/Effect.antt`); what one execution does is said by another definition (`specs/Execution.antt`). Which
-//! of the pending commands goes next is chosen in `choice`, and no contract tells it. The laws of doing commands
-//! in another order are in `order`. Its tests are in the crate `exec_tests`.
+//! (`specs/Effect.antt`); what one execution does is said by another definition (`specs/Execution.antt`).
+//! Which of the pending commands goes next is chosen in `choice`, and no contract tells it. The laws of doing
+//! commands in another order are in `order`. Its tests are in the crate `exec_tests`.
 //!
 //! MSCP Basic Disk Functions Manual: unit states, commands and end messages, command ordering.
 #![tactic(auto)]

@@ -1,7 +1,8 @@
 //! Blocks moved between host memory and a store. Between the two nothing stands but for a part block.
 //!
 //! MSCP Basic Disk Functions Manual: transfer commands, logical blocks.
-ghost use Rattle.std.specs.Prelude.{◌≡◌, ◌+◌, ◌<◌, ◌≤◌, ◌^◌, true, length, IsOk, MatchResult, IfErr, if◌then◌else◌};
+ghost use Rattle.std.specs.Prelude.{◌≡◌, ◌+◌, ◌<◌, ◌≤◌, ◌^◌, true, length, IsOk, MatchResult, IfErr};
+ghost use Rattle.std.specs.Prelude.{if◌then◌else◌};
 ghost use Rattle.uda_mem.specs.Put.{part};
 ghost use Rattle.uda_image.specs.Store.{KeepsNature, Reads, Writes};
 ghost use Rattle.uda_exec.specs.Commands.{block_count, room_in, changes_memory};
@@ -56,7 +57,8 @@ fn read_block<S: BlockStore>(
     requires in_memory { address + bytes ≤ length memory.old }
     ensures nature { KeepsNature (S.state store.old) (S.state store.new) }
     ensures sure { (S.state store.old).never_fails ≡ true → IsOk result }
-    ensures reads { ReadsInto n address bytes (S.state store.old) memory.old (S.state store.new) memory.new result }
+    ensures reads { ReadsInto n address bytes (S.state store.old) memory.old
+        (S.state store.new) memory.new result }
 {
     if bytes >= BLOCK {
         let start = address as usize;
@@ -82,7 +84,8 @@ fn write_block<S: BlockStore>(
     ensures nature { KeepsNature (S.state store.old) (S.state store.new) }
     ensures sure { (S.state store.old).never_fails ≡ true → IsOk result }
     ensures writes { (S.state store.old).faithful ≡ true
-        → Writes (S.state store.old) n (S.state store.new) (first_block (part memory.now address bytes)) result }
+        → Writes (S.state store.old) n (S.state store.new) (first_block (part memory.now address bytes))
+        result }
 {
     if bytes >= BLOCK {
         return store.write(n, uda_mem::block_at(memory, address));
@@ -105,7 +108,8 @@ fn move_block<S: BlockStore>(
     requires in_memory { t.buffer + room_in t ≤ length memory.old }
     requires addressable { t.buffer + room_in t < 2 ^ 32 }
     ensures nature { KeepsNature (S.state store.old) (S.state store.new) }
-    ensures changes { ChangesAt memory.old t.buffer (if changes_memory t.kind then t.bytes else 0) memory.new }
+    ensures changes { ChangesAt memory.old t.buffer
+        (if changes_memory t.kind then t.bytes else 0) memory.new }
     ensures sure { (S.state store.old).never_fails ≡ true → IsOk result }
     ensures moves { (S.state store.old).faithful ≡ true → MatchResult result
         (λ _. MovesBlock t k (S.state store.old) memory.old (S.state store.new) memory.new)
@@ -129,7 +133,8 @@ pub fn move_blocks<S: BlockStore>(t: Transfer, store: &mut S, memory: &mut [u8])
     requires in_memory { t.buffer + room_in t ≤ length memory.old }
     requires addressable { t.buffer + room_in t < 2 ^ 32 }
     ensures nature { KeepsNature (S.state store.old) (S.state store.new) }
-    ensures changes { ChangesAt memory.old t.buffer (if changes_memory t.kind then t.bytes else 0) memory.new }
+    ensures changes { ChangesAt memory.old t.buffer
+        (if changes_memory t.kind then t.bytes else 0) memory.new }
     ensures within { IfErr result (λ lost. lost.block < block_count t) }
     ensures sure { (S.state store.old).never_fails ≡ true → IsOk result }
     ensures moves { (0 < block_count t → (S.state store.old).faithful ≡ true) → MatchResult result

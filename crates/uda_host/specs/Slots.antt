@@ -6,7 +6,8 @@ use Rattle.uda_mem.specs.Words.{word_at}
 use Rattle.uda_packet.specs.declared.command.Command.{Command}
 use Rattle.uda_packet.specs.Written.{written_command}
 use Rattle.uda_port.specs.declared.descriptor.Descriptor.{Descriptor}
-use Rattle.uda_host.specs.Layout.{slots, response_descriptor, command_descriptor, response_packet, command_packet, buffers_start, memory_size, owner_word}
+use Rattle.uda_host.specs.Layout.{slots, response_descriptor, command_descriptor, response_packet}
+use Rattle.uda_host.specs.Layout.{command_packet, buffers_start, memory_size, owner_word}
 use Rattle.uda_host.specs.Host.{BuffersStay}
 
 -- a descriptor; and of its packet the two words of the envelope, which are a length and credits, and the text

@@ -4,7 +4,8 @@ ghost use Rattle.uda_mem.specs.Put.{put, part};
 ghost use Rattle.uda_mem.specs.Words.{word_at, word_bytes};
 ghost use Rattle.uda_packet.specs.Written.{written_command};
 ghost use Rattle.uda_packet.specs.Reading.{read_command, read_end};
-ghost use Rattle.uda_host.specs.Layout.{slots, buffer_address, memory_size, command_descriptor, command_packet, response_descriptor, response_packet, owner_word};
+ghost use Rattle.uda_host.specs.Layout.{slots, buffer_address, memory_size, command_descriptor};
+ghost use Rattle.uda_host.specs.Layout.{command_packet, response_descriptor, response_packet, owner_word};
 ghost use Rattle.uda_host.specs.Slots.{posted_slot, Writes};
 
 use uda_mem::HostMemory;

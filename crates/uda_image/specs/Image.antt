@@ -1,5 +1,6 @@
 -- Images in memory: the bytes of all blocks, one block after another.
-use Rattle.std.specs.Prelude.{ℕ, zero, suc, ◌+◌, ◌*◌, ◌/◌, min, Bool, true, false, List, [], ◌++◌, take, drop, length}
+use Rattle.std.specs.Prelude.{ℕ, zero, suc, ◌+◌, ◌*◌, ◌/◌, min, Bool, true, false, List, [], ◌++◌, take, drop}
+use Rattle.std.specs.Prelude.{length}
 use Rattle.std.specs.List.{splice}
 use Rattle.std.specs.Simd.{first_chunks}
 use Rattle.uda_image.specs.declared.store.TheConstants.{BLOCK_LIMIT}

@@ -1,7 +1,8 @@
 -- A store of the blocks of a unit as contracts see it, and what one call does to it.
 -- MSCP Basic Disk Functions Manual: a unit is an array of logical blocks of 512 bytes, numbered
 -- from 0.
-use Rattle.std.specs.Prelude.{◌≡◌, ℕ, ◌+◌, Bool, List, length, Some, Result, slice_get, slice_set, MatchResult}
+use Rattle.std.specs.Prelude.{◌≡◌, ℕ, ◌+◌, Bool, List, length, Some, Result, slice_get, slice_set}
+use Rattle.std.specs.Prelude.{MatchResult}
 use Rattle.std.specs.List.{All}
 use Rattle.uda_image.specs.declared.store.StoreError.{StoreError}
 

@@ -1,5 +1,6 @@
 -- What an `impl` of the trait names as the proofs of its two laws.
-use Rattle.std.proofs.Common.{◌≡◌, ◌*◌, ◌/◌, ◌≤◌, ℕ, zero, suc, min, List, length, drop, take, true, false, refl, ap, arith, length-drop}
+use Rattle.std.proofs.Common.{◌≡◌, ◌*◌, ◌/◌, ◌≤◌, ℕ, zero, suc, min, List, length, drop, take, true, false}
+use Rattle.std.proofs.Common.{refl, ap, arith, length-drop}
 use Rattle.std.specs.List.{All}
 use Rattle.std.specs.Simd.{first_chunks}
 use Rattle.std.proofs.lemmas.List.{length-take-le}

@@ -1,4 +1,5 @@
--- Parts of a list, and what a write to one of them leaves. They serve the bytes of a memory and the blocks of a unit alike.
+-- Parts of a list, and what a write to one of them leaves. They serve the bytes of a memory and the blocks of
+-- a unit alike.
 use Rattle.std.specs.Prelude.{ℕ, ◌+◌, ◌<◌, min, max, List, ◌++◌, length, take, drop}
 
 -- the n items from place at on

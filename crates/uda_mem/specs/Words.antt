@@ -1,4 +1,5 @@
--- The words of a memory. UDA50 Programmer's Documentation Kit: a word is 16 bits, at an even address, its low byte first.
+-- The words of a memory. UDA50 Programmer's Documentation Kit: a word is 16 bits, at an even address, its low
+-- byte first.
 use Rattle.std.specs.Prelude.{◌≡◌, ℕ, ◌+◌, ◌%◌, ◌≤◌, List, length}
 use Rattle.byteorder.specs.Endian.{little_bytes, little_number}
 use Rattle.uda_mem.specs.Put.{part}

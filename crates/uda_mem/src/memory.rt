@@ -1,5 +1,6 @@
 //! The bytes of host memory, read and written in words, windows and blocks.
-ghost use Rattle.std.specs.Prelude.{◌≡◌, ℕ, ◌+◌, ◌%◌, ◌≤◌, ◌↔◌, List, length, IsTrue, IsSome, IfOk, IfSome, replicate, if◌then◌else◌};
+ghost use Rattle.std.specs.Prelude.{◌≡◌, ℕ, ◌+◌, ◌%◌, ◌≤◌, ◌↔◌, List, length, IsTrue, IsSome, IfOk, IfSome};
+ghost use Rattle.std.specs.Prelude.{replicate, if◌then◌else◌};
 ghost use Rattle.uda_mem.specs.Put.{put, part};
 ghost use Rattle.uda_mem.specs.Words.{HasWord, word_at, word_bytes};
 ghost use Rattle.uda_mem.specs.Slices.{IsMemory};

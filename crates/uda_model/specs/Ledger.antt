@@ -1,5 +1,6 @@
 -- What requests that aren't done yet will make of the disks and of the answers.
-use Rattle.std.specs.Prelude.{◌≡◌, ℕ, ◌<◌, true, List, [], ◌∷◌, ◌++◌, length, map, remove, All, AllPairs, Some, slice_get, slice_set}
+use Rattle.std.specs.Prelude.{◌≡◌, ℕ, ◌<◌, true, List, [], ◌∷◌, ◌++◌, length, map, remove, All, AllPairs}
+use Rattle.std.specs.Prelude.{Some, slice_get, slice_set}
 use Rattle.uda_disk.specs.Disk.{Disks}
 use Rattle.uda_disk.specs.Request.{Request, blocks_named}
 use Rattle.uda_disk.specs.Answer.{Answer, TooLong}
@@ -32,8 +33,8 @@ with_answers told [] later = told
 with_answers told (d ∷ rest) [] = told
 with_answers told (d ∷ rest) (answer ∷ later) = with_answers (slice_set told d.place answer) rest later
 
--- However the requests that are due end, doing them in this order from the disks as they are now, and putting their
--- answers beside those that were told, is a plain run of all requests from the start.
+-- However the requests that are due end, doing them in this order from the disks as they are now, and putting
+-- their answers beside those that were told, is a plain run of all requests from the start.
 abbrev pub Ledger : Disks → List Request → List Due → List Answer → Disks → Type 0
 Ledger start requests due told disks =
     (fixed : List FixedDue) → dues_in fixed ≡ due → All FitsRequest (map fixed_request fixed)

@@ -11,7 +11,9 @@ use Rattle.uda_packet.specs.declared.end.EndBody.TheVariants as body
 use Rattle.uda_packet.specs.declared.bad.Bad.{Bad}
 use Rattle.uda_packet.specs.declared.bad.BadKind.{BadKind}
 use Rattle.uda_packet.specs.declared.bad.BadKind.TheVariants as fault
-use Rattle.uda_packet.specs.Field.{number_in, reference_field, unit_field, code_field, modifiers_field, status_field, byte_count_field, version_field, unit_flags_field, address_field, lbn_field, unit_size_field}
+use Rattle.uda_packet.specs.Field.{number_in, reference_field, unit_field, code_field, modifiers_field}
+use Rattle.uda_packet.specs.Field.{status_field, byte_count_field, version_field, unit_flags_field}
+use Rattle.uda_packet.specs.Field.{address_field, lbn_field, unit_size_field}
 use Rattle.uda_packet.specs.Opcode.{blank_body, opcode_of, end_code}
 use Rattle.uda_packet.specs.Flags.{set_write_protect, allowed_modifiers}
 use Rattle.uda_disk.specs.Disk.{software_protection}

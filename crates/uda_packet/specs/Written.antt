@@ -1,12 +1,16 @@
 -- The texts as they are written. MSCP Basic Disk Functions Manual: command and end messages.
-use Rattle.std.specs.Prelude.{ℕ, ◌+◌, ◌*◌, ◌^◌, ◌==◌, ◌||◌, Bool, true, false, Some, None, List, [], ◌∷◌, ◌++◌}
+use Rattle.std.specs.Prelude.{ℕ, ◌+◌, ◌*◌, ◌^◌, ◌==◌, ◌||◌, Bool, true, false, Some, None, List, [], ◌∷◌}
+use Rattle.std.specs.Prelude.{◌++◌}
 use Rattle.uda_packet.specs.declared.command.Command.{Command}
 use Rattle.uda_packet.specs.declared.command.Op.{Op}
 use Rattle.uda_packet.specs.declared.command.Op.TheVariants as op
 use Rattle.uda_packet.specs.declared.end.End.{End}
 use Rattle.uda_packet.specs.declared.end.EndBody.{EndBody}
 use Rattle.uda_packet.specs.declared.end.EndBody.TheVariants as body
-use Rattle.uda_packet.specs.Field.{Entry, ◌holds◌, text_of, reference_field, unit_field, code_field, modifiers_field, status_field, byte_count_field, unit_flags_field, address_field, identifier_field, lbn_field, media_type_field, unit_size_field}
+use Rattle.uda_packet.specs.Field.{Entry, ◌holds◌, text_of, reference_field, unit_field, code_field}
+use Rattle.uda_packet.specs.Field.{modifiers_field, status_field, byte_count_field, unit_flags_field}
+use Rattle.uda_packet.specs.Field.{address_field, identifier_field, lbn_field, media_type_field}
+use Rattle.uda_packet.specs.Field.{unit_size_field}
 use Rattle.uda_packet.specs.Opcode.{opcode_of, end_code}
 use Rattle.uda_packet.specs.Flags.{set_write_protect}
 use Rattle.uda_disk.specs.Disk.{software_protection}

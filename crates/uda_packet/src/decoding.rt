@@ -11,7 +11,8 @@ ghost use Rattle.uda_packet.specs.Field.{number_in, version_field};
 ghost use Rattle.uda_packet.specs.Opcode.{blank_body, answered_opcode, opcode_of, plain_op};
 ghost use Rattle.uda_packet.specs.Flags.{allowed_modifiers, set_write_protect};
 ghost use Rattle.uda_packet.specs.Reading.{read_command, read_end};
-ghost use Rattle.uda_packet.specs.Text.{CommandText, BadText, modifiers_of, ParametersText, asks_protection, EndText, BodyText, AnswerText, IsNoEnd};
+ghost use Rattle.uda_packet.specs.Text.{CommandText, BadText, modifiers_of, ParametersText, asks_protection};
+ghost use Rattle.uda_packet.specs.Text.{EndText, BodyText, AnswerText, IsNoEnd};
 
 use crate::bad::{Bad, BadKind};
 use crate::command::{Command, Op};

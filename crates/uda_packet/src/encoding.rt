@@ -3,12 +3,15 @@
 //! MSCP Basic Disk Functions Manual: command and end messages.
 
 ghost use Rattle.std.specs.Prelude.{◌≡◌, [], ◌∷◌, length};
-ghost use Rattle.uda_packet.specs.Field.{◌holds◌, text_of, with_entries, reference_field, unit_field, code_field};
+ghost use Rattle.uda_packet.specs.Field.{◌holds◌, text_of, with_entries, reference_field, unit_field};
+ghost use Rattle.uda_packet.specs.Field.{code_field};
 ghost use Rattle.uda_packet.specs.Opcode.{end_code};
 ghost use Rattle.uda_packet.specs.Text.{CommandText, EndText};
 ghost use Rattle.uda_packet.specs.Reading.{read_command, read_end};
 ghost use Rattle.uda_packet.specs.Range.{OpFits, BodyFits};
-ghost use Rattle.uda_packet.specs.Written.{written_command, written_end, parameters, answer_entries, unit_entries, controller_entries, protection_flags, tells_status, tells_online};
+ghost use Rattle.uda_packet.specs.Written.{written_command, written_end, parameters, answer_entries};
+ghost use Rattle.uda_packet.specs.Written.{unit_entries, controller_entries, protection_flags, tells_status};
+ghost use Rattle.uda_packet.specs.Written.{tells_online};
 
 use crate::command::{Command, Op};
 use crate::end::{End, EndBody};

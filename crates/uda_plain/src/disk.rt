@@ -1,5 +1,6 @@
 //! One unit's blocks and mode.
-ghost use Rattle.std.specs.Prelude.{◌≡◌, ℕ, Some, ◌≤◌, ◌<◌, ◌+◌, ◌↔◌, false, length, replicate, IfOk, IfErr, IfSome, IsNone};
+ghost use Rattle.std.specs.Prelude.{◌≡◌, ℕ, Some, ◌≤◌, ◌<◌, ◌+◌, ◌↔◌, false, length, replicate, IfOk, IfErr};
+ghost use Rattle.std.specs.Prelude.{IfSome, IsNone};
 ghost use Rattle.std.specs.List.{concat};
 ghost use Rattle.uda_mem.specs.Put.{put};
 ghost use Rattle.uda_image.specs.declared.store.TheConstants.{BLOCK_LIMIT};
@@ -7,7 +8,8 @@ ghost use Rattle.uda_disk.specs.Status.{SUCCESS};
 ghost use Rattle.uda_disk.specs.Request as ask;
 ghost use Rattle.uda_disk.specs.Request.{blocks_for, in_blocks};
 ghost use Rattle.uda_disk.specs.Answer.{Moved, Plain, blank_answer};
-ghost use Rattle.uda_disk.specs.Plain.{Done, Free, bar_at, refusal_status, extent_refusal, mode_after, answer_on, disk_after, answer_by, disk_by};
+ghost use Rattle.uda_disk.specs.Plain.{Done, Free, bar_at, refusal_status, extent_refusal, mode_after};
+ghost use Rattle.uda_disk.specs.Plain.{answer_on, disk_after, answer_by, disk_by};
 ghost use Rattle.uda_disk.specs.PlainRun.{too_long};
 ghost use Rattle.uda_disk.specs.Values.{request_value, extent_value, answer_value};
 

@@ -10,7 +10,8 @@ use Rattle.uda_disk.specs.Answer.{Answer, TooLong}
 use Rattle.uda_disk.specs.Order.{NoClash}
 use Rattle.uda_disk.specs.Form.{IsAnswerOf}
 use Rattle.uda_disk.specs.PlainRun.{drive_errors}
-use Rattle.uda_posting.specs.Posting.{Posted, posted_command, commands_in, dues_of, requests_posted, answer_of, buffer_of, Ready}
+use Rattle.uda_posting.specs.Posting.{Posted, posted_command, commands_in, dues_of, requests_posted}
+use Rattle.uda_posting.specs.Posting.{answer_of, buffer_of, Ready}
 use Rattle.uda_model.specs.Ledger.{Ledger}
 
 -- ---- memory
@@ -52,14 +53,16 @@ IsNotDue k due = All (IsNotAt k) due
 
 -- ---- what is owed
 
--- Over faithful stores: what the commands that are due will make of what was told, and each failure was told once.
+-- Over faithful stores: what the commands that are due will make of what was told, and each failure was told
+-- once.
 pub record Sound (start : Units) (requests : List Request) (due : List Posted) (told : List Answer)
     (units : Units) : Type 0 where
   pub ledger : Ledger (disks_of start) requests (dues_of due) told (disks_of units)
   pub errors : (u : ℕ)
       → failures_at (slice_get units u) ≡ failures_at (slice_get start u) + drive_errors u requests told
 
--- Of these requests, posted or answered at once, these are still to be done by their commands; all others have their answers.
+-- Of these requests, posted or answered at once, these are still to be done by their commands; all others
+-- have their answers.
 pub record Owes (start : Units) (requests : List Request) (due : List Posted) (told : List Answer)
     (units : Units) (memory : List ℕ) : Type 0 where
   pub counted : length told ≡ length requests

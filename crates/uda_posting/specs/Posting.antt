@@ -1,4 +1,5 @@
--- How a request is had done by a command, and what the command's end tells. MSCP Basic Disk Functions Manual: the commands.
+-- How a request is had done by a command, and what the command's end tells. MSCP Basic Disk Functions Manual:
+-- the commands.
 use Rattle.std.specs.Prelude.{◌≡◌, ℕ, ◌+◌, ◌%◌, ◌≤◌, false, List, [], length, take, map, Some}
 use Rattle.uda_mem.specs.Put.{part}
 use Rattle.uda_packet.specs.declared.command.Command.{Command}
@@ -78,7 +79,8 @@ requests_posted out = map (λ p. p.request) out
 abbrev pub buffer_of : Posted → List ℕ → List ℕ
 buffer_of p memory = part memory (buffer_start (posted_command p).op) (room_of (posted_command p).op)
 
--- a request can be done by its command: the command asks its act, and its buffer lies in memory at an even address
+-- a request can be done by its command: the command asks its act, and its buffer lies in memory at an even
+-- address
 pub record Ready (p : Posted) (memory : List ℕ) : Type 0 where
   pub short : too_long p.request ≡ false
   pub even : buffer_start (posted_command p).op % 2 ≡ 0

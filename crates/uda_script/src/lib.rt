@@ -10,5 +10,5 @@ mod words;
 
 pub use entry::{program, unreadable_words};
 pub use fault::Fault;
-pub use uda_batch::run_script;
 pub use uda_grammar::{Script, ScriptError, parse};
+pub use uda_script_run::run_script;

@@ -4,10 +4,10 @@ use crate::fault::Fault;
 use crate::files::{fill_closed_streams, open_units, read_script};
 use std::alloc::Global;
 use std::io::{BufWriter, Read, Write};
-use uda_batch::run_script;
 use uda_driver::Driver;
 use uda_grammar::{Script, parse};
 use uda_image::{Drive, FileImage};
+use uda_script_run::run_script;
 
 /// How many bytes are gathered before they are written.
 const GATHERED: usize = 65_536;

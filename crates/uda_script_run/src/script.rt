@@ -1,0 +1,92 @@
+//! A script that is run by a driver.
+
+ghost use Rattle.std.specs.Prelude.{◌≡◌, ◌≤◌, length, OnOk, OnErr, IfOk, IfErr};
+ghost use Rattle.std.specs.Io.KnownBytes.{Appends};
+ghost use Rattle.uda_disk.specs.Units.{natures_of};
+ghost use Rattle.uda_disk.specs.Values.{request_values, answer_values};
+ghost use Rattle.uda_driver.specs.Run.{units_of, request_limit};
+ghost use Rattle.uda_script_run.specs.Requests.{taken};
+ghost use Rattle.uda_script_run.specs.Texts.{out_text, report_text};
+ghost use Rattle.uda_script_run.specs.Script.{Serves, streams, TextsBegin, EndsWhole, EndsInError};
+
+use crate::requests::read_requests;
+use crate::texts::{put_out, put_report};
+use std::alloc::Global;
+use std::io::{Read, Write};
+use uda_disk::{Answer, Request};
+use uda_driver::{Driver, RunError};
+use uda_grammar::{Script, ScriptError};
+use uda_image::BlockStore;
+
+/// Runs a script: has the requests that its lines make done by the driver, and tells what came of them.
+///
+/// The `write` and `writeb` lines take their bytes from `input`, one after the other. Exactly these are read,
+/// and where there are none the reader isn't called; a read that is interrupted is tried again. `out`
+/// gets the bytes of all `Data` answers in the order of the requests, and is flushed; then `report` gets
+/// a line a request, its number from 1, a space and its answer, and is flushed. Reader and writers are
+/// lent, so that what they have left and hold afterwards can be said.
+///
+/// All memory is taken before the driver runs. [`ScriptError::NoMemory`], [`ScriptError::ShortData`]
+/// (the data ends inside the bytes of that line) and [`ScriptError::Read`] come before a request is
+/// posted: then driver and writers are as they were, and some data may have been read. After
+/// [`ScriptError::Write`] the run has been done, and a beginning of the texts was written.
+pub fn run_script<S: BlockStore, R: Read, W: Write, V: Write>(
+    alloc: Global,
+    script: &Script,
+    input: &mut R,
+    out: &mut W,
+    report: &mut V,
+    driver: &mut Driver<S>,
+) -> Result<(), ScriptError>
+    ensures whole { OnOk result (EndsWhole script.now
+        (streams (R.remaining input.old) (W.contents out.old) (V.contents report.old))
+        (streams (R.remaining input.new) (W.contents out.new) (V.contents report.new))
+        driver.old driver.new) }
+    ensures error { IfErr result (EndsInError script.now
+        (streams (R.remaining input.old) (W.contents out.old) (V.contents report.old))
+        (streams (R.remaining input.new) (W.contents out.new) (V.contents report.new))
+        driver.old driver.new) }
+    ensures idle { taken script.now ≡ 0 → input.new ≡ input.old }
+    ensures natures { natures_of (units_of driver.new) ≡ natures_of (units_of driver.old) }
+{
+    let requests = read_requests(alloc, script.lines(), input)?;
+    let answers = serve(driver, &requests)?;
+    print(out, report, &answers)
+}
+
+// Has the requests done. A script has no more of them than one run may have.
+fn serve<S: BlockStore>(
+    driver: &mut Driver<S>,
+    requests: &[Request],
+) -> Result<Vec<Answer>, ScriptError>
+    requires few { length requests.now ≤ request_limit }
+    ensures answers { IfOk result (λ answers. Serves (request_values requests.now)
+        (answer_values answers.items) driver.old driver.new) }
+    ensures unchanged { OnErr result (driver.new ≡ driver.old) }
+    ensures error { IfErr result (λ e. e ≡ ScriptError.NoMemory) }
+    ensures natures { natures_of (units_of driver.new) ≡ natures_of (units_of driver.old) }
+{
+    match driver.run(requests) {
+        Ok(answers) => Ok(answers),
+        Err(RunError::NoMemory) => Err(ScriptError::NoMemory),
+        Err(RunError::TooMany) => Err(ScriptError::TooManyLines),
+    }
+}
+
+// Writes both texts, `out` wholly before `report`.
+fn print<W: Write, V: Write>(
+    out: &mut W,
+    report: &mut V,
+    answers: &[Answer],
+) -> Result<(), ScriptError>
+    ensures out { OnOk result
+        (Appends (W.contents out.old) (W.contents out.new) (out_text (answer_values answers.now))) }
+    ensures report { OnOk result (Appends (V.contents report.old) (V.contents report.new)
+        (report_text (answer_values answers.now))) }
+    ensures begun { OnErr result (TextsBegin (answer_values answers.now)
+        (W.contents out.old) (W.contents out.new) (V.contents report.old) (V.contents report.new)) }
+    ensures error { IfErr result (λ e. e ≡ ScriptError.Write) }
+{
+    put_out(out, answers)?;
+    put_report(report, answers)
+}

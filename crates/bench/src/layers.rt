@@ -15,23 +15,23 @@ use uda_port::{Port, Turn};
 const IMAGE: u32 = 1000;
 
 /// The commands of a round: no more than one run of a driver may have.
-const COMMANDS: u32 = 4096;
+pub const COMMANDS: u32 = 4096;
 
 /// Where the buffer of a Read begins in host memory, behind rings and texts.
 const BUFFER: u32 = 0x1000;
 
-// What each command of a round asks for.
+/// What each command of a round asks for.
 #[derive(Clone, Copy, Debug, PartialEq, Eq)]
-enum Errand {
-    // So many blocks, 32 or 1.
+pub enum Errand {
+    /// So many blocks, 32 or 1.
     Read(u32),
-    // The unit's state.
+    /// The unit's state.
     Status,
 }
 
 impl Errand {
-    // The errand of these words.
-    fn named(work: &str, blocks: &str) -> Result<Errand> {
+    /// The errand of these words.
+    pub fn named(work: &str, blocks: &str) -> Result<Errand> {
         match (work, blocks) {
             ("read", "32") => Ok(Errand::Read(32)),
             ("read", "1") => Ok(Errand::Read(1)),
@@ -59,7 +59,8 @@ impl Errand {
         }
     }
 
-    fn command(self, n: u32) -> Command {
+    /// The n-th command of a round.
+    pub fn command(self, n: u32) -> Command {
         Command {
             reference: n,
             unit: 0,
@@ -88,8 +89,8 @@ impl Errand {
     }
 }
 
-// An image as unit 0, and no other drive.
-fn drives(alloc: Global) -> Result<[Option<Drive<MemImage>>; 4]> {
+/// An image as unit 0, and no other drive.
+pub fn drives(alloc: Global) -> Result<[Option<Drive<MemImage>>; 4]> {
     let store = MemImage::new(alloc, IMAGE)?;
     Ok([Some(Drive { store, hard: false }), None, None, None])
 }
@@ -206,16 +207,17 @@ fn is_success(answer: &Answer) -> bool {
     }
 }
 
-// A running port with rings of one descriptor, whose unit 0 is online, and its host memory.
+/// A running port with rings of one descriptor, whose unit 0 is online, and its host memory.
 #[derive(Drop)]
-struct ThroughPort {
+pub struct ThroughPort {
     port: Port<MemImage>,
     memory: HostMemory,
     alone: Alone,
 }
 
 impl ThroughPort {
-    fn new(alloc: Global, errand: Errand) -> Result<ThroughPort> {
+    /// The same, with an executor like its own.
+    pub fn new(alloc: Global, errand: Errand) -> Result<ThroughPort> {
         let mut memory = memory(alloc)?;
         let port = port(alloc, &mut memory)?;
         let alone = Alone::new(alloc, errand)?;

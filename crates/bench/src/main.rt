@@ -3,7 +3,8 @@
 //! table of all works.
 //!
 //! With the word `port` or `driver` in place of a store, 4,096 commands go through a port's rings or by a
-//! driver, beside the executor alone: `read` of `32` or `1`, or `status` of `0`.
+//! driver, beside the executor alone: `read` of `32` or `1`, or `status` of `0`. With the word `slice` they go
+//! through the rings of a port in a slice, beside a port over a host memory of its own.
 //!
 //! Otherwise the words are a store, `memory` (an image of 1,000 blocks) or the path of an image file of
 //! 131,072 blocks; a work, `read` or `write`; the blocks of each transfer, `32` or `1`; and how many rounds.
@@ -13,6 +14,7 @@
 mod bare;
 mod layers;
 mod measure;
+mod slices;
 mod stores;
 mod work;
 
@@ -30,7 +32,7 @@ fn run(rt: &HostRuntime, words: &[&str]) -> Result<()> {
     match words {
         [] => Ok(()),
         [subject, work, blocks, rounds] => rounds_of(rt, subject, work, blocks, number(rounds)?),
-        _ => bail!("words: memory, a file, port or driver; a work; its blocks; rounds"),
+        _ => bail!("words: memory, a file, port, driver or slice; a work; its blocks; rounds"),
     }
 }
 
@@ -42,6 +44,7 @@ fn number(word: &str) -> Result<u32> {
 fn rounds_of(rt: &HostRuntime, subject: &str, work: &str, blocks: &str, rounds: u32) -> Result<()> {
     match subject {
         "port" => layers::through_port(rt, work, blocks, rounds),
+        "slice" => slices::through_slice(rt, work, blocks, rounds),
         "driver" => layers::through_driver(rt, work, blocks, rounds),
         "memory" => stores::over_memory(rt, work, blocks, rounds),
         path => stores::over_file(rt, path, work, blocks, rounds),

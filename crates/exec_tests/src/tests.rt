@@ -2,6 +2,7 @@
 mod bench;
 mod choice;
 mod files;
+mod slices;
 mod transfers;
 mod units;
 

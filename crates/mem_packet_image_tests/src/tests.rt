@@ -1,4 +1,5 @@
 //! The three lowest crates, a module each.
 mod images;
 mod memory;
+mod slices;
 mod texts;

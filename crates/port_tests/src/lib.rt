@@ -14,6 +14,8 @@ mod play;
 #[cfg(test)]
 mod ring;
 #[cfg(test)]
+mod slice;
+#[cfg(test)]
 mod startup;
 #[cfg(test)]
 mod turn;

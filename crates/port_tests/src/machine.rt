@@ -52,7 +52,7 @@ fn port_over(alloc: Global, image: MemImage) -> Result<Port<MemImage>, Fail> {
 }
 
 /// A port over a unit 0 of 8 blocks, block k all bytes k.
-fn new_port(alloc: Global) -> Result<Port<MemImage>, Fail> {
+pub(crate) fn new_port(alloc: Global) -> Result<Port<MemImage>, Fail> {
     port_over(alloc, image_of_eight(alloc)?)
 }
 

@@ -29,6 +29,7 @@ const ADDRESS_HIGH: u16 = 0x3fff;
 
 impl Descriptor {
     ghost use Rattle.std.specs.Prelude.{◌≡◌, ◌+◌, ◌%◌, ◌^◌, ◌<◌, ◌≤◌, OnSome, length};
+    ghost use Rattle.uda_mem.specs.Slices.{IsMemory};
     ghost use Rattle.uda_port.specs.Ring.{descriptor_at, is_owned, address_of, word_given_back};
 
     /// The descriptor at the address `at`, or None where its four bytes aren't all in memory.
@@ -41,11 +42,22 @@ impl Descriptor {
         ensures addressable { OnSome result (at + 4 < 2 ^ 32) }
         ensures there { OnSome result (at + 4 ≤ length memory.now) }
     {
-        if u64::from(at) + 4 > u64::from(memory.len()) {
+        Descriptor::read_in(memory.as_slice(), at)
+    }
+
+    /// The same of memory that is somebody else's: [`read`](Descriptor::read) in a slice.
+    pub fn read_in(memory: &[u8], at: u32) -> Option<Descriptor>
+        requires memory { IsMemory memory.now }
+        requires even { at % 2 ≡ 0 }
+        ensures descriptor { result ≡ descriptor_at memory.now at }
+        ensures addressable { OnSome result (at + 4 < 2 ^ 32) }
+        ensures there { OnSome result (at + 4 ≤ length memory.now) }
+    {
+        if u64::from(at) + 4 > u64::from(uda_mem::len(memory)) {
             return None;
         }
-        let low = memory.read_word(at)?;
-        let high = memory.read_word(at + 2)?;
+        let low = uda_mem::read_word(memory, at)?;
+        let high = uda_mem::read_word(memory, at + 2)?;
         Some(Descriptor { low, high })
     }
 
@@ -57,7 +69,8 @@ impl Descriptor {
         self.high & OWN != 0
     }
 
-    /// The address of the message text, below 2^30. One past 18 bits is in no host memory.
+    /// The address of the message text, below 2^30. One past 18 bits is in no [`HostMemory`], and may be in a
+    /// slice.
     pub fn address(self) -> u32
         ensures address { result ≡ address_of self }
     {

@@ -4,7 +4,6 @@
 ghost use Rattle.std.specs.Prelude.{◌≡◌, ◌≤◌, ◌↔◌, IsTrue, IsSome, IfSome, length};
 ghost use Rattle.uda_port.specs.Packet.{HasPacket, HasRoom, IsPacketAt, packet_put};
 
-use uda_mem::HostMemory;
 use uda_packet::Envelope;
 
 /// The bytes of a text.
@@ -24,16 +23,16 @@ pub struct Fetched {
 }
 
 /// The packet at an address, or None where it isn't readable there.
-pub(crate) fn packet_at(memory: &HostMemory, address: u32) -> Option<Fetched>
+pub(crate) fn packet_at(memory: &[u8], address: u32) -> Option<Fetched>
     ensures readable { IsSome result ↔ HasPacket memory.now address }
     ensures packet { IfSome result (λ p. IsPacketAt memory.now address p) }
 {
     if address % 2 != 0 || address < 4 {
         return None;
     }
-    let bytes = memory.window(address, 48)?;
-    let first = memory.read_word(address - 4)?;
-    let second = memory.read_word(address - 2)?;
+    let bytes = uda_mem::window(memory, address, 48)?;
+    let first = uda_mem::read_word(memory, address - 4)?;
+    let second = uda_mem::read_word(memory, address - 2)?;
     let mut text = [0; 48];
     text.copy_from_slice(bytes);
     Some(Fetched {
@@ -44,13 +43,13 @@ pub(crate) fn packet_at(memory: &HostMemory, address: u32) -> Option<Fetched>
 
 /// Whether a packet can be written at an address: it lies in memory, and the length word says that
 /// its buffer holds a text.
-pub(crate) fn has_room(memory: &HostMemory, address: u32) -> bool
+pub(crate) fn has_room(memory: &[u8], address: u32) -> bool
     ensures { IsTrue result ↔ HasRoom memory.now address }
 {
-    if address % 2 != 0 || address < 4 || !memory.has(address, u32::from(TEXT)) {
+    if address % 2 != 0 || address < 4 || !uda_mem::has(memory, address, u32::from(TEXT)) {
         return false;
     }
-    match memory.read_word(address - 4) {
+    match uda_mem::read_word(memory, address - 4) {
         Some(length) => length >= TEXT,
         None => false,
     }
@@ -58,7 +57,7 @@ pub(crate) fn has_room(memory: &HostMemory, address: u32) -> bool
 
 /// Writes a text, and then the envelope below it, which grants so many credits.
 #[tactic(auto, using(crate::proofs::Length::lengths))]
-pub(crate) fn put_packet(memory: &mut HostMemory, address: u32, credits: u8, text: &[u8; 48])
+pub(crate) fn put_packet(memory: &mut [u8], address: u32, credits: u8, text: &[u8; 48])
     requires few { credits ≤ 15 }
     requires room { HasPacket memory.old address }
     ensures written { memory.new ≡ packet_put memory.old address credits text.now }
@@ -71,9 +70,7 @@ pub(crate) fn put_packet(memory: &mut HostMemory, address: u32, credits: u8, tex
         connection: 0,
     };
     let (first, second) = envelope.words();
-    memory
-        .within(address, u32::from(TEXT))
-        .copy_from_slice(text);
-    memory.put_word(address - 4, first);
-    memory.put_word(address - 2, second);
+    uda_mem::put_bytes(memory, address, text);
+    uda_mem::put_word(memory, address - 4, first);
+    uda_mem::put_word(memory, address - 2, second);
 }

@@ -2,6 +2,7 @@
 //!
 //! UDA50 Programmer's Documentation Kit: port registers, fatal errors.
 ghost use Rattle.std.specs.Prelude.{◌≡◌};
+ghost use Rattle.uda_mem.specs.Slices.{IsMemory};
 ghost use Rattle.uda_disk.specs.Units.{AreImages};
 ghost use Rattle.uda_port.specs.Port.{CreditsAgree};
 ghost use Rattle.uda_port.specs.Startup.{sa_of};
@@ -39,7 +40,20 @@ impl<S: BlockStore> Port<S> {
     /// error, with just that code, after which IP wasn't written, or was dead of it before.
     ///
     /// UDA50 Programmer's Documentation Kit: port registers, fatal errors.
+    #[tactic(auto, using(crate::proofs::Length::wholes))]
     pub fn play(&mut self, events: &[HostEvent], memory: &mut HostMemory) -> u16
+        ensures played { Played events.now self.old memory.old self.new memory.new }
+        ensures sa { result ≡ sa_of self.new.phase }
+        ensures death { DeathHasCause events.now self.old memory.old self.new }
+        ensures credits { CreditsAgree self.new }
+        ensures images { AreImages self.new.exec.units }
+    {
+        self.play_in(events, memory.as_mut_slice())
+    }
+
+    /// The same over memory that is somebody else's: [`play`](Port::play) on a slice.
+    pub fn play_in(&mut self, events: &[HostEvent], memory: &mut [u8]) -> u16
+        requires memory { IsMemory memory.old }
         ensures played { Played events.now self.old memory.old self.new memory.new }
         ensures sa { result ≡ sa_of self.new.phase }
         ensures death { DeathHasCause events.now self.old memory.old self.new }
@@ -51,7 +65,8 @@ impl<S: BlockStore> Port<S> {
         self.read_sa()
     }
 
-    fn play_all(&mut self, events: &[HostEvent], memory: &mut HostMemory)
+    fn play_all(&mut self, events: &[HostEvent], memory: &mut [u8])
+        requires { IsMemory memory.old }
         ensures { Played events.now self.old memory.old self.new memory.new }
     {
         for &event in events {
@@ -60,7 +75,8 @@ impl<S: BlockStore> Port<S> {
     }
 
     // One event.
-    fn play_one(&mut self, event: HostEvent, memory: &mut HostMemory)
+    fn play_one(&mut self, event: HostEvent, memory: &mut [u8])
+        requires { IsMemory memory.old }
         ensures { EventGoes event self.old memory.old self.new memory.new }
     {
         match event {
@@ -68,12 +84,12 @@ impl<S: BlockStore> Port<S> {
             HostEvent::ReadIp => {
                 self.read_ip();
             }
-            HostEvent::WriteSa(word) => self.write_sa(word, memory),
+            HostEvent::WriteSa(word) => self.write_sa_in(word, memory),
             HostEvent::Word { address, word } => {
-                memory.write_word(address, word);
+                uda_mem::write_word(memory, address, word);
             }
             HostEvent::Turn => {
-                self.turn(memory);
+                self.turn_in(memory);
             }
         }
     }

@@ -11,7 +11,7 @@ use std::fmt;
 use std::marker::Model;
 use uda_mem::HostMemory;
 
-/// The highest base of a ring: the last even address of 18 bits.
+/// The highest base that a host can give a ring: the last even address of 18 bits.
 ///
 /// UDA50 Programmer's Documentation Kit: communication area.
 pub const RING_BASE_LIMIT: u32 = 262_142;
@@ -62,13 +62,15 @@ impl Model for Ring {
 
     ghost view = { λ r. record { base = r.base; count = r.count; place = r.place } };
 
-    ghost invariant = { λ r. (r.base % 2 ≡ 0) × (r.base ≤ 262142) × (r.count ≤ 128) × (r.place < r.count) };
+    // The base of a command ring may be past 18 bits, behind a response ring of 128 descriptors.
+    ghost invariant = { λ r. (r.base % 2 ≡ 0) × (r.base ≤ 262654) × (r.count ≤ 128) × (r.place < r.count) };
 
     ghost inverse = { λ r. record { base = r.base; count = r.count; place = r.place } };
 }
 
 impl Ring {
     ghost use Rattle.std.specs.Prelude.{◌≡◌, ◌+◌, ◌%◌, ◌^◌, ◌<◌, ◌≤◌, ◌↔◌, IsTrue, length, OnOk};
+    ghost use Rattle.uda_mem.specs.Slices.{IsMemory};
     ghost use Rattle.uda_port.specs.Ring.{IsRingBase, is_ring_length, descriptor_address, ring_advanced, memory_given_back};
     ghost use Rattle.uda_port.specs.Fetch.{FetchGoes, Looks, OrderKept};
     ghost use Rattle.uda_port.specs.Delivery.{PutGoes};
@@ -81,6 +83,17 @@ impl Ring {
     /// UDA50 Programmer's Documentation Kit: communication area.
     pub fn new(base: u32, n: u16) -> Ring
         requires base { IsRingBase base }
+        requires count { IsTrue (is_ring_length n) }
+        ensures ring { result ≡ record { base = base; count = n; place = 0 } }
+    {
+        Ring::behind(base, n)
+    }
+
+    /// A ring of `n` descriptors from the even address `base` on, which is at most the bytes of the longest
+    /// ring past [`RING_BASE_LIMIT`]: so far a command ring begins that stands behind a response ring.
+    pub(crate) fn behind(base: u32, n: u16) -> Ring
+        requires even { base % 2 ≡ 0 }
+        requires within { base ≤ 262654 }
         requires count { IsTrue (is_ring_length n) }
         ensures ring { result ≡ record { base = base; count = n; place = 0 } }
     {
@@ -108,7 +121,17 @@ impl Ring {
     /// alone has ([`Descriptor::given_back`]), and the answer is the packet as it stood before.
     ///
     /// UDA50 Programmer's Documentation Kit: command ring, message envelopes.
+    #[tactic(auto, using(crate::proofs::Length::wholes))]
     pub fn fetch(&mut self, memory: &mut HostMemory) -> Result<Option<Fetched>, RingFault>
+        ensures goes { FetchGoes self.old memory.old result self.new memory.new }
+        ensures order { OrderKept self.old memory.old result self.new memory.new }
+    {
+        self.fetch_in(memory.as_mut_slice())
+    }
+
+    /// The same in memory that is somebody else's: [`fetch`](Ring::fetch) from a slice.
+    pub fn fetch_in(&mut self, memory: &mut [u8]) -> Result<Option<Fetched>, RingFault>
+        requires memory { IsMemory memory.old }
         ensures goes { FetchGoes self.old memory.old result self.new memory.new }
         ensures order { OrderKept self.old memory.old result self.new memory.new }
     {
@@ -116,7 +139,8 @@ impl Ring {
     }
 
     // What a fetch does, by the descriptor at the place.
-    fn take(&mut self, memory: &mut HostMemory) -> Result<Option<Fetched>, RingFault>
+    fn take(&mut self, memory: &mut [u8]) -> Result<Option<Fetched>, RingFault>
+        requires memory { IsMemory memory.old }
         ensures goes { FetchGoes self.old memory.old result self.new memory.new }
         ensures place { self.old.place < self.old.count }
     {
@@ -141,10 +165,11 @@ impl Ring {
     /// UDA50 Programmer's Documentation Kit: response ring, message envelopes.
     pub(crate) fn put(
         &mut self,
-        memory: &mut HostMemory,
+        memory: &mut [u8],
         credits: u8,
         text: &[u8; 48],
     ) -> Result<bool, RingFault>
+        requires memory { IsMemory memory.old }
         requires few { credits ≤ 15 }
         ensures goes { PutGoes self.old memory.old credits text.now result self.new memory.new }
     {
@@ -160,13 +185,14 @@ impl Ring {
     }
 
     // The descriptor at the place, or None where the port doesn't own it.
-    fn next(&self, memory: &HostMemory) -> Result<Option<Descriptor>, RingFault>
+    fn next(&self, memory: &[u8]) -> Result<Option<Descriptor>, RingFault>
+        requires memory { IsMemory memory.now }
         ensures looks { Looks self.now memory.now result }
         ensures there { OnOk result (descriptor_address self.now + 4 ≤ length memory.now) }
         ensures place { self.now.place < self.now.count }
     {
         let at = self.address();
-        let Some(descriptor) = Descriptor::read(memory, at) else {
+        let Some(descriptor) = Descriptor::read_in(memory, at) else {
             return Err(RingFault::Ring);
         };
         if !descriptor.is_owned() {
@@ -176,13 +202,13 @@ impl Ring {
     }
 
     // Gives the descriptor at the place back, and goes on by one.
-    fn give_back(&mut self, memory: &mut HostMemory, descriptor: Descriptor)
+    fn give_back(&mut self, memory: &mut [u8], descriptor: Descriptor)
         requires there { descriptor_address self.old + 4 ≤ length memory.old }
         ensures ring { self.new ≡ ring_advanced self.old }
         ensures memory { memory.new ≡ memory_given_back memory.old self.old descriptor }
     {
         let at = self.address();
-        memory.put_word(at + 2, descriptor.given_back());
+        uda_mem::put_word(memory, at + 2, descriptor.given_back());
         self.place = (self.place + 1) % self.count;
     }
 

@@ -1,9 +1,7 @@
 //! The start-up: the SA register, and the four words that a host writes to it.
 //!
 //! UDA50 Programmer's Documentation Kit: initialisation, communication area.
-ghost use Rattle.std.specs.Prelude.{◌≡◌, ◌+◌, ◌-◌, ◌≤◌, ◌%◌, ◌^◌, ◌<◌, IsTrue, length, replicate};
-ghost use Rattle.uda_mem.specs.Put.{put};
-ghost use Rattle.uda_mem.specs.declared.memory.TheConstants.{MEMORY_LIMIT};
+ghost use Rattle.std.specs.Prelude.{◌≡◌, ◌+◌, ◌-◌, ◌≤◌, ◌%◌, ◌^◌, ◌<◌, IsTrue, length};
 ghost use Rattle.uda_port.specs.Ring.{is_ring_length};
 ghost use Rattle.uda_port.specs.Startup.{sa_of, by_first, by_second, by_third, by_fourth, by_word, has_area, has_bit, memory_with_area, port_with_rings, ring_base, response_count, command_count, rings_size, dead_port};
 
@@ -50,7 +48,15 @@ impl<S: BlockStore> Port<S> {
     /// other bit of the third are not in this profile: [`Fatal::StartUpWord`].
     ///
     /// UDA50 Programmer's Documentation Kit: initialisation, communication area.
+    #[tactic(auto, using(crate::proofs::Length::wholes))]
     pub fn write_sa(&mut self, word: u16, memory: &mut HostMemory)
+        ensures steps { (self.new, memory.new) ≡ by_word self.old.phase self.old memory.old word }
+    {
+        self.write_sa_in(word, memory.as_mut_slice())
+    }
+
+    /// The same over memory that is somebody else's: [`write_sa`](Port::write_sa) on a slice, of any length.
+    pub fn write_sa_in(&mut self, word: u16, memory: &mut [u8])
         ensures steps { (self.new, memory.new) ≡ by_word self.old.phase self.old memory.old word }
     {
         match self.phase {
@@ -93,7 +99,7 @@ impl<S: BlockStore> Port<S> {
         };
     }
 
-    fn third_word(&mut self, first: u16, second: u16, word: u16, memory: &mut HostMemory)
+    fn third_word(&mut self, first: u16, second: u16, word: u16, memory: &mut [u8])
         ensures { (self.new, memory.new) ≡ by_third self.old memory.old first second word }
     {
         if word > BASE_HIGH {
@@ -117,13 +123,12 @@ impl<S: BlockStore> Port<S> {
     // The rings are where the words say: the responses at the ring base, the commands behind them.
     fn place_rings(&mut self, first: u16, second: u16, third: u16)
         requires high { third ≤ 3 }
-        requires within { ring_base second third + rings_size first ≤ MEMORY_LIMIT }
         ensures { self.new ≡ port_with_rings self.old first second third }
     {
         let base = ring_base(second, third);
         let responses = response_count(first);
         self.responses = Ring::new(base, responses);
-        self.commands = Ring::new(base + 4 * u32::from(responses), command_count(first));
+        self.commands = Ring::behind(base + 4 * u32::from(responses), command_count(first));
         self.phase = Phase::Step4;
     }
 }
@@ -192,31 +197,23 @@ fn rings_size(first: u16) -> u32
 }
 
 // Whether the communication area lies in memory.
-fn has_area(memory: &HostMemory, first: u16, second: u16, third: u16) -> bool
+fn has_area(memory: &[u8], first: u16, second: u16, third: u16) -> bool
     requires high { third ≤ 3 }
     ensures area { result ≡ has_area first second third (length memory.now) }
     ensures above { IsTrue result → 4 ≤ ring_base second third }
     ensures within { IsTrue result → ring_base second third + rings_size first ≤ length memory.now }
-    ensures limit { IsTrue result → ring_base second third + rings_size first ≤ MEMORY_LIMIT }
 {
     let base = ring_base(second, third);
-    base >= 4 && base + rings_size(first) <= memory.len()
+    base >= 4 && (base + rings_size(first)) as usize <= memory.len()
 }
 
 // Zeroes the communication area: the four bytes below the ring base, and both rings.
-fn zero_area(memory: &mut HostMemory, first: u16, second: u16, third: u16)
+fn zero_area(memory: &mut [u8], first: u16, second: u16, third: u16)
     requires high { third ≤ 3 }
     requires above { 4 ≤ ring_base second third }
     requires within { ring_base second third + rings_size first ≤ length memory.old }
     ensures { memory.new ≡ memory_with_area first second third memory.old }
 {
-    zero(memory, ring_base(second, third) - 4, 4 + rings_size(first));
-}
-
-// Writes `n` zeros from the address `at` on.
-fn zero(memory: &mut HostMemory, at: u32, n: u32)
-    requires { at + n ≤ length memory.old }
-    ensures { memory.new ≡ put memory.old at (replicate n 0) }
-{
-    memory.within(at, n).fill(0);
+    let size = rings_size(first);
+    uda_mem::put_zeros(memory, ring_base(second, third) - 4, 4 + size);
 }

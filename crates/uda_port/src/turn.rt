@@ -2,6 +2,7 @@
 //!
 //! UDA50 Programmer's Documentation Kit: command ring polling, message envelopes, credits.
 ghost use Rattle.std.specs.Prelude.{◌≡◌, ◌+◌, ◌<◌, ◌≤◌, slice_get, [], ◌∷◌, ◌++◌, length, Some};
+ghost use Rattle.uda_mem.specs.Slices.{IsMemory};
 ghost use Rattle.uda_disk.specs.Units.{AreImages};
 ghost use Rattle.uda_exec.specs.Disks.{PENDING_LIMIT};
 ghost use Rattle.circular_buffer.specs.Buffer.{buffer};
@@ -53,7 +54,21 @@ impl<S: BlockStore> Port<S> {
     /// anything.
     ///
     /// UDA50 Programmer's Documentation Kit: command ring polling, message envelopes, credits.
+    #[tactic(auto, using(crate::proofs::Length::wholes))]
     pub fn turn(&mut self, memory: &mut HostMemory) -> Turn
+        ensures goes { TurnGoes self.old.phase self.old memory.old result self.new memory.new }
+        ensures credits { CreditsAgree self.new }
+        ensures four { length self.new.exec.units ≡ 4 }
+        ensures images { AreImages self.new.exec.units }
+    {
+        self.turn_in(memory.as_mut_slice())
+    }
+
+    /// The same over memory that is somebody else's: [`turn`](Port::turn) on a slice of an even length, at most
+    /// [`SLICE_LIMIT`](uda_mem::SLICE_LIMIT) ([`is_memory`](uda_mem::is_memory)). It may be another slice at
+    /// each call.
+    pub fn turn_in(&mut self, memory: &mut [u8]) -> Turn
+        requires memory { IsMemory memory.old }
         ensures goes { TurnGoes self.old.phase self.old memory.old result self.new memory.new }
         ensures credits { CreditsAgree self.new }
         ensures four { length self.new.exec.units ≡ 4 }
@@ -74,7 +89,8 @@ impl<S: BlockStore> Port<S> {
     }
 
     // A turn, by the phase.
-    fn take_turn(&mut self, memory: &mut HostMemory) -> Turn
+    fn take_turn(&mut self, memory: &mut [u8]) -> Turn
+        requires { IsMemory memory.old }
         ensures { TurnGoes self.old.phase self.old memory.old result self.new memory.new }
     {
         match self.phase {
@@ -89,7 +105,8 @@ impl<S: BlockStore> Port<S> {
 
     // A turn of a port that runs.
     #[tactic(auto, using(crate::proofs::TurnLaws::running_turn))]
-    fn run(&mut self, memory: &mut HostMemory) -> Turn
+    fn run(&mut self, memory: &mut [u8]) -> Turn
+        requires { IsMemory memory.old }
         ensures { RunningTurn self.old memory.old result self.new memory.new }
     {
         self.turns.add(1);
@@ -103,7 +120,8 @@ impl<S: BlockStore> Port<S> {
     }
 
     // The lines of a turn, of which the first that fits is taken.
-    fn lines(&mut self, memory: &mut HostMemory) -> Result<Turn, Fatal>
+    fn lines(&mut self, memory: &mut [u8]) -> Result<Turn, Fatal>
+        requires { IsMemory memory.old }
         ensures { LinesGo self.old memory.old result self.new memory.new }
     {
         match self.fetch(memory) {
@@ -117,7 +135,8 @@ impl<S: BlockStore> Port<S> {
     }
 
     // The lines behind the first.
-    fn rest(&mut self, memory: &mut HostMemory) -> Result<Turn, Fatal>
+    fn rest(&mut self, memory: &mut [u8]) -> Result<Turn, Fatal>
+        requires { IsMemory memory.old }
         ensures { RestGoes self.old memory.old result self.new memory.new }
     {
         if self.execute(memory) {
@@ -131,13 +150,14 @@ impl<S: BlockStore> Port<S> {
     }
 
     // The first line: fetches a command, where the port looks and one is posted.
-    fn fetch(&mut self, memory: &mut HostMemory) -> Result<bool, Fatal>
+    fn fetch(&mut self, memory: &mut [u8]) -> Result<bool, Fatal>
+        requires { IsMemory memory.old }
         ensures { FetchLine self.old memory.old result self.new memory.new }
     {
         if !self.looking {
             return Ok(false);
         }
-        let fetched = match self.commands.fetch(memory) {
+        let fetched = match self.commands.fetch_in(memory) {
             Ok(None) => return Ok(false),
             Ok(Some(fetched)) => fetched,
             Err(RingFault::Ring) => return Err(Fatal::RingRead),
@@ -159,11 +179,12 @@ impl<S: BlockStore> Port<S> {
     }
 
     // The second line: executes a pending command, where there is one.
-    fn execute(&mut self, memory: &mut HostMemory) -> bool
+    fn execute(&mut self, memory: &mut [u8]) -> bool
+        requires { IsMemory memory.old }
         ensures { ExecuteLine self.old memory.old result self.new memory.new }
     {
         let pending = self.exec.pending();
-        let Some(end) = self.exec.execute_one(memory) else {
+        let Some(end) = self.exec.execute_one_in(memory) else {
             return false;
         };
         self.load.add(pending);
@@ -172,7 +193,8 @@ impl<S: BlockStore> Port<S> {
     }
 
     // The third line: delivers the first end that waits, where the response ring takes it.
-    fn deliver(&mut self, memory: &mut HostMemory) -> Result<bool, Fatal>
+    fn deliver(&mut self, memory: &mut [u8]) -> Result<bool, Fatal>
+        requires { IsMemory memory.old }
         ensures { DeliverLine self.old memory.old result self.new memory.new }
     {
         let Some(end) = self.waiting.front().copied() else {

@@ -60,8 +60,8 @@ impl Layout {
     }
 }
 
-/// A port over a unit 0 of 8 blocks, block k all bytes k, and an emulator's guest. Where the guest wanders, each
-/// call finds its memory in another slice, and nothing of it in the one before.
+/// A port over a unit 0 of 8 blocks, block k all bytes k, and an emulator's guest. Where the guest wanders,
+/// each call finds its memory in another slice, and nothing of it in the one before.
 #[derive(Drop)]
 struct Guest {
     port: Port<MemImage>,

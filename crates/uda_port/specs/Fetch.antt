@@ -5,7 +5,8 @@ use Rattle.uda_port.specs.declared.descriptor.Descriptor.{Descriptor}
 use Rattle.uda_port.specs.declared.packet.Fetched.{Fetched}
 use Rattle.uda_port.specs.declared.ring.RingFault.{RingFault}
 use Rattle.uda_port.specs.declared.ring.RingFault.TheVariants.{Ring as RingLost, Packet as PacketLost}
-use Rattle.uda_port.specs.Ring.{is_owned, address_of, RingState, next_descriptor, ring_advanced, memory_given_back, posted_in}
+use Rattle.uda_port.specs.Ring.{is_owned, address_of, RingState, next_descriptor, ring_advanced}
+use Rattle.uda_port.specs.Ring.{memory_given_back, posted_in}
 use Rattle.uda_port.specs.Packet.{HasPacket, IsPacketAt}
 
 pub record Stays (old : RingState) (memory : List ℕ) (new : RingState) (memory_after : List ℕ) : Type 0 where
@@ -34,8 +35,10 @@ Looks r memory (Ok None) = FindsNone r memory
 Looks r memory (Err RingLost) = LosesRing r memory
 Looks r memory (Err PacketLost) = ⊥
 
--- the descriptor at the place is taken: its packet is read, it is given back, and the place goes on by one, round the ring
-pub record Takes (old : RingState) (memory : List ℕ) (p : Fetched) (new : RingState) (memory_after : List ℕ) : Type 0 where
+-- the descriptor at the place is taken: its packet is read, it is given back, and the place goes on by one,
+-- round the ring
+pub record Takes (old : RingState) (memory : List ℕ) (p : Fetched) (new : RingState)
+    (memory_after : List ℕ) : Type 0 where
   pub first : Descriptor
   pub is_next : next_descriptor memory old ≡ Some first
   pub owned : is_owned first ≡ true
@@ -44,7 +47,8 @@ pub record Takes (old : RingState) (memory : List ℕ) (p : Fetched) (new : Ring
   pub written : memory_after ≡ memory_given_back memory old first
   pub advanced : new ≡ ring_advanced old
 
--- the port owns the descriptor at the place, but its packet isn't wholly in memory, or stands at an odd address
+-- the port owns the descriptor at the place, but its packet isn't wholly in memory, or stands at an odd
+-- address
 pub record LosesPacket (old : RingState) (memory : List ℕ) : Type 0 where
   pub next : Descriptor
   pub is_next : next_descriptor memory old ≡ Some next
@@ -55,11 +59,14 @@ pub record LosesPacket (old : RingState) (memory : List ℕ) : Type 0 where
 abbrev pub FetchGoes : RingState → List ℕ → Result (Option Fetched) RingFault → RingState → List ℕ → Type 0
 FetchGoes old memory (Ok (Some p)) new memory_after = Takes old memory p new memory_after
 FetchGoes old memory (Ok None) new memory_after = FindsNone old memory × Stays old memory new memory_after
-FetchGoes old memory (Err PacketLost) new memory_after = LosesPacket old memory × Stays old memory new memory_after
-FetchGoes old memory (Err RingLost) new memory_after = LosesRing old memory × Stays old memory new memory_after
+FetchGoes old memory (Err PacketLost) new memory_after =
+    LosesPacket old memory × Stays old memory new memory_after
+FetchGoes old memory (Err RingLost) new memory_after =
+    LosesRing old memory × Stays old memory new memory_after
 
 -- the packet is that of the first that is posted, and what is posted afterwards is the rest
-pub record TakesFirst (old : RingState) (memory : List ℕ) (p : Fetched) (new : RingState) (memory_after : List ℕ) : Type 0 where
+pub record TakesFirst (old : RingState) (memory : List ℕ) (p : Fetched) (new : RingState)
+    (memory_after : List ℕ) : Type 0 where
   pub first : Descriptor
   pub in_order : posted_in memory old ≡ first ∷ posted_in memory_after new
   pub readable : HasPacket memory (address_of first)

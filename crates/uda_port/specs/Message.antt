@@ -1,5 +1,6 @@
 -- What a command packet says.
--- UDA50 Programmer's Documentation Kit: message envelopes; MSCP Basic Disk Functions Manual: invalid commands.
+-- UDA50 Programmer's Documentation Kit: message envelopes; MSCP Basic Disk Functions Manual: invalid
+-- commands.
 use Rattle.std.specs.Prelude.{◌≡◌, ◌==◌, Result, Ok, Err, if◌then◌else◌}
 use Rattle.uda_packet.specs.declared.bad.Bad.{Bad}
 use Rattle.uda_packet.specs.declared.command.Command.{Command}
@@ -18,6 +19,8 @@ abbrev pub message_of_text : Result Command Bad → Result Command End
 message_of_text (Ok c) = Ok c
 message_of_text (Err bad) = Err (bad_end bad)
 
--- a command, or the end of what is none: a packet of another length than a text's, or a text that is no command's
+-- a command, or the end of what is none: a packet of another length than a text's, or a text that is no
+-- command's
 abbrev pub message_in : Fetched → Result Command End
-message_in p = if p.words.0 == 48 then message_of_text (read_command p.text) else Err (other_length_end p.text)
+message_in p =
+    if p.words.0 == 48 then message_of_text (read_command p.text) else Err (other_length_end p.text)

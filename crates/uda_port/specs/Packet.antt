@@ -5,7 +5,8 @@ use Rattle.uda_mem.specs.Put.{put, part}
 use Rattle.uda_mem.specs.Words.{word_at, word_bytes}
 use Rattle.uda_port.specs.declared.packet.Fetched.{Fetched}
 
--- a packet can be read or written at an address: it is even, four envelope bytes stand below it, and 48 bytes of text lie in memory
+-- a packet can be read or written at an address: it is even, four envelope bytes stand below it, and 48 bytes
+-- of text lie in memory
 pub record HasPacket (memory : List ℕ) (at : ℕ) : Type 0 where
   pub even : at % 2 ≡ 0
   pub above : 4 ≤ at
@@ -22,6 +23,8 @@ pub record HasRoom (memory : List ℕ) (at : ℕ) : Type 0 where
   pub packet : HasPacket memory at
   pub long : 48 ≤ word_at memory (at - 4)
 
--- a text is written, and then the envelope below it: its length, and these credits for a sequential message of MSCP
+-- a text is written, and then the envelope below it: its length, and these credits for a sequential message
+-- of MSCP
 abbrev pub packet_put : List ℕ → ℕ → ℕ → List ℕ → List ℕ
-packet_put memory at credits text = put (put (put memory at text) (at - 4) (word_bytes 48)) (at - 2) (word_bytes credits)
+packet_put memory at credits text =
+    put (put (put memory at text) (at - 4) (word_bytes 48)) (at - 2) (word_bytes credits)

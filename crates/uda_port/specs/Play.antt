@@ -6,13 +6,16 @@ use Rattle.uda_mem.specs.Words.{HasWord, word_bytes}
 use Rattle.uda_port.specs.declared.phase.Phase.{Phase}
 use Rattle.uda_port.specs.declared.phase.Phase.TheVariants.{Step1, Step2, Step3, Running, Dead}
 use Rattle.uda_port.specs.declared.phase.Fatal.{Fatal}
-use Rattle.uda_port.specs.declared.phase.Fatal.TheVariants.{PacketRead, PacketWrite, RingRead, RingWrite, CreditsExceeded, WrongEnvelope, StartUpWord}
+use Rattle.uda_port.specs.declared.phase.Fatal.TheVariants.{PacketRead, PacketWrite, RingRead, RingWrite}
+use Rattle.uda_port.specs.declared.phase.Fatal.TheVariants.{CreditsExceeded, WrongEnvelope, StartUpWord}
 use Rattle.uda_port.specs.declared.turn.Turn.{Turn}
 use Rattle.uda_port.specs.declared.play.HostEvent.{HostEvent}
-use Rattle.uda_port.specs.declared.play.HostEvent.TheVariants.{WriteIp, ReadIp, WriteSa, Word, Turn as TurnEvent}
+use Rattle.uda_port.specs.declared.play.HostEvent.TheVariants.{WriteIp, ReadIp, WriteSa, Word}
+use Rattle.uda_port.specs.declared.play.HostEvent.TheVariants.{Turn as TurnEvent}
 use Rattle.uda_port.specs.Port.{PortState, port_at_start, port_asked}
 use Rattle.uda_port.specs.Startup.{has_bit, has_area, by_word}
-use Rattle.uda_port.specs.Turn.{port_turn_on, Unchanged, TurnGoes, NothingToFetch, LosesCommandRing, LosesCommand, ExceedsCredits, TakesForeign, LosesResponseRing, LosesResponse}
+use Rattle.uda_port.specs.Turn.{port_turn_on, Unchanged, TurnGoes, NothingToFetch, LosesCommandRing}
+use Rattle.uda_port.specs.Turn.{LosesCommand, ExceedsCredits, TakesForeign, LosesResponseRing, LosesResponse}
 
 -- ---- events, one after another
 
@@ -26,14 +29,17 @@ abbrev pub EventGoes : HostEvent → PortState → List ℕ → PortState → Li
 EventGoes WriteIp old memory new memory_after = (new ≡ port_at_start old.exec) × (memory_after ≡ memory)
 EventGoes ReadIp old memory new memory_after = (new ≡ port_asked old.phase old) × (memory_after ≡ memory)
 EventGoes (WriteSa word) old memory new memory_after = (new, memory_after) ≡ by_word old.phase old memory word
-EventGoes (Word address word) old memory new memory_after = (new ≡ old) × WritesWord address word memory memory_after
-EventGoes TurnEvent old memory new memory_after = (turn : Turn) × TurnGoes old.phase old memory turn new memory_after
+EventGoes (Word address word) old memory new memory_after =
+    (new ≡ old) × WritesWord address word memory memory_after
+EventGoes TurnEvent old memory new memory_after =
+    (turn : Turn) × TurnGoes old.phase old memory turn new memory_after
 
 -- the events lead from one port and memory to another, one after the other
 abbrev pub Played : List HostEvent → PortState → List ℕ → PortState → List ℕ → Type 0
 Played [] old memory new memory_after = Unchanged old memory new memory_after
 Played (event ∷ rest) old memory new memory_after =
-    (between : PortState × List ℕ) × EventGoes event old memory between.0 between.1 × Played rest between.0 between.1 new memory_after
+    (between : PortState × List ℕ) × EventGoes event old memory between.0 between.1
+    × Played rest between.0 between.1 new memory_after
 
 -- ---- what a port dies of
 
@@ -55,7 +61,8 @@ LosesArea (Step3 first second) word memory = (word ≤ 3) × (has_area first sec
 LosesArea _ word memory = ⊥
 
 -- a turn of a running port takes a packet that it can't have
-pub record TakesBad (Bad : PortState → List ℕ → PortState → List ℕ → Type 0) (port : PortState) (memory : List ℕ) : Type 0 where
+pub record TakesBad (Bad : PortState → List ℕ → PortState → List ℕ → Type 0) (port : PortState)
+    (memory : List ℕ) : Type 0 where
   pub new : PortState
   pub memory_after : List ℕ
   pub bad : Bad port memory new memory_after
@@ -64,7 +71,8 @@ pub record TakesBad (Bad : PortState → List ℕ → PortState → List ℕ →
 abbrev pub FatalTurn : Fatal → PortState → List ℕ → Type 0
 FatalTurn PacketRead port memory = LosesCommand port memory
 FatalTurn PacketWrite port memory = Delivers port memory × LosesResponse port memory
-FatalTurn RingRead port memory = LosesCommandRing port memory ⊎ (Delivers port memory × LosesResponseRing port memory)
+FatalTurn RingRead port memory =
+    LosesCommandRing port memory ⊎ (Delivers port memory × LosesResponseRing port memory)
 FatalTurn CreditsExceeded port memory = TakesBad ExceedsCredits port memory
 FatalTurn WrongEnvelope port memory = TakesBad TakesForeign port memory
 FatalTurn RingWrite port memory = ⊥
@@ -76,7 +84,8 @@ FatalWord RingWrite word port memory = LosesArea port.phase word memory
 FatalWord StartUpWord word port memory = AsksMore port.phase word
 FatalWord _ word port memory = ⊥
 
--- an event meets a cause: a turn of a running port, which counts itself first, or a start-up word, and no other
+-- an event meets a cause: a turn of a running port, which counts itself first, or a start-up word, and no
+-- other
 abbrev pub MeetsCause : Fatal → HostEvent → PortState → List ℕ → Type 0
 MeetsCause cause (WriteSa word) port memory = FatalWord cause word port memory
 MeetsCause cause TurnEvent port memory = (port.phase ≡ Running) × FatalTurn cause (port_turn_on port) memory
@@ -103,7 +112,10 @@ pub record StaysDead (cause : Fatal) (events : List HostEvent) (old : PortState)
   pub was : old.phase ≡ Dead cause
   pub leaves_ip : LeavesIp events
 
--- a port that is dead met a cause, with just that code, or was dead of it; and one that was dead is so until IP is written
-pub record DeathHasCause (events : List HostEvent) (old : PortState) (memory : List ℕ) (new : PortState) : Type 0 where
-  pub dies : (cause : Fatal) → new.phase ≡ Dead cause → StaysDead cause events old ⊎ DiedOf cause events old memory
+-- a port that is dead met a cause, with just that code, or was dead of it; and one that was dead is so until
+-- IP is written
+pub record DeathHasCause (events : List HostEvent) (old : PortState) (memory : List ℕ)
+    (new : PortState) : Type 0 where
+  pub dies : (cause : Fatal) → new.phase ≡ Dead cause
+      → StaysDead cause events old ⊎ DiedOf cause events old memory
   pub stays : (cause : Fatal) → StaysDead cause events old → new.phase ≡ Dead cause

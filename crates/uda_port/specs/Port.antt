@@ -8,8 +8,9 @@ use Rattle.uda_port.specs.declared.phase.Phase.{Phase}
 use Rattle.uda_port.specs.declared.phase.Phase.TheVariants.{Step1, Running}
 use Rattle.uda_port.specs.Ring.{RingState}
 
--- the phase, the executor and the two rings; the ends that wait for delivery, the next one first; whether the port looks at its
--- command ring; its credits; and since start-up the turns, the fetches, the deliveries, and the load: at each execution the commands then pending
+-- the phase, the executor and the two rings; the ends that wait for delivery, the next one first; whether the
+-- port looks at its command ring; its credits; and since start-up the turns, the fetches, the deliveries, and
+-- the load: at each execution the commands then pending
 pub record PortState : Type 0 where
   pub phase : Phase
   pub exec : ExecState
@@ -27,7 +28,8 @@ pub record PortState : Type 0 where
 abbrev pub ring_at_start : RingState
 ring_at_start = record { base = 0; count = 1; place = 0 }
 
--- nothing is pending, and every unit with a drive is available without software protection; blocks and hardware protection stay
+-- nothing is pending, and every unit with a drive is available without software protection; blocks and
+-- hardware protection stay
 abbrev pub exec_at_start : ExecState → ExecState
 exec_at_start exec = record { units = map reset_unit exec.units; pending = [] }
 
@@ -47,8 +49,8 @@ port_at_start exec = record {
   load = 0;
 }
 
--- the credits that a host was given by then: 1 at start-up, as many as commands may be pending by the first end that is
--- delivered, and 1 by each later one
+-- the credits that a host was given by then: 1 at start-up, as many as commands may be pending by the first
+-- end that is delivered, and 1 by each later one
 abbrev pub credits_granted : ℕ → ℕ
 credits_granted deliveries = 1 + PENDING_LIMIT * min deliveries 1 + (deliveries - 1)
 
@@ -56,8 +58,8 @@ credits_granted deliveries = 1 + PENDING_LIMIT * min deliveries 1 + (deliveries 
 abbrev pub next_grant : ℕ → ℕ
 next_grant deliveries = credits_granted (deliveries + 1) - credits_granted deliveries
 
--- the credits left are those granted, less one for each command; each command that was fetched is pending, or its end waits or was
--- delivered; and no more are under way than may be pending
+-- the credits left are those granted, less one for each command; each command that was fetched is pending, or
+-- its end waits or was delivered; and no more are under way than may be pending
 pub record CreditsAgree (port : PortState) : Type 0 where
   pub credits : port.credits + port.fetches ≡ credits_granted port.deliveries
   pub conserved : port.fetches ≡ port.deliveries + (length port.exec.pending + length port.waiting)

@@ -1,6 +1,7 @@
 -- Rings of descriptors in host memory.
 -- UDA50 Programmer's Documentation Kit: communication area, ring descriptors.
-use Rattle.std.specs.Prelude.{◌≡◌, ◌≤◌, ℕ, ◌+◌, ◌*◌, ◌%◌, Bool, ◌||◌, nat_eq, nat_le, List, [], ◌∷◌, ◌++◌, length, take, drop, map, Option, Some, None, if◌then◌else◌}
+use Rattle.std.specs.Prelude.{◌≡◌, ◌≤◌, ℕ, ◌+◌, ◌*◌, ◌%◌, Bool, ◌||◌, nat_eq, nat_le, List, [], ◌∷◌, ◌++◌}
+use Rattle.std.specs.Prelude.{length, take, drop, map, Option, Some, None, if◌then◌else◌}
 use Rattle.std.specs.List.{range_with_len}
 use Rattle.uda_mem.specs.Put.{put}
 use Rattle.uda_mem.specs.Words.{word_at, word_bytes}
@@ -20,13 +21,16 @@ word_given_back high = high % 0x4000 + 0x4000
 
 -- the descriptor at an address, if it lies wholly in memory
 abbrev pub descriptor_at : List ℕ → ℕ → Option Descriptor
-descriptor_at memory at = if nat_le (at + 4) (length memory) then Some (record { low = word_at memory at; high = word_at memory (at + 2) }) else None
+descriptor_at memory at =
+    if nat_le (at + 4) (length memory) then Some
+    (record { low = word_at memory at; high = word_at memory (at + 2) }) else None
 
 -- the n descriptors of a ring
 abbrev pub ring : List ℕ → ℕ → ℕ → List (Option Descriptor)
 ring memory base n = map (λ k. descriptor_at memory (base + 4 * k)) (range_with_len 0 n)
 
--- the owned descriptors at the front of a list, up to the first that the port doesn't own or that isn't in memory
+-- the owned descriptors at the front of a list, up to the first that the port doesn't own or that isn't in
+-- memory
 abbrev pub owned_front : List (Option Descriptor) → List Descriptor
 owned_front [] = []
 owned_front (None ∷ rest) = []
@@ -38,7 +42,9 @@ posted descriptors place = owned_front (drop place descriptors ++ take place des
 
 -- a ring has 1, 2, 4, .. 128 descriptors
 abbrev pub is_ring_length : ℕ → Bool
-is_ring_length n = nat_eq n 1 || nat_eq n 2 || nat_eq n 4 || nat_eq n 8 || nat_eq n 16 || nat_eq n 32 || nat_eq n 64 || nat_eq n 128
+is_ring_length n =
+    nat_eq n 1 || nat_eq n 2 || nat_eq n 4 || nat_eq n 8 || nat_eq n 16 || nat_eq n 32 || nat_eq n 64
+    || nat_eq n 128
 
 -- a ring begins at an even address of 18 bits
 pub record IsRingBase (base : ℕ) : Type 0 where

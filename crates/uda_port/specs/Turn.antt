@@ -1,6 +1,7 @@
 -- What a turn of a port does: the first of its lines that fits.
 -- UDA50 Programmer's Documentation Kit: command ring polling, message envelopes, credits, fatal errors.
-use Rattle.std.specs.Prelude.{◌≡◌, ℕ, ◌+◌, ◌-◌, ◌<◌, Bool, true, false, List, [], ◌∷◌, ◌++◌, length, slice_get, Some, Result, Ok, Err}
+use Rattle.std.specs.Prelude.{◌≡◌, ℕ, ◌+◌, ◌-◌, ◌<◌, Bool, true, false, List, [], ◌∷◌, ◌++◌, length}
+use Rattle.std.specs.Prelude.{slice_get, Some, Result, Ok, Err}
 use Rattle.uda_packet.specs.declared.command.Command.{Command}
 use Rattle.uda_packet.specs.declared.end.End.{End}
 use Rattle.uda_packet.specs.Reading.{read_end}
@@ -10,9 +11,11 @@ use Rattle.uda_port.specs.declared.packet.Fetched.{Fetched}
 use Rattle.uda_port.specs.declared.phase.Phase.{Phase}
 use Rattle.uda_port.specs.declared.phase.Phase.TheVariants.{Running, Dead as DeadPhase}
 use Rattle.uda_port.specs.declared.turn.Turn.{Turn}
-use Rattle.uda_port.specs.declared.turn.Turn.TheVariants.{Fetched as TurnFetched, Executed, Delivered, Idle, Dead}
+use Rattle.uda_port.specs.declared.turn.Turn.TheVariants.{Fetched as TurnFetched, Executed, Delivered, Idle}
+use Rattle.uda_port.specs.declared.turn.Turn.TheVariants.{Dead}
 use Rattle.uda_port.specs.declared.phase.Fatal.{Fatal}
-use Rattle.uda_port.specs.declared.phase.Fatal.TheVariants.{PacketRead, PacketWrite, RingRead, CreditsExceeded, WrongEnvelope}
+use Rattle.uda_port.specs.declared.phase.Fatal.TheVariants.{PacketRead, PacketWrite, RingRead}
+use Rattle.uda_port.specs.declared.phase.Fatal.TheVariants.{CreditsExceeded, WrongEnvelope}
 use Rattle.uda_port.specs.Fetch.{Takes, TakesFirst, FindsNone, LosesRing, LosesPacket}
 use Rattle.uda_port.specs.Delivery.{Puts, LosesRoom}
 use Rattle.uda_port.specs.Message.{IsSequential, message_in}
@@ -27,7 +30,8 @@ port_turn_on old = record old { turns = old.turns + 1 }
 abbrev pub port_not_looking : PortState → PortState
 port_not_looking old = record old { looking = false }
 
-pub record Unchanged (old : PortState) (memory : List ℕ) (new : PortState) (memory_after : List ℕ) : Type 0 where
+pub record Unchanged (old : PortState) (memory : List ℕ) (new : PortState)
+    (memory_after : List ℕ) : Type 0 where
   pub state : new ≡ old
   pub memory_stays : memory_after ≡ memory
 
@@ -38,21 +42,28 @@ abbrev pub port_with_message : PortState → Result Command End → PortState
 port_with_message old (Ok c) = record old { exec = record old.exec { pending = old.exec.pending ++ c ∷ [] } }
 port_with_message old (Err e) = record old { waiting = old.waiting ++ e ∷ [] }
 
-pub record FetchesOne (old : PortState) (memory : List ℕ) (new : PortState) (memory_after : List ℕ) : Type 0 where
+pub record FetchesOne (old : PortState) (memory : List ℕ) (new : PortState)
+    (memory_after : List ℕ) : Type 0 where
   pub packet : Fetched
   pub looks : old.looking ≡ true
   pub takes : Takes old.commands memory packet new.commands memory_after
   pub in_order : TakesFirst old.commands memory packet new.commands memory_after
   pub credit : 0 < old.credits
   pub sequential : IsSequential packet
-  pub others : new ≡ record (port_with_message old (message_in packet)) { commands = new.commands; credits = old.credits - 1; fetches = old.fetches + 1 }
+  pub others : new
+      ≡ record (port_with_message old (message_in packet)) {
+        commands = new.commands;
+        credits = old.credits - 1;
+        fetches = old.fetches + 1;
+      }
 
 -- the port doesn't look, or doesn't own the next command descriptor
 abbrev pub NothingToFetch : PortState → List ℕ → Type 0
 NothingToFetch old memory = old.looking ≡ true → FindsNone old.commands memory
 
 -- a packet was taken, and its descriptor given back
-pub record TakesPacket (old : PortState) (memory : List ℕ) (packet : Fetched) (new : PortState) (memory_after : List ℕ) : Type 0 where
+pub record TakesPacket (old : PortState) (memory : List ℕ) (packet : Fetched) (new : PortState)
+    (memory_after : List ℕ) : Type 0 where
   pub looks : old.looking ≡ true
   pub takes : Takes old.commands memory packet new.commands memory_after
   pub others : new ≡ record old { commands = new.commands }
@@ -68,13 +79,15 @@ pub record LosesCommand (old : PortState) (memory : List ℕ) : Type 0 where
   pub no_packet : LosesPacket old.commands memory
 
 -- fatal: the host had no credit for it
-pub record ExceedsCredits (old : PortState) (memory : List ℕ) (new : PortState) (memory_after : List ℕ) : Type 0 where
+pub record ExceedsCredits (old : PortState) (memory : List ℕ) (new : PortState)
+    (memory_after : List ℕ) : Type 0 where
   pub packet : Fetched
   pub taken : TakesPacket old memory packet new memory_after
   pub no_credit : old.credits ≡ 0
 
 -- fatal: its envelope is of another connection or message type
-pub record TakesForeign (old : PortState) (memory : List ℕ) (new : PortState) (memory_after : List ℕ) : Type 0 where
+pub record TakesForeign (old : PortState) (memory : List ℕ) (new : PortState)
+    (memory_after : List ℕ) : Type 0 where
   pub packet : Fetched
   pub taken : TakesPacket old memory packet new memory_after
   pub credit : 0 < old.credits
@@ -83,30 +96,42 @@ pub record TakesForeign (old : PortState) (memory : List ℕ) (new : PortState) 
 -- whether the first line fits, or why it is fatal
 abbrev pub FetchLine : PortState → List ℕ → Result Bool Fatal → PortState → List ℕ → Type 0
 FetchLine old memory (Ok true) new memory_after = FetchesOne old memory new memory_after
-FetchLine old memory (Ok false) new memory_after = NothingToFetch old memory × Unchanged old memory new memory_after
-FetchLine old memory (Err RingRead) new memory_after = LosesCommandRing old memory × Unchanged old memory new memory_after
-FetchLine old memory (Err PacketRead) new memory_after = LosesCommand old memory × Unchanged old memory new memory_after
+FetchLine old memory (Ok false) new memory_after =
+    NothingToFetch old memory × Unchanged old memory new memory_after
+FetchLine old memory (Err RingRead) new memory_after =
+    LosesCommandRing old memory × Unchanged old memory new memory_after
+FetchLine old memory (Err PacketRead) new memory_after =
+    LosesCommand old memory × Unchanged old memory new memory_after
 FetchLine old memory (Err CreditsExceeded) new memory_after = ExceedsCredits old memory new memory_after
 FetchLine old memory (Err WrongEnvelope) new memory_after = TakesForeign old memory new memory_after
 FetchLine old memory (Err _) new memory_after = ⊥
 
 -- ---- the second line: a pending command that may go is executed, the one at place j, and its end waits last
 
-pub record ExecutesOne (j : ℕ) (old : PortState) (memory : List ℕ) (new : PortState) (memory_after : List ℕ) : Type 0 where
+pub record ExecutesOne (j : ℕ) (old : PortState) (memory : List ℕ) (new : PortState)
+    (memory_after : List ℕ) : Type 0 where
   pub end : End
   pub executes : ExecutesAt j old.exec memory end new.exec memory_after
-  pub others : new ≡ record old { exec = new.exec; waiting = old.waiting ++ end ∷ []; load = old.load + length old.exec.pending }
+  pub others : new
+      ≡ record old {
+        exec = new.exec;
+        waiting = old.waiting ++ end ∷ [];
+        load = old.load + length old.exec.pending;
+      }
 
 abbrev pub ExecuteLine : PortState → List ℕ → Bool → PortState → List ℕ → Type 0
 ExecuteLine old memory true new memory_after = (j : ℕ) × ExecutesOne j old memory new memory_after
-ExecuteLine old memory false new memory_after = (old.exec.pending ≡ []) × Unchanged old memory new memory_after
+ExecuteLine old memory false new memory_after =
+    (old.exec.pending ≡ []) × Unchanged old memory new memory_after
 
 -- ---- the third line: the first waiting end is delivered
 
-pub record DeliversOne (old : PortState) (memory : List ℕ) (new : PortState) (memory_after : List ℕ) : Type 0 where
+pub record DeliversOne (old : PortState) (memory : List ℕ) (new : PortState)
+    (memory_after : List ℕ) : Type 0 where
   pub end : End
   pub first : old.waiting ≡ end ∷ new.waiting
-  pub puts : Puts old.responses memory (next_grant old.deliveries) (written_end end) new.responses memory_after
+  pub puts : Puts old.responses memory (next_grant old.deliveries) (written_end end) new.responses
+      memory_after
   pub legible : read_end (written_end end) ≡ Some end
   pub others : new ≡ record old {
     responses = new.responses;
@@ -117,7 +142,8 @@ pub record DeliversOne (old : PortState) (memory : List ℕ) (new : PortState) (
 
 -- no end waits, or the port doesn't own the next response descriptor
 abbrev pub NothingToDeliver : PortState → List ℕ → Type 0
-NothingToDeliver old memory = (end : End) → slice_get old.waiting 0 ≡ Some end → FindsNone old.responses memory
+NothingToDeliver old memory =
+    (end : End) → slice_get old.waiting 0 ≡ Some end → FindsNone old.responses memory
 
 -- fatal: the next response descriptor isn't in memory
 pub record LosesResponseRing (old : PortState) (memory : List ℕ) : Type 0 where
@@ -134,9 +160,12 @@ pub record LosesResponse (old : PortState) (memory : List ℕ) : Type 0 where
 -- whether the third line fits, or why it is fatal
 abbrev pub DeliverLine : PortState → List ℕ → Result Bool Fatal → PortState → List ℕ → Type 0
 DeliverLine old memory (Ok true) new memory_after = DeliversOne old memory new memory_after
-DeliverLine old memory (Ok false) new memory_after = NothingToDeliver old memory × Unchanged old memory new memory_after
-DeliverLine old memory (Err RingRead) new memory_after = LosesResponseRing old memory × Unchanged old memory new memory_after
-DeliverLine old memory (Err PacketWrite) new memory_after = LosesResponse old memory × Unchanged old memory new memory_after
+DeliverLine old memory (Ok false) new memory_after =
+    NothingToDeliver old memory × Unchanged old memory new memory_after
+DeliverLine old memory (Err RingRead) new memory_after =
+    LosesResponseRing old memory × Unchanged old memory new memory_after
+DeliverLine old memory (Err PacketWrite) new memory_after =
+    LosesResponse old memory × Unchanged old memory new memory_after
 DeliverLine old memory (Err _) new memory_after = ⊥
 
 -- ---- the lines in their order
@@ -144,18 +173,23 @@ DeliverLine old memory (Err _) new memory_after = ⊥
 -- a turn that has nothing to fetch: the second line, or else the third
 abbrev pub RestGoes : PortState → List ℕ → Result Turn Fatal → PortState → List ℕ → Type 0
 RestGoes old memory (Ok Executed) new memory_after = ExecuteLine old memory true new memory_after
-RestGoes old memory (Ok Delivered) new memory_after = (old.exec.pending ≡ []) × DeliverLine old memory (Ok true) new memory_after
-RestGoes old memory (Ok Idle) new memory_after = (old.exec.pending ≡ []) × DeliverLine old memory (Ok false) new memory_after
+RestGoes old memory (Ok Delivered) new memory_after =
+    (old.exec.pending ≡ []) × DeliverLine old memory (Ok true) new memory_after
+RestGoes old memory (Ok Idle) new memory_after =
+    (old.exec.pending ≡ []) × DeliverLine old memory (Ok false) new memory_after
 RestGoes old memory (Ok _) new memory_after = ⊥
-RestGoes old memory (Err cause) new memory_after = (old.exec.pending ≡ []) × DeliverLine old memory (Err cause) new memory_after
+RestGoes old memory (Err cause) new memory_after =
+    (old.exec.pending ≡ []) × DeliverLine old memory (Err cause) new memory_after
 
 -- the first line didn't fit
-pub record GoesOn (old : PortState) (memory : List ℕ) (result : Result Turn Fatal) (new : PortState) (memory_after : List ℕ) : Type 0 where
+pub record GoesOn (old : PortState) (memory : List ℕ) (result : Result Turn Fatal) (new : PortState)
+    (memory_after : List ℕ) : Type 0 where
   pub nothing_to_fetch : NothingToFetch old memory
   pub rest : RestGoes (port_not_looking old) memory result new memory_after
 
 -- a turn that is fatal is so in its first line or in its third
-pub data Fails (cause : Fatal) (old : PortState) (memory : List ℕ) (new : PortState) (memory_after : List ℕ) : Type 0 where
+pub data Fails (cause : Fatal) (old : PortState) (memory : List ℕ) (new : PortState)
+    (memory_after : List ℕ) : Type 0 where
   InFetch : FetchLine old memory (Err cause) new memory_after → Fails cause old memory new memory_after
   InRest : GoesOn old memory (Err cause) new memory_after → Fails cause old memory new memory_after
 
@@ -176,7 +210,8 @@ RunningTurn old memory Dead new memory_after = Dies old memory new memory_after
 RunningTurn old memory turn new memory_after = LinesGo (port_turn_on old) memory (Ok turn) new memory_after
 
 -- a port that doesn't run changes nothing
-pub record Stopped (old : PortState) (memory : List ℕ) (expected turn : Turn) (new : PortState) (memory_after : List ℕ) : Type 0 where
+pub record Stopped (old : PortState) (memory : List ℕ) (expected turn : Turn) (new : PortState)
+    (memory_after : List ℕ) : Type 0 where
   pub answer : turn ≡ expected
   pub unchanged : Unchanged old memory new memory_after
 

@@ -3,7 +3,9 @@
 //! UDA50 Programmer's Documentation Kit: initialisation, communication area.
 ghost use Rattle.std.specs.Prelude.{◌≡◌, ◌+◌, ◌-◌, ◌≤◌, ◌%◌, ◌^◌, ◌<◌, IsTrue, length};
 ghost use Rattle.uda_port.specs.Ring.{is_ring_length};
-ghost use Rattle.uda_port.specs.Startup.{sa_of, by_first, by_second, by_third, by_fourth, by_word, has_area, has_bit, memory_with_area, port_with_rings, ring_base, response_count, command_count, rings_size, dead_port};
+ghost use Rattle.uda_port.specs.Startup.{sa_of, by_first, by_second, by_third, by_fourth, by_word, has_area};
+ghost use Rattle.uda_port.specs.Startup.{has_bit, memory_with_area, port_with_rings, ring_base};
+ghost use Rattle.uda_port.specs.Startup.{response_count, command_count, rings_size, dead_port};
 
 use crate::phase::{Fatal, Phase};
 use crate::port::Port;

@@ -22,8 +22,9 @@ word_given_back high = high % 0x4000 + 0x4000
 -- the descriptor at an address, if it lies wholly in memory
 abbrev pub descriptor_at : List ℕ → ℕ → Option Descriptor
 descriptor_at memory at =
-    if nat_le (at + 4) (length memory) then Some
-    (record { low = word_at memory at; high = word_at memory (at + 2) }) else None
+    if nat_le (at + 4) (length memory)
+    then Some (record { low = word_at memory at; high = word_at memory (at + 2) })
+    else None
 
 -- the n descriptors of a ring
 abbrev pub ring : List ℕ → ℕ → ℕ → List (Option Descriptor)

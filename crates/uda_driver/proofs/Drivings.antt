@@ -3,7 +3,7 @@ use Rattle.std.proofs.Common.{◌≡◌, ◌≢◌, ℕ, zero, suc, min, max, Bo
 use Rattle.std.specs.Prelude.{slice_get, slice_set, remove, replicate, All, AllPairs, nat_eq, nat_lt, ◌&&◌, ◌||◌}
 use Rattle.std.proofs.Math.Bool.{and_comm, or_comm}
 use Rattle.std.proofs.lemmas.Bool.Decides.{nat_tests}
-use Rattle.std.proofs.lemmas.List.{length-map, map_push, append-nil, length_push, nil_from_length}
+use Rattle.std.proofs.lemmas.List.{length-map, map_push, length_push, nil_from_length}
 use Rattle.std.proofs.lemmas.List.Elements.{All-nil, All-cons, All-head, All-tail, All-map}
 use Rattle.std.proofs.lemmas.Option.{slice_get_within}
 use Rattle.uda_mem.specs.Put.{put, part}
@@ -107,11 +107,11 @@ module _ {start : Units} {requests : List Request} {out : List (Option Out)} {an
   pub driving_works : Works host new → Driving start requests out answers new
   driving_works (OneFetched f) = rw f.is (record { due = D.due; ended = D.ended; are_due = D.are_due; keeps = stays D f.buffers; outs = D.outs; fit = D.fit })
   driving_works (OneDone x) =
-      let t : Ends start requests D.due D.ended answers x.place x.end (record { units = new.units; pending = new.due }) [] new.memory = keeps_execute [] (append-nil host.due ∙ D.are_due) x.executes D.keeps in
+      let t : Ends start requests D.due D.ended answers x.place x.end (record { units = new.units; pending = new.due }) new.memory = keeps_execute D.are_due x.executes D.keeps in
       rw x.is (record {
         due = remove D.due x.place;
         ended = D.ended ++ record { posted = t.posted; end = x.end } ∷ [];
-        are_due = sym (append-nil new.due) ∙ t.pending;
+        are_due = t.pending;
         keeps = t.keeps;
         outs = outs_execute D.outs x.place t.posted x.end t.stands t.reference;
         fit = D.fit;

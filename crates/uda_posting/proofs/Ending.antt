@@ -51,12 +51,12 @@ told_elsewhere told memory d p tells untold same =
 
 -- ---- the steps
 
-pub record Ends (start : Units) (requests : List Request) (due : List Posted) (ended : List Ended) (answers : List Answer) (j : ℕ) (e : End) (new : ExecState) (unfetched : List Command) (memory : List ℕ) : Type 0 where
+pub record Ends (start : Units) (requests : List Request) (due : List Posted) (ended : List Ended) (answers : List Answer) (j : ℕ) (e : End) (new : ExecState) (memory : List ℕ) : Type 0 where
   pub posted : Posted
   pub stands : slice_get due j ≡ Some posted
   pub reference : e.reference ≡ posted.place + 1
   pub keeps : Keeps start requests (remove due j) (ended ++ record { posted = posted; end = e } ∷ []) answers new.units memory
-  pub pending : new.pending ++ unfetched ≡ commands_in (remove due j)
+  pub pending : new.pending ≡ commands_in (remove due j)
 
 module _ {start : Units} {requests : List Request} {due : List Posted} {ended : List Ended} {answers : List Answer} {units : Units} {memory : List ℕ} (keeps : Keeps start requests due ended answers units memory) where
   pub keeps_put : (at : ℕ) (bytes : List ℕ) → All (Misses at (length bytes)) (commands_in due) → All (λ d. Misses at (length bytes) (posted_command d.posted)) ended → Keeps start requests due ended answers units (put memory at bytes)
@@ -133,10 +133,9 @@ module _ {start : Units} {requests : List Request} {due : List Posted} {ended : 
 
 -- a command is done among those that are pending
 pub keeps_execute : {start : Units} {requests : List Request} {due : List Posted} {ended : List Ended} {answers : List Answer} {j : ℕ} {old new : ExecState} {e : End} {memory left : List ℕ}
-    → (unfetched : List Command) → old.pending ++ unfetched ≡ commands_in due → ExecutesAt j old memory e new left
-    → Keeps start requests due ended answers old.units memory → Ends start requests due ended answers j e new unfetched left
-keeps_execute {start} {requests} {due} {j = j} {new = new} {e} {memory} {left} unfetched waits x keeps =
-    let t : Executed start requests due keeps.told j e new unfetched memory left = owes_execute unfetched waits x keeps.owes in
+    → old.pending ≡ commands_in due → ExecutesAt j old memory e new left → Keeps start requests due ended answers old.units memory → Ends start requests due ended answers j e new left
+keeps_execute {start} {requests} {due} {j = j} {new = new} {e} {memory} {left} waits x keeps =
+    let t : Executed start requests due keeps.told j e new memory left = owes_execute waits x keeps.owes in
     record { posted = t.posted; stands = t.stands; reference = t.reference; keeps = ended_one keeps j t.posted e t.stands t.changed t.owes; pending = t.pending }
 
 -- the first end is taken, and its answer told

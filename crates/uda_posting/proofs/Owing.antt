@@ -3,10 +3,9 @@ use Rattle.std.proofs.Common.{◌≡◌, ◌≢◌, ℕ, zero, suc, ◌+◌, ◌
 use Rattle.std.specs.Prelude.{slice_get, slice_set, option_map, remove, All, AllPairs, nat_eq, ◌&&◌, if◌then◌else◌}
 use Rattle.std.proofs.lemmas.List.{length-set, length-map, map_push}
 use Rattle.std.proofs.lemmas.List.Elements.{All-nil, All-cons, All-head, All-tail, All-push}
-use Rattle.std.proofs.lemmas.List.Edits.{remove-append_left}
 use Rattle.std.proofs.lemmas.List.Quantifiers.{all_pairs_push, all_pairs_remove}
 use Rattle.std.proofs.lemmas.Bool.{cases_eq, eq-eqb, ne_eqb}
-use Rattle.std.proofs.lemmas.Option.{slice_get_within, slice_get-map, slice_get-get_or}
+use Rattle.std.proofs.lemmas.Option.{slice_get_within, slice_get-map}
 use Rattle.uda_mem.specs.Put.{part, put}
 use Rattle.uda_mem.proofs.PutLaws.{length-put, length-part}
 use Rattle.uda_packet.specs.declared.command.Command.{Command}
@@ -250,18 +249,6 @@ module _ {start : Units} {requests : List Request} {due : List Posted} {told : L
 
 -- ---- an execution
 
--- one that may go among those that are pending may go among all that are due
-goes_among : (pending unfetched : List Command) (j : ℕ) → MayGo pending j → MayGo (pending ++ unfetched) j
-goes_among pending unfetched j may =
-    let size = length-append pending unfetched in
-    -- what stands among all before one that is pending is pending
-    let front : (i : ℕ) (c : Command) → i < length pending → slice_get (pending ++ unfetched) i ≡ Some c → slice_get pending i ≡ Some c = λ i c l at.
-    let there = slice_get-get_or pending i c l in there ∙ sym (slice_get-append pending unfetched i _ there) ∙ at in
-    record {
-      stands = omega (arith, may.stands);
-      passes = λ i older younger low at_i at_j. may.passes i older younger low (front i older (omega (arith, may.stands)) at_i) (front j younger may.stands at_j);
-    }
-
 -- the request of a command that is due
 record RequestOf (due : List Posted) (j : ℕ) (c : Command) : Type 0 where
   posted : Posted
@@ -273,29 +260,26 @@ request_of [] j c at = absurd (cc)
 request_of (p ∷ rest) zero c at = record { posted = p; stands = refl; is = cc }
 request_of (p ∷ rest) (suc j) c at = let found = request_of rest j c at in record { posted = found.posted; stands = found.stands; is = found.is }
 
-pub record Executed (start : Units) (requests : List Request) (due : List Posted) (told : List Answer) (j : ℕ) (e : End) (new : ExecState) (unfetched : List Command) (old_memory memory : List ℕ) : Type 0 where
+pub record Executed (start : Units) (requests : List Request) (due : List Posted) (told : List Answer) (j : ℕ) (e : End) (new : ExecState) (old_memory memory : List ℕ) : Type 0 where
   pub posted : Posted
   pub stands : slice_get due j ≡ Some posted
   pub changed : ChangesAt old_memory (buffer_start (posted_command posted).op) (landing_of (posted_command posted).op) memory
   pub reference : e.reference ≡ posted.place + 1
   pub owes : Owes start requests (remove due j) (slice_set told posted.place (answer_of posted.request.act e (buffer_of posted memory))) new.units memory
-  pub pending : new.pending ++ unfetched ≡ commands_in (remove due j)
+  pub pending : new.pending ≡ commands_in (remove due j)
 
 pub owes_execute : {start : Units} {requests : List Request} {due : List Posted} {told : List Answer} {j : ℕ} {old new : ExecState} {e : End} {memory left : List ℕ}
-    → (unfetched : List Command) → old.pending ++ unfetched ≡ commands_in due → ExecutesAt j old memory e new left → Owes start requests due told old.units memory
-    → Executed start requests due told j e new unfetched memory left
-owes_execute {due = due} {j} {old} {new} {e} {memory} {left} unfetched waits x owes =
-    let found = request_of due j x.command (ap (λ (cs : List Command). slice_get cs j) (sym waits) ∙ slice_get-append old.pending unfetched j x.command x.taken.stands) in
+    → old.pending ≡ commands_in due → ExecutesAt j old memory e new left → Owes start requests due told old.units memory → Executed start requests due told j e new memory left
+owes_execute {due = due} {j} {old} {new} {e} {memory} {left} waits x owes =
+    let found = request_of due j x.command (ap (λ (cs : List Command). slice_get cs j) (sym waits) ∙ x.taken.stands) in
     let it : Executes (posted_command found.posted) old.units memory e new.units left = subst (λ (c : Command). Executes c old.units memory e new.units left) (sym found.is) x.executes in
-    let goes = subst (λ (cs : List Command). MayGo cs j) waits (goes_among old.pending unfetched j x.taken.may) in
     record {
       posted = found.posted;
       stands = found.stands;
       changed = it.memory_stays;
       reference = it.answers.reference;
-      owes = owes_done owes j found.posted found.stands goes it;
-      pending = ap (λ (cs : List Command). cs ++ unfetched) x.taken.taken ∙ sym (remove-append_left old.pending unfetched j x.taken.may.stands)
-          ∙ ap (λ (cs : List Command). remove cs j) waits ∙ sym (map-remove posted_command due j);
+      owes = owes_done owes j found.posted found.stands (subst (λ (cs : List Command). MayGo cs j) waits x.taken.may) it;
+      pending = x.taken.taken ∙ ap (λ (cs : List Command). remove cs j) waits ∙ sym (map-remove posted_command due j);
     }
 
 -- ---- nothing is due

@@ -12,7 +12,7 @@ use Rattle.uda_port.specs.Port.{PortState, port_asked}
 use Rattle.uda_host.specs.Layout.{slots, command_descriptor, command_packet, buffers_start}
 use Rattle.uda_host.specs.InStep.{IsAbove, IsSound, unfetched}
 use Rattle.uda_host.specs.Host.{HostState, Posts, AddsUp}
-use Rattle.uda_host.specs.Slots.{posted_slot, Writes}
+use Rattle.uda_host.specs.Slots.{posted_slot, WritesSlot}
 use Rattle.uda_host.specs.IsHost.{host_view, IsHost}
 use Rattle.uda_host.specs.declared.host.Host.TheInside.{Inside}
 use Rattle.uda_host.proofs.Slots.{rings-put, rings_posted}
@@ -49,7 +49,7 @@ buffer_filled host at bytes above = record {
 
 -- a command is posted, and the port begins to look
 pub host_posts : {S : Type 0} {h : Inside S} {value : HostState} {after : List ℕ} {new : PortState} {more : List Command} (c : Command) → host_view h ≡ value → IsHost h → 0 < value.credits → IsAbove c → read_command (written_command c) ≡ Ok c
-    → Writes (command_descriptor h.command_place) (command_packet h.command_place) (posted_slot h.command_place c) h.memory after → new ≡ port_asked h.port.phase h.port → more ≡ h.posted ++ c ∷ []
+    → WritesSlot (command_descriptor h.command_place) (command_packet h.command_place) (posted_slot h.command_place c) h.memory after → new ≡ port_asked h.port.phase h.port → more ≡ h.posted ++ c ∷ []
     → HostThat (Posts c value) (record h { memory = after; command_place = (h.command_place + 1) % slots; held = h.held - 1; posted = more; port = new })
 host_posts {h = h} c is host some above legible w asked more_is =
     let agree = host.agree in let counts = host.counts in let rings = host.rings in

@@ -10,7 +10,7 @@ use Rattle.uda_packet.specs.declared.command.Command.{Command}
 use Rattle.uda_exec.proofs.Changes.{changes_by_put, changes_again, changes_nothing}
 use Rattle.uda_host.specs.Layout.{slots, response_descriptor, command_descriptor, response_packet, command_packet, buffers_start, memory_size}
 use Rattle.uda_host.specs.Host.{BuffersStay}
-use Rattle.uda_host.specs.Slots.{Slot, slot_at, command_at, response_at, posted_slot, IsFree, IsOpen, RingsHold, IsPlace, Writes}
+use Rattle.uda_host.specs.Slots.{Slot, slot_at, command_at, response_at, posted_slot, IsFree, IsOpen, RingsHold, IsPlace, WritesSlot}
 
 pub both_stay : {memory between after : List ℕ} → BuffersStay memory between → BuffersStay between after → BuffersStay memory after
 both_stay {memory} {between} {after} first then = record { below = changes_again memory between after 0 buffers_start first.below then.below }
@@ -26,14 +26,14 @@ slot-put memory at bytes d p ring packet =
 
 -- ---- a slot is written, part by part
 
-pub unwritten : {d p : ℕ} (memory : List ℕ) → IsPlace d p → length memory ≡ memory_size → Writes d p (slot_at memory d p) memory memory
+pub unwritten : {d p : ℕ} (memory : List ℕ) → IsPlace d p → length memory ≡ memory_size → WritesSlot d p (slot_at memory d p) memory memory
 unwritten memory place size =
     record { place = place; size = size; buffers = record { below = changes_nothing memory 0 buffers_start }; holds = refl; rest = λ a b there ring packet. refl }
 
-module _ {memory m : List ℕ} {d p : ℕ} {s : Slot} (w : Writes d p s memory m) where
+module _ {memory m : List ℕ} {d p : ℕ} {s : Slot} (w : WritesSlot d p s memory m) where
   -- some bytes of its descriptor or of its packet
   written_more : (at : ℕ) (bytes : List ℕ) (change : Slot → Slot) → d ≤ at → (at < p → at + length bytes ≤ d + 4) → at + length bytes ≤ p + 52 → slot_at (put m at bytes) d p ≡ change (slot_at m d p)
-      → Writes d p (change s) memory (put m at bytes)
+      → WritesSlot d p (change s) memory (put m at bytes)
   written_more at bytes change from ring to is = let here = w.place in record {
     place = w.place;
     size = length-put m at bytes ∙ w.size;
@@ -43,7 +43,7 @@ module _ {memory m : List ℕ} {d p : ℕ} {s : Slot} (w : Writes d p s memory m
   }
 
   module _ (word : ℕ) (fits : word < 2 ^ 16) where
-    pub low_written : Writes d p (record s { descriptor = record s.descriptor { low = word } }) memory (put m d (word_bytes word))
+    pub low_written : WritesSlot d p (record s { descriptor = record s.descriptor { low = word } }) memory (put m d (word_bytes word))
     low_written =
         let width = length-word_bytes word in let here = w.place in let room = w.size in
         let is = word_at-put_at m d word (omega arith) fits in
@@ -53,7 +53,7 @@ module _ {memory m : List ℕ} {d p : ℕ} {s : Slot} (w : Writes d p s memory m
         written_more d (word_bytes word) (λ (x : Slot). record x { descriptor = record x.descriptor { low = word } }) (omega arith) (λ less. omega arith) (omega arith)
         (λ i. record { descriptor = record { low = is i; high = high i }; size = size i; credits = credits i; text = text i })
 
-    pub high_written : Writes d p (record s { descriptor = record s.descriptor { high = word } }) memory (put m (d + 2) (word_bytes word))
+    pub high_written : WritesSlot d p (record s { descriptor = record s.descriptor { high = word } }) memory (put m (d + 2) (word_bytes word))
     high_written =
         let width = length-word_bytes word in let here = w.place in let room = w.size in
         let is = word_at-put_at m (d + 2) word (omega arith) fits in
@@ -63,7 +63,7 @@ module _ {memory m : List ℕ} {d p : ℕ} {s : Slot} (w : Writes d p s memory m
         written_more (d + 2) (word_bytes word) (λ (x : Slot). record x { descriptor = record x.descriptor { high = word } }) (omega arith) (λ less. omega arith) (omega arith)
         (λ i. record { descriptor = record { low = low i; high = is i }; size = size i; credits = credits i; text = text i })
 
-    pub size_written : Writes d p (record s { size = word }) memory (put m p (word_bytes word))
+    pub size_written : WritesSlot d p (record s { size = word }) memory (put m p (word_bytes word))
     size_written =
         let width = length-word_bytes word in let here = w.place in let room = w.size in
         let is = word_at-put_at m p word (omega arith) fits in
@@ -73,7 +73,7 @@ module _ {memory m : List ℕ} {d p : ℕ} {s : Slot} (w : Writes d p s memory m
         written_more p (word_bytes word) (λ (x : Slot). record x { size = word }) (omega arith) (λ less. absurd (omega arith)) (omega arith)
         (λ i. record { descriptor = record { low = low i; high = high i }; size = is i; credits = credits i; text = text i })
 
-    pub credits_written : Writes d p (record s { credits = word }) memory (put m (p + 2) (word_bytes word))
+    pub credits_written : WritesSlot d p (record s { credits = word }) memory (put m (p + 2) (word_bytes word))
     credits_written =
         let width = length-word_bytes word in let here = w.place in let room = w.size in
         let is = word_at-put_at m (p + 2) word (omega arith) fits in
@@ -83,7 +83,7 @@ module _ {memory m : List ℕ} {d p : ℕ} {s : Slot} (w : Writes d p s memory m
         written_more (p + 2) (word_bytes word) (λ (x : Slot). record x { credits = word }) (omega arith) (λ less. absurd (omega arith)) (omega arith)
         (λ i. record { descriptor = record { low = low i; high = high i }; size = size i; credits = is i; text = text i })
 
-  pub text_written : (text : List ℕ) → length text ≡ 48 → Writes d p (record s { text = text }) memory (put m (p + 4) text)
+  pub text_written : (text : List ℕ) → length text ≡ 48 → WritesSlot d p (record s { text = text }) memory (put m (p + 4) text)
   text_written text long =
       let here = w.place in let room = w.size in
       let is = part-put_at m (p + 4) 48 text (omega arith) (sym long) in
@@ -120,7 +120,7 @@ rings-put {memory} at bytes above rings =
     (λ i low. subst (IsOpen (response_packet i)) (sym (same (response_descriptor i) (response_packet i) (response_place i low))) (rings.opens i low))
 
 -- a response slot is written
-module _ {memory after : List ℕ} {s : Slot} (i : ℕ) (within : i < slots) (w : Writes (response_descriptor i) (response_packet i) s memory after) where
+module _ {memory after : List ℕ} {s : Slot} (i : ℕ) (within : i < slots) (w : WritesSlot (response_descriptor i) (response_packet i) s memory after) where
   pub commands_stay : (j : ℕ) → j < slots → command_at after j ≡ command_at memory j
   commands_stay j low = w.rest (command_descriptor j) (command_packet j) (command_place j low) (λ meet. omega arith) (λ meet. omega arith)
 
@@ -135,7 +135,7 @@ module _ {memory after : List ℕ} {s : Slot} (i : ℕ) (within : i < slots) (w 
   rings_answered opened rings = rings_beside rings w.size commands_stay (λ j low. opens_too opened j low (λ other. rings.opens j low))
 
 -- a command slot is written
-module _ {memory after : List ℕ} {s : Slot} (i : ℕ) (within : i < slots) (w : Writes (command_descriptor i) (command_packet i) s memory after) where
+module _ {memory after : List ℕ} {s : Slot} (i : ℕ) (within : i < slots) (w : WritesSlot (command_descriptor i) (command_packet i) s memory after) where
   command_beside : (j : ℕ) → j < slots → j ≢ i → command_at after j ≡ command_at memory j
   command_beside j low other = w.rest (command_descriptor j) (command_packet j) (command_place j low) (λ meet. other (omega arith)) (λ meet. other (omega arith))
 
@@ -143,7 +143,7 @@ module _ {memory after : List ℕ} {s : Slot} (i : ℕ) (within : i < slots) (w 
   still_open j low = subst (IsOpen (response_packet j)) (sym (w.rest (response_descriptor j) (response_packet j) (response_place j low) (λ meet. omega arith) (λ meet. omega arith)))
 
 -- a command is posted behind the others
-pub rings_posted : {memory after : List ℕ} {place : ℕ} {queue : List Command} (i : ℕ) (c : Command) → Writes (command_descriptor i) (command_packet i) (posted_slot i c) memory after → length queue < slots → i ≡ (place + length queue) % slots
+pub rings_posted : {memory after : List ℕ} {place : ℕ} {queue : List Command} (i : ℕ) (c : Command) → WritesSlot (command_descriptor i) (command_packet i) (posted_slot i c) memory after → length queue < slots → i ≡ (place + length queue) % slots
     → RingsHold memory place queue → RingsHold after place (queue ++ c ∷ [])
 rings_posted {after = after} {place} {queue} i c w room at rings =
     let long = length_push queue c in let within = rings.within in
@@ -167,7 +167,7 @@ pub first_free : {memory : List ℕ} {place : ℕ} → RingsHold memory place []
 first_free {memory} rings = let within = rings.within in subst (λ (j : ℕ). IsFree (command_at memory j)) (omega arith) (rings.free 0 (omega arith) (omega arith))
 
 -- it is fetched, and its slot is free
-pub rings_fetched : {memory after : List ℕ} {place : ℕ} {c : Command} {queue : List Command} {s : Slot} → Writes (command_descriptor place) (command_packet place) s memory after → IsFree s
+pub rings_fetched : {memory after : List ℕ} {place : ℕ} {c : Command} {queue : List Command} {s : Slot} → WritesSlot (command_descriptor place) (command_packet place) s memory after → IsFree s
     → RingsHold memory place (c ∷ queue) → RingsHold after ((place + 1) % slots) queue
 rings_fetched {after = after} {place} {queue = queue} w freed rings =
     let within = rings.within in let few = rings.few in

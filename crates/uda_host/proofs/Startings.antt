@@ -13,7 +13,7 @@ use Rattle.uda_port.specs.declared.phase.Phase.TheVariants.{Step1}
 use Rattle.uda_port.specs.Startup.{by_word}
 use Rattle.uda_port.specs.Port.{PortState, port_at_start}
 use Rattle.uda_host.specs.Layout.{rings_word, area_size, slots, memory_size, response_descriptor, command_descriptor, response_packet}
-use Rattle.uda_host.specs.Slots.{Slot, command_at, response_at, IsFree, IsOpen, Writes}
+use Rattle.uda_host.specs.Slots.{Slot, command_at, response_at, IsFree, IsOpen, WritesSlot}
 use Rattle.uda_host.specs.InStep.{IsSound}
 use Rattle.uda_host.specs.Starting.{port_running}
 use Rattle.uda_host.specs.IsHost.{IsHost}
@@ -56,7 +56,7 @@ pub record Opening (start memory : List ℕ) (i : ℕ) : Type 0 where
   pub opens : (j : ℕ) → j < i → IsOpen (response_packet j) (response_at memory j)
   pub free : (j : ℕ) → j < slots → IsFree (command_at start j) → IsFree (command_at memory j)
 
-pub opening_more : {start memory after : List ℕ} {s : Slot} (i : ℕ) → i < slots → Writes (response_descriptor i) (response_packet i) s memory after → IsOpen (response_packet i) s → Opening start memory i → Opening start after (i + 1)
+pub opening_more : {start memory after : List ℕ} {s : Slot} (i : ℕ) → i < slots → WritesSlot (response_descriptor i) (response_packet i) s memory after → IsOpen (response_packet i) s → Opening start memory i → Opening start after (i + 1)
 opening_more i within w opened o = record {
   size = w.size;
   opens = λ j less. opens_too i within w opened j (omega arith) (λ other. o.opens j (omega arith));

@@ -29,7 +29,7 @@ use Rattle.uda_port.specs.Message.{message_of_text, message_in}
 use Rattle.uda_port.specs.Port.{PortState, CreditsAgree, next_grant}
 use Rattle.uda_port.specs.Turn.{port_turn_on, port_with_message, FetchesOne, NothingToFetch, FetchLine, GoesOn, Fails, InFetch, InRest, RunningTurn, TurnGoes}
 use Rattle.uda_host.specs.Layout.{slots, memory_size, response_descriptor, command_descriptor, response_packet, command_packet, owner_word, flag_word}
-use Rattle.uda_host.specs.Slots.{Slot, slot_at, command_at, response_at, owned, RingsHold, Writes}
+use Rattle.uda_host.specs.Slots.{Slot, slot_at, command_at, response_at, owned, RingsHold, WritesSlot}
 use Rattle.uda_host.specs.InStep.{IsSound, unfetched}
 use Rattle.uda_host.specs.Host.{HostState, out_of, TakesEnd, Works, OneFetched, OneDone}
 use Rattle.uda_host.specs.IsHost.{host_view, IsHost}
@@ -150,7 +150,7 @@ abbrev delivered_slot : List ℕ → ℕ → ℕ → End → Slot
 delivered_slot memory i credits e = record { descriptor = record (response_at memory i).descriptor { high = flag_word }; size = 48; credits = credits; text = written_end e }
 
 delivery_written : {S : Type 0} {h : Inside S} (credits : ℕ) (e : End) (ring : RingState) (after : List ℕ) → IsHost h → credits < 2 ^ 16 → Puts h.port.responses h.memory credits (written_end e) ring after
-    → Writes (response_descriptor h.response_place) (response_packet h.response_place) (delivered_slot h.memory h.response_place credits e) h.memory after
+    → WritesSlot (response_descriptor h.response_place) (response_packet h.response_place) (delivered_slot h.memory h.response_place credits e) h.memory after
 delivery_written {h = h} credits e ring after host fits puts =
     let place = h.response_place in let next = puts.is_next in let seen = responses_seen host in
     let first : puts.first ≡ owned (response_packet place) = cc in
@@ -162,7 +162,7 @@ delivery_written {h = h} credits e ring after host fits puts =
     let is = puts.written ∙ (λ i. put (put (put (put h.memory (text i) (written_end e)) (size i) (word_bytes 48)) (second i) (word_bytes credits)) (at i) (word_bytes (high i))) in
     let written = text_written (unwritten h.memory (response_place place host.rings.looks_within) host.written.size) (written_end e) (length-written_end e) in
     let all = high_written (credits_written (size_written written 48 (omega arith)) credits fits) flag_word (omega arith) in
-    subst (Writes (response_descriptor place) (response_packet place) (delivered_slot h.memory place credits e) h.memory) (sym is) all
+    subst (WritesSlot (response_descriptor place) (response_packet place) (delivered_slot h.memory place credits e) h.memory) (sym is) all
 
 -- the host reads it, and gives its slot back
 module _ {S : Type 0} {h : Inside S} (host : IsHost h) (new : PortState) (after : List ℕ) (goes : TurnGoes h.port.phase h.port h.memory Delivered new after) where
@@ -176,14 +176,14 @@ module _ {S : Type 0} {h : Inside S} (host : IsHost h) (new : PortState) (after 
       by [] none = none
       by (c ∷ rest) were = absurd (must_fetch host were lines.nothing_to_fetch)
 
-  sent : Writes (response_descriptor h.response_place) (response_packet h.response_place) (delivered_slot h.memory h.response_place (next_grant h.port.deliveries) lines.rest.1.end) h.memory after
+  sent : WritesSlot (response_descriptor h.response_place) (response_packet h.response_place) (delivered_slot h.memory h.response_place (next_grant h.port.deliveries) lines.rest.1.end) h.memory after
   sent = delivery_written (next_grant h.port.deliveries) lines.rest.1.end new.responses after host (omega arith) lines.rest.1.puts
 
   pub end_read : (read : Option End) → (length after ≡ memory_size → read ≡ read_end (part after (response_packet h.response_place + 4) 48)) → read ≡ Some lines.rest.1.end
   end_read read by = by sent.size ∙ ap read_end (ap (λ (s : Slot). s.text) sent.holds) ∙ lines.rest.1.legible
 
-  pub host_takes : {value : HostState} {left : List ℕ} {end : End} {credits : ℕ} → host_view h ≡ value → CreditsAgree new → (length after ≡ memory_size → Some end ≡ read_end (part after (response_packet h.response_place + 4) 48)) → (length after ≡ memory_size → credits ≡ word_at after (response_packet h.response_place + 2))
-      → (length after ≡ memory_size → left ≡ put after (response_descriptor h.response_place + 2) (word_bytes owner_word))
+  pub host_takes : {value : HostState} {left : List ℕ} {end : End} {credits : ℕ} → host_view h ≡ value → CreditsAgree new → (length after ≡ memory_size → Some end ≡ read_end (part after (response_packet h.response_place + 4) 48))
+      → (length after ≡ memory_size → credits ≡ word_at after (response_packet h.response_place + 2)) → (length after ≡ memory_size → left ≡ put after (response_descriptor h.response_place + 2) (word_bytes owner_word))
       → HostThat (TakesEnd value end) (record h { memory = left; response_place = (h.response_place + 1) % slots; held = h.held + credits; port = new })
   host_takes {left = left} {end} {credits} is agree end_by credits_by left_by =
       let port = h.port in let one = lines.rest.1 in

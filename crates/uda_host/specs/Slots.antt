@@ -74,7 +74,7 @@ pub record IsPlace (at packet : ℕ) : Type 0 where
   pub below : packet + 52 ≤ buffers_start
 
 -- one slot is written and holds s then; the others and every buffer stay as they were
-pub record Writes (at packet : ℕ) (s : Slot) (memory after : List ℕ) : Type 0 where
+pub record WritesSlot (at packet : ℕ) (s : Slot) (memory after : List ℕ) : Type 0 where
   pub place : IsPlace at packet
   pub size : length after ≡ memory_size
   pub buffers : BuffersStay memory after

@@ -6,7 +6,7 @@ ghost use Rattle.uda_packet.specs.Written.{written_command};
 ghost use Rattle.uda_packet.specs.Reading.{read_command, read_end};
 ghost use Rattle.uda_host.specs.Layout.{slots, buffer_address, memory_size, command_descriptor};
 ghost use Rattle.uda_host.specs.Layout.{command_packet, response_descriptor, response_packet, owner_word};
-ghost use Rattle.uda_host.specs.Slots.{posted_slot, Writes};
+ghost use Rattle.uda_host.specs.Slots.{posted_slot, WritesSlot};
 
 use uda_mem::HostMemory;
 use uda_packet::{Command, End, decode_end, encode_command};
@@ -64,7 +64,7 @@ fn put_text(memory: &mut HostMemory, at: u32, text: &[u8; 48])
 pub(crate) fn write_command(memory: &mut HostMemory, place: u32, command: &Command)
     requires size { length memory.old ≡ memory_size }
     requires within { place < slots }
-    ensures posted { Writes (command_descriptor place) (command_packet place) (posted_slot place command.now)
+    ensures posted { WritesSlot (command_descriptor place) (command_packet place) (posted_slot place command.now)
         memory.old memory.new }
     ensures legible { read_command (written_command command.now) ≡ Ok command.now }
 {

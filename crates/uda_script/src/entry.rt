@@ -9,7 +9,7 @@ ghost use Rattle.uda_script.specs.Statuses.{exit_status_of};
 
 use crate::fault::Fault;
 use crate::hexadecimal::hexadecimal;
-use crate::run::{Streams, run};
+use crate::run::{StandardStreams, run};
 use crate::words::{Task, read_words};
 use std::alloc::Global;
 use std::io;
@@ -34,7 +34,7 @@ pub fn program<R: Read + Drop, W: Write + Drop, V: Write + Drop>(
     let done = match read_words(rt.alloc(), words) {
         Ok(Task::Probe) => print_probe(rt.alloc(), &mut out),
         Ok(Task::Run { script, units }) => {
-            let streams = Streams {
+            let streams = StandardStreams {
                 input: &mut input,
                 out: &mut out,
                 report: &mut report,

@@ -14,7 +14,7 @@ const GATHERED: usize = 65_536;
 
 /// Where a run's data come from, and where its texts go.
 #[derive(Drop)]
-pub(crate) struct Streams<'a, R, W, V> {
+pub(crate) struct StandardStreams<'a, R, W, V> {
     /// The data of the script's writes.
     pub(crate) input: &'a mut R,
     /// Gets what is read of the images.
@@ -32,7 +32,7 @@ pub(crate) fn run<R: Read, W: Write + Drop, V: Write + Drop>(
     rt: &HostRuntime,
     script: &str,
     units: &[&str],
-    streams: Streams<'_, R, W, V>,
+    streams: StandardStreams<'_, R, W, V>,
 ) -> Result<(), Fault> {
     let held = fill_closed_streams(rt)?;
     let drives = open_units(rt, units)?;
@@ -53,7 +53,7 @@ fn run_over<R: Read, W: Write + Drop, V: Write + Drop>(
     alloc: Global,
     drives: [Option<Drive<FileImage>>; 4],
     script: &Script,
-    mut streams: Streams<'_, R, W, V>,
+    mut streams: StandardStreams<'_, R, W, V>,
 ) -> Result<(), Fault> {
     match Driver::start(alloc, drives) {
         Ok(mut driver) => {
@@ -89,7 +89,7 @@ fn sync<V: Write>(
 fn gather<R: Read, W: Write + Drop, V: Write + Drop>(
     alloc: Global,
     script: &Script,
-    streams: &mut Streams<'_, R, W, V>,
+    streams: &mut StandardStreams<'_, R, W, V>,
     driver: &mut Driver<FileImage>,
 ) -> Result<(), Fault> {
     let Ok(mut out) = BufWriter::with_capacity(alloc, GATHERED, &mut *streams.out) else {

@@ -100,12 +100,12 @@ fn read_bytes<R: Read>(
     ensures idle { bytes_in amount ≡ 0 → input.new ≡ input.old }
 {
     let mut bytes = repeat_byte(alloc, 0, amount.bytes())?;
-    read_whole(line, &mut bytes, input)?;
+    read_data(line, &mut bytes, input)?;
     Ok(bytes)
 }
 
 // Reads until these bytes are full.
-fn read_whole<R: Read>(line: &Line, bytes: &mut [u8], input: &mut R) -> Result<(), ScriptError>
+fn read_data<R: Read>(line: &Line, bytes: &mut [u8], input: &mut R) -> Result<(), ScriptError>
     ensures whole { OnOk result
         (Consumes (R.remaining input.old) (R.remaining input.new) bytes.new) }
     ensures error { IfErr result (IsUnread (length bytes.old) line.now (R.remaining input.old)) }

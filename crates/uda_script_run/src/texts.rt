@@ -27,7 +27,7 @@ pub fn put_out<W: Write>(out: &mut W, answers: &[Answer]) -> Result<(), ScriptEr
     ensures error { IfErr result (λ e. e ≡ ScriptError.Write) }
 {
     for answer in answers {
-        put_bytes(out, answer)?;
+        put_data(out, answer)?;
     }
     flush(out)
 }
@@ -48,7 +48,7 @@ pub fn put_report<V: Write>(report: &mut V, answers: &[Answer]) -> Result<(), Sc
 }
 
 // The bytes that an answer brings, if it brings any.
-fn put_bytes<W: Write>(out: &mut W, answer: &Answer) -> Result<(), ScriptError>
+fn put_data<W: Write>(out: &mut W, answer: &Answer) -> Result<(), ScriptError>
     ensures whole { OnOk result (Appends (W.contents out.old) (W.contents out.new)
         (answer_bytes (answer_value answer.now))) }
     ensures begun { OnErr result (AppendsBeginning (W.contents out.old) (W.contents out.new)

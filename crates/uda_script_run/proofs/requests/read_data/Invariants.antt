@@ -1,6 +1,6 @@
 use Rattle.std.proofs.Common.{◌≡◌, ◌≤◌, length, take}
 use Rattle.std.specs.Io.KnownBytes.{Consumes}
-use Rattle.uda_script_run.proofs.requests.read_whole.Given as goal
+use Rattle.uda_script_run.proofs.requests.read_data.Given as goal
 
 -- the front was read, and the reader isn't called where there is nothing to read
 abbrev pub invariant-loop : goal.invariant-loop

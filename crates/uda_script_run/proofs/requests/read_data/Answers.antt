@@ -1,7 +1,7 @@
 use Rattle.std.proofs.Common.{rules, arith}
 use Rattle.uda_script_run.proofs.Fillings.{fills_more, fills_same}
-use Rattle.uda_script_run.proofs.requests.read_whole.Goals as goal
-use Rattle.uda_script_run.proofs.requests.read_whole.Goals.{in-Ok, in-Err+else-ne}
+use Rattle.uda_script_run.proofs.requests.read_data.Goals as goal
+use Rattle.uda_script_run.proofs.requests.read_data.Goals.{in-Ok, in-Err+else-ne}
 
 pub loop-preserved : goal.loop-preserved
 loop-preserved g c =

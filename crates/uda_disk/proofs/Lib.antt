@@ -1,4 +1,5 @@
 pub mod Slots
+pub mod Lists
 pub mod Runs
 pub mod Swap
 pub mod OrderLaw

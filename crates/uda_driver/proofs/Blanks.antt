@@ -16,7 +16,7 @@ use Rattle.uda_posting.specs.Posting.{op_of, answer_of}
 use Rattle.uda_disk.specs.Values.{request_value, answer_value, request_values, answer_values}
 use Rattle.uda_disk.specs.declared.request.Request.{Request as CodeRequest}
 use Rattle.uda_disk.specs.declared.answer.Answer.{Answer as CodeAnswer}
-use Rattle.uda_model.proofs.Lists.{slice_get-last, slice_get-before}
+use Rattle.uda_disk.proofs.Lists.{slice_get-last, slice_get-before}
 use Rattle.uda_driver.specs.Blank.{Prepared, IsBlank, AreBlank}
 
 pub blank_more : (requests : List CodeRequest) (i : ℕ) (answers : List CodeAnswer) (request : CodeRequest) (a : CodeAnswer) → length answers ≡ i → i < length requests → request ≡ get_or requests i request

@@ -13,7 +13,7 @@ use Rattle.uda_exec.specs.Disks.{PENDING_LIMIT}
 use Rattle.uda_disk.proofs.Slots.{slice_get-set_same, slice_get-set_other}
 use Rattle.uda_posting.specs.Posting.{Posted}
 use Rattle.uda_posting.specs.Keeping.{Ended, RefersBack, AreTwo}
-use Rattle.uda_model.proofs.Lists.{All-remove, All-at, pairs_first, pairs_rest, pairs_others}
+use Rattle.uda_disk.proofs.Lists.{All-remove, All-at, pairs_first, pairs_rest, pairs_others}
 use Rattle.uda_driver.specs.Out.{posted_with, count_out, IsOut, HaveOwnPlaces}
 use Rattle.uda_driver.specs.Underway.{alive, Outs}
 use Rattle.uda_driver.specs.declared.buffers.Out.{Out}

@@ -1,4 +1,3 @@
-pub mod Lists
 pub mod Slots
 pub mod Startings
 pub mod Hosts

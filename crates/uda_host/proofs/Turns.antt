@@ -34,7 +34,7 @@ use Rattle.uda_host.specs.InStep.{IsSound, unfetched}
 use Rattle.uda_host.specs.Host.{HostState, out_of, TakesEnd, Works, OneFetched, OneDone}
 use Rattle.uda_host.specs.IsHost.{host_view, IsHost}
 use Rattle.uda_host.specs.declared.host.Host.TheInside.{Inside}
-use Rattle.uda_host.proofs.Lists.{All-remove, All-at}
+use Rattle.uda_disk.proofs.Lists.{All-remove, All-at}
 use Rattle.uda_host.proofs.Slots.{unwritten, high_written, size_written, credits_written, text_written, command_place, response_place, rings-put, rings_answered, rings_fetched, first_posted, first_free}
 use Rattle.uda_host.proofs.Hosts.{HostThat}
 

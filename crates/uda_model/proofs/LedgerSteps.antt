@@ -14,7 +14,7 @@ use Rattle.uda_disk.specs.PlainRun.{FixedRequest, requests_of, too_long, step_as
 use Rattle.uda_disk.proofs.Runs.{runs-push, length-runs}
 use Rattle.uda_disk.proofs.OrderLaw.{request_order_is_free}
 use Rattle.uda_model.specs.Ledger.{Due, requests_due, FixedDue, dues_in, fixed_request, with_answers, ComesBefore, Opens, Closes, Skips, TakesIn, CarriesOut}
-use Rattle.uda_model.proofs.Lists.{map-insert, put_back, put_in, All-insert, pairs_first, pairs_rest}
+use Rattle.uda_disk.proofs.Lists.{map-insert, put_back, put_in, All-insert, pairs_first, pairs_rest}
 
 -- a request that is too long
 step-long : (o : Outcome) (disks : Disks) (r : Request) → too_long r ≡ true → step_as o r disks ≡ (TooLong, disks)

@@ -22,7 +22,7 @@ use Rattle.uda_disk.proofs.Slots.{slice_get-set_same, slice_get-set_other}
 use Rattle.uda_posting.specs.Posting.{answer_of, Posted, posted_command, commands_in, requests_posted, buffer_of, Ready}
 use Rattle.uda_disk.specs.Units.{Units}
 use Rattle.uda_posting.specs.Keeping.{Misses, Beside, IsUntold, IsNotAt, IsNotDue, Owes, Ended, answer_now, Tells, IsLeftBy, EndedNotAt, Keeps}
-use Rattle.uda_model.proofs.Lists.{map-remove, put_back, All-remove, All-insert, All-at, All-front, slice_get-append, slice_get-last, slice_get-before}
+use Rattle.uda_disk.proofs.Lists.{map-remove, put_back, All-remove, All-insert, All-at, All-front, slice_get-append, slice_get-last, slice_get-before}
 use Rattle.uda_posting.proofs.Posts.{beside_others}
 use Rattle.uda_posting.proofs.Owing.{owes_skip, owes_post, owes_put, owes_execute, Executed}
 

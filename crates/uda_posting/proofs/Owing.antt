@@ -31,7 +31,7 @@ use Rattle.uda_exec.proofs.Units.{faithful_stays}
 use Rattle.uda_posting.specs.Posting.{answer_of, Posted, posted_command, commands_in, due_of, dues_of, requests_posted, buffer_of, Ready}
 use Rattle.uda_model.specs.Ledger.{Due, requests_due, Ledger}
 use Rattle.uda_posting.specs.Keeping.{Misses, Beside, IsReadyIn, StandsIn, IsUntold, IsBefore, IsEarlier, IsNotAt, IsNotDue, Sound, Owes}
-use Rattle.uda_model.proofs.Lists.{map-remove, put_back, All-insert, All-remove, All-at, All-front, pairs_others, slice_get-append, slice_get-last, slice_get-before}
+use Rattle.uda_disk.proofs.Lists.{map-remove, put_back, All-insert, All-remove, All-at, All-front, pairs_others, slice_get-append, slice_get-last, slice_get-before}
 use Rattle.uda_posting.proofs.Dues.{dues_below, dues_rising, dues_ask}
 use Rattle.uda_posting.proofs.Serving.{acts-own, serves}
 use Rattle.uda_posting.proofs.Posts.{names_same, beside_others, goes-request}

@@ -14,7 +14,7 @@ use Rattle.uda_exec.specs.Order.{may_pass, MayGo}
 use Rattle.uda_exec.proofs.Blocks.{bytes_at-within}
 use Rattle.uda_posting.specs.Posting.{op_of, bytes_brought, Posted, posted_command, commands_in, requests_posted, Ready}
 use Rattle.uda_posting.specs.Keeping.{Beside}
-use Rattle.uda_model.proofs.Lists.{pairs_others}
+use Rattle.uda_disk.proofs.Lists.{pairs_others}
 
 -- what an act names, its command names
 pub record NamesSame (act : Act) (address : ℕ) : Type 0 where

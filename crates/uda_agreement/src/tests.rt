@@ -7,12 +7,12 @@ use std::alloc::Global;
 use std::io::Write;
 use std::test::Fail;
 use text::{Text, text_of};
-use uda_script_run::run_script;
 use uda_disk::{Answer, Request};
 use uda_driver::Driver;
 use uda_grammar::parse;
 use uda_image::{Drive, MemImage};
 use uda_plain::{PlainDisk, PlainUnits};
+use uda_script_run::run_script;
 
 /// How many lists are compared.
 const LISTS: u64 = 300;

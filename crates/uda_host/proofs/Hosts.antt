@@ -9,13 +9,13 @@ use Rattle.uda_packet.specs.Written.{written_command}
 use Rattle.uda_packet.specs.Reading.{read_command}
 use Rattle.uda_port.specs.declared.phase.Phase.{Phase}
 use Rattle.uda_port.specs.Port.{PortState, port_asked}
-use Rattle.uda_host.specs.Layout.{slots, command_descriptor, command_packet, buffers_start}
+use Rattle.uda_host.specs.Layout.{slots, buffers_start}
 use Rattle.uda_host.specs.InStep.{IsAbove, IsSound, unfetched}
 use Rattle.uda_host.specs.Host.{HostState, Posts, AddsUp}
-use Rattle.uda_host.specs.Slots.{posted_slot, WritesSlot}
+use Rattle.uda_host.specs.Slots.{with_command}
 use Rattle.uda_host.specs.IsHost.{host_view, IsHost}
 use Rattle.uda_host.specs.declared.host.Host.TheInside.{Inside}
-use Rattle.uda_host.proofs.Slots.{rings-put, rings_posted}
+use Rattle.uda_host.proofs.Slots.{rings-put, rings_posted, command_written}
 
 -- a host by its fields, and of what it is a host
 pub record HostThat (P : HostState → Type 0) {S : Type 0} (h : Inside S) : Type 0 where
@@ -49,16 +49,17 @@ buffer_filled host at bytes above = record {
 
 -- a command is posted, and the port begins to look
 pub host_posts : {S : Type 0} {h : Inside S} {value : HostState} {after : List ℕ} {new : PortState} {more : List Command} (c : Command) → host_view h ≡ value → IsHost h → 0 < value.credits → IsAbove c → read_command (written_command c) ≡ Ok c
-    → WritesSlot (command_descriptor h.command_place) (command_packet h.command_place) (posted_slot h.command_place c) h.memory after → new ≡ port_asked h.port.phase h.port → more ≡ h.posted ++ c ∷ []
+    → after ≡ with_command h.memory h.command_place c → new ≡ port_asked h.port.phase h.port → more ≡ h.posted ++ c ∷ []
     → HostThat (Posts c value) (record h { memory = after; command_place = (h.command_place + 1) % slots; held = h.held - 1; posted = more; port = new })
-host_posts {h = h} c is host some above legible w asked more_is =
+host_posts {h = h} c is host some above legible after_is asked more_is =
     let agree = host.agree in let counts = host.counts in let rings = host.rings in
     let left = drop-append-le h.port.fetches h.posted (c ∷ []) counts.fetched in
     let due = ap (λ (cs : List Command). h.port.exec.pending ++ cs) left ∙ sym (append_assoc h.port.exec.pending (unfetched h) (c ∷ [])) in
     let long = length_push (unfetched h) c in
     let new_is = asked ∙ ap (λ (p : Phase). port_asked p h.port) host.runs in
+    let w = command_written h.memory h.command_place c (omega arith) host.written.size in
     let held = ap (λ (v : HostState). v.credits) is in
-    rw (new_is, more_is, ← is) (record {
+    rw (after_is, new_is, more_is, ← is) (record {
       host = record {
         runs = host.runs;
         looks = λ _. refl;

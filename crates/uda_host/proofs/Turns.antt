@@ -29,13 +29,13 @@ use Rattle.uda_port.specs.Message.{message_of_text, message_in}
 use Rattle.uda_port.specs.Port.{PortState, CreditsAgree, next_grant}
 use Rattle.uda_port.specs.Turn.{port_turn_on, port_with_message, FetchesOne, NothingToFetch, FetchLine, GoesOn, Fails, InFetch, InRest, RunningTurn, TurnGoes}
 use Rattle.uda_host.specs.Layout.{slots, memory_size, response_descriptor, command_descriptor, response_packet, command_packet, owner_word, flag_word}
-use Rattle.uda_host.specs.Slots.{Slot, slot_at, command_at, response_at, owned, RingsHold, WritesSlot}
+use Rattle.uda_host.specs.Slots.{Slot, slot_at, command_at, response_at, owned, memory_reopened, RingsHold, WritesSlot}
 use Rattle.uda_host.specs.InStep.{IsSound, unfetched}
 use Rattle.uda_host.specs.Host.{HostState, out_of, TakesEnd, Works, OneFetched, OneDone}
 use Rattle.uda_host.specs.IsHost.{host_view, IsHost}
 use Rattle.uda_host.specs.declared.host.Host.TheInside.{Inside}
 use Rattle.uda_disk.proofs.Lists.{All-remove, All-at}
-use Rattle.uda_host.proofs.Slots.{unwritten, high_written, size_written, credits_written, text_written, command_place, response_place, rings-put, rings_answered, rings_fetched, first_posted, first_free}
+use Rattle.uda_host.proofs.Slots.{unwritten, high_written, size_written, credits_written, text_written, command_stands, response_stands, rings-put, rings_answered, rings_fetched, first_posted, first_free}
 use Rattle.uda_host.proofs.Hosts.{HostThat}
 
 -- ---- what the port sees
@@ -101,7 +101,7 @@ fetched {h = h} {c} {rest} new after host were agree goes =
     let is = goes.others ∙ ap₂ leaves message (takes.advanced ∙ ap ring_advanced host.rings.commands_are) in
     let given = λ (d : Descriptor) (r : RingState). put h.memory (descriptor_address r + 2) (word_bytes (word_given_back d.high)) in
     let memory_is = takes.written ∙ ap₂ given (first_is host were takes) host.rings.commands_are in
-    let w = high_written (unwritten h.memory (command_place place host.written.within) host.written.size) flag_word (omega arith) in
+    let w = high_written (unwritten h.memory (command_stands place host.written.within) host.written.size) flag_word (omega arith) in
     let rest_is : drop (port.fetches + 1) h.posted ≡ rest = sym (drop-drop 1 port.fetches h.posted) ∙ ap (λ (cs : List Command). drop 1 cs) were in
     let due : (pending ++ c ∷ []) ++ drop (port.fetches + 1) h.posted ≡ pending ++ unfetched h = ap (λ (cs : List Command). (pending ++ c ∷ []) ++ cs) rest_is ∙ append_assoc pending (c ∷ []) rest ∙ ap (λ (cs : List Command). pending ++ cs) (sym were) in
     let rings = host.rings in let counts = host.counts in
@@ -160,7 +160,7 @@ delivery_written {h = h} credits e ring after host fits puts =
     let second : address_of puts.first - 2 ≡ response_packet place + 2 = omega arith in
     let text : address_of puts.first ≡ response_packet place + 4 = omega arith in
     let is = puts.written ∙ (λ i. put (put (put (put h.memory (text i) (written_end e)) (size i) (word_bytes 48)) (second i) (word_bytes credits)) (at i) (word_bytes (high i))) in
-    let written = text_written (unwritten h.memory (response_place place host.rings.looks_within) host.written.size) (written_end e) (length-written_end e) in
+    let written = text_written (unwritten h.memory (response_stands place host.rings.looks_within) host.written.size) (written_end e) (length-written_end e) in
     let all = high_written (credits_written (size_written written 48 (omega arith)) credits fits) flag_word (omega arith) in
     subst (WritesSlot (response_descriptor place) (response_packet place) (delivered_slot h.memory place credits e) h.memory) (sym is) all
 
@@ -183,7 +183,7 @@ module _ {S : Type 0} {h : Inside S} (host : IsHost h) (new : PortState) (after 
   end_read read by = by sent.size ∙ ap read_end (ap (λ (s : Slot). s.text) sent.holds) ∙ lines.rest.1.legible
 
   pub host_takes : {value : HostState} {left : List ℕ} {end : End} {credits : ℕ} → host_view h ≡ value → CreditsAgree new → (length after ≡ memory_size → Some end ≡ read_end (part after (response_packet h.response_place + 4) 48))
-      → (length after ≡ memory_size → credits ≡ word_at after (response_packet h.response_place + 2)) → (length after ≡ memory_size → left ≡ put after (response_descriptor h.response_place + 2) (word_bytes owner_word))
+      → (length after ≡ memory_size → credits ≡ word_at after (response_packet h.response_place + 2)) → (length after ≡ memory_size → left ≡ memory_reopened after h.response_place)
       → HostThat (TakesEnd value end) (record h { memory = left; response_place = (h.response_place + 1) % slots; held = h.held + credits; port = new })
   host_takes {left = left} {end} {credits} is agree end_by credits_by left_by =
       let port = h.port in let one = lines.rest.1 in

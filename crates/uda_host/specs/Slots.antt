@@ -1,8 +1,8 @@
 -- What stands in a host's rings: at each place a slot, which is a descriptor with its packet.
 -- UDA50 Programmer's Documentation Kit: ring descriptors, message envelopes.
 use Rattle.std.specs.Prelude.{◌≡◌, ℕ, ◌+◌, ◌%◌, ◌<◌, ◌≤◌, List, length, get_or}
-use Rattle.uda_mem.specs.Put.{part, Meet}
-use Rattle.uda_mem.specs.Words.{word_at}
+use Rattle.uda_mem.specs.Put.{put, part, Meet}
+use Rattle.uda_mem.specs.Words.{word_at, word_bytes}
 use Rattle.uda_packet.specs.declared.command.Command.{Command}
 use Rattle.uda_packet.specs.Written.{written_command}
 use Rattle.uda_port.specs.declared.descriptor.Descriptor.{Descriptor}
@@ -39,19 +39,36 @@ response_at memory i = slot_at memory (response_descriptor i) (response_packet i
 abbrev pub owned : ℕ → Descriptor
 owned packet = record { low = packet + 4; high = owner_word }
 
--- a command is posted at place i
+-- what place i holds where this command is posted
 abbrev pub posted_slot : ℕ → Command → Slot
 posted_slot i c =
     record { descriptor = owned (command_packet i); size = 48; credits = 0; text = written_command c }
 
--- the port does not own it, so a command may be posted there
+-- the memory where a packet is written at place i
+abbrev pub with_packet : List ℕ → ℕ → List ℕ → List ℕ
+with_packet memory i text =
+    put (put (put memory (command_packet i) (word_bytes 48)) (command_packet i + 2) (word_bytes 0))
+    (command_packet i + 4) text
+
+-- and then the descriptor: a command is posted there
+abbrev pub with_command : List ℕ → ℕ → Command → List ℕ
+with_command memory i c =
+    put
+    (put (with_packet memory i (written_command c)) (command_descriptor i) (word_bytes (command_packet i + 4)))
+    (command_descriptor i + 2) (word_bytes owner_word)
+
+-- a slot that the port does not own: a command may be posted there
 abbrev pub IsFree : Slot → Type 0
 IsFree s = s.descriptor.high < owner_word
 
--- the port owns it, and may deliver an end to the packet at this address
+-- a slot that the port owns, with room for a text in its packet at this address: an end may be delivered
 pub record IsOpen (packet : ℕ) (s : Slot) : Type 0 where
   pub owned_is : s.descriptor ≡ owned packet
   pub room : 48 ≤ s.size
+
+-- the memory where the host has given the descriptor back to the port
+abbrev pub memory_reopened : List ℕ → ℕ → List ℕ
+memory_reopened memory i = put memory (response_descriptor i + 2) (word_bytes owner_word)
 
 -- Both rings: from this place on, going round, exactly these commands are posted; and every response slot is
 -- open.
@@ -67,18 +84,18 @@ pub record RingsHold (memory : List ℕ) (place : ℕ) (queue : List Command) : 
 
 -- ---- a slot is written
 
--- descriptors lie below packets, and packets below buffers
-pub record IsPlace (at packet : ℕ) : Type 0 where
+-- where a descriptor and a packet may stand: descriptors lie below packets, and packets below buffers
+pub record InLayout (at packet : ℕ) : Type 0 where
   pub ring : at + 4 ≤ response_packet 0
   pub packets : response_packet 0 ≤ packet
   pub below : packet + 52 ≤ buffers_start
 
 -- one slot is written and holds s then; the others and every buffer stay as they were
 pub record WritesSlot (at packet : ℕ) (s : Slot) (memory after : List ℕ) : Type 0 where
-  pub place : IsPlace at packet
+  pub stands : InLayout at packet
   pub size : length after ≡ memory_size
   pub buffers : BuffersStay memory after
   pub holds : slot_at after at packet ≡ s
   pub rest :
-      (a p : ℕ) → IsPlace a p → (Meet at 4 a 4 → ⊥) → (Meet packet 52 p 52 → ⊥)
+      (a p : ℕ) → InLayout a p → (Meet at 4 a 4 → ⊥) → (Meet packet 52 p 52 → ⊥)
       → slot_at after a p ≡ slot_at memory a p

@@ -4,9 +4,8 @@ ghost use Rattle.uda_mem.specs.Put.{put, part};
 ghost use Rattle.uda_mem.specs.Words.{word_at, word_bytes};
 ghost use Rattle.uda_packet.specs.Written.{written_command};
 ghost use Rattle.uda_packet.specs.Reading.{read_command, read_end};
-ghost use Rattle.uda_host.specs.Layout.{slots, buffer_address, memory_size, command_descriptor};
-ghost use Rattle.uda_host.specs.Layout.{command_packet, response_descriptor, response_packet, owner_word};
-ghost use Rattle.uda_host.specs.Slots.{posted_slot, WritesSlot};
+ghost use Rattle.uda_host.specs.Layout.{slots, buffer_address, memory_size, response_packet};
+ghost use Rattle.uda_host.specs.Slots.{with_command, memory_reopened};
 
 use uda_mem::HostMemory;
 use uda_packet::{Command, End, decode_end, encode_command};
@@ -64,8 +63,7 @@ fn put_text(memory: &mut HostMemory, at: u32, text: &[u8; 48])
 pub(crate) fn write_command(memory: &mut HostMemory, place: u32, command: &Command)
     requires size { length memory.old ≡ memory_size }
     requires within { place < slots }
-    ensures posted { WritesSlot (command_descriptor place) (command_packet place) (posted_slot place command.now)
-        memory.old memory.new }
+    ensures posted { memory.new ≡ with_command memory.old place command.now }
     ensures legible { read_command (written_command command.now) ≡ Ok command.now }
 {
     let packet = COMMAND_PACKETS + PACKET_STEP * place;
@@ -105,8 +103,7 @@ pub(crate) fn credits_at(memory: &HostMemory, place: u32) -> u32
 /// Gives the response descriptor at a place to the port.
 pub(crate) fn reopen(memory: &mut HostMemory, place: u32)
     requires within { place < slots }
-    ensures open { length memory.old ≡ memory_size
-        → memory.new ≡ put memory.old (response_descriptor place + 2) (word_bytes owner_word) }
+    ensures open { length memory.old ≡ memory_size → memory.new ≡ memory_reopened memory.old place }
 {
     memory.write_word(RESPONSE_RING + 4 * place + 2, OWNER);
 }

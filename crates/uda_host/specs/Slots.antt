@@ -53,10 +53,8 @@ with_packet memory i text =
 -- and then the descriptor: a command is posted there
 abbrev pub with_command : List ℕ → ℕ → Command → List ℕ
 with_command memory i c =
-    put
-    (put (with_packet memory i (written_command c)) (command_descriptor i)
-    (word_bytes (command_packet i + 4)))
-    (command_descriptor i + 2) (word_bytes owner_word)
+    put (put (with_packet memory i (written_command c)) (command_descriptor i)
+    (word_bytes (command_packet i + 4))) (command_descriptor i + 2) (word_bytes owner_word)
 
 -- a slot that the port does not own: a command may be posted there
 abbrev pub IsFree : Slot → Type 0

@@ -16,8 +16,8 @@ pub fn through_slice(rt: &HostRuntime, work: &str, blocks: &str, rounds: u32) ->
     by_turns(rt, &mut pair, rounds)
 }
 
-// A running port with rings of one descriptor, whose unit 0 is online, the bytes that it is lent, and a port like
-// it over a host memory.
+// A running port with rings of one descriptor, whose unit 0 is online, the bytes that it is lent, and a port
+// like it over a host memory.
 #[derive(Drop)]
 struct ThroughSlice {
     port: Port<MemImage>,

@@ -64,9 +64,9 @@ impl<S: BlockStore> Port<S> {
         self.turn_in(memory.as_mut_slice())
     }
 
-    /// The same over memory that is somebody else's: [`turn`](Port::turn) on a slice of an even length, at most
-    /// [`SLICE_LIMIT`](uda_mem::SLICE_LIMIT) ([`is_memory`](uda_mem::is_memory)). It may be another slice at
-    /// each call.
+    /// The same over memory that is somebody else's: [`turn`](Port::turn) on a slice of an even length, at
+    /// most [`SLICE_LIMIT`](uda_mem::SLICE_LIMIT) ([`is_memory`](uda_mem::is_memory)). It may be another
+    /// slice at each call.
     pub fn turn_in(&mut self, memory: &mut [u8]) -> Turn
         requires memory { IsMemory memory.old }
         ensures goes { TurnGoes self.old.phase self.old memory.old result self.new memory.new }

@@ -4,7 +4,7 @@
 //!
 //! With the word `port` or `driver` in place of a store, 4,096 commands go through a port's rings or by a
 //! driver, beside the executor alone: `read` of `32` or `1`, or `status` of `0`. With the word `slice` they
-//! go through the rings of a port in a slice, beside a port over a host memory of its own.
+//! go through the rings of a port in a slice, beside a port over a host memory.
 //!
 //! Otherwise the words are a store, `memory` (an image of 1,000 blocks) or the path of an image file of
 //! 131,072 blocks; a work, `read` or `write`; the blocks of each transfer, `32` or `1`; and how many rounds.

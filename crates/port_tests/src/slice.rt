@@ -8,7 +8,7 @@ use std::test::Fail;
 use uda_image::MemImage;
 use uda_mem::{SLICE_LIMIT, is_memory};
 use uda_packet::{Command, End, EndBody, Kind, Op, decode_end, encode_command};
-use uda_port::{CommandRing, Descriptor, HostEvent, Phase, Port, RingFault, Turn};
+use uda_port::{CommandRing, Descriptor, Fetched, HostEvent, Phase, Port, RingFault, Turn};
 
 /// A guest's memory: its bytes, the base of two rings of 8 descriptors, and where the packets begin, those of
 /// responses and then those of commands.
@@ -315,58 +315,109 @@ fn a_text_at_the_end_of_memory(rt: HostRuntime) -> Result<(), Fail> {
     Ok(())
 }
 
+/// Asserts that a guest that wanders ends with the memory of one that stays.
+fn assert_alike(rt: &impl Abort, alloc: Global, layout: Layout) -> Result<(), Fail> {
+    let mut stays = Guest::running(rt, alloc, layout)?;
+    let mut wanders = Guest::new(alloc, layout, true)?;
+    wanders.start_up(rt);
+    stays.put_online(rt);
+    wanders.put_online(rt);
+    stays.move_blocks(rt);
+    wanders.move_blocks(rt);
+    assert_eq!(rt; wanders.bytes, stays.bytes);
+    Ok(())
+}
+
 #[test]
 fn another_slice_at_each_call(rt: HostRuntime) -> Result<(), Fail> {
-    for layout in [SMALL, LARGE] {
-        let mut stays = Guest::running(&rt, rt.alloc(), layout)?;
-        let mut wanders = Guest::new(rt.alloc(), layout, true)?;
-        wanders.start_up(&rt);
-        for guest in [&mut stays, &mut wanders] {
-            guest.put_online(&rt);
-            guest.move_blocks(&rt);
-        }
-        assert_eq!(&rt; wanders.bytes, stays.bytes);
+    assert_alike(&rt, rt.alloc(), SMALL)?;
+    assert_alike(&rt, rt.alloc(), LARGE)
+}
+
+/// What SA shows after the words that ask for rings of one descriptor each at the highest base.
+fn sa_of_highest_base(alloc: Global, memory: &mut [u8]) -> Result<u16, Fail> {
+    let mut port = new_port(alloc)?;
+    for word in [0x8000, 0xfffe, 0x0003] {
+        port.write_sa_in(word, memory);
+    }
+    Ok(port.read_sa())
+}
+
+/// Asserts what SA shows then, in so many bytes of ones, and words of memory.
+fn assert_area(
+    rt: &impl Abort,
+    alloc: Global,
+    size: usize,
+    sa: u16,
+    words: &[(u32, u16)],
+) -> Result<(), Fail> {
+    let mut bytes = vec![in alloc; 0xffu8; size]?;
+    assert_eq!(rt; sa_of_highest_base(alloc, &mut bytes)?, sa);
+    for &(addr, word) in words {
+        assert_eq!(rt; uda_mem::read_word(&bytes, addr), Some(word), "at {addr}");
     }
     Ok(())
 }
 
 #[test]
 fn an_area_at_the_end_of_memory(rt: HostRuntime) -> Result<(), Fail> {
-    // rings of one descriptor each, at the highest base: their ends are past 18 bits
-    let mut bytes = vec![in rt.alloc(); 0xffu8; 0x4_0008]?;
-    for (size, sa) in [(0x4_0004, 0x8007), (0x4_0006, 0x4063)] {
-        let mut port = new_port(rt.alloc())?;
-        for word in [0x8000, 0xfffe, 0x0003] {
-            port.write_sa_in(word, &mut bytes[..size]);
-        }
-        assert_eq!(&rt; port.read_sa(), sa);
+    // the ends of the rings are past 18 bits
+    let cleared = [(0x3_fff8, 0xffff), (0x3_fffa, 0), (0x4_0004, 0)];
+    assert_area(&rt, rt.alloc(), 0x4_0006, 0x4063, &cleared)?;
+    let kept = [(0x3_fffa, 0xffff), (0x4_0002, 0xffff)];
+    assert_area(&rt, rt.alloc(), 0x4_0004, 0x8007, &kept)
+}
+
+/// A command ring, and the bytes that it is in.
+#[derive(Drop)]
+struct Commands {
+    ring: CommandRing,
+    bytes: Vec<u8>,
+}
+
+impl Commands {
+    /// The descriptor at an even address.
+    fn descriptor(&self, rt: &impl Abort, at: u32) -> Option<Descriptor> {
+        assert!(rt; at % 2 == 0 && is_memory(&self.bytes));
+        Descriptor::read_in(&self.bytes, at)
     }
-    assert_eq!(&rt; uda_mem::read_word(&bytes, 0x3_fff8), Some(0xffff));
-    assert_eq!(&rt; uda_mem::read_word(&bytes, 0x3_fffa), Some(0));
-    assert_eq!(&rt; uda_mem::read_word(&bytes, 0x4_0004), Some(0));
-    assert_eq!(&rt; uda_mem::read_word(&bytes, 0x4_0006), Some(0xffff));
-    Ok(())
+
+    /// Fetches from so many bytes of memory.
+    fn fetch(&mut self, rt: &impl Abort, length: usize) -> Result<Option<Fetched>, RingFault> {
+        assert!(rt; length <= self.bytes.len());
+        let memory = &mut self.bytes[..length];
+        assert!(rt; is_memory(memory));
+        self.ring.fetch_in(memory)
+    }
+
+    /// Fetches, and asserts the first byte of the text, that nothing is there, or the fault.
+    fn assert_fetch(
+        &mut self,
+        rt: &impl Abort,
+        length: usize,
+        first: Result<Option<u8>, RingFault>,
+    ) {
+        let fetched = self
+            .fetch(rt, length)
+            .map(|fetched| fetched.map(|f| f.text[0]));
+        assert_eq!(rt; fetched, first);
+    }
 }
 
 #[test]
 fn a_ring_in_a_slice(rt: HostRuntime) -> Result<(), Fail> {
     let mut bytes = vec![in rt.alloc(); 0u8; 0x4_0100]?;
     for (addr, word) in [(8, 0x0004), (10, 0x8004), (0x4_0000, 48), (0x4_0004, 7)] {
-        assert!(&rt; uda_mem::write_word(&mut bytes, addr, word));
+        assert!(rt; uda_mem::write_word(&mut bytes, addr, word));
     }
-    assert!(&rt; is_memory(&bytes));
-    let descriptor = Descriptor {
-        low: 0x0004,
-        high: 0x8004,
-    };
-    assert_eq!(&rt; Descriptor::read_in(&bytes, 8), Some(descriptor));
-    assert_eq!(&rt; descriptor.address(), 0x4_0004);
-    let mut ring = CommandRing::new(8, 2);
-    match ring.fetch_in(&mut bytes) {
-        Ok(Some(fetched)) => assert_eq!(&rt; (fetched.words.0, fetched.text[0]), (48, 7)),
-        other => panic!(&rt; "{other:?}"),
-    }
-    assert_eq!(&rt; ring.fetch_in(&mut bytes), Ok(None));
-    assert_eq!(&rt; ring.fetch_in(&mut bytes[..14]), Err(RingFault::Ring));
+    let ring = CommandRing::new(8, 2);
+    let mut commands = Commands { ring, bytes };
+    let descriptor = commands.descriptor(&rt, 8);
+    assert_eq!(rt; descriptor.map(|d| d.address()), Some(0x4_0004));
+    // the text is in memory, and not in a shorter one
+    commands.assert_fetch(&rt, 0x4_0032, Err(RingFault::Packet));
+    commands.assert_fetch(&rt, 0x4_0034, Ok(Some(7)));
+    commands.assert_fetch(&rt, 0x4_0100, Ok(None));
+    commands.assert_fetch(&rt, 14, Err(RingFault::Ring));
     Ok(())
 }

@@ -12,8 +12,8 @@ use std::error::Error;
 use std::fmt;
 use std::marker::Model;
 
-/// The most bytes that host memory has: the 262,144 addresses of the UNIBUS, which are of 18 bits,
-/// less the 8,192 of its I/O page.
+/// The most bytes that a [`HostMemory`] has: the 262,144 addresses of the UNIBUS, which are of 18
+/// bits, less the 8,192 of its I/O page.
 pub const MEMORY_LIMIT: u32 = 253_952;
 
 /// A growth was refused: the allocator had no memory for the call that answers this.

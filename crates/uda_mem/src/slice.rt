@@ -1,7 +1,7 @@
 //! Memory that is somebody else's: its bytes as a slice, read and written in words, windows and blocks.
 //!
-//! An address is the place of a byte in the slice. A call that asks nothing of the slice's length works on
-//! any slice; whoever hands one to a port or an executor tests it once by [`is_memory`].
+//! An address is the place of a byte in the slice, which may have any length but for [`len`]. Whoever hands a
+//! slice to a port or an executor tests it by [`is_memory`].
 ghost use Rattle.std.specs.Prelude.{◌≡◌, ℕ, ◌+◌, ◌≤◌, ◌↔◌, length, IsTrue, IsSome, IfSome, replicate};
 ghost use Rattle.std.specs.Prelude.{if◌then◌else◌};
 ghost use Rattle.uda_mem.specs.Put.{put, part};

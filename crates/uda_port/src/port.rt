@@ -20,9 +20,9 @@ use uda_packet::End;
 /// host memory, and an executor with its units.
 ///
 /// Host memory is handed to each call that touches it, and may be another each time: a
-/// [`HostMemory`](uda_mem::HostMemory), or bytes that are somebody else's, in a slice. Whatever stands in it,
-/// and whatever the host writes to the registers, the port does what its contracts say, and dies only of a
-/// [`Fatal`](crate::Fatal) cause, with that cause's code, until IP is written.
+/// [`HostMemory`](uda_mem::HostMemory), or bytes that are somebody else's, in a slice. Whatever stands
+/// in it, and whatever the host writes to the registers, the port does what its contracts say, and
+/// dies only of a [`Fatal`](crate::Fatal) cause, with that cause's code, until IP is written.
 ///
 /// Contracts see the phase, the executor's units and pending commands, both rings' bases, lengths and
 /// places, the ends that wait, whether the port looks at its command ring, the credits that the host

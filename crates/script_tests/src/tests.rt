@@ -8,8 +8,9 @@ use std::test::Fail;
 use uda_script::{program, unreadable_words};
 
 /// The end of a Get Unit Status of an available unit 0.
-const PROBED: &str =
-    "01 00 00 00 00 00 00 00 83 00 04 00 00 00 00 00\n00 00 00 00 00 00 00 00 00 00 00 02 51 10 64 25\n00 00 00 00 00 00 00 00 00 00 00 00 00 00 00 00\n";
+const PROBED: &str = "01 00 00 00 00 00 00 00 83 00 04 00 00 00 00 00\n\
+     00 00 00 00 00 00 00 00 00 00 00 02 51 10 64 25\n\
+     00 00 00 00 00 00 00 00 00 00 00 00 00 00 00 00\n";
 
 /// A writer that takes so many bytes, and then fails.
 #[derive(Drop)]

@@ -25,27 +25,21 @@ use uda_probe::probe;
 pub fn program<R: Read + Drop, W: Write + Drop, V: Write + Drop>(
     rt: &HostRuntime,
     words: &[&str],
-    mut input: R,
-    mut out: W,
-    mut report: V,
+    input: R,
+    out: W,
+    report: V,
 ) -> u8
     ensures status { result ≤ 2 }
 {
+    let mut streams = StandardStreams { input, out, report };
     let done = match read_words(rt.alloc(), words) {
-        Ok(Task::Probe) => print_probe(rt.alloc(), &mut out),
-        Ok(Task::Run { script, units }) => {
-            let streams = StandardStreams {
-                input: &mut input,
-                out: &mut out,
-                report: &mut report,
-            };
-            run(rt, script, &units, streams)
-        }
+        Ok(Task::Probe) => print_probe(rt.alloc(), &mut streams.out),
+        Ok(Task::Run { script, units }) => run(rt, script, &units, &mut streams),
         Err(fault) => Err(fault),
     };
     match done {
         Ok(()) => 0,
-        Err(fault) => tell(&fault, &mut report),
+        Err(fault) => tell(&fault, &mut streams.report),
     }
 }
 

@@ -14,13 +14,13 @@ const GATHERED: usize = 65_536;
 
 /// Where a run's data come from, and where its texts go.
 #[derive(Drop)]
-pub(crate) struct StandardStreams<'a, R, W, V> {
+pub(crate) struct StandardStreams<R, W, V> {
     /// The data of the script's writes.
-    pub(crate) input: &'a mut R,
+    pub(crate) input: R,
     /// Gets what is read of the images.
-    pub(crate) out: &'a mut W,
+    pub(crate) out: W,
     /// Gets a line a request.
-    pub(crate) report: &'a mut V,
+    pub(crate) report: V,
 }
 
 /// Opens the images, reads the script and runs it over the streams.
@@ -32,7 +32,7 @@ pub(crate) fn run<R: Read, W: Write + Drop, V: Write + Drop>(
     rt: &HostRuntime,
     script: &str,
     units: &[&str],
-    streams: StandardStreams<'_, R, W, V>,
+    streams: &mut StandardStreams<R, W, V>,
 ) -> Result<(), Fault> {
     let held = fill_closed_streams(rt)?;
     let drives = open_units(rt, units)?;
@@ -53,12 +53,12 @@ fn run_over<R: Read, W: Write + Drop, V: Write + Drop>(
     alloc: Global,
     drives: [Option<Drive<FileImage>>; 4],
     script: &Script,
-    mut streams: StandardStreams<'_, R, W, V>,
+    streams: &mut StandardStreams<R, W, V>,
 ) -> Result<(), Fault> {
     match Driver::start(alloc, drives) {
         Ok(mut driver) => {
-            let done = gather(alloc, script, &mut streams, &mut driver);
-            sync(driver.into_stores(), done, streams.report)
+            let done = gather(alloc, script, streams, &mut driver);
+            sync(driver.into_stores(), done, &mut streams.report)
         }
         Err(_) => Err(Fault::NoMemory),
     }
@@ -89,19 +89,19 @@ fn sync<V: Write>(
 fn gather<R: Read, W: Write + Drop, V: Write + Drop>(
     alloc: Global,
     script: &Script,
-    streams: &mut StandardStreams<'_, R, W, V>,
+    streams: &mut StandardStreams<R, W, V>,
     driver: &mut Driver<FileImage>,
 ) -> Result<(), Fault> {
-    let Ok(mut out) = BufWriter::with_capacity(alloc, GATHERED, &mut *streams.out) else {
+    let Ok(mut out) = BufWriter::with_capacity(alloc, GATHERED, &mut streams.out) else {
         return Err(Fault::NoMemory);
     };
-    let Ok(mut report) = BufWriter::with_capacity(alloc, GATHERED, &mut *streams.report) else {
+    let Ok(mut report) = BufWriter::with_capacity(alloc, GATHERED, &mut streams.report) else {
         return Err(Fault::NoMemory);
     };
     let done = run_script(
         alloc,
         script,
-        &mut *streams.input,
+        &mut streams.input,
         &mut out,
         &mut report,
         driver,

@@ -21,11 +21,10 @@ fn what_can_be_a_memory(rt: HostRuntime) -> Result<(), Fail> {
         (4_194_305, false),
         (4_194_306, false),
     ] {
-        assert_eq!(rt;
-            bytes.get(..length).map(is_memory),
-            Some(wanted),
-            "{length} bytes"
-        );
+        match bytes.get(..length) {
+            Some(bytes) => assert_eq!(rt; is_memory(bytes), wanted, "{length} bytes"),
+            None => panic!(rt; "no {length} bytes"),
+        }
     }
     assert_eq!(rt; SLICE_LIMIT, 4_194_304);
     Ok(())
@@ -60,30 +59,26 @@ fn the_last_byte_of_an_odd_length_is_in_no_word(rt: HostRuntime) -> Result<(), F
     Ok(())
 }
 
+/// Asserts five bytes from an address on.
+fn assert_bytes(rt: &impl Abort, bytes: &[u8], addr: u32, wanted: &[u8; 5]) {
+    match uda_mem::window(bytes, addr, 5) {
+        Some(window) => assert_eq!(rt; window, wanted.as_slice()),
+        None => panic!(rt; "no bytes at {addr}"),
+    }
+}
+
 #[test]
 fn addresses_of_22_bits(rt: HostRuntime) -> Result<(), Fail> {
     let mut bytes = vec![in rt.alloc(); 0u8; 4_194_304]?;
-    assert_words(
-        &rt,
-        &mut bytes,
-        &[(0x4_0000, true), (0x3f_fffe, true), (0x40_0000, false)],
-    );
-    assert_eq!(rt;
-        (read_word(&bytes, 0), read_word(&bytes, 0x3_fffe)),
-        (Some(0), Some(0))
-    );
-    assert!(rt; has(&bytes, 0x3f_fffc, 3));
-    put_bytes(&mut bytes, 0x3f_fffc, &[1, 2, 3]);
-    assert_eq!(rt;
-        uda_mem::window(&bytes, 0x3f_fffb, 5),
-        Some([0, 1, 2, 3, 0x12].as_slice())
-    );
-    assert!(rt; has(&bytes, 0x3f_fffd, 2));
-    put_zeros(&mut bytes, 0x3f_fffd, 2);
-    assert_eq!(rt;
-        uda_mem::window(&bytes, 0x3f_fffb, 5),
-        Some([0, 1, 0, 0, 0x12].as_slice())
-    );
+    let words = [(0x4_0000, true), (0x3f_fffe, true), (0x40_0000, false)];
+    assert_words(&rt, &mut bytes, &words);
+    assert_bytes(&rt, &bytes, 0, &[0; 5]);
+    assert!(rt; has(&bytes, 0x3f_fffb, 4));
+    put_bytes(&mut bytes, 0x3f_fffb, &[1, 2, 3, 0x34]);
+    assert_bytes(&rt, &bytes, 0x3f_fffb, &[1, 2, 3, 0x34, 0x12]);
+    assert!(rt; has(&bytes, 0x3f_fffc, 2));
+    put_zeros(&mut bytes, 0x3f_fffc, 2);
+    assert_bytes(&rt, &bytes, 0x3f_fffb, &[1, 0, 0, 0x34, 0x12]);
     assert!(rt; has(&bytes, 0x3f_fe00, 512));
     assert_eq!(rt; uda_mem::block_at(&bytes, 0x3f_fe00)[511], 0x12);
     Ok(())

@@ -1,8 +1,9 @@
 -- Drives as they are handed to an executor and handed back.
-use Rattle.std.specs.Prelude.{Bool, false, List, Option, map, option_map}
+use Rattle.std.specs.Prelude.{ℕ, Bool, false, List, Option, map, option_map, set}
 use Rattle.uda_image.specs.declared.store.Drive.{Drive}
 use Rattle.uda_image.specs.Store.{StoreState}
 use Rattle.uda_disk.specs.Units.{UnitState}
+use Rattle.uda_exec.specs.Disks.{ExecState}
 
 -- what contracts see of a drive: its store, and its own write protection
 pub record DriveState : Type 0 where
@@ -33,3 +34,7 @@ drives_in units = map (option_map drive_in) units
 -- a unit with a drive is available again, without software protection; its store stays
 abbrev pub reset_unit : Option UnitState → Option UnitState
 reset_unit unit = option_map (λ u. fresh_unit (drive_in u)) unit
+
+-- the executor with this drive as unit u, or with none there; the commands that are pending wait on
+abbrev pub with_drive : ExecState → ℕ → Option DriveState → ExecState
+with_drive exec u drive = record exec { units = set exec.units u (option_map fresh_unit drive) }

@@ -2,13 +2,13 @@
 //!
 //! MSCP Basic Disk Functions Manual: unit states, command ordering.
 ghost use Rattle.std.specs.Prelude.{◌≡◌, ℕ, ◌+◌, ◌<◌, ◌≤◌, [], ◌∷◌, ◌++◌, length, map, option_map, IsNone};
-ghost use Rattle.std.specs.Prelude.{IfNone, IfSome, ◌↔◌, slice_get};
+ghost use Rattle.std.specs.Prelude.{IfNone, IfSome, Some, ◌↔◌, set, slice_get};
 ghost use Rattle.uda_mem.specs.Slices.{IsMemory};
 ghost use Rattle.uda_disk.specs.Units.{HoldsImage, AreImages, is_faithful, is_sure};
 ghost use Rattle.uda_exec.specs.Disks.{PENDING_LIMIT};
 ghost use Rattle.uda_exec.specs.Commands.{is_controller};
 ghost use Rattle.uda_exec.specs.Drives.{drive_state, drive_states, drive_in, fresh_unit, fresh_units};
-ghost use Rattle.uda_exec.specs.Drives.{drives_in, reset_unit};
+ghost use Rattle.uda_exec.specs.Drives.{drives_in, reset_unit, with_drive};
 ghost use Rattle.uda_exec.specs.Execution.{Executes, ExecutesAt};
 
 use crate::choice::{Position, next_place};
@@ -200,6 +200,27 @@ impl<S: BlockStore> Exec<S> {
         reset(&mut self.units);
     }
 
+    /// Puts a drive in the place of a unit's, or None to leave the unit without one, and hands back the drive
+    /// that was there, with its blocks as the commands left them and its hardware protection.
+    ///
+    /// The unit is then available, without software protection, as [`new`](Exec::new) would have made it. The
+    /// other units and the pending commands stay as they are: a command that waits for this unit meets the
+    /// drive that it has when it goes. No store is called.
+    ///
+    /// `unit` is below 4.
+    ///
+    /// MSCP Basic Disk Functions Manual: unit states.
+    pub fn set_drive(&mut self, unit: usize, drive: Option<Drive<S>>) -> Option<Drive<S>>
+        requires there { unit < 4 }
+        ensures handed_back { slice_get (drives_in self.old.units) unit
+            ≡ Some (option_map (drive_state S.state) result) }
+        ensures set { self.new ≡ with_drive self.old unit (option_map (drive_state S.state) drive) }
+        ensures four { length self.new.units ≡ 4 }
+        ensures images { AreImages self.new.units }
+    {
+        exchange(&mut self.units, unit, unit_from(drive))
+    }
+
     /// The drives, taken out: drive `u` is that of unit `u`, None where that has none. Each has its blocks
     /// as the commands left them and its hardware protection. Pending commands are forgotten.
     pub fn into_stores(self) -> [Option<Drive<S>>; 4]
@@ -223,6 +244,21 @@ fn drives_of<S: BlockStore>(units: [Option<DriveUnit<S>>; 4]) -> [Option<Drive<S
 {
     let [a, b, c, d] = units;
     [drive_of(a), drive_of(b), drive_of(c), drive_of(d)]
+}
+
+// Puts one unit in the place of another, whose drive is handed back.
+fn exchange<S: BlockStore>(
+    units: &mut [Option<DriveUnit<S>>],
+    unit: usize,
+    new: Option<DriveUnit<S>>,
+) -> Option<Drive<S>>
+    requires there { unit < length units.old }
+    ensures handed_back { slice_get (drives_in units.old) unit
+        ≡ Some (option_map (drive_state S.state) result) }
+    ensures set { units.new ≡ set units.old unit new }
+{
+    let old = std::mem::replace(&mut units[unit], new);
+    drive_of(old)
 }
 
 fn reset_unit<S: BlockStore>(unit: &mut Option<DriveUnit<S>>)

@@ -1,14 +1,19 @@
 -- Messages as a person reads them.
-use Rattle.std.specs.Prelude.{ℕ, List, ◌++◌, codes}
+use Rattle.std.specs.Prelude.{ℕ, List, [], ◌++◌, codes, Option, Some, None}
 use Rattle.std.specs.Fmt.{decimal}
 use Rattle.uda_packet.specs.declared.bad.Bad.{Bad}
 use Rattle.uda_packet.specs.declared.bad.BadKind.{BadKind}
 use Rattle.uda_packet.specs.declared.bad.BadKind.TheVariants as fault
+use Rattle.uda_packet.specs.declared.command.Command.{Command}
+use Rattle.uda_packet.specs.declared.command.Op.{Op}
 use Rattle.uda_packet.specs.declared.end.End.{End}
 use Rattle.uda_packet.specs.declared.end.EndBody.{EndBody}
 use Rattle.uda_packet.specs.declared.end.EndBody.TheVariants as body
 use Rattle.uda_packet.specs.declared.end.Kind.{Kind}
 use Rattle.uda_packet.specs.declared.end.Kind.TheVariants as kind
+use Rattle.uda_packet.specs.declared.transfer.Transfer.{Transfer}
+use Rattle.uda_packet.specs.Opcode.{blank_body}
+use Rattle.uda_packet.specs.Transfer.{transfer_of}
 use Rattle.uda_disk.specs.Status.{status_name}
 use Rattle.uda_disk.specs.Display.{word_digits}
 
@@ -18,15 +23,25 @@ kind_display kind.Erase = codes "Erase"
 kind_display kind.Read = codes "Read"
 kind_display kind.Write = codes "Write"
 
+-- what the command is called that a body answers
+abbrev pub body_name : EndBody → List ℕ
+body_name body.Invalid = codes "invalid command"
+body_name (body.Status flags) = codes "Get Unit Status"
+body_name body.Controller = codes "Set Controller Characteristics"
+body_name body.Available = codes "Available"
+body_name (body.Online flags size) = codes "Online"
+body_name (body.Moved which bytes) = kind_display which
+
+-- the numbers that it tells
+abbrev pub body_numbers : EndBody → List ℕ
+body_numbers (body.Status flags) = codes ", flags 0x" ++ word_digits flags
+body_numbers (body.Online flags size) =
+    codes ", flags 0x" ++ word_digits flags ++ codes ", " ++ decimal size ++ codes " blocks"
+body_numbers (body.Moved which bytes) = codes ", " ++ decimal bytes ++ codes " bytes"
+body_numbers _ = []
+
 abbrev pub body_display : EndBody → List ℕ
-body_display body.Invalid = codes "invalid command"
-body_display (body.Status flags) = codes "Get Unit Status, flags 0x" ++ word_digits flags
-body_display body.Controller = codes "Set Controller Characteristics"
-body_display body.Available = codes "Available"
-body_display (body.Online flags size) =
-    codes "Online, flags 0x" ++ word_digits flags ++ codes ", " ++ decimal size ++ codes " blocks"
-body_display (body.Moved which moved) =
-    kind_display which ++ codes ", " ++ decimal moved ++ codes " bytes"
+body_display b = body_name b ++ body_numbers b
 
 abbrev pub end_display : End → List ℕ
 end_display e =
@@ -44,3 +59,18 @@ abbrev pub bad_display : Bad → List ℕ
 bad_display b =
     codes "reference " ++ decimal b.reference ++ codes ", unit " ++ decimal b.unit
     ++ codes ": " ++ fault_display b.kind
+
+-- what an operation is called: as the body of its end
+abbrev pub op_name : Op → List ℕ
+op_name o = body_name (blank_body o)
+
+-- the blocks that a transfer speaks of
+abbrev pub range_display : Option Transfer → List ℕ
+range_display (Some t) = codes " lbn " ++ decimal t.lbn ++ codes " bytes " ++ decimal t.bytes
+range_display None = []
+
+-- a command: its reference, its name, its unit, and the blocks of a transfer
+abbrev pub command_display : Command → List ℕ
+command_display c =
+    decimal c.reference ++ codes " " ++ op_name c.op ++ codes " unit " ++ decimal c.unit
+    ++ range_display (transfer_of c.op)

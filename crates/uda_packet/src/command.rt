@@ -1,5 +1,11 @@
 //! Command messages.
 
+ghost use Rattle.std.specs.Prelude.{◌≡◌, Some};
+ghost use Rattle.uda_packet.specs.Display.{command_display, op_name};
+
+use crate::opcode::Opcode;
+use std::fmt;
+
 /// A command message: what the host asks of one unit.
 ///
 /// Its default stands for nothing that a host asks: it is what the free places of an array or a
@@ -14,6 +20,28 @@ pub struct Command {
     pub unit: u16,
     /// What is to be done, with its parameters.
     pub op: Op,
+}
+
+/// As `3 Read unit 0 lbn 9 bytes 512`, or `4 Online unit 0`.
+impl fmt::Display for Command {
+    ghost output = { λ command. Some (command_display command) };
+
+    fn fmt<W: fmt::Write>(&self, f: &mut fmt::Formatter<W>) -> fmt::Result {
+        let Command {
+            reference,
+            unit,
+            op,
+        } = *self;
+        let name = op.name();
+        match op.transfer() {
+            Some(t) => write!(
+                f,
+                "{reference} {name} unit {unit} lbn {} bytes {}",
+                t.lbn, t.bytes
+            ),
+            None => write!(f, "{reference} {name} unit {unit}"),
+        }
+    }
 }
 
 /// The operation of a command, with its parameters.
@@ -65,4 +93,13 @@ pub enum Op {
         /// The first logical block.
         lbn: u32,
     },
+}
+
+impl Op {
+    /// What the command is called.
+    pub fn name(self) -> &'static str
+        ensures name { result.now ≡ op_name self }
+    {
+        Opcode::of_op(&self).blank_body().name()
+    }
 }

@@ -2,7 +2,7 @@
 
 ghost use Rattle.std.specs.Prelude.{◌≡◌, Some};
 ghost use Rattle.uda_packet.specs.Bad.{other_length_end};
-ghost use Rattle.uda_packet.specs.Display.{end_display, body_display, kind_display};
+ghost use Rattle.uda_packet.specs.Display.{end_display, body_display, body_name, kind_display};
 
 use crate::field::{REFERENCE, UNIT};
 use crate::status;
@@ -95,20 +95,35 @@ pub enum EndBody {
     },
 }
 
+impl EndBody {
+    /// What the command is called that the body answers, and `invalid command` where that was none.
+    pub fn name(self) -> &'static str
+        ensures name { result.now ≡ body_name self }
+    {
+        match self {
+            EndBody::Invalid => "invalid command",
+            EndBody::Status { .. } => "Get Unit Status",
+            EndBody::Controller => "Set Controller Characteristics",
+            EndBody::Available => "Available",
+            EndBody::Online { .. } => "Online",
+            EndBody::Moved { kind, .. } => kind.name(),
+        }
+    }
+}
+
 /// As `Read, 512 bytes`, or `Online, flags 0x1000, 891072 blocks`.
 impl fmt::Display for EndBody {
     ghost output = { λ body. Some (body_display body) };
 
     fn fmt<W: fmt::Write>(&self, f: &mut fmt::Formatter<W>) -> fmt::Result {
+        let name = self.name();
         match *self {
-            EndBody::Invalid => f.write_str("invalid command"),
-            EndBody::Status { flags } => write!(f, "Get Unit Status, flags 0x{flags:04x}"),
-            EndBody::Controller => f.write_str("Set Controller Characteristics"),
-            EndBody::Available => f.write_str("Available"),
+            EndBody::Status { flags } => write!(f, "{name}, flags 0x{flags:04x}"),
             EndBody::Online { flags, size } => {
-                write!(f, "Online, flags 0x{flags:04x}, {size} blocks")
+                write!(f, "{name}, flags 0x{flags:04x}, {size} blocks")
             }
-            EndBody::Moved { kind, bytes } => write!(f, "{kind}, {bytes} bytes"),
+            EndBody::Moved { bytes, .. } => write!(f, "{name}, {bytes} bytes"),
+            _ => f.write_str(name),
         }
     }
 }
@@ -126,15 +141,24 @@ pub enum Kind {
     Write,
 }
 
-impl fmt::Display for Kind {
-    ghost output = { λ kind. Some (kind_display kind) };
-
-    fn fmt<W: fmt::Write>(&self, f: &mut fmt::Formatter<W>) -> fmt::Result {
-        f.write_str(match self {
+impl Kind {
+    /// What the transfer is called.
+    pub fn name(self) -> &'static str
+        ensures name { result.now ≡ kind_display self }
+    {
+        match self {
             Kind::Access => "Access",
             Kind::Erase => "Erase",
             Kind::Read => "Read",
             Kind::Write => "Write",
-        })
+        }
+    }
+}
+
+impl fmt::Display for Kind {
+    ghost output = { λ kind. Some (kind_display kind) };
+
+    fn fmt<W: fmt::Write>(&self, f: &mut fmt::Formatter<W>) -> fmt::Result {
+        f.write_str(self.name())
     }
 }

@@ -1,7 +1,7 @@
 //! The executor: four units, and the commands that it has accepted.
 //!
 //! MSCP Basic Disk Functions Manual: unit states, command ordering.
-ghost use Rattle.std.specs.Prelude.{◌≡◌, ℕ, ◌+◌, ◌<◌, ◌≤◌, [], ◌∷◌, ◌++◌, length, map, option_map, IsNone};
+ghost use Rattle.std.specs.Prelude.{◌≡◌, ℕ, ◌+◌, ◌-◌, ◌<◌, ◌≤◌, [], ◌∷◌, ◌++◌, length, map, option_map, IsNone};
 ghost use Rattle.std.specs.Prelude.{IfNone, IfSome, Some, ◌↔◌, set, slice_get};
 ghost use Rattle.uda_mem.specs.Slices.{IsMemory};
 ghost use Rattle.uda_disk.specs.Units.{HoldsImage, AreImages, is_faithful, is_sure};
@@ -111,6 +111,13 @@ impl<S: BlockStore> Exec<S> {
         ensures within { result ≤ PENDING_LIMIT }
     {
         self.pending.len()
+    }
+
+    /// The command that was accepted last of those that are pending.
+    pub fn newest(&self) -> Option<Command>
+        ensures newest { result ≡ slice_get self.now.pending (length self.now.pending - 1) }
+    {
+        self.pending.last().copied()
     }
 
     /// Executes one pending command that may go, takes it out and answers its end message. None where

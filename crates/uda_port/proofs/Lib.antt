@@ -3,3 +3,4 @@ pub mod Length
 pub mod TurnLaws
 pub mod PlayLaws
 pub mod DeathLaws
+pub mod TraceLaws

@@ -7,5 +7,6 @@ pub mod Port
 pub mod IsPort
 pub mod Count
 pub mod Startup
+pub mod Trace
 pub mod Turn
 pub mod Play

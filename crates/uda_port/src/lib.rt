@@ -2,6 +2,8 @@
 #![tactic(auto)]
 
 mod descriptor;
+mod drives;
+mod look;
 mod message;
 mod packet;
 mod phase;
@@ -10,6 +12,7 @@ mod port;
 mod ring;
 mod startup;
 mod tally;
+mod trace;
 mod turn;
 
 pub use descriptor::Descriptor;
@@ -18,4 +21,5 @@ pub use phase::{Fatal, Phase};
 pub use play::HostEvent;
 pub use port::Port;
 pub use ring::{RING_BASE_LIMIT, Ring, Ring as CommandRing, RingFault};
+pub use trace::Trace;
 pub use turn::Turn;

@@ -112,6 +112,28 @@ impl Ring {
         base % 2 == 0 && base <= RING_BASE_LIMIT
     }
 
+    /// The address of the first descriptor.
+    pub fn base(self) -> u32
+        ensures base { result ≡ self.base }
+    {
+        self.base
+    }
+
+    /// How many descriptors the ring has.
+    pub fn count(self) -> u16
+        ensures count { result ≡ self.count }
+    {
+        self.count
+    }
+
+    /// The place of the next descriptor, counted from 0.
+    pub fn place(self) -> u16
+        ensures place { result ≡ self.place }
+        ensures within { result < self.count }
+    {
+        self.place
+    }
+
     /// Takes the next command: reads the packet of the descriptor at the place, gives the descriptor
     /// back and goes on by one, round the ring.
     ///

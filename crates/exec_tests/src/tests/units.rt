@@ -172,3 +172,59 @@ fn stores_are_handed_back(rt: HostRuntime) -> Result<(), Fail> {
     assert_drive(&rt, fourth, false, &[]);
     Ok(())
 }
+
+#[test]
+fn drive_exchanged(rt: HostRuntime) -> Result<(), Fail> {
+    let mut bench = units_to_hand_back(rt.alloc())?;
+    bench.fill(0, 512, 0x44);
+    bench.execute(0, online(None));
+    bench.execute(0, write(0, 512, 0));
+    bench.accept(command(0, write(0, 512, 1)));
+    let other = protected_drive(rt.alloc(), &[0x55; 512])?;
+    let old = bench.set_drive(0, other);
+    assert_drive(&rt, &old, false, &written_and_empty());
+    // the Write that waited meets the new drive, which isn't online
+    assert_eq!(rt; bench.pending(), 1);
+    let refused = EndBody::Moved {
+        kind: Kind::Write,
+        bytes: 0,
+    };
+    assert_eq!(rt; bench.execute_one(), end(0, 0x0004, refused));
+    assert_exchanged(&rt, &mut bench);
+    let [first, _, third, _] = &bench.into_drives();
+    assert_drive(&rt, first, true, &[0x55; 512]);
+    assert_drive(&rt, third, true, &[0x11; 512]);
+    Ok(())
+}
+
+/// The new drive of unit 0 is protected by hardware, and has one block.
+fn assert_exchanged(rt: &impl Abort, bench: &mut Bench<MemImage>) {
+    let flags = 0x2000;
+    let refused = EndBody::Moved {
+        kind: Kind::Write,
+        bytes: 0,
+    };
+    let commands = [
+        (0, online(None), 0, EndBody::Online { flags, size: 1 }),
+        (0, write(0, 512, 0), 0x2006, refused),
+        (1, Op::Status, 0x0023, EndBody::Status { flags: 0 }),
+    ];
+    bench.assert_ends(rt, &commands);
+}
+
+#[test]
+fn drive_taken_out_and_put_in(rt: HostRuntime) -> Result<(), Fail> {
+    let mut bench = units_to_hand_back(rt.alloc())?;
+    let second = bench.set_drive(2, None);
+    assert_drive(&rt, &second, true, &[0x11; 512]);
+    let gone = [(2, Op::Status, 0x0023, EndBody::Status { flags: 0 })];
+    bench.assert_ends(&rt, &gone);
+    let none = bench.set_drive(1, second);
+    assert_eq!(rt; contents(&none), None);
+    let there = [
+        (2, Op::Status, 0x0023, EndBody::Status { flags: 0 }),
+        (1, Op::Status, 0x0004, EndBody::Status { flags: 0x2000 }),
+    ];
+    bench.assert_ends(&rt, &there);
+    Ok(())
+}

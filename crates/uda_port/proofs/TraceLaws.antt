@@ -1,0 +1,86 @@
+-- What can be told of a turn by the ports before and after it.
+use Rattle.std.proofs.Common.{◌≡◌, ℕ, ◌+◌, ◌-◌, ◌<◌, ◌≤◌, List, [], ◌∷◌, ◌++◌, length, Some, sym, ap, subst, lt_irrefl, ◌∙◌, arith, length-append}
+use Rattle.std.specs.Prelude.{Result, Ok, Err, slice_get}
+use Rattle.std.proofs.lemmas.List.{get_or_push}
+use Rattle.std.proofs.lemmas.Option.{slice_get_read}
+use Rattle.circular_buffer.specs.Buffer.{last_item}
+use Rattle.uda_packet.specs.declared.command.Command.{Command}
+use Rattle.uda_packet.specs.declared.end.End.{End}
+use Rattle.uda_port.specs.declared.phase.Phase.{Phase}
+use Rattle.uda_port.specs.declared.phase.Phase.TheVariants.{Step1, Step2, Step3, Step4, Running, Dead as DeadPhase}
+use Rattle.uda_port.specs.declared.turn.Turn.TheVariants as turn
+use Rattle.uda_port.specs.Port.{PortState}
+use Rattle.uda_port.specs.Message.{message_in}
+use Rattle.uda_port.specs.Turn.{TurnGoes, port_turn_on, port_with_message}
+use Rattle.uda_port.specs.Trace.{IsDead}
+
+-- the last item is the one that was put behind the others
+last-is : {A : Type 0} (xs : List A) (y : A) → last_item (xs ++ y ∷ []) ≡ Some y
+last-is xs y =
+    let len = length-append xs (y ∷ []) in
+    slice_get_read (xs ++ y ∷ []) (length xs + 1) (length (xs ++ y ∷ []) - 1) y (sym len) (omega (arith, len)) (sym (get_or_push xs y y (length (xs ++ y ∷ []) - 1) (omega (arith, len))))
+
+pub ends_with : {A : Type 0} (xs zs : List A) (y x : A) → zs ≡ xs ++ y ∷ [] → last_item zs ≡ Some x → zs ≡ xs ++ x ∷ []
+ends_with xs zs y x is last =
+    let same : Some y ≡ Some x = sym (last-is xs y) ∙ rw is at last in
+    is ∙ ap (λ z. xs ++ z ∷ []) (cc)
+
+-- a fetch: a command is pending, last, or the end of what is none waits, last
+pub data OneMore (old new : PortState) : Type 0 where
+  ACommand : (c : Command) → new.exec.pending ≡ old.exec.pending ++ c ∷ [] → OneMore old new
+  AnEnd : (e : End) → new.exec.pending ≡ old.exec.pending → new.waiting ≡ old.waiting ++ e ∷ [] → OneMore old new
+
+one_more : (old : PortState) (memory : List ℕ) (new : PortState) (memory_after : List ℕ) → (message : Result Command End)
+    → new ≡ record (port_with_message (port_turn_on old) message) { commands = new.commands; credits = old.credits - 1; fetches = old.fetches + 1 } → OneMore old new
+one_more old memory new memory_after (Ok c) is = ACommand c (ap (λ (p : PortState). p.exec.pending) is)
+one_more old memory new memory_after (Err e) is = AnEnd e (ap (λ (p : PortState). p.exec.pending) is) (ap (λ (p : PortState). p.waiting) is)
+
+pub fetched : (phase : Phase) (old : PortState) (memory : List ℕ) (new : PortState) (memory_after : List ℕ) → TurnGoes phase old memory turn.Fetched new memory_after → OneMore old new
+fetched Running old memory new memory_after goes = one_more old memory new memory_after (message_in goes.packet) goes.others
+fetched Step1 old memory new memory_after goes = absurd (cc)
+fetched (Step2 first) old memory new memory_after goes = absurd (cc)
+fetched (Step3 first second) old memory new memory_after goes = absurd (cc)
+fetched Step4 old memory new memory_after goes = absurd (cc)
+fetched (DeadPhase cause) old memory new memory_after goes = absurd (cc)
+
+pub executed : (phase : Phase) (old : PortState) (memory : List ℕ) (new : PortState) (memory_after : List ℕ) → TurnGoes phase old memory turn.Executed new memory_after
+    → (end : End) × (new.waiting ≡ old.waiting ++ end ∷ [])
+executed Running old memory new memory_after goes = (goes.rest.1.end, ap (λ (p : PortState). p.waiting) goes.rest.1.others)
+executed Step1 old memory new memory_after goes = absurd (cc)
+executed (Step2 first) old memory new memory_after goes = absurd (cc)
+executed (Step3 first second) old memory new memory_after goes = absurd (cc)
+executed Step4 old memory new memory_after goes = absurd (cc)
+executed (DeadPhase cause) old memory new memory_after goes = absurd (cc)
+
+pub delivered : (phase : Phase) (old : PortState) (memory : List ℕ) (new : PortState) (memory_after : List ℕ) → TurnGoes phase old memory turn.Delivered new memory_after
+    → (end : End) × (old.waiting ≡ end ∷ new.waiting)
+delivered Running old memory new memory_after goes = (goes.rest.1.end, goes.rest.1.first)
+delivered Step1 old memory new memory_after goes = absurd (cc)
+delivered (Step2 first) old memory new memory_after goes = absurd (cc)
+delivered (Step3 first second) old memory new memory_after goes = absurd (cc)
+delivered Step4 old memory new memory_after goes = absurd (cc)
+delivered (DeadPhase cause) old memory new memory_after goes = absurd (cc)
+
+pub died : (phase : Phase) (old : PortState) (memory : List ℕ) (new : PortState) (memory_after : List ℕ) → phase ≡ old.phase → TurnGoes phase old memory turn.Dead new memory_after → IsDead new.phase
+died Running old memory new memory_after is goes = subst IsDead (sym (ap (λ (p : PortState). p.phase) goes.died)) tt
+died Step1 old memory new memory_after is goes = absurd (cc)
+died (Step2 first) old memory new memory_after is goes = absurd (cc)
+died (Step3 first second) old memory new memory_after is goes = absurd (cc)
+died Step4 old memory new memory_after is goes = absurd (cc)
+died (DeadPhase cause) old memory new memory_after is goes = subst IsDead (is ∙ sym (ap (λ (p : PortState). p.phase) goes.unchanged.state)) tt
+
+-- what is told of a fetch
+pub told_command : (old new : PortState) (c : Command) → OneMore old new → length old.exec.pending < length new.exec.pending → last_item new.exec.pending ≡ Some c
+    → new.exec.pending ≡ old.exec.pending ++ c ∷ []
+told_command old new c (ACommand pended is) more last = ends_with old.exec.pending new.exec.pending pended c is last
+told_command old new c (AnEnd end stays is) more last = absurd (lt_irrefl _ (subst (λ (l : List Command). length old.exec.pending < length l) stays more))
+
+pub told_refusal : (old new : PortState) (e : End) → OneMore old new → length new.exec.pending ≤ length old.exec.pending → last_item new.waiting ≡ Some e
+    → new.waiting ≡ old.waiting ++ e ∷ []
+told_refusal old new e (ACommand pended is) fewer last = let more = ap length is ∙ length-append old.exec.pending (pended ∷ []) in absurd (omega (arith, more, fewer))
+told_refusal old new e (AnEnd end stays is) fewer last = ends_with old.waiting new.waiting end e is last
+
+pub told_first : (old new : List End) (put e : End) → old ≡ put ∷ new → slice_get old 0 ≡ Some e → old ≡ e ∷ new
+told_first old new put e is first =
+    let same : Some put ≡ Some e = rw is at first in
+    is ∙ ap (λ (x : End). x ∷ new) (cc)

@@ -1,0 +1,61 @@
+-- What a turn did, told whole, and the line that a trace prints of it.
+-- UDA50 Programmer's Documentation Kit: command ring polling, message envelopes, fatal errors.
+use Rattle.std.specs.Prelude.{◌≡◌, ℕ, List, [], ◌∷◌, ◌++◌, codes}
+use Rattle.std.specs.Fmt.{decimal}
+use Rattle.uda_disk.specs.Display.{word_digits}
+use Rattle.uda_packet.specs.declared.end.End.{End}
+use Rattle.uda_packet.specs.declared.end.EndBody.{EndBody}
+use Rattle.uda_packet.specs.declared.end.EndBody.TheVariants.{Moved}
+use Rattle.uda_packet.specs.Display.{body_name, command_display}
+use Rattle.uda_port.specs.declared.phase.Phase.{Phase}
+use Rattle.uda_port.specs.declared.phase.Phase.TheVariants.{Dead as DeadPhase}
+use Rattle.uda_port.specs.declared.turn.Turn.{Turn}
+use Rattle.uda_port.specs.declared.turn.Turn.TheVariants as turn
+use Rattle.uda_port.specs.declared.trace.Trace.{Trace}
+use Rattle.uda_port.specs.declared.trace.Trace.TheVariants.{Fetched, Refused, Executed, Delivered, Idle, Dead}
+use Rattle.uda_port.specs.Port.{PortState}
+use Rattle.uda_port.specs.Startup.{code_of}
+
+-- the turn that was taken
+abbrev pub turn_of : Trace → Turn
+turn_of (Fetched command) = turn.Fetched
+turn_of (Refused end) = turn.Fetched
+turn_of (Executed end) = turn.Executed
+turn_of (Delivered end) = turn.Delivered
+turn_of Idle = turn.Idle
+turn_of (Dead cause) = turn.Dead
+
+-- what is told is what was done: a command that was fetched is pending, last; the end of what was none, and
+-- that of a command that was executed, waits, last; an end that was delivered was the first that waited; and a
+-- dead port is dead of this cause
+abbrev pub Tells : Trace → PortState → PortState → Type 0
+Tells (Fetched command) old new = new.exec.pending ≡ old.exec.pending ++ command ∷ []
+Tells (Refused end) old new = new.waiting ≡ old.waiting ++ end ∷ []
+Tells (Executed end) old new = new.waiting ≡ old.waiting ++ end ∷ []
+Tells (Delivered end) old new = old.waiting ≡ end ∷ new.waiting
+Tells Idle old new = Unit
+Tells (Dead cause) old new = new.phase ≡ DeadPhase cause
+
+-- a port in this phase is dead
+abbrev pub IsDead : Phase → Type 0
+IsDead (DeadPhase cause) = Unit
+IsDead _ = ⊥
+
+-- the bytes that a transfer tells
+abbrev pub bytes_display : EndBody → List ℕ
+bytes_display (Moved kind bytes) = codes " bytes " ++ decimal bytes
+bytes_display _ = []
+
+-- an end message: its reference, the name of its command, its unit, its status, and a transfer's bytes
+abbrev pub end_line : End → List ℕ
+end_line e =
+    decimal e.reference ++ codes " " ++ body_name e.body ++ codes " unit " ++ decimal e.unit
+    ++ codes " status 0x" ++ word_digits e.status ++ bytes_display e.body
+
+abbrev pub trace_display : Trace → List ℕ
+trace_display (Fetched command) = codes "fetched " ++ command_display command
+trace_display (Refused end) = codes "refused " ++ end_line end
+trace_display (Executed end) = codes "executed " ++ end_line end
+trace_display (Delivered end) = codes "delivered " ++ end_line end
+trace_display Idle = codes "idle"
+trace_display (Dead cause) = codes "dead of code " ++ decimal (code_of cause)

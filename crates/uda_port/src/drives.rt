@@ -1,0 +1,38 @@
+//! Drives that come and go while a guest runs.
+//!
+//! MSCP Basic Disk Functions Manual: unit states.
+ghost use Rattle.std.specs.Prelude.{◌≡◌, ◌<◌, Some, length, option_map, slice_get};
+ghost use Rattle.uda_disk.specs.Units.{AreImages};
+ghost use Rattle.uda_exec.specs.Drives.{drive_state, drives_in, with_drive};
+ghost use Rattle.uda_port.specs.Port.{CreditsAgree};
+
+use crate::port::Port;
+use uda_image::{BlockStore, Drive};
+
+impl<S: BlockStore> Port<S> {
+    /// Puts a drive in the place of a unit's, or None to leave the unit without one, and hands back the drive
+    /// that was there, with its blocks as they are and its hardware protection.
+    ///
+    /// The unit is then available, without software protection. Nothing else of the port changes: the other
+    /// units, the rings, the commands that are pending and the ends that wait stay as they are, and a command
+    /// that is pending for this unit meets the drive that is there when it goes. It may be called between any
+    /// two turns, in every phase; no message tells the host of it.
+    ///
+    /// `unit` is below 4.
+    ///
+    /// MSCP Basic Disk Functions Manual: unit states.
+    pub fn set_drive(&mut self, unit: usize, drive: Option<Drive<S>>) -> Option<Drive<S>>
+        requires there { unit < 4 }
+        ensures handed_back { slice_get (drives_in self.old.exec.units) unit
+            ≡ Some (option_map (drive_state S.state) result) }
+        ensures set { self.new ≡ record self.old {
+            exec = with_drive self.old.exec unit (option_map (drive_state S.state) drive) } }
+        ensures credits { CreditsAgree self.new }
+        ensures four { length self.new.exec.units ≡ 4 }
+        ensures images { AreImages self.new.exec.units }
+    {
+        let old = self.exec.set_drive(unit, drive);
+        self.keep();
+        old
+    }
+}

@@ -4,7 +4,11 @@
 #![tactic(auto)]
 
 #[cfg(test)]
+mod drives;
+#[cfg(test)]
 mod hostile;
+#[cfg(test)]
+mod look;
 #[cfg(test)]
 mod machine;
 #[cfg(test)]

@@ -11,7 +11,7 @@ use uda_exec::Exec;
 use uda_image::{Drive, MemImage};
 use uda_mem::HostMemory;
 use uda_packet::{Command, End, Op, decode_end, encode_command};
-use uda_port::{HostEvent, Phase, Port, Turn};
+use uda_port::{HostEvent, Phase, Port, Ring, Turn};
 
 /// The bytes of host memory.
 pub(crate) const MEMORY: u32 = 135_168;
@@ -157,6 +157,27 @@ impl Machine {
     pub(crate) fn into_drives(self) -> [Option<Drive<MemImage>>; 4] {
         let Machine { port, .. } = self;
         port.into_exec().into_stores()
+    }
+
+    /// Exchanges the drive of unit 0 for another, and answers the old one.
+    pub(crate) fn set_drive(&mut self, drive: Option<Drive<MemImage>>) -> Option<Drive<MemImage>> {
+        self.port.set_drive(0, drive)
+    }
+
+    /// One turn of the port, as a trace tells it.
+    pub(crate) fn turn_text(&mut self, alloc: Global) -> Result<String, Fail> {
+        let trace = self.port.turn_traced(&mut self.memory);
+        Ok(format!(in alloc; "{trace}")?)
+    }
+
+    /// The response ring and the command ring.
+    pub(crate) fn rings(&self) -> [Ring; 2] {
+        [self.port.responses(), self.port.commands()]
+    }
+
+    /// The credits that the host has.
+    pub(crate) fn credits(&self) -> u8 {
+        self.port.credits()
     }
 
     /// Puts a new port in the place of this one.
@@ -321,5 +342,19 @@ impl Machine {
     /// Asserts the end message of response i.
     pub(crate) fn assert_end(&self, rt: &impl Abort, i: u16, end: End) {
         assert_eq!(rt; self.end(rt, i), Some(end));
+    }
+
+    /// Takes a turn, and asserts the line that a trace has of it.
+    pub(crate) fn assert_trace(&mut self, rt: &impl Abort, alloc: Global, line: &str) -> Result<(), Fail> {
+        let told = self.turn_text(alloc)?;
+        assert_eq!(rt; &*told, line);
+        Ok(())
+    }
+
+    /// Asserts each ring's base, count and place, of the responses and of the commands, and the credits.
+    pub(crate) fn assert_rings(&self, rt: &impl Abort, wanted: [(u32, u16, u16); 2], credits: u8) {
+        let rings = self.rings().map(|ring| (ring.base(), ring.count(), ring.place()));
+        assert_eq!(rt; rings, wanted);
+        assert_eq!(rt; self.credits(), credits);
     }
 }

@@ -3,7 +3,7 @@ use anyhow::{Result, bail};
 use uda_exec::{Exec, PENDING};
 use uda_image::BlockStore;
 use uda_mem::HostMemory;
-use uda_packet::{Command, Op, status};
+use uda_packet::{Command, End, Op, status};
 
 /// Which way the blocks move.
 #[derive(Clone, Copy, Debug, PartialEq, Eq)]
@@ -84,7 +84,7 @@ impl Work {
 
 /// Brings unit 0 online.
 pub fn bring_online<S: BlockStore>(exec: &mut Exec<S>, memory: &mut HostMemory) -> Result<()> {
-    execute(exec, memory, Op::Online { soft: None })
+    told(execute(exec, memory, Op::Online { soft: None }))
 }
 
 /// Does a work on unit 0, which has `size` blocks.
@@ -96,14 +96,22 @@ pub fn execute_all<S: BlockStore>(
 ) -> Result<()> {
     let mut block: u32 = 0;
     for _ in 0..work.transfers {
-        execute(exec, memory, work.op(block))?;
+        let done = execute(exec, memory, work.op(block));
+        if done.is_err() {
+            return told(done);
+        }
         block = work.next(block, size);
     }
     Ok(())
 }
 
-// Executes one command of unit 0, which must succeed.
-fn execute<S: BlockStore>(exec: &mut Exec<S>, memory: &mut HostMemory, op: Op) -> Result<()> {
+// Executes one command of unit 0, which must succeed: else the answer is its end, if it has one. It has no room
+// for an error's text, which would be filled with zeros for each command.
+fn execute<S: BlockStore>(
+    exec: &mut Exec<S>,
+    memory: &mut HostMemory,
+    op: Op,
+) -> Result<(), Option<End>> {
     if exec.pending() < PENDING {
         exec.accept(Command {
             reference: 0,
@@ -113,7 +121,15 @@ fn execute<S: BlockStore>(exec: &mut Exec<S>, memory: &mut HostMemory, op: Op) -
     }
     match exec.execute_one(memory) {
         Some(end) if end.status == status::SUCCESS => Ok(()),
-        Some(end) => bail!("{end}"),
-        None => bail!("nothing was pending"),
+        end => Err(end),
+    }
+}
+
+// What came of a command, with the text of what did not.
+fn told(done: Result<(), Option<End>>) -> Result<()> {
+    match done {
+        Ok(()) => Ok(()),
+        Err(Some(end)) => bail!("{end}"),
+        Err(None) => bail!("nothing was pending"),
     }
 }

@@ -1,4 +1,5 @@
 //! The executor by its commands: what the tests share.
+mod at_once;
 mod bench;
 mod choice;
 mod files;

@@ -1,5 +1,6 @@
 pub mod Words
 pub mod Changes
+pub mod AtOnce
 pub mod Blocks
 pub mod Moves
 pub mod Steps

@@ -1,7 +1,7 @@
 -- What a transfer moves, and how far it has come at block k of its range, counted from 0.
 -- MSCP Basic Disk Functions Manual: transfer commands, logical blocks.
 use Rattle.std.specs.Prelude.{◌≡◌, ℕ, true, Result, ◌+◌, ◌-◌, ◌*◌, List, [], ◌∷◌, ◌++◌, length, take}
-use Rattle.std.specs.Prelude.{slice_index_or, if◌then◌else◌}
+use Rattle.std.specs.Prelude.{slice_index_or, replicate, if◌then◌else◌}
 use Rattle.std.specs.List.{concat}
 use Rattle.uda_mem.specs.Put.{put, part}
 use Rattle.uda_image.specs.declared.store.StoreError.{StoreError}
@@ -82,3 +82,7 @@ pub record StopsAt (t : Transfer) (k : ℕ) (old : StoreState) (memory : List �
   pub whole : length left ≡ 512
   pub stand : Stand t (take k (blocks_due t old.blocks memory) ++ left ∷ []) old memory new memory_after
   pub counted : new.failures ≡ old.failures + 1
+
+-- so many blocks from block n on are zeros, and nothing else changed
+abbrev pub Erased : StoreState → ℕ → ℕ → StoreState → Type 0
+Erased old n count new = new ≡ record old { blocks = put old.blocks n (replicate count (replicate 512 0)) }

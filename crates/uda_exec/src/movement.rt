@@ -6,7 +6,8 @@ ghost use Rattle.std.specs.Prelude.{if◌then◌else◌};
 ghost use Rattle.uda_mem.specs.Put.{part};
 ghost use Rattle.uda_image.specs.Store.{KeepsNature, Reads, Writes};
 ghost use Rattle.uda_exec.specs.Commands.{block_count, room_in, changes_memory};
-ghost use Rattle.uda_exec.specs.Transfers.{ChangesAt, ReadsInto, MovesBlock, LosesBlock, Progress, StopsAt};
+ghost use Rattle.uda_exec.specs.Transfers.{ChangesAt, ReadsInto, MovesBlock, LosesBlock, Erased};
+ghost use Rattle.uda_exec.specs.Transfers.{Progress, StopsAt};
 ghost use Rattle.uda_disk.specs.Request.{first_block};
 
 use uda_disk::first_block;
@@ -16,6 +17,15 @@ use uda_packet::{Kind, Transfer};
 
 /// The bytes of a block.
 pub const BLOCK: u32 = 512;
+
+/// How many blocks an Access or an Erase moves at once at most.
+const PIECE: u32 = 32;
+
+/// The bytes of so many blocks.
+const PIECE_BYTES: usize = 16_384;
+
+/// What an Erase writes.
+const ZEROS: [u8; PIECE_BYTES] = [0; PIECE_BYTES];
 
 /// A transfer stopped where its store failed.
 #[derive(Clone, Copy, Debug, PartialEq, Eq)]
@@ -125,9 +135,95 @@ fn move_block<S: BlockStore>(
     }
 }
 
-// Moves the blocks of a transfer's range in rising order, up to the first at which the store fails; that
-// block, or its bytes of a Read's buffer, may then hold anything. A transfer without blocks doesn't
-// call the store. The range lies on the unit and the buffer in memory, which the caller checks.
+// Reads blocks from block `n` on into bytes of its own, a piece at a time, up to the first piece that the store
+// declines, and answers how many it read.
+#[inline(never)]
+fn access_at_once<S: BlockStore>(store: &mut S, n: u32, count: u32) -> u32
+    requires on_unit { n + count ≤ (S.state store.old).size }
+    ensures nature { KeepsNature (S.state store.old) (S.state store.new) }
+    ensures within { result ≤ count }
+    ensures unchanged { (S.state store.old).faithful ≡ true
+        → S.state store.new ≡ S.state store.old }
+{
+    let mut bytes = [0; PIECE_BYTES];
+    let mut done = 0;
+    while done < count {
+        let piece = PIECE.min(count - done);
+        let size = 512 * piece as usize;
+        if !store.read_at_once(n + done, piece, &mut bytes[..size]) {
+            return done;
+        }
+        done += piece;
+    }
+    done
+}
+
+// Writes zeros to blocks from block `n` on, a piece at a time, up to the first piece that the store declines,
+// and answers to how many it wrote them.
+fn erase_at_once<S: BlockStore>(store: &mut S, n: u32, count: u32) -> u32
+    requires on_unit { n + count ≤ (S.state store.old).size }
+    ensures nature { KeepsNature (S.state store.old) (S.state store.new) }
+    ensures within { result ≤ count }
+    ensures erased { (S.state store.old).faithful ≡ true
+        → Erased (S.state store.old) n result (S.state store.new) }
+{
+    let mut done = 0;
+    while done < count {
+        let piece = PIECE.min(count - done);
+        let size = 512 * piece as usize;
+        if !store.write_at_once(n + done, piece, &ZEROS[..size]) {
+            return done;
+        }
+        done += piece;
+    }
+    done
+}
+
+// Moves whole blocks from the start of a transfer's range at once, where there are two or more and the store
+// has a way to, and answers how many it moved.
+#[tactic(auto, using(crate::proofs::Changes::changes_nothing))]
+fn move_at_once<S: BlockStore>(t: Transfer, store: &mut S, memory: &mut [u8]) -> u32
+    requires on_unit { t.lbn + block_count t ≤ (S.state store.old).size }
+    requires in_memory { t.buffer + room_in t ≤ length memory.old }
+    requires addressable { t.buffer + room_in t < 2 ^ 32 }
+    ensures nature { KeepsNature (S.state store.old) (S.state store.new) }
+    ensures changes { ChangesAt memory.old t.buffer
+        (if changes_memory t.kind then t.bytes else 0) memory.new }
+    ensures within { result ≤ block_count t }
+    ensures moves { (0 < block_count t → (S.state store.old).faithful ≡ true)
+        → Progress t result (S.state store.old) memory.old (S.state store.new) memory.new }
+{
+    let count = t.bytes / BLOCK;
+    if count < 2 {
+        return 0;
+    }
+    match t.kind {
+        Kind::Access => access_at_once(store, t.lbn, count),
+        Kind::Erase => erase_at_once(store, t.lbn, count),
+        Kind::Read => {
+            let start = t.buffer as usize;
+            let end = start + 512 * count as usize;
+            if store.read_at_once(t.lbn, count, &mut memory[start..end]) {
+                count
+            } else {
+                0
+            }
+        }
+        Kind::Write => {
+            let bytes = uda_mem::window(memory, t.buffer, BLOCK * count).unwrap();
+            if store.write_at_once(t.lbn, count, bytes) {
+                count
+            } else {
+                0
+            }
+        }
+    }
+}
+
+// Moves the blocks of a transfer's range: whole blocks at once, as far as the store does that, and those
+// behind them one at a time, in rising order, up to the first at which the store fails; that block, or its
+// bytes of a Read's buffer, may then hold anything. A transfer without blocks doesn't call the store. The
+// range lies on the unit and the buffer in memory, which the caller checks.
 pub fn move_blocks<S: BlockStore>(t: Transfer, store: &mut S, memory: &mut [u8]) -> Result<(), Lost>
     requires on_unit { t.lbn + block_count t ≤ (S.state store.old).size }
     requires in_memory { t.buffer + room_in t ≤ length memory.old }
@@ -141,7 +237,8 @@ pub fn move_blocks<S: BlockStore>(t: Transfer, store: &mut S, memory: &mut [u8])
         (λ _. Progress t (block_count t) (S.state store.old) memory.old (S.state store.new) memory.new)
         (λ lost. StopsAt t lost.block (S.state store.old) memory.old (S.state store.new) memory.new) }
 {
-    for k in 0..block_count(t) {
+    let moved = move_at_once(t, store, memory);
+    for k in moved..block_count(t) {
         let Ok(()) = move_block(t, k, store, memory) else {
             return Err(Lost { block: k });
         };

@@ -1,4 +1,5 @@
 pub mod Store
 pub mod Image
+pub mod AtOnce
 pub mod StoreLaws
 pub mod Display

@@ -7,10 +7,10 @@ ghost use Rattle.uda_image.specs.StoreLaws.{min-le, no_image};
 use crate::error::ImageError;
 use crate::length::count_blocks;
 use crate::store::{BLOCK_LIMIT, BlockStore, StoreError};
-use std::fs;
 use std::fs::{File, OpenFile, OpenOptions, TryLockError};
 use std::marker::Model;
 use std::os::unix::fs::FileExt;
+use std::{fs, io};
 
 /// An image in a file: the logical blocks of a unit (MSCP Basic Disk Functions Manual: logical
 /// blocks), block after block, read and written at their places.
@@ -152,5 +152,27 @@ impl BlockStore for FileImage {
             Ok(()) => Ok(()),
             Err(_) => Err(StoreError::Write),
         }
+    }
+
+    // One call of the system. What it moved of a transfer where it didn't move all, the calls of one block
+    // move again.
+    fn read_at_once(&mut self, n: u32, _count: u32, to: &mut [u8]) -> bool
+        ensures unchanged { self.new ≡ self.old }
+        ensures long { length to.new ≡ length to.old }
+    {
+        let bytes = to.len();
+        matches!(self.file.read_at(to, 512 * u64::from(n)), Ok(moved) if moved == bytes)
+    }
+
+    // One call of the system, as well.
+    fn write_at_once(&mut self, n: u32, _count: u32, from: &[u8]) -> bool
+        ensures written { self.old.writable ≡ true → self.new ≡ record self.old { written = true } }
+        ensures read_only { self.old.writable ≡ false → result ≡ false }
+        ensures unchanged { self.old.writable ≡ false → self.new ≡ self.old }
+    {
+        let bytes = from.len();
+        self.written |= self.writable;
+        self.writable
+            && matches!(self.file.write_at(from, 512 * u64::from(n)), Ok(moved) if moved == bytes)
     }
 }

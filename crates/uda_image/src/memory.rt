@@ -1,9 +1,11 @@
 //! Images in memory.
-ghost use Rattle.std.specs.Prelude.{◌≡◌, ◌≢◌, ◌*◌, ◌/◌, ◌%◌, ◌<◌, ◌≤◌, ◌⊎◌, ◌↔◌, length, replicate, IfOk};
-ghost use Rattle.std.specs.Prelude.{IfErr};
+ghost use Rattle.std.specs.Prelude.{◌≡◌, ◌≢◌, ◌+◌, ◌*◌, ◌/◌, ◌%◌, ◌<◌, ◌≤◌, ◌⊎◌, ◌↔◌, true, length, replicate};
+ghost use Rattle.std.specs.Prelude.{IfOk, IfErr};
 ghost use Rattle.std.specs.List.{concat};
 ghost use Rattle.std.specs.Simd.{first_chunks};
+ghost use Rattle.uda_mem.specs.Put.{part, put};
 ghost use Rattle.uda_image.specs.Store.{Reads, Writes, KeepsNature};
+ghost use Rattle.uda_image.specs.AtOnce.{ReadsAtOnce, WritesAtOnce};
 ghost use Rattle.uda_image.specs.Image.{block_count_of, blocks_of, block_of, with_block, image_state};
 ghost use Rattle.uda_image.specs.StoreLaws.{block_count-le, IsImage-blocks_of};
 
@@ -97,6 +99,30 @@ impl MemImage {
             .slice_mut(start..start + 512)
             .copy_from_slice(block);
     }
+
+    // The bytes of `count` blocks from block `n` on.
+    #[tactic(auto, unfolding(crate::specs::Image::block_count_of, uda_mem::specs::Put::part))]
+    fn blocks_at(&self, n: u32, count: u32) -> &[u8]
+        requires { n + count ≤ block_count_of self.now }
+        ensures value { result.now ≡ part self.now (512 * n) (512 * count) }
+        ensures long { length result.now ≡ 512 * count }
+    {
+        let start = 512 * n as usize;
+        &self.bytes[start..start + 512 * count as usize]
+    }
+
+    // Writes the bytes of `count` blocks from block `n` on.
+    #[tactic(auto, unfolding(crate::specs::Image::block_count_of, uda_mem::specs::Put::put))]
+    fn put_blocks(&mut self, n: u32, count: u32, from: &[u8])
+        requires on_unit { n + count ≤ block_count_of self.old }
+        requires long { length from.now ≡ 512 * count }
+        ensures { self.new ≡ put self.old (512 * n) from.now }
+    {
+        let start = 512 * n as usize;
+        self.bytes
+            .slice_mut(start..start + 512 * count as usize)
+            .copy_from_slice(from);
+    }
 }
 
 impl BlockStore for MemImage {
@@ -135,5 +161,32 @@ impl BlockStore for MemImage {
     {
         self.put_block(n, from);
         Ok(())
+    }
+
+    #[tactic(auto, using(crate::proofs::AtOnceLaws::at_once_laws))]
+    fn read_at_once(&mut self, n: u32, count: u32, to: &mut [u8]) -> bool
+        requires on_unit { n + count ≤ block_count_of self.old }
+        requires long { length to.old ≡ 512 * count }
+        ensures done { result ≡ true }
+        ensures unchanged { self.new ≡ self.old }
+        ensures value { to.new ≡ part self.old (512 * n) (512 * count) }
+        ensures long { length to.new ≡ length to.old }
+        ensures reads { ReadsAtOnce (image_state self.old) n count (image_state self.new) to.old to.new result }
+    {
+        to.copy_from_slice(self.blocks_at(n, count));
+        true
+    }
+
+    #[tactic(auto, using(crate::proofs::AtOnceLaws::at_once_laws))]
+    fn write_at_once(&mut self, n: u32, count: u32, from: &[u8]) -> bool
+        requires on_unit { n + count ≤ block_count_of self.old }
+        requires long { length from.now ≡ 512 * count }
+        ensures done { result ≡ true }
+        ensures value { self.new ≡ put self.old (512 * n) from.now }
+        ensures nature { KeepsNature (image_state self.old) (image_state self.new) }
+        ensures writes { WritesAtOnce (image_state self.old) n count (image_state self.new) from.now result }
+    {
+        self.put_blocks(n, count, from);
+        true
     }
 }

@@ -1,6 +1,7 @@
 //! What a store of a unit's blocks is: the trait `BlockStore`, and a drive that holds one.
-ghost use Rattle.std.specs.Prelude.{length, ◌≡◌, ◌<◌, ◌≤◌, true, IfErr, IsOk};
+ghost use Rattle.std.specs.Prelude.{length, ◌≡◌, ◌+◌, ◌*◌, ◌<◌, ◌≤◌, true, IfErr, IsOk};
 ghost use Rattle.uda_image.specs.Store.{StoreState, IsImage, KeepsNature, Reads, Writes};
+ghost use Rattle.uda_image.specs.AtOnce.{ReadsAtOnce, WritesAtOnce};
 ghost use Rattle.uda_image.specs.declared.store.TheConstants.{BLOCK_LIMIT};
 
 use std::error::Error;
@@ -37,7 +38,8 @@ impl fmt::Display for StoreError {
 impl Error for StoreError {}
 
 /// The logical blocks of a unit (MSCP Basic Disk Functions Manual: logical blocks): blocks of 512
-/// bytes, numbered from 0, that are read and written one at a time.
+/// bytes, numbered from 0, that are read and written one at a time, or several at once where the
+/// store has a way to.
 ///
 /// Contracts see a store as one value, its `state`: its blocks, how many there are, whether it is
 /// faithful, whether it never fails, and how many of its calls have failed. A faithful store gives
@@ -72,6 +74,35 @@ pub trait BlockStore {
         ensures sure { (state self.old).never_fails ≡ true → IsOk result }
         ensures writes { (state self.old).faithful ≡ true
             → Writes (state self.old) n (state self.new) from.now result };
+
+    /// Reads `count` blocks from block `n` on into `to` at once, and answers whether it did: then they
+    /// were read as by one call each, none of which failed. A store that has no way to, as one of single
+    /// blocks, declines, and so does one where not all can be read: the caller then reads them one at a
+    /// time, which tells the block that fails.
+    fn read_at_once(&mut self, n: u32, count: u32, to: &mut [u8]) -> bool
+        requires on_unit { n + count ≤ (state self.old).size }
+        requires long { length to.old ≡ 512 * count }
+        ensures nature { KeepsNature (state self.old) (state self.new) }
+        ensures long { length to.new ≡ length to.old }
+        ensures reads { (state self.old).faithful ≡ true
+            → ReadsAtOnce (state self.old) n count (state self.new) to.old to.new result }
+    {
+        false
+    }
+
+    /// Writes `from` to `count` blocks from block `n` on at once, and answers whether it did: then they
+    /// were written as by one call each, none of which failed. A store that has no way to declines, and
+    /// so does one where not all can be written; the caller then writes them one at a time, also those
+    /// that a store that isn't faithful had written by then.
+    fn write_at_once(&mut self, n: u32, count: u32, from: &[u8]) -> bool
+        requires on_unit { n + count ≤ (state self.old).size }
+        requires long { length from.now ≡ 512 * count }
+        ensures nature { KeepsNature (state self.old) (state self.new) }
+        ensures writes { (state self.old).faithful ≡ true
+            → WritesAtOnce (state self.old) n count (state self.new) from.now result }
+    {
+        false
+    }
 
     ghost within_limit: { (store : Self) → (state store).size ≤ BLOCK_LIMIT };
 

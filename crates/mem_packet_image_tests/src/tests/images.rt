@@ -1,5 +1,5 @@
 //! What no clause says: errors' texts, files, and the images' calls at concrete values.
-ghost use Rattle.std.specs.Prelude.{◌≡◌, ◌+◌, ◌<◌, true, IfOk, IsOk, slice_set, is_ok, if◌then◌else◌};
+ghost use Rattle.std.specs.Prelude.{◌≡◌, ◌+◌, ◌<◌, ◌≤◌, true, IfOk, IsOk, slice_set, is_ok, if◌then◌else◌};
 ghost use Rattle.uda_image.specs.Store.{IsImage, KeepsNature};
 
 use std::alloc::Global;
@@ -298,5 +298,113 @@ fn a_shortened_file(rt: HostRuntime) -> Result<(), Fail> {
     assert_read_fails(&rt, &mut image, 6, &mut block);
     image.read(3, &mut block)?;
     assert_block(&rt, &block, 0x11);
+    Ok(())
+}
+
+// ---- several blocks at once
+
+// Eight blocks, each of 512 times its byte.
+fn blocks_of(bytes: [u8; 8]) -> [u8; 4096] {
+    let mut blocks = [0; 4096];
+    for (block, byte) in blocks.chunks_exact_mut(512).zip(bytes) {
+        block.fill(byte);
+    }
+    blocks
+}
+
+// Those that differ.
+fn eight() -> [u8; 4096] {
+    blocks_of([0x30, 0x31, 0x32, 0x33, 0x34, 0x35, 0x36, 0x37])
+}
+
+// Asserts that these are eight blocks, each of 512 times its byte.
+fn assert_eight(rt: &impl Abort, blocks: &[u8], bytes: [u8; 8]) {
+    assert_bytes(rt, blocks, &blocks_of(bytes));
+}
+
+// Asserts that these are two blocks, each of 512 times its byte.
+fn assert_two(rt: &impl Abort, blocks: &[u8; 1024], first: u8, second: u8) {
+    let mut bytes = [first; 1024];
+    let (_, last) = bytes.split_at_mut(512);
+    last.fill(second);
+    assert_bytes(rt, blocks, &bytes);
+}
+
+// Whether two blocks from block 2 on are read at once, and three written at once from block 5 on.
+fn at_once<S: BlockStore>(store: &mut S, to: &mut [u8; 1024]) -> (bool, bool)
+    requires { 8 ≤ (S.state store.old).size }
+{
+    let read = store.read_at_once(2, 2, to);
+    (read, store.write_at_once(5, 3, &[0x44; 1536]))
+}
+
+// Whether two blocks from block n on are read at once.
+fn reads_two<S: BlockStore>(store: &mut S, n: u32) -> bool
+    requires { n + 2 ≤ (S.state store.old).size }
+    ensures nature { KeepsNature (S.state store.old) (S.state store.new) }
+{
+    store.read_at_once(n, 2, &mut [0; 1024])
+}
+
+#[test]
+fn blocks_of_an_image_at_once(rt: HostRuntime) -> Result<(), Fail> {
+    let mut image = MemImage::from_bytes(rt.alloc(), &eight())?;
+    assert_eq!(rt; image.size(), 8);
+    let mut to = [0x77; 1024];
+    assert_eq!(rt; at_once(&mut image, &mut to), (true, true));
+    assert_two(&rt, &to, 0x32, 0x33);
+    let left = [0x30, 0x31, 0x32, 0x33, 0x34, 0x44, 0x44, 0x44];
+    assert_eight(&rt, image.bytes(), left);
+    Ok(())
+}
+
+#[test]
+fn blocks_of_a_file_at_once(rt: HostRuntime) -> Result<(), Fail> {
+    let path = file_of(&rt, "at-once", &eight())?;
+    let mut image = FileImage::open(&rt, path.as_str(), true)?;
+    assert_eq!(rt; image.size(), 8);
+    let mut to = [0x77; 1024];
+    assert_eq!(rt; at_once(&mut image, &mut to), (true, true));
+    assert_two(&rt, &to, 0x32, 0x33);
+    let left = [0x30, 0x31, 0x32, 0x33, 0x34, 0x44, 0x44, 0x44];
+    assert_eight(&rt, &take_file(&rt, &path)?, left);
+    Ok(())
+}
+
+#[test]
+fn a_file_opened_for_reading_declines_writes(rt: HostRuntime) -> Result<(), Fail> {
+    let path = file_of(&rt, "read-at-once", &eight())?;
+    let mut image = FileImage::open(&rt, path.as_str(), false)?;
+    assert_eq!(rt; image.size(), 8);
+    let mut to = [0x77; 1024];
+    assert_eq!(rt; at_once(&mut image, &mut to), (true, false));
+    assert_bytes(&rt, &take_file(&rt, &path)?, &eight());
+    Ok(())
+}
+
+// Four blocks are left of the eight, of which a call that goes beyond them reads too few.
+#[test]
+fn a_shortened_file_declines_reads(rt: HostRuntime) -> Result<(), Fail> {
+    let path = file_of(&rt, "shortened-at-once", &eight())?;
+    let mut image = FileImage::open(&rt, path.as_str(), true)?;
+    shorten(&rt, &path)?;
+    assert_eq!(rt; image.size(), 8);
+    assert!(rt; reads_two(&mut image, 2));
+    assert!(rt; !reads_two(&mut image, 3));
+    assert!(rt; !reads_two(&mut image, 6));
+    Ok(())
+}
+
+// A store of single blocks declines, which is none of its calls.
+#[test]
+fn single_blocks_decline(rt: HostRuntime) -> Result<(), Fail> {
+    let mut image = FailingImage::new(MemImage::from_bytes(rt.alloc(), &eight())?, 1);
+    assert_eq!(rt; image.size(), 8);
+    let mut to = [0x77; 1024];
+    assert_eq!(rt; at_once(&mut image, &mut to), (false, false));
+    assert_two(&rt, &to, 0x77, 0x77);
+    assert_eq!(rt; image.size(), 8);
+    assert_read_fails(&rt, &mut image, 0, &mut [0; 512]);
+    assert_bytes(&rt, image.into_inner().bytes(), &eight());
     Ok(())
 }

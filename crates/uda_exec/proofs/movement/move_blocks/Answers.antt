@@ -1,14 +1,10 @@
-use Rattle.std.proofs.Common.{refl, ◌∙◌, arith, add-one}
-use Rattle.uda_exec.proofs.Changes.{changes_nothing, changes_again, length-changes}
-use Rattle.uda_exec.proofs.Steps.{progress_none, progress_next, progress_stops}
+use Rattle.std.proofs.Common.{◌∙◌, arith, add-one}
+use Rattle.uda_exec.proofs.Changes.{changes_again, length-changes}
+use Rattle.uda_exec.proofs.Steps.{progress_next, progress_stops}
 use Rattle.uda_exec.proofs.movement.move_blocks.Goals as goal
 
 pub loop-k-init : goal.loop-k-init
-loop-k-init g c = record {
-  nature = record { size_stays = refl; faithful_stays = refl; never_fails_stays = refl };
-  changes = changes_nothing _ _ _;
-  moves = λ faithful. progress_none _ _ _;
-}
+loop-k-init g c = let ahead = c.move_at_once-moved.ensures in record { nature = ahead.nature; changes = ahead.changes; moves = ahead.moves }
 
 pub move_block-requires-clause-in_memory : goal.move_block-requires-clause-in_memory
 move_block-requires-clause-in_memory g c = let same = length-changes _ _ _ _ c.loop-k.invariant.changes in omega arith

@@ -1,0 +1,131 @@
+-- Several blocks of a transfer moved at once, for each kind of transfer.
+use Rattle.std.proofs.Common.{◌≡◌, ℕ, ◌+◌, ◌*◌, ◌<◌, ◌≤◌, List, ◌++◌, length, take, drop, replicate, sym, ap, ◌∙◌, arith}
+use Rattle.std.specs.Prelude.{true}
+use Rattle.std.specs.List.{concat}
+use Rattle.std.specs.Simd.{first_chunks}
+use Rattle.std.proofs.lemmas.List.{same_lists, take_all, take-take, take-append-le, take-replicate, length-replicate, replicate-append-replicate}
+use Rattle.uda_mem.proofs.PutLaws.{put-nil, put-part, put-put_next, length-part-le}
+use Rattle.uda_packet.specs.declared.end.Kind.TheVariants.{Access, Erase, Read, Write}
+use Rattle.uda_image.specs.AtOnce.{ReadsBlocks, WritesBlocks}
+use Rattle.uda_image.specs.StoreLaws.{length-first_chunks}
+use Rattle.uda_image.proofs.AtOnceLaws.{take-chunks, get_or-chunks}
+use Rattle.uda_image.proofs.Chunk.{first_chunks-replicate}
+use Rattle.uda_exec.specs.Transfers.{Erased}
+use Rattle.uda_exec.proofs.Words.{put, part, Transfer, StoreState, KeepsNature, IsImage, blocks_for, block_count, in_blocks, bytes_at, ChangesAt, Progress}
+use Rattle.uda_exec.proofs.Changes.{changes_by_put}
+use Rattle.uda_exec.proofs.Steps.{progress_none}
+use Rattle.uda_exec.proofs.Blocks.{AreBlocks-part, length-concat_blocks, part-part, bytes_at-within}
+
+-- the front of a part
+take-part : {A : Type 0} (xs : List A) (at n m : ℕ) → m ≤ n → take m (part xs at n) ≡ part xs at m
+unfolding part
+take-part xs at n m h = take-take m n (drop at xs) h
+
+-- no byte behind the chunks counts
+chunks-front : (count : ℕ) (bytes : List ℕ) → first_chunks 512 count (take (512 * count) bytes) ≡ first_chunks 512 count bytes
+unfolding part
+chunks-front count bytes =
+    let left = length-first_chunks count (take (512 * count) bytes) in
+    same_lists _ _ (left ∙ sym (length-first_chunks count bytes)) (λ i d below.
+    let within : i < count = omega (arith, left) in
+    get_or-chunks count (take (512 * count) bytes) i d within ∙ part-part bytes 0 (512 * count) (512 * i) 512 (omega arith)
+    ∙ ap (λ j. part bytes j 512) (omega arith) ∙ sym (get_or-chunks count bytes i d within))
+
+-- nothing was moved, and nothing changed
+pub none_ahead : (t : Transfer) (old new : StoreState) (memory memory_after : List ℕ) → new ≡ old → memory_after ≡ memory → Progress t 0 old memory new memory_after
+none_ahead t old new memory memory_after same kept = rw (same, kept) (progress_none t old memory)
+
+-- bytes that came to a range's front changed no more than the range
+pub changes_front : (old : List ℕ) (at n : ℕ) (to new : List ℕ) → new ≡ put old at to → length to ≤ n → ChangesAt old at n new
+changes_front old at n to new landed size = rw landed (changes_by_put old at n at to (omega arith) (omega arith))
+
+-- the bytes that stood there already change nothing
+pub same_put_back : (memory : List ℕ) (at n : ℕ) (to new : List ℕ) → new ≡ put memory at to → to ≡ part memory at n → new ≡ memory
+same_put_back memory at n to new landed same = landed ∙ ap (put memory at) same ∙ put-part memory at n
+
+module _ (t : Transfer) (count : ℕ) (old : StoreState) (memory : List ℕ) (whole : 512 * count ≤ t.bytes) where
+  pub reads_ahead : IsImage old.size old.blocks → t.lbn + block_count t ≤ old.size → t.kind ≡ Read → (new : StoreState) (to after : List ℕ) → ReadsBlocks old t.lbn count new to
+      → after ≡ put memory t.buffer to → Progress t count old memory new after
+  reads_ahead image on_unit is new to after r stands =
+      let here : List (List ℕ) = part old.blocks t.lbn count in
+      let due : take count (part old.blocks t.lbn (block_count t)) ≡ here = take-part old.blocks t.lbn (block_count t) count (omega arith) in
+      let many : length here ≡ count = length-part-le old.blocks t.lbn count (omega (arith, image.counted)) in
+      let size : length (concat here) ≡ 512 * count = length-concat_blocks here (AreBlocks-part old.blocks t.lbn count (λ some. image.whole)) ∙ ap (λ i. 512 * i) many in
+      let landed : to ≡ take t.bytes (concat (take count (part old.blocks t.lbn (block_count t)))) =
+      r.value ∙ sym (ap (λ (bs : List (List ℕ)). take t.bytes (concat bs)) due ∙ take_all t.bytes (concat here) (omega (arith, size))) in
+      record {
+        stand = record {
+          in_memory = stands ∙ rw is (ap (λ (b : List ℕ). put memory t.buffer b) landed);
+          in_store = rw is (ap (λ (s : StoreState). s.blocks) r.state_stays ∙ sym (put-nil old.blocks t.lbn));
+        };
+        failures_stay = ap (λ (s : StoreState). s.failures) r.state_stays;
+      }
+
+  pub writes_ahead : t.buffer + t.bytes ≤ length memory → t.kind ≡ Write → (new : StoreState) → WritesBlocks old t.lbn count new (part memory t.buffer (512 * count))
+      → Progress t count old memory new memory
+  writes_ahead room is new w =
+      let bytes : List ℕ = part memory t.buffer t.bytes in
+      let zeros : List ℕ = replicate 512 0 in
+      let size : length bytes ≡ t.bytes = length-part-le memory t.buffer t.bytes room in
+      let front : take (512 * count) (bytes ++ zeros) ≡ part memory t.buffer (512 * count) =
+      take-append-le (512 * count) bytes zeros (omega (arith, size)) ∙ take-part memory t.buffer t.bytes (512 * count) whole in
+      let due : take count (in_blocks (bytes_at memory t.buffer t.bytes)) ≡ first_chunks 512 count (part memory t.buffer (512 * count)) =
+      ap (λ (b : List ℕ). take count (in_blocks b)) (bytes_at-within memory t.buffer t.bytes room)
+      ∙ take-chunks count (blocks_for (length bytes)) (bytes ++ zeros) (omega (arith, size)) ∙ sym (chunks-front count (bytes ++ zeros)) ∙ ap (λ (b : List ℕ). first_chunks 512 count b) front in
+      record {
+        stand = record {
+          in_memory = rw is (sym (put-nil memory t.buffer));
+          in_store = rw is (ap (λ (s : StoreState). s.blocks) w.written ∙ ap (λ (bs : List (List ℕ)). put old.blocks t.lbn bs) (sym due));
+        };
+        failures_stay = ap (λ (s : StoreState). s.failures) w.written;
+      }
+
+  pub accesses_ahead : t.kind ≡ Access → (new : StoreState) → new ≡ old → Progress t count old memory new memory
+  accesses_ahead is new same = record {
+    stand = record {
+      in_memory = rw is (sym (put-nil memory t.buffer));
+      in_store = rw is (ap (λ (s : StoreState). s.blocks) same ∙ sym (put-nil old.blocks t.lbn));
+    };
+    failures_stay = ap (λ (s : StoreState). s.failures) same;
+  }
+
+  pub erases_ahead : t.kind ≡ Erase → (new : StoreState) → Erased old t.lbn count new → Progress t count old memory new memory
+  erases_ahead is new e =
+      let due : take count (replicate (block_count t) (replicate 512 0)) ≡ replicate count (replicate 512 0) = take-replicate count (block_count t) (replicate 512 0) (omega arith) in
+      record {
+        stand = record {
+          in_memory = rw is (sym (put-nil memory t.buffer));
+          in_store = rw is (ap (λ (s : StoreState). s.blocks) e ∙ ap (λ (bs : List (List ℕ)). put old.blocks t.lbn bs) (sym due));
+        };
+        failures_stay = ap (λ (s : StoreState). s.failures) e;
+      }
+
+-- what holds while blocks are read in pieces, of which nothing is kept
+pub record Accessing (count done : ℕ) (old now : StoreState) : Type 0 where
+  pub nature : KeepsNature old now
+  pub within : done ≤ count
+  pub same : old.faithful ≡ true → now ≡ old
+
+-- and while they are erased
+pub record Erasing (n count done : ℕ) (old now : StoreState) : Type 0 where
+  pub nature : KeepsNature old now
+  pub within : done ≤ count
+  pub erased : old.faithful ≡ true → Erased old n done now
+
+pub erased_none : (old : StoreState) (n : ℕ) → Erased old n 0 old
+erased_none old n = ap (λ (b : List (List ℕ)). record old { blocks = b }) (sym (put-nil old.blocks n))
+
+-- zeros in so many chunks
+chunks-zeros : (count : ℕ) (from : List ℕ) → from ≡ replicate (512 * count) 0 → first_chunks 512 count from ≡ replicate count (replicate 512 0)
+chunks-zeros count from e = ap (λ (b : List ℕ). first_chunks 512 count b) e ∙ first_chunks-replicate 512 count 0
+
+pub erased_more : (old now new : StoreState) (n done piece : ℕ) (from : List ℕ) → from ≡ replicate (512 * piece) 0 → Erased old n done now → WritesBlocks now (n + done) piece new from
+    → Erased old n (done + piece) new
+erased_more old now new n done piece from zeros before w =
+    let block : List ℕ = replicate 512 0 in
+    let more : List (List ℕ) = first_chunks 512 piece from in
+    let both : put (put old.blocks n (replicate done block)) (n + done) more ≡ put old.blocks n (replicate (done + piece) block) =
+    put-put_next old.blocks n (replicate done block) more (n + done) (ap (λ i. n + i) (sym (length-replicate done block)))
+    ∙ ap (λ (b : List (List ℕ)). put old.blocks n (replicate done block ++ b)) (chunks-zeros piece from zeros)
+    ∙ ap (λ (b : List (List ℕ)). put old.blocks n b) (replicate-append-replicate done piece block) in
+    w.written ∙ ap (λ (s : StoreState). record s { blocks = put s.blocks (n + done) more }) before ∙ ap (λ (b : List (List ℕ)). record old { blocks = b }) both

@@ -1,0 +1,13 @@
+use Rattle.std.proofs.Common.{◌∙◌, arith}
+use Rattle.uda_exec.proofs.movement.access_at_once.Goals as goal
+
+pub loop-done-preserved : goal.loop-done-preserved
+loop-done-preserved g c =
+    let was = c.loop-done.invariant.nature in let is = c.read_at_once.ensures.nature in
+    record {
+      nature = record { size_stays = is.size_stays ∙ was.size_stays; faithful_stays = is.faithful_stays ∙ was.faithful_stays; never_fails_stays = is.never_fails_stays ∙ was.never_fails_stays };
+      within = omega arith;
+      same = λ faithful.
+          let read = rw c.if-not-read_at_once.false at (c.read_at_once.ensures.reads (was.faithful_stays ∙ faithful)) in
+          read.state_stays ∙ c.loop-done.invariant.same faithful;
+    }

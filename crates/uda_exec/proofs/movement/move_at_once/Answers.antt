@@ -1,0 +1,63 @@
+use Rattle.std.proofs.Common.{refl, arith}
+use Rattle.uda_mem.specs.Put.{part}
+use Rattle.uda_mem.proofs.PutLaws.{put_mid-put}
+use Rattle.uda_exec.proofs.AtOnce.{changes_front, same_put_back, none_ahead, reads_ahead, writes_ahead, accesses_ahead, erases_ahead}
+use Rattle.uda_exec.proofs.movement.move_at_once.Goals as goal
+
+pub returns-then-count-lt2-clause-moves : goal.returns-then-count-lt2-clause-moves
+returns-then-count-lt2-clause-moves g c called = none_ahead _ _ _ _ _ refl refl
+
+pub returns-in-Access-clause-moves : goal.returns-in-Access-clause-moves
+returns-in-Access-clause-moves g c called =
+    let faithful = called (omega arith) in
+    accesses_ahead _ _ _ _ (omega arith) c.in-Access.is _ (c.access_at_once.ensures.unchanged faithful)
+
+pub returns-in-Erase-clause-moves : goal.returns-in-Erase-clause-moves
+returns-in-Erase-clause-moves g c called =
+    let faithful = called (omega arith) in
+    erases_ahead _ _ _ _ (omega arith) c.in-Erase.is _ (c.erase_at_once.ensures.erased faithful)
+
+pub returns-then-read_at_once-clause-changes : goal.returns-then-read_at_once-clause-changes
+returns-then-read_at_once-clause-changes g c =
+    let room = rw c.in-Read.is at c.requires.in_memory in
+    let to = c.read_at_once.new.to in let size = c.read_at_once.ensures.long in
+    rw c.in-Read.is (changes_front _ _ _ to _ (put_mid-put c.args.memory.now c.args.t.buffer _ to (omega (arith, size)) (omega (arith, room))) (omega (arith, size)))
+
+pub returns-then-read_at_once-clause-moves : goal.returns-then-read_at_once-clause-moves
+returns-then-read_at_once-clause-moves g c called =
+    let faithful = called (omega arith) in
+    let room = rw c.in-Read.is at c.requires.in_memory in
+    let to = c.read_at_once.new.to in let size = c.read_at_once.ensures.long in
+    let read = rw c.if-read_at_once.true at (c.read_at_once.ensures.reads faithful) in
+    reads_ahead _ _ _ _ (omega arith) (g.met.S.BlockStore.is_image c.args.store.now faithful) c.requires.on_unit c.in-Read.is _ to _ read
+    (put_mid-put c.args.memory.now c.args.t.buffer _ to (omega (arith, size)) (omega (arith, room)))
+
+pub returns-else-read_at_once-clause-changes : goal.returns-else-read_at_once-clause-changes
+returns-else-read_at_once-clause-changes g c =
+    let room = rw c.in-Read.is at c.requires.in_memory in
+    let to = c.read_at_once.new.to in let size = c.read_at_once.ensures.long in
+    rw c.in-Read.is (changes_front _ _ _ to _ (put_mid-put c.args.memory.now c.args.t.buffer _ to (omega (arith, size)) (omega (arith, room))) (omega (arith, size)))
+
+pub returns-else-read_at_once-clause-moves : goal.returns-else-read_at_once-clause-moves
+unfolding part
+returns-else-read_at_once-clause-moves g c called =
+    let faithful = called (omega arith) in
+    let room = rw c.in-Read.is at c.requires.in_memory in
+    let to = c.read_at_once.new.to in let size = c.read_at_once.ensures.long in
+    let read = rw c.if-read_at_once.false at (c.read_at_once.ensures.reads faithful) in
+    none_ahead _ _ _ _ _ read.state_stays
+    (same_put_back c.args.memory.now c.args.t.buffer _ to _ (put_mid-put c.args.memory.now c.args.t.buffer _ to (omega (arith, size)) (omega (arith, room))) read.bytes_stay)
+
+pub returns-then-write_at_once-clause-moves : goal.returns-then-write_at_once-clause-moves
+returns-then-write_at_once-clause-moves g c called =
+    let faithful = called (omega arith) in
+    let room = rw c.in-Write.is at c.requires.in_memory in
+    let write = rw c.if-write_at_once.true at (c.write_at_once.ensures.writes faithful) in
+    let bytes = rw c.unwrap-bytes.ensures at c.window.ensures.value in
+    writes_ahead _ _ _ _ (omega arith) room c.in-Write.is _ (rw bytes at write)
+
+pub returns-else-write_at_once-clause-moves : goal.returns-else-write_at_once-clause-moves
+returns-else-write_at_once-clause-moves g c called =
+    let faithful = called (omega arith) in
+    let write = rw c.if-write_at_once.false at (c.write_at_once.ensures.writes faithful) in
+    none_ahead _ _ _ _ _ write refl

@@ -8,6 +8,7 @@ use Rattle.uda_mem.specs.Words.{word_at}
 use Rattle.uda_mem.proofs.WordLaws.{word_at-put_inside}
 use Rattle.uda_packet.specs.declared.command.Command.{Command}
 use Rattle.uda_exec.specs.Disks.{ExecState}
+use Rattle.uda_port.specs.declared.profile.Profile.TheVariants.{Strict}
 use Rattle.uda_port.specs.declared.phase.Phase.{Phase}
 use Rattle.uda_port.specs.declared.phase.Phase.TheVariants.{Step1}
 use Rattle.uda_port.specs.Startup.{by_word}
@@ -66,9 +67,10 @@ opening_more i within w opened o = record {
 -- ---- and a host stands, with nothing posted yet
 
 pub opened : {S : Type 0} (exec : ExecState) (start zeroed memory : List ℕ) (port : PortState) (posted : List Command) → length start ≡ memory_size → zeroed ≡ put start 4 (replicate area_size 0) → length memory ≡ memory_size
-    → ((i : ℕ) → i < slots → IsOpen (response_packet i) (response_at memory i)) → ((i : ℕ) → i < slots → IsFree (command_at zeroed i) → IsFree (command_at memory i)) → port ≡ port_running (port_at_start exec) → posted ≡ []
+    → ((i : ℕ) → i < slots → IsOpen (response_packet i) (response_at memory i)) → ((i : ℕ) → i < slots → IsFree (command_at zeroed i) → IsFree (command_at memory i)) → port ≡ port_running (port_at_start Strict exec) → posted ≡ []
     → IsHost {S = S} (record { memory = memory; command_place = 0; response_place = 0; held = 1; posted = posted; port = port })
 opened exec start zeroed memory port posted size_then zeroed_is size opens kept port_is none = rw (port_is, none) (record {
+  strict = refl;
   runs = refl;
   looks = λ some. absurd (omega arith);
   rings = record { commands_are = refl; responses_are = refl; posts_next = omega arith; looks_within = omega arith };

@@ -107,6 +107,7 @@ fetched {h = h} {c} {rest} new after host were agree goes =
     let rings = host.rings in let counts = host.counts in
     rw (is, memory_is) (record {
       host = record {
+        strict = host.strict;
         runs = host.runs;
         looks = λ some. host.looks (omega (arith, ap length were));
         rings = record { commands_are = refl; responses_are = rings.responses_are; posts_next = omega (arith, ap length were, ap length rest_is); looks_within = rings.looks_within };
@@ -133,6 +134,7 @@ executed {h = h} new after host none agree goes =
     let rings = host.rings in let counts = host.counts in
     rw one.others (record {
       host = record {
+        strict = host.strict;
         runs = host.runs;
         looks = λ some. absurd (omega (arith, ap length none));
         rings = record { commands_are = rings.commands_are; responses_are = rings.responses_are; posts_next = rings.posts_next; looks_within = rings.looks_within };
@@ -197,6 +199,7 @@ module _ {S : Type 0} {h : Inside S} (host : IsHost h) (new : PortState) (after 
       let rings = host.rings in let counts = host.counts in
       rw (new_is, left_by sent.size, grant, end_is, ← is) (record {
         host = record {
+          strict = host.strict;
           runs = host.runs;
           looks = λ some. absurd (omega (arith, ap length none_left));
           rings = record { commands_are = rings.commands_are; responses_are = refl; posts_next = rings.posts_next; looks_within = omega arith };

@@ -119,7 +119,7 @@ message_phase old (Err e) = refl
 running_turn : (cause : Fatal) (turn : Turn) (old new : PortState) (memory memory_after : List ℕ) → old.phase ≡ Running → RunningTurn old memory turn new memory_after → new.phase ≡ Dead cause
     → FatalTurn cause (port_turn_on old) memory
 running_turn cause Fetched old new memory memory_after p goes dead =
-    absurd (alive cause old.phase new.phase p (phases new _ goes.others ∙ message_phase (port_turn_on old) (message_in goes.packet)) dead)
+    absurd (alive cause old.phase new.phase p (phases new _ goes.others ∙ message_phase (port_turn_on old) (message_in old.profile goes.packet)) dead)
 running_turn cause Executed old new memory memory_after p goes dead = absurd (alive cause old.phase new.phase p (phases new _ goes.rest.1.others) dead)
 running_turn cause Delivered old new memory memory_after p goes dead = absurd (alive cause old.phase new.phase p (phases new _ goes.rest.1.others) dead)
 running_turn cause Idle old new memory memory_after p goes dead = absurd (alive cause old.phase new.phase p (phases new _ goes.rest.1.1.state) dead)

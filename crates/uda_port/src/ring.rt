@@ -5,7 +5,7 @@
 ghost use Rattle.std.specs.Prelude.{◌≡◌};
 
 use crate::descriptor::Descriptor;
-use crate::packet::{Fetched, has_room, packet_at, put_packet};
+use crate::packet::{Delivery, Fetched, has_room, packet_at, put_packet};
 use std::error::Error;
 use std::fmt;
 use std::marker::Model;
@@ -75,6 +75,7 @@ impl Ring {
     ghost use Rattle.uda_port.specs.Ring.{memory_given_back};
     ghost use Rattle.uda_port.specs.Fetch.{FetchGoes, Looks, OrderKept};
     ghost use Rattle.uda_port.specs.Delivery.{PutGoes};
+    ghost use Rattle.uda_port.specs.declared.profile.Profile.TheVariants.{Strict};
 
     /// A ring of `n` descriptors from the address `base` on, of which the first is next.
     ///
@@ -156,7 +157,7 @@ impl Ring {
     }
 
     /// Delivers a text: writes it to the buffer of the descriptor at the place, with an envelope that
-    /// grants so many `credits`, gives the descriptor back and goes on by one, round the ring.
+    /// grants so many credits, gives the descriptor back and goes on by one, round the ring.
     ///
     /// The three writes come in this order: text, envelope, the descriptor's second word. False where
     /// the port doesn't own that descriptor; [`RingFault::Ring`] where it isn't wholly in memory, and
@@ -167,20 +168,23 @@ impl Ring {
     pub(crate) fn put(
         &mut self,
         memory: &mut [u8],
-        credits: u8,
-        text: &[u8; 48],
+        delivery: Delivery,
+        text: &[u8],
     ) -> Result<bool, RingFault>
         requires memory { IsMemory memory.old }
-        requires few { credits ≤ 15 }
-        ensures goes { PutGoes self.old memory.old credits text.now result self.new memory.new }
+        requires few { delivery.credits ≤ 15 }
+        requires long { delivery.profile ≡ Strict → length text.now ≡ 48 }
+        requires short { length text.now ≤ 48 }
+        ensures goes { PutGoes delivery self.old memory.old text.now result self.new memory.new }
     {
         let Some(descriptor) = self.next(memory)? else {
             return Ok(false);
         };
-        if !has_room(memory, descriptor.address()) {
+        let address = descriptor.address();
+        if !has_room(delivery.profile, memory, address, text.len() as u16) {
             return Err(RingFault::Packet);
         }
-        put_packet(memory, descriptor.address(), credits, text);
+        put_packet(memory, address, delivery.credits, text);
         self.give_back(memory, descriptor);
         Ok(true)
     }

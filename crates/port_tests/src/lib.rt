@@ -4,6 +4,8 @@
 #![tactic(auto)]
 
 #[cfg(test)]
+mod guest_start;
+#[cfg(test)]
 mod guests;
 #[cfg(test)]
 mod hostile;

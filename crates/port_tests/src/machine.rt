@@ -68,6 +68,11 @@ pub(crate) fn new_port(alloc: Global) -> Result<Port<MemImage>, Fail> {
     port_over(alloc, image_of_eight(alloc)?)
 }
 
+/// The same of the profile for guests.
+pub(crate) fn new_guest_port(alloc: Global) -> Result<Port<MemImage>, Fail> {
+    guest_port_over(alloc, image_of_eight(alloc)?)
+}
+
 impl Machine {
     /// A port over a unit 0 of 8 blocks, block k all bytes k, in an empty memory.
     pub(crate) fn new(alloc: Global) -> Result<Machine, Fail> {
@@ -93,7 +98,7 @@ impl Machine {
 
     /// A port of the profile for guests, over the same unit in an empty memory.
     pub(crate) fn for_guests(alloc: Global) -> Result<Machine, Fail> {
-        let port = guest_port_over(alloc, image_of_eight(alloc)?)?;
+        let port = new_guest_port(alloc)?;
         let memory = HostMemory::new(alloc, MEMORY)?;
         Ok(Machine {
             port,

@@ -6,7 +6,7 @@ use Rattle.uda_exec.specs.Disks.{ExecState, PENDING_LIMIT}
 use Rattle.uda_exec.specs.Drives.{reset_unit}
 use Rattle.uda_port.specs.declared.profile.Profile.{Profile}
 use Rattle.uda_port.specs.declared.phase.Phase.{Phase}
-use Rattle.uda_port.specs.declared.phase.Phase.TheVariants.{Step1, Running}
+use Rattle.uda_port.specs.declared.phase.Phase.TheVariants.{Step1, Poll, Step4, Running}
 use Rattle.uda_port.specs.Ring.{RingState}
 
 -- the profile, the phase, the executor and the two rings; the ends that wait for delivery, the next one first;
@@ -68,7 +68,8 @@ pub record CreditsAgree (port : PortState) : Type 0 where
   pub conserved : port.fetches ≡ port.deliveries + (length port.exec.pending + length port.waiting)
   pub within : length port.exec.pending + length port.waiting ≤ PENDING_LIMIT
 
--- a port whose IP register is read begins to look, if it runs
+-- a port whose IP register is read begins to look, if it runs; in the poll test step 4 follows
 abbrev pub port_asked : Phase → PortState → PortState
 port_asked Running old = record old { looking = true }
+port_asked Poll old = record old { phase = Step4 }
 port_asked _ old = old

@@ -1,6 +1,7 @@
 //! The port of a UDA50 disk controller.
 #![tactic(auto)]
 
+mod area;
 mod descriptor;
 mod message;
 mod packet;

@@ -154,15 +154,18 @@ impl<S: BlockStore> Port<S> {
         self.load = Tally::new();
     }
 
-    /// The host reads IP: a port that runs begins to look at its command ring. The value is always 0.
+    /// The host reads IP: a port that runs begins to look at its command ring, and one in the poll test
+    /// goes on to step 4. The value is always 0.
     ///
-    /// UDA50 Programmer's Documentation Kit: command ring polling.
+    /// UDA50 Programmer's Documentation Kit: command ring polling, initialisation.
     pub fn read_ip(&mut self) -> u16
         ensures zero { result ≡ 0 }
         ensures looks { self.new ≡ port_asked self.old.phase self.old }
     {
-        if self.phase == Phase::Running {
-            self.looking = true;
+        match self.phase {
+            Phase::Running => self.looking = true,
+            Phase::Poll => self.phase = Phase::Step4,
+            _ => {}
         }
         0
     }

@@ -55,15 +55,15 @@ pub struct Ring {
 }
 
 impl Model for Ring {
-    ghost use Rattle.std.specs.Prelude.{◌≡◌, ◌%◌, ◌<◌, ◌≤◌};
+    ghost use Rattle.std.specs.Prelude.{◌≡◌, ◌+◌, ◌%◌, ◌^◌, ◌<◌, ◌≤◌};
     ghost use Rattle.uda_port.specs.Ring.{RingState};
 
     ghost Value = { RingState };
 
     ghost view = { λ r. record { base = r.base; count = r.count; place = r.place } };
 
-    // The base of a command ring may be past 18 bits, behind a response ring of 128 descriptors.
-    ghost invariant = { λ r. (r.base % 2 ≡ 0) × (r.base ≤ 262654) × (r.count ≤ 128) × (r.place < r.count) };
+    // A guest's ring base has 31 bits, and its command ring stands behind up to 128 descriptors.
+    ghost invariant = { λ r. (r.base % 2 ≡ 0) × (r.base ≤ 2 ^ 31 + 512) × (r.count ≤ 128) × (r.place < r.count) };
 
     ghost inverse = { λ r. record { base = r.base; count = r.count; place = r.place } };
 }
@@ -88,14 +88,14 @@ impl Ring {
         requires count { IsTrue (is_ring_length n) }
         ensures ring { result ≡ record { base = base; count = n; place = 0 } }
     {
-        Ring::behind(base, n)
+        Ring::placed(base, n)
     }
 
-    /// A ring of `n` descriptors from the even address `base` on, which is at most the bytes of the longest
-    /// ring past [`RING_BASE_LIMIT`]: so far a command ring begins that stands behind a response ring.
-    pub(crate) fn behind(base: u32, n: u16) -> Ring
+    /// A ring of `n` descriptors from the even address `base` on, where a start-up's words have it: a guest's
+    /// ring base has 31 bits, and a command ring stands behind up to 128 descriptors.
+    pub(crate) fn placed(base: u32, n: u16) -> Ring
         requires even { base % 2 ≡ 0 }
-        requires within { base ≤ 262654 }
+        requires within { base ≤ 2 ^ 31 + 512 }
         requires count { IsTrue (is_ring_length n) }
         ensures ring { result ≡ record { base = base; count = n; place = 0 } }
     {
@@ -221,7 +221,7 @@ impl Ring {
     fn address(&self) -> u32
         ensures address { result ≡ descriptor_address self.now }
         ensures even { result % 2 ≡ 0 }
-        ensures within { result < 2 ^ 20 }
+        ensures within { result + 4 < 2 ^ 32 }
         ensures place { self.now.place < self.now.count }
     {
         self.base + 4 * u32::from(self.place)

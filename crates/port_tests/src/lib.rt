@@ -6,6 +6,10 @@
 #[cfg(test)]
 mod drives;
 #[cfg(test)]
+mod guest_start;
+#[cfg(test)]
+mod guests;
+#[cfg(test)]
 mod hostile;
 #[cfg(test)]
 mod look;

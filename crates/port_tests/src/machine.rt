@@ -11,7 +11,7 @@ use uda_exec::Exec;
 use uda_image::{Drive, MemImage};
 use uda_mem::HostMemory;
 use uda_packet::{Command, End, Op, decode_end, encode_command};
-use uda_port::{HostEvent, Phase, Port, Ring, Turn};
+use uda_port::{HostEvent, Phase, Port, Profile, Ring, Turn};
 
 /// The bytes of host memory.
 pub(crate) const MEMORY: u32 = 135_168;
@@ -51,9 +51,26 @@ fn port_over(alloc: Global, image: MemImage) -> Result<Port<MemImage>, Fail> {
     }
 }
 
+/// The same of the profile for guests.
+fn guest_port_over(alloc: Global, image: MemImage) -> Result<Port<MemImage>, Fail> {
+    let drive = Drive {
+        store: image,
+        hard: false,
+    };
+    match Port::for_guests(alloc, Exec::new([Some(drive), None, None, None])) {
+        Ok(port) => Ok(port),
+        Err((error, _)) => Err(error.into()),
+    }
+}
+
 /// A port over a unit 0 of 8 blocks, block k all bytes k.
 pub(crate) fn new_port(alloc: Global) -> Result<Port<MemImage>, Fail> {
     port_over(alloc, image_of_eight(alloc)?)
+}
+
+/// The same of the profile for guests.
+pub(crate) fn new_guest_port(alloc: Global) -> Result<Port<MemImage>, Fail> {
+    guest_port_over(alloc, image_of_eight(alloc)?)
 }
 
 impl Machine {
@@ -79,7 +96,25 @@ impl Machine {
         })
     }
 
+    /// A port of the profile for guests, over the same unit in an empty memory.
+    pub(crate) fn for_guests(alloc: Global) -> Result<Machine, Fail> {
+        let port = new_guest_port(alloc)?;
+        let memory = HostMemory::new(alloc, MEMORY)?;
+        Ok(Machine {
+            port,
+            memory,
+            slots: 8,
+        })
+    }
+
     /// The same, running.
+    pub(crate) fn running_for_guests(alloc: Global) -> Result<Machine, Fail> {
+        let mut machine = Machine::for_guests(alloc)?;
+        machine.start_up();
+        Ok(machine)
+    }
+
+    /// A strict one, running.
     pub(crate) fn running(alloc: Global) -> Result<Machine, Fail> {
         let mut machine = Machine::new(alloc)?;
         machine.start_up();
@@ -126,6 +161,11 @@ impl Machine {
     /// Plays events, and answers SA.
     pub(crate) fn play(&mut self, events: &[HostEvent]) -> u16 {
         self.port.play(events, &mut self.memory)
+    }
+
+    /// Which hosts the port serves.
+    pub(crate) fn profile(&self) -> Profile {
+        self.port.profile()
     }
 
     /// What the port is doing.
@@ -238,6 +278,13 @@ impl Machine {
         self.poke(rt, &[(descriptor, low), (descriptor + 2, 0x8000)]);
     }
 
+    /// Posts a text as command i, and says of it that it has so many bytes.
+    pub(crate) fn post_short(&mut self, rt: &impl Abort, i: u16, text: &[u8; 48], length: u16) {
+        self.post(rt, i, text);
+        assert!(rt; i < self.slots && self.slots <= 16);
+        self.poke(rt, &[(0x100 + 64 * u32::from(self.slots + i), length)]);
+    }
+
     /// Posts a command as command i.
     pub(crate) fn post_command(&mut self, rt: &impl Abort, i: u16, unit: u16, op: Op) {
         let command = Command {
@@ -332,6 +379,27 @@ impl Machine {
     /// Asserts all bytes of memory.
     pub(crate) fn assert_bytes(&self, rt: &impl Abort, bytes: &[u8]) {
         assert_eq!(rt; self.bytes(), bytes);
+    }
+
+    /// Fills the packet of response i, from its envelope on, with one byte.
+    pub(crate) fn fill_response(&mut self, rt: &impl Abort, i: u16, byte: u8) {
+        assert!(rt; i < 16);
+        put(rt, &mut self.memory, 0x100 + 64 * u32::from(i), &[byte; 64]);
+    }
+
+    /// Asserts that the packet of response i says that its text has so many bytes, and that those behind
+    /// them are of one byte.
+    pub(crate) fn assert_length(&self, rt: &impl Abort, i: u16, length: u16, byte: u8) {
+        assert!(rt; i < 16 && length <= 60);
+        let at = 0x100 + 64 * u32::from(i);
+        assert_eq!(rt; self.word(at), Some(length));
+        let behind = self
+            .memory
+            .window(at + 4 + u32::from(length), 60 - u32::from(length));
+        match behind {
+            Some(bytes) => assert!(rt; bytes.iter().all(|&b| b == byte), "{bytes:?}"),
+            None => panic!(rt; "no packet of response {i}"),
+        }
     }
 
     /// Asserts the text of response i.

@@ -38,6 +38,7 @@ adds_up {h = h} host =
 -- bytes are put into a buffer
 pub buffer_filled : {S : Type 0} {h : Inside S} → IsHost h → (at : ℕ) (bytes : List ℕ) → (Meet at (length bytes) 0 buffers_start → ⊥) → IsHost (record h { memory = put h.memory at bytes })
 buffer_filled host at bytes above = record {
+  strict = host.strict;
   runs = host.runs;
   looks = host.looks;
   rings = record { commands_are = host.rings.commands_are; responses_are = host.rings.responses_are; posts_next = host.rings.posts_next; looks_within = host.rings.looks_within };
@@ -61,6 +62,7 @@ host_posts {h = h} c is host some above legible after_is asked more_is =
     let held = ap (λ (v : HostState). v.credits) is in
     rw (after_is, new_is, more_is, ← is) (record {
       host = record {
+        strict = host.strict;
         runs = host.runs;
         looks = λ _. refl;
         rings = record { commands_are = rings.commands_are; responses_are = rings.responses_are; posts_next = omega (arith, ap length left); looks_within = rings.looks_within };

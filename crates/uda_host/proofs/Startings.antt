@@ -8,6 +8,7 @@ use Rattle.uda_mem.specs.Words.{word_at}
 use Rattle.uda_mem.proofs.WordLaws.{word_at-put_inside}
 use Rattle.uda_packet.specs.declared.command.Command.{Command}
 use Rattle.uda_exec.specs.Disks.{ExecState}
+use Rattle.uda_port.specs.declared.profile.Profile.TheVariants.{Strict}
 use Rattle.uda_port.specs.declared.phase.Phase.{Phase}
 use Rattle.uda_port.specs.declared.phase.Phase.TheVariants.{Step1}
 use Rattle.uda_port.specs.Startup.{by_word}
@@ -30,12 +31,21 @@ after_word word x = by_word x.0.phase x.0 x.1 word
 abbrev pub Goes : ℕ → PortAndMemory → PortAndMemory → Type 0
 Goes word old new = new ≡ after_word word old
 
-pub four_words : (p p1 p2 p3 p4 : PortState) (m m1 m2 m3 m4 : List ℕ) → p.phase ≡ Step1 → length m ≡ memory_size
+-- a port of the strict profile
+abbrev strictly : PortState → PortState
+strictly p = record p { profile = Strict }
+
+abbrev started_up : PortState → List ℕ → PortAndMemory
+started_up p m = (port_running p, put m 4 (replicate area_size 0))
+
+pub four_words : (p p1 p2 p3 p4 : PortState) (m m1 m2 m3 m4 : List ℕ) → p.profile ≡ Strict → p.phase ≡ Step1 → length m ≡ memory_size
     → Goes rings_word (p, m) (p1, m1) → Goes 8 (p1, m1) (p2, m2) → Goes 0 (p2, m2) (p3, m3) → Goes 1 (p3, m3) (p4, m4) → ◌≡◌ {A = PortAndMemory} (p4, m4) (port_running p, put m 4 (replicate area_size 0))
-four_words p p1 p2 p3 p4 m m1 m2 m3 m4 is size first second third fourth =
-    let one = first ∙ ap (λ (phase : Phase). by_word phase p m rings_word) is in
+four_words p p1 p2 p3 p4 m m1 m2 m3 m4 strict is size first second third fourth =
+    let same : p ≡ strictly p = λ i. record p { profile = strict i } in
+    let one = first ∙ ap (after_word rings_word) (ap (λ (q : PortState). (q, m)) same) ∙ ap (λ (phase : Phase). by_word phase (strictly p) m rings_word) is in
     let three = third ∙ ap (after_word 0) (second ∙ ap (after_word 8) one) in
-    fourth ∙ ap (after_word 1) three ∙ rw size
+    let done : after_word 1 (after_word 0 (after_word 8 (by_word Step1 (strictly p) m rings_word))) ≡ started_up (strictly p) m = rw size in
+    fourth ∙ ap (after_word 1) three ∙ done ∙ ap (λ (q : PortState). started_up q m) (sym same)
 
 -- ---- nothing is posted in a ring of zeros
 
@@ -66,9 +76,10 @@ opening_more i within w opened o = record {
 -- ---- and a host stands, with nothing posted yet
 
 pub opened : {S : Type 0} (exec : ExecState) (start zeroed memory : List ℕ) (port : PortState) (posted : List Command) → length start ≡ memory_size → zeroed ≡ put start 4 (replicate area_size 0) → length memory ≡ memory_size
-    → ((i : ℕ) → i < slots → IsOpen (response_packet i) (response_at memory i)) → ((i : ℕ) → i < slots → IsFree (command_at zeroed i) → IsFree (command_at memory i)) → port ≡ port_running (port_at_start exec) → posted ≡ []
+    → ((i : ℕ) → i < slots → IsOpen (response_packet i) (response_at memory i)) → ((i : ℕ) → i < slots → IsFree (command_at zeroed i) → IsFree (command_at memory i)) → port ≡ port_running (port_at_start Strict exec) → posted ≡ []
     → IsHost {S = S} (record { memory = memory; command_place = 0; response_place = 0; held = 1; posted = posted; port = port })
 opened exec start zeroed memory port posted size_then zeroed_is size opens kept port_is none = rw (port_is, none) (record {
+  strict = refl;
   runs = refl;
   looks = λ some. absurd (omega arith);
   rings = record { commands_are = refl; responses_are = refl; posts_next = omega arith; looks_within = omega arith };

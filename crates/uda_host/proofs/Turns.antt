@@ -17,17 +17,19 @@ use Rattle.uda_exec.specs.Commands.{buffer_start as buffer_of, landing_of}
 use Rattle.uda_exec.proofs.Changes.{landing-le}
 use Rattle.uda_port.specs.declared.descriptor.Descriptor.{Descriptor}
 use Rattle.uda_port.specs.declared.packet.Fetched.{Fetched}
+use Rattle.uda_port.specs.declared.profile.Profile.{Profile}
 use Rattle.uda_port.specs.declared.phase.Phase.{Phase}
 use Rattle.uda_port.specs.declared.turn.Turn.{Turn}
 use Rattle.uda_port.specs.declared.turn.Turn.TheVariants.{Fetched as TurnFetched, Executed, Delivered, Idle, Dead}
 use Rattle.uda_port.specs.declared.phase.Fatal.{Fatal}
 use Rattle.uda_port.specs.declared.phase.Fatal.TheVariants.{PacketRead, PacketWrite, RingRead, CreditsExceeded, WrongEnvelope}
 use Rattle.uda_port.specs.Ring.{is_owned, address_of, word_given_back, RingState, descriptor_address, next_descriptor, ring_advanced}
+use Rattle.uda_port.specs.Packet.{HasRoom, end_text}
 use Rattle.uda_port.specs.Fetch.{Takes}
 use Rattle.uda_port.specs.Delivery.{Puts}
 use Rattle.uda_port.specs.Message.{message_of_text, message_in}
 use Rattle.uda_port.specs.Port.{PortState, CreditsAgree, next_grant}
-use Rattle.uda_port.specs.Turn.{port_turn_on, port_with_message, FetchesOne, NothingToFetch, FetchLine, GoesOn, Fails, InFetch, InRest, RunningTurn, TurnGoes}
+use Rattle.uda_port.specs.Turn.{port_turn_on, port_with_message, delivery_of, FetchesOne, NothingToFetch, FetchLine, GoesOn, Fails, InFetch, InRest, RunningTurn, TurnGoes}
 use Rattle.uda_host.specs.Layout.{slots, memory_size, response_descriptor, command_descriptor, response_packet, command_packet, owner_word, flag_word}
 use Rattle.uda_host.specs.Slots.{Slot, slot_at, command_at, response_at, owned, memory_reopened, RingsHold, WritesSlot}
 use Rattle.uda_host.specs.InStep.{IsSound, unfetched}
@@ -96,7 +98,7 @@ fetched {h = h} {c} {rest} new after host were agree goes =
     let port = h.port in let place = port.commands.place in let pending = port.exec.pending in let takes = goes.takes in
     let sound : IsSound c = subst IsSound (get_or-append_seam pending c rest c) ((rw were at host.sound) (length pending) c (omega (arith, length-append pending (c ∷ rest)))) in
     let read : ℕ → List ℕ → Result Command End = λ size text. if nat_eq size 48 then message_of_text (read_command text) else Err (other_length_end text) in
-    let message : message_in goes.packet ≡ Ok c = ap₂ read (size_read host were takes) (text_read host were takes) ∙ ap message_of_text sound.legible in
+    let message : message_in port.profile goes.packet ≡ Ok c = ap (λ (p : Profile). message_in p goes.packet) host.strict ∙ ap₂ read (size_read host were takes) (text_read host were takes) ∙ ap message_of_text sound.legible in
     let leaves = λ (m : Result Command End) (r : RingState). record (port_with_message (port_turn_on port) m) { commands = r; credits = port.credits - 1; fetches = port.fetches + 1 } in
     let is = goes.others ∙ ap₂ leaves message (takes.advanced ∙ ap ring_advanced host.rings.commands_are) in
     let given = λ (d : Descriptor) (r : RingState). put h.memory (descriptor_address r + 2) (word_bytes (word_given_back d.high)) in
@@ -107,6 +109,7 @@ fetched {h = h} {c} {rest} new after host were agree goes =
     let rings = host.rings in let counts = host.counts in
     rw (is, memory_is) (record {
       host = record {
+        strict = host.strict;
         runs = host.runs;
         looks = λ some. host.looks (omega (arith, ap length were));
         rings = record { commands_are = refl; responses_are = rings.responses_are; posts_next = omega (arith, ap length were, ap length rest_is); looks_within = rings.looks_within };
@@ -133,6 +136,7 @@ executed {h = h} new after host none agree goes =
     let rings = host.rings in let counts = host.counts in
     rw one.others (record {
       host = record {
+        strict = host.strict;
         runs = host.runs;
         looks = λ some. absurd (omega (arith, ap length none));
         rings = record { commands_are = rings.commands_are; responses_are = rings.responses_are; posts_next = rings.posts_next; looks_within = rings.looks_within };
@@ -149,9 +153,10 @@ executed {h = h} new after host none agree goes =
 abbrev delivered_slot : List ℕ → ℕ → ℕ → End → Slot
 delivered_slot memory i credits e = record { descriptor = record (response_at memory i).descriptor { high = flag_word }; size = 48; credits = credits; text = written_end e }
 
-delivery_written : {S : Type 0} {h : Inside S} (credits : ℕ) (e : End) (ring : RingState) (after : List ℕ) → IsHost h → credits < 2 ^ 16 → Puts h.port.responses h.memory credits (written_end e) ring after
-    → WritesSlot (response_descriptor h.response_place) (response_packet h.response_place) (delivered_slot h.memory h.response_place credits e) h.memory after
-delivery_written {h = h} credits e ring after host fits puts =
+delivery_written : {S : Type 0} {h : Inside S} (e : End) (ring : RingState) (after : List ℕ) → IsHost h → next_grant h.port.deliveries < 2 ^ 16 → Puts (delivery_of h.port) h.port.responses h.memory (end_text h.port.profile e) ring after
+    → WritesSlot (response_descriptor h.response_place) (response_packet h.response_place) (delivered_slot h.memory h.response_place (next_grant h.port.deliveries) e) h.memory after
+delivery_written {h = h} e ring after host fits puts =
+    let credits = next_grant h.port.deliveries in
     let place = h.response_place in let next = puts.is_next in let seen = responses_seen host in
     let first : puts.first ≡ owned (response_packet place) = cc in
     let address = ap address_of first in let high = ap (λ (d : Descriptor). word_given_back d.high) first in
@@ -159,7 +164,9 @@ delivery_written {h = h} credits e ring after host fits puts =
     let size : address_of puts.first - 4 ≡ response_packet place = omega arith in
     let second : address_of puts.first - 2 ≡ response_packet place + 2 = omega arith in
     let text : address_of puts.first ≡ response_packet place + 4 = omega arith in
-    let is = puts.written ∙ (λ i. put (put (put (put h.memory (text i) (written_end e)) (size i) (word_bytes 48)) (second i) (word_bytes credits)) (at i) (word_bytes (high i))) in
+    let text_is : end_text h.port.profile e ≡ written_end e = ap (λ (p : Profile). end_text p e) host.strict in
+    let long = ap length text_is ∙ length-written_end e in
+    let is = puts.written ∙ (λ i. put (put (put (put h.memory (text i) (text_is i)) (size i) (word_bytes (long i))) (second i) (word_bytes credits)) (at i) (word_bytes (high i))) in
     let written = text_written (unwritten h.memory (response_stands place host.rings.looks_within) host.written.size) (written_end e) (length-written_end e) in
     let all = high_written (credits_written (size_written written 48 (omega arith)) credits fits) flag_word (omega arith) in
     subst (WritesSlot (response_descriptor place) (response_packet place) (delivered_slot h.memory place credits e) h.memory) (sym is) all
@@ -177,7 +184,7 @@ module _ {S : Type 0} {h : Inside S} (host : IsHost h) (new : PortState) (after 
       by (c ∷ rest) were = absurd (must_fetch host were lines.nothing_to_fetch)
 
   sent : WritesSlot (response_descriptor h.response_place) (response_packet h.response_place) (delivered_slot h.memory h.response_place (next_grant h.port.deliveries) lines.rest.1.end) h.memory after
-  sent = delivery_written (next_grant h.port.deliveries) lines.rest.1.end new.responses after host (omega arith) lines.rest.1.puts
+  sent = delivery_written lines.rest.1.end new.responses after host (omega arith) lines.rest.1.puts
 
   pub end_read : (read : Option End) → (length after ≡ memory_size → read ≡ read_end (part after (response_packet h.response_place + 4) 48)) → read ≡ Some lines.rest.1.end
   end_read read by = by sent.size ∙ ap read_end (ap (λ (s : Slot). s.text) sent.holds) ∙ lines.rest.1.legible
@@ -197,6 +204,7 @@ module _ {S : Type 0} {h : Inside S} (host : IsHost h) (new : PortState) (after 
       let rings = host.rings in let counts = host.counts in
       rw (new_is, left_by sent.size, grant, end_is, ← is) (record {
         host = record {
+          strict = host.strict;
           runs = host.runs;
           looks = λ some. absurd (omega (arith, ap length none_left));
           rings = record { commands_are = rings.commands_are; responses_are = refl; posts_next = rings.posts_next; looks_within = omega arith };
@@ -244,7 +252,8 @@ module _ {S : Type 0} {h : Inside S} (host : IsHost h) (before : PortState) (aft
       let address = ap address_of first in let within = host.rings.looks_within in let size = host.written.size in
       let room = (host.written.opens h.response_place within).room in
       let word : word_at h.memory (address_of lost.next - 4) ≡ word_at h.memory (response_packet h.response_place) = ap (word_at h.memory) (omega arith) in
-      lost.no_room (record { packet = record { even = omega arith; above = omega arith; within = omega arith }; long = omega arith })
+      let n = length (end_text h.port.profile goes.rest.1.0.end) in
+      subst (λ (p : Profile). HasRoom p h.memory (address_of lost.next) n → ⊥) host.strict lost.no_room (record { packet = record { even = omega arith; above = omega arith; within = omega arith }; long = omega arith })
   rest_lives _ goes = goes.rest.1
 
   lives : (cause : Fatal) → Fails cause (port_turn_on h.port) h.memory before after → ⊥

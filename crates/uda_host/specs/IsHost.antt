@@ -1,6 +1,7 @@
 -- What a host's fields stand for, and what is always true of them.
 use Rattle.std.specs.Prelude.{◌≡◌, ◌<◌, true, ◌++◌, length, All}
 use Rattle.uda_port.specs.declared.phase.Phase.TheVariants.{Running}
+use Rattle.uda_port.specs.declared.profile.Profile.TheVariants.{Strict}
 use Rattle.uda_port.specs.Port.{CreditsAgree}
 use Rattle.uda_host.specs.Slots.{RingsHold}
 use Rattle.uda_host.specs.InStep.{IsSound, unfetched, RingsAgree, CountsAgree}
@@ -21,9 +22,10 @@ host_view h = record {
   load = h.port.load;
 }
 
--- The port runs, and looks while anything is unfetched; each sees what the other wrote; rings, credits and
+-- The port is a strict one, runs, and looks while anything is unfetched; each sees what the other wrote; rings, credits and
 -- counts agree; and each command that is due is sound.
 pub record IsHost {S : Type 0} (h : Inside S) : Type 0 where
+  pub strict : h.port.profile ≡ Strict
   pub runs : h.port.phase ≡ Running
   pub looks : 0 < length (unfetched h) → h.port.looking ≡ true
   pub rings : RingsAgree h

@@ -2,6 +2,7 @@
 ghost use Rattle.std.specs.Prelude.{◌≡◌, ℕ, ◌+◌, ◌-◌, ◌*◌, ◌<◌, ◌≤◌, length, replicate, IfOk};
 ghost use Rattle.uda_mem.specs.Put.{put};
 ghost use Rattle.uda_port.specs.declared.phase.Phase.TheVariants.{Step1};
+ghost use Rattle.uda_port.specs.declared.profile.Profile.TheVariants.{Strict};
 ghost use Rattle.uda_host.specs.Layout.{slots, area_size, memory_size, response_packet};
 ghost use Rattle.uda_host.specs.Slots.{command_at, response_at, IsFree, IsOpen};
 ghost use Rattle.uda_host.specs.Starting.{port_running};
@@ -20,6 +21,7 @@ const TEXT_SIZE: u16 = 48;
 
 /// The start-up's four words.
 pub(crate) fn initialise<S: BlockStore>(port: &mut Port<S>, memory: &mut HostMemory)
+    requires strict { port.old.profile ≡ Strict }
     requires step { port.old.phase ≡ Step1 }
     requires size { length memory.old ≡ memory_size }
     ensures port { port.new ≡ port_running port.old }

@@ -6,15 +6,17 @@ use borrow.Author.Tests.{ltb-true, ltb-false}
 use Rattle.uda_packet.specs.declared.command.Command.{Command}
 use Rattle.uda_packet.specs.declared.end.End.{End}
 use Rattle.uda_port.specs.declared.phase.Phase.{Phase}
-use Rattle.uda_port.specs.declared.phase.Phase.TheVariants.{Step1, Step2, Step3, Step4, Running, Dead}
+use Rattle.uda_port.specs.declared.phase.Phase.TheVariants.{Step1, Step2, Step3, Purge, Poll, Step4, Running, Dead}
 use Rattle.uda_port.specs.declared.phase.Fatal.{Fatal}
 use Rattle.uda_port.specs.declared.phase.Fatal.TheVariants.{PacketRead, PacketWrite, RingRead, RingWrite, CreditsExceeded, WrongEnvelope, StartUpWord}
+use Rattle.uda_port.specs.declared.profile.Profile.{Profile}
+use Rattle.uda_port.specs.declared.profile.Profile.TheVariants.{Strict, ForGuests}
 use Rattle.uda_port.specs.declared.turn.Turn.{Turn}
 use Rattle.uda_port.specs.declared.turn.Turn.TheVariants.{Fetched, Executed, Delivered, Idle, Dead as DeadTurn}
 use Rattle.uda_port.specs.declared.play.HostEvent.{HostEvent}
 use Rattle.uda_port.specs.declared.play.HostEvent.TheVariants.{WriteIp, ReadIp, WriteSa, Word, Turn as TurnEvent}
 use Rattle.uda_port.specs.Port.{PortState, port_asked}
-use Rattle.uda_port.specs.Startup.{has_bit, has_area, by_word, dead_port, port_with_rings, memory_with_area}
+use Rattle.uda_port.specs.Startup.{has_bit, area_of, has_area, refuses_second, refuses_third, after_third, by_word, dead_port, port_with_rings, memory_with_area}
 use Rattle.uda_port.specs.Turn.{port_turn_on, port_with_message, TurnGoes, RunningTurn, GoesOn, Fails, InFetch, InRest, FetchLine}
 use Rattle.uda_port.specs.Message.{message_in}
 use Rattle.uda_port.specs.Play.{EventGoes, Played, FatalTurn, FatalWord, MeetsCause, LeavesIp, DiedOf, StaysDead, DeathHasCause}
@@ -46,22 +48,40 @@ first_word cause word old new memory true true p step wrap is dead = of_word Sta
 first_word cause word old new memory true false p step wrap is dead = let same = phases new _ is in absurd (cc)
 first_word cause word old new memory false wrap' p step wrap is dead = let same = phases new _ is in absurd (cc)
 
-second_word : (cause : Fatal) (first word : ℕ) (old new : PortState) (memory : List ℕ) (purge : Bool) → old.phase ≡ Step2 first → has_bit word 0 ≡ purge
-    → new ≡ (if purge then dead_port old StartUpWord else record old { phase = Step3 first word }) → new.phase ≡ Dead cause → FatalWord cause word old memory
-second_word cause first word old new memory true p purge is dead = of_word StartUpWord cause word old new memory is dead (rw p purge)
-second_word cause first word old new memory false p purge is dead = let same = phases new _ is in absurd (cc)
+second_word : (cause : Fatal) (first word : ℕ) (old new : PortState) (memory : List ℕ) (profile : Profile) (refuses : Bool) → old.phase ≡ Step2 first → old.profile ≡ profile → refuses_second profile word ≡ refuses
+    → new ≡ (if refuses then dead_port old StartUpWord else record old { phase = Step3 first word }) → new.phase ≡ Dead cause → FatalWord cause word old memory
+second_word cause first word old new memory Strict true p q purge is dead = of_word StartUpWord cause word old new memory is dead (rw (p, q) purge)
+second_word cause first word old new memory ForGuests true p q purge is dead = absurd (cc)
+second_word cause first word old new memory profile' false p q purge is dead = let same = phases new _ is in absurd (cc)
 
-third_word : (cause : Fatal) (first second word : ℕ) (old new : PortState) (memory memory_after : List ℕ) (high area : Bool) → old.phase ≡ Step3 first second
-    → nat_lt 3 word ≡ high → has_area first second word (length memory) ≡ area
-    → ◌≡◌ {A = PortState × List ℕ} (new, memory_after) (if high then (dead_port old StartUpWord, memory)
-    else if area then (port_with_rings old first second word, memory_with_area first second word memory)
+-- what follows the third word isn't dead
+lives_on : (cause : Fatal) (profile : Profile) (word : ℕ) → after_third profile word ≡ Dead cause → ⊥
+lives_on cause Strict word is = cc
+lives_on cause ForGuests word is = by (has_bit word 15) is
+  where
+    by : (test : Bool) → (if test then Purge else Step4) ≡ Dead cause → ⊥
+    by true is = cc
+    by false is = cc
+
+third_word : (cause : Fatal) (first second word : ℕ) (old new : PortState) (memory memory_after : List ℕ) (profile : Profile) (refuses has : Bool) → old.phase ≡ Step3 first second → old.profile ≡ profile
+    → refuses_third profile word ≡ refuses → has_area (area_of profile first second word) (length memory) ≡ has
+    → ◌≡◌ {A = PortState × List ℕ} (new, memory_after) (if refuses then (dead_port old StartUpWord, memory)
+    else if has then (record (port_with_rings old (area_of profile first second word)) { phase = after_third profile word }, memory_with_area (area_of profile first second word) memory)
     else (dead_port old RingWrite, memory)) → new.phase ≡ Dead cause → FatalWord cause word old memory
-third_word cause first second word old new memory memory_after true area' p high area is dead =
-    of_word StartUpWord cause word old new memory (ap (λ (x : PortState × List ℕ). x.0) is) dead (rw p (ltb-true 3 word high))
-third_word cause first second word old new memory memory_after false true p high area is dead =
-    let same = phases new _ (ap (λ (x : PortState × List ℕ). x.0) is) in absurd (cc)
-third_word cause first second word old new memory memory_after false false p high area is dead =
-    of_word RingWrite cause word old new memory (ap (λ (x : PortState × List ℕ). x.0) is) dead (rw p (ltb-false 3 word high, area))
+third_word cause first second word old new memory memory_after Strict true has' p q high area is dead =
+    of_word StartUpWord cause word old new memory (ap (λ (x : PortState × List ℕ). x.0) is) dead (rw (p, q) (ltb-true 3 word high))
+third_word cause first second word old new memory memory_after ForGuests true has' p q high area is dead = absurd (cc)
+third_word cause first second word old new memory memory_after profile' false true p q high area is dead =
+    absurd (lives_on cause profile' word (sym (phases new _ (ap (λ (x : PortState × List ℕ). x.0) is)) ∙ dead))
+third_word cause first second word old new memory memory_after Strict false false p q high area is dead =
+    of_word RingWrite cause word old new memory (ap (λ (x : PortState × List ℕ). x.0) is) dead (rw (p, q) (ltb-false 3 word high, area))
+third_word cause first second word old new memory memory_after ForGuests false false p q high area is dead =
+    of_word RingWrite cause word old new memory (ap (λ (x : PortState × List ℕ). x.0) is) dead (rw (p, q) (tt, area))
+
+purge_word : (cause : Fatal) (word : ℕ) (old new : PortState) (none : Bool) → old.phase ≡ Purge
+    → new ≡ (if none then record old { phase = Poll } else old) → new.phase ≡ Dead cause → ⊥
+purge_word cause word old new true p is dead = let same = phases new _ is in absurd (cc)
+purge_word cause word old new false p is dead = let same = phases new _ is in absurd (cc)
 
 fourth_word : (cause : Fatal) (word : ℕ) (old new : PortState) (go : Bool) → old.phase ≡ Step4
     → new ≡ (if go then record old { phase = Running } else old) → new.phase ≡ Dead cause → ⊥
@@ -72,8 +92,10 @@ fourth_word cause word old new false p is dead = let same = phases new _ is in a
 fatal_word : (cause : Fatal) (word : ℕ) (p : Phase) (old new : PortState) (memory memory_after : List ℕ) → old.phase ≡ p → (new, memory_after) ≡ by_word p old memory word → new.phase ≡ Dead cause
     → (old.phase ≡ Dead cause) ⊎ FatalWord cause word old memory
 fatal_word cause word Step1 old new memory memory_after p is dead = inr (first_word cause word old new memory _ _ p refl refl (ap (λ (x : PortState × List ℕ). x.0) is) dead)
-fatal_word cause word (Step2 first) old new memory memory_after p is dead = inr (second_word cause first word old new memory _ p refl (ap (λ (x : PortState × List ℕ). x.0) is) dead)
-fatal_word cause word (Step3 first second) old new memory memory_after p is dead = inr (third_word cause first second word old new memory memory_after _ _ p refl refl is dead)
+fatal_word cause word (Step2 first) old new memory memory_after p is dead = inr (second_word cause first word old new memory old.profile _ p refl refl (ap (λ (x : PortState × List ℕ). x.0) is) dead)
+fatal_word cause word (Step3 first second) old new memory memory_after p is dead = inr (third_word cause first second word old new memory memory_after old.profile _ _ p refl refl refl is dead)
+fatal_word cause word Purge old new memory memory_after p is dead = absurd (purge_word cause word old new _ p (ap (λ (x : PortState × List ℕ). x.0) is) dead)
+fatal_word cause word Poll old new memory memory_after p is dead = inl (sym (phases new old (ap (λ (x : PortState × List ℕ). x.0) is)) ∙ dead)
 fatal_word cause word Step4 old new memory memory_after p is dead = absurd (fourth_word cause word old new _ p (ap (λ (x : PortState × List ℕ). x.0) is) dead)
 fatal_word cause word Running old new memory memory_after p is dead = inl (sym (phases new old (ap (λ (x : PortState × List ℕ). x.0) is)) ∙ dead)
 fatal_word cause word (Dead before) old new memory memory_after p is dead = inl (sym (phases new old (ap (λ (x : PortState × List ℕ). x.0) is)) ∙ dead)
@@ -119,7 +141,7 @@ message_phase old (Err e) = refl
 running_turn : (cause : Fatal) (turn : Turn) (old new : PortState) (memory memory_after : List ℕ) → old.phase ≡ Running → RunningTurn old memory turn new memory_after → new.phase ≡ Dead cause
     → FatalTurn cause (port_turn_on old) memory
 running_turn cause Fetched old new memory memory_after p goes dead =
-    absurd (alive cause old.phase new.phase p (phases new _ goes.others ∙ message_phase (port_turn_on old) (message_in goes.packet)) dead)
+    absurd (alive cause old.phase new.phase p (phases new _ goes.others ∙ message_phase (port_turn_on old) (message_in old.profile goes.packet)) dead)
 running_turn cause Executed old new memory memory_after p goes dead = absurd (alive cause old.phase new.phase p (phases new _ goes.rest.1.others) dead)
 running_turn cause Delivered old new memory memory_after p goes dead = absurd (alive cause old.phase new.phase p (phases new _ goes.rest.1.others) dead)
 running_turn cause Idle old new memory memory_after p goes dead = absurd (alive cause old.phase new.phase p (phases new _ goes.rest.1.1.state) dead)
@@ -135,23 +157,38 @@ fatal_turn cause turn (Dead before) old new memory memory_after p goes dead = in
 fatal_turn cause turn Step1 old new memory memory_after p goes dead = inl (sym (phases new old goes.unchanged.state) ∙ dead)
 fatal_turn cause turn (Step2 first) old new memory memory_after p goes dead = inl (sym (phases new old goes.unchanged.state) ∙ dead)
 fatal_turn cause turn (Step3 first second) old new memory memory_after p goes dead = inl (sym (phases new old goes.unchanged.state) ∙ dead)
+fatal_turn cause turn Purge old new memory memory_after p goes dead = inl (sym (phases new old goes.unchanged.state) ∙ dead)
+fatal_turn cause turn Poll old new memory memory_after p goes dead = inl (sym (phases new old goes.unchanged.state) ∙ dead)
 fatal_turn cause turn Step4 old new memory memory_after p goes dead = inl (sym (phases new old goes.unchanged.state) ∙ dead)
 
 -- ---- an event, and events
 
-asked_phase : (p : Phase) (old : PortState) → (port_asked p old).phase ≡ old.phase
-asked_phase Running old = refl
-asked_phase Step1 old = refl
-asked_phase (Step2 first) old = refl
-asked_phase (Step3 first second) old = refl
-asked_phase Step4 old = refl
-asked_phase (Dead cause) old = refl
+-- a port whose IP is read is dead where it was, and only there
+asked_dead : (cause : Fatal) (p : Phase) (old : PortState) → old.phase ≡ p → (port_asked p old).phase ≡ Dead cause → old.phase ≡ Dead cause
+asked_dead cause Running old is dead = dead
+asked_dead cause Step1 old is dead = dead
+asked_dead cause (Step2 first) old is dead = dead
+asked_dead cause (Step3 first second) old is dead = dead
+asked_dead cause Purge old is dead = dead
+asked_dead cause Poll old is dead = absurd (cc)
+asked_dead cause Step4 old is dead = dead
+asked_dead cause (Dead before) old is dead = dead
+
+still_dead : (cause : Fatal) (p : Phase) (old : PortState) → old.phase ≡ p → old.phase ≡ Dead cause → (port_asked p old).phase ≡ Dead cause
+still_dead cause Running old is dead = dead
+still_dead cause Step1 old is dead = dead
+still_dead cause (Step2 first) old is dead = dead
+still_dead cause (Step3 first second) old is dead = dead
+still_dead cause Purge old is dead = dead
+still_dead cause Poll old is dead = absurd (cc)
+still_dead cause Step4 old is dead = dead
+still_dead cause (Dead before) old is dead = dead
 
 -- a port that is dead after an event was dead before it, and the event wasn't a write to IP; or the event met a cause
 fatal_event : (cause : Fatal) (event : HostEvent) (old new : PortState) (memory memory_after : List ℕ) → EventGoes event old memory new memory_after → new.phase ≡ Dead cause
     → ((event ≢ WriteIp) × (old.phase ≡ Dead cause)) ⊎ MeetsCause cause event old memory
 fatal_event cause WriteIp old new memory memory_after goes dead = let same = phases new _ goes.0 in absurd (cc)
-fatal_event cause ReadIp old new memory memory_after goes dead = inl ((λ is. absurd (cc)), sym (asked_phase old.phase old) ∙ sym (phases new _ goes.0) ∙ dead)
+fatal_event cause ReadIp old new memory memory_after goes dead = inl ((λ is. absurd (cc)), asked_dead cause old.phase old refl (sym (phases new _ goes.0) ∙ dead))
 fatal_event cause (WriteSa word) old new memory memory_after goes dead = elim (fatal_word cause word old.phase old new memory memory_after refl goes dead) [
   | inl was ↦ inl ((λ is. absurd (cc)), was)
   | inr met ↦ inr met
@@ -199,6 +236,8 @@ dead_word cause word (Dead before) old new memory memory_after is dead = ap (λ 
 dead_word cause word Step1 old new memory memory_after is dead = absurd (cc dead)
 dead_word cause word (Step2 first) old new memory memory_after is dead = absurd (cc dead)
 dead_word cause word (Step3 first second) old new memory memory_after is dead = absurd (cc dead)
+dead_word cause word Purge old new memory memory_after is dead = absurd (cc dead)
+dead_word cause word Poll old new memory memory_after is dead = absurd (cc dead)
 dead_word cause word Step4 old new memory memory_after is dead = absurd (cc dead)
 dead_word cause word Running old new memory memory_after is dead = absurd (cc dead)
 
@@ -207,6 +246,8 @@ dead_turn cause turn (Dead before) old new memory memory_after goes dead = goes.
 dead_turn cause turn Step1 old new memory memory_after goes dead = goes.unchanged.state
 dead_turn cause turn (Step2 first) old new memory memory_after goes dead = goes.unchanged.state
 dead_turn cause turn (Step3 first second) old new memory memory_after goes dead = goes.unchanged.state
+dead_turn cause turn Purge old new memory memory_after goes dead = goes.unchanged.state
+dead_turn cause turn Poll old new memory memory_after goes dead = goes.unchanged.state
 dead_turn cause turn Step4 old new memory memory_after goes dead = goes.unchanged.state
 dead_turn cause turn Running old new memory memory_after goes dead = absurd (not_running cause dead)
   where
@@ -215,7 +256,7 @@ dead_turn cause turn Running old new memory memory_after goes dead = absurd (not
 
 dead_event : (cause : Fatal) (event : HostEvent) (old new : PortState) (memory memory_after : List ℕ) → EventGoes event old memory new memory_after → event ≢ WriteIp → old.phase ≡ Dead cause → new.phase ≡ Dead cause
 dead_event cause WriteIp old new memory memory_after goes other dead = absurd (other refl)
-dead_event cause ReadIp old new memory memory_after goes other dead = phases new _ goes.0 ∙ asked_phase old.phase old ∙ dead
+dead_event cause ReadIp old new memory memory_after goes other dead = phases new _ goes.0 ∙ still_dead cause old.phase old refl dead
 dead_event cause (WriteSa word) old new memory memory_after goes other dead = phases new old (dead_word cause word old.phase old new memory memory_after goes dead) ∙ dead
 dead_event cause (Word address word) old new memory memory_after goes other dead = phases new old goes.0 ∙ dead
 dead_event cause TurnEvent old new memory memory_after goes other dead = phases new old (dead_turn cause goes.0 old.phase old new memory memory_after goes.1 dead) ∙ dead

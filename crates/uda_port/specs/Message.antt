@@ -1,7 +1,8 @@
 -- What a command packet says.
 -- UDA50 Programmer's Documentation Kit: message envelopes; MSCP Basic Disk Functions Manual: invalid
 -- commands.
-use Rattle.std.specs.Prelude.{◌≡◌, ◌==◌, Result, Ok, Err, if◌then◌else◌}
+use Rattle.std.specs.Prelude.{◌≡◌, ℕ, ◌-◌, ◌==◌, nat_lt, List, replicate, Result, Ok, Err, if◌then◌else◌}
+use Rattle.uda_mem.specs.Put.{put}
 use Rattle.uda_packet.specs.declared.bad.Bad.{Bad}
 use Rattle.uda_packet.specs.declared.command.Command.{Command}
 use Rattle.uda_packet.specs.declared.end.End.{End}
@@ -9,6 +10,8 @@ use Rattle.uda_packet.specs.Bad.{bad_end, other_length_end}
 use Rattle.uda_packet.specs.Envelope.{envelope_of}
 use Rattle.uda_packet.specs.Reading.{read_command}
 use Rattle.uda_port.specs.declared.packet.Fetched.{Fetched}
+use Rattle.uda_port.specs.declared.profile.Profile.{Profile}
+use Rattle.uda_port.specs.declared.profile.Profile.TheVariants.{Strict, ForGuests}
 
 -- a sequential message of MSCP
 pub record IsSequential (p : Fetched) : Type 0 where
@@ -19,8 +22,19 @@ abbrev pub message_of_text : Result Command Bad → Result Command End
 message_of_text (Ok c) = Ok c
 message_of_text (Err bad) = Err (bad_end bad)
 
--- a command, or the end of what is none: a packet of another length than a text's, or a text that is no
--- command's
-abbrev pub message_in : Fetched → Result Command End
-message_in p =
+-- the text of a packet by its length word: of one that is shorter than 48 bytes the bytes behind its length
+-- count as 0, and a longer one is read as far as 48
+abbrev pub text_by_length : Fetched → List ℕ
+text_by_length p =
+    if nat_lt p.words.0 48 then put p.text p.words.0 (replicate (48 - p.words.0) 0) else p.text
+
+-- A command, or the end of what is none: a packet of a length that no command has, or a text that is no
+-- command's. Strictly every command has 48 bytes; a guest's has 12 or more, which is as far as its opcode and
+-- modifiers go.
+abbrev pub message_in : Profile → Fetched → Result Command End
+message_in Strict p =
     if p.words.0 == 48 then message_of_text (read_command p.text) else Err (other_length_end p.text)
+message_in ForGuests p =
+    if nat_lt p.words.0 12
+    then Err (other_length_end (text_by_length p))
+    else message_of_text (read_command (text_by_length p))

@@ -1,16 +1,26 @@
 -- Packets in host memory: a text, and its envelope in the four bytes below.
 -- UDA50 Programmer's Documentation Kit: message envelopes.
-use Rattle.std.specs.Prelude.{◌≡◌, ℕ, ◌+◌, ◌-◌, ◌%◌, ◌≤◌, List, length}
+use Rattle.std.specs.Prelude.{◌≡◌, ℕ, ◌+◌, ◌-◌, ◌%◌, ◌≤◌, List, length, take}
 use Rattle.uda_mem.specs.Put.{put, part}
 use Rattle.uda_mem.specs.Words.{word_at, word_bytes}
+use Rattle.uda_packet.specs.declared.end.End.{End}
+use Rattle.uda_packet.specs.declared.end.EndBody.{EndBody}
+use Rattle.uda_packet.specs.declared.end.EndBody.TheVariants as body
+use Rattle.uda_packet.specs.Written.{written_end}
 use Rattle.uda_port.specs.declared.packet.Fetched.{Fetched}
+use Rattle.uda_port.specs.declared.profile.Profile.{Profile}
+use Rattle.uda_port.specs.declared.profile.Profile.TheVariants.{Strict, ForGuests}
 
--- a packet can be read or written at an address: it is even, four envelope bytes stand below it, and 48 bytes
--- of text lie in memory
-pub record HasPacket (memory : List ℕ) (at : ℕ) : Type 0 where
+-- a packet with a text of n bytes can be read or written at an address: it is even, four envelope bytes stand
+-- below it, and the text lies in memory
+pub record HasText (memory : List ℕ) (at n : ℕ) : Type 0 where
   pub even : at % 2 ≡ 0
   pub above : 4 ≤ at
-  pub within : at + 48 ≤ length memory
+  pub within : at + n ≤ length memory
+
+-- the same with a text of 48 bytes
+abbrev pub HasPacket : List ℕ → ℕ → Type 0
+HasPacket memory at = HasText memory at 48
 
 -- the packet at an address: the envelope's two words, and the text
 pub record IsPacketAt (memory : List ℕ) (at : ℕ) (p : Fetched) : Type 0 where
@@ -18,13 +28,32 @@ pub record IsPacketAt (memory : List ℕ) (at : ℕ) (p : Fetched) : Type 0 wher
   pub second_word : p.words.1 ≡ word_at memory (at - 2)
   pub text : p.text ≡ part memory at 48
 
--- a text can be written at an address, and the length word below it says that its buffer holds one
-pub record HasRoom (memory : List ℕ) (at : ℕ) : Type 0 where
+-- a text of 48 bytes can be written at an address, and the length word below it says that its buffer holds one
+pub record TellsRoom (memory : List ℕ) (at : ℕ) : Type 0 where
   pub packet : HasPacket memory at
   pub long : 48 ≤ word_at memory (at - 4)
+
+-- a text of n bytes can be written at an address; a guest's length word is not judged
+abbrev pub HasRoom : Profile → List ℕ → ℕ → ℕ → Type 0
+HasRoom Strict memory at n = TellsRoom memory at
+HasRoom ForGuests memory at n = HasText memory at n
+
+-- how many bytes an end message of each kind has
+abbrev pub end_length : EndBody → ℕ
+end_length body.Invalid = 12
+end_length (body.Status flags) = 48
+end_length body.Controller = 32
+end_length body.Available = 12
+end_length (body.Online flags size) = 44
+end_length (body.Moved which moved) = 32
+
+-- the text of an end as it is delivered: strictly always 48 bytes, to a guest those of its kind
+abbrev pub end_text : Profile → End → List ℕ
+end_text Strict e = written_end e
+end_text ForGuests e = take (end_length e.body) (written_end e)
 
 -- a text is written, and then the envelope below it: its length, and these credits for a sequential message
 -- of MSCP
 abbrev pub packet_put : List ℕ → ℕ → ℕ → List ℕ → List ℕ
 packet_put memory at credits text =
-    put (put (put memory at text) (at - 4) (word_bytes 48)) (at - 2) (word_bytes credits)
+    put (put (put memory at text) (at - 4) (word_bytes (length text))) (at - 2) (word_bytes credits)

@@ -1,6 +1,7 @@
 -- A host that may do anything at all, and what its port dies of.
 -- UDA50 Programmer's Documentation Kit: port registers, fatal errors.
-use Rattle.std.specs.Prelude.{◌≡◌, ◌≢◌, ℕ, ◌<◌, ◌≤◌, ◌⊎◌, true, false, List, [], ◌∷◌, ◌++◌, length, All}
+use Rattle.std.specs.Prelude.{◌≡◌, ◌≢◌, ℕ, ◌<◌, ◌≤◌, ◌⊎◌, ⊤, true, false, List, [], ◌∷◌, ◌++◌, length}
+use Rattle.std.specs.Prelude.{All}
 use Rattle.uda_mem.specs.Put.{put}
 use Rattle.uda_mem.specs.Words.{HasWord, word_bytes}
 use Rattle.uda_port.specs.declared.phase.Phase.{Phase}
@@ -8,12 +9,14 @@ use Rattle.uda_port.specs.declared.phase.Phase.TheVariants.{Step1, Step2, Step3,
 use Rattle.uda_port.specs.declared.phase.Fatal.{Fatal}
 use Rattle.uda_port.specs.declared.phase.Fatal.TheVariants.{PacketRead, PacketWrite, RingRead, RingWrite}
 use Rattle.uda_port.specs.declared.phase.Fatal.TheVariants.{CreditsExceeded, WrongEnvelope, StartUpWord}
+use Rattle.uda_port.specs.declared.profile.Profile.{Profile}
+use Rattle.uda_port.specs.declared.profile.Profile.TheVariants.{Strict, ForGuests}
 use Rattle.uda_port.specs.declared.turn.Turn.{Turn}
 use Rattle.uda_port.specs.declared.play.HostEvent.{HostEvent}
 use Rattle.uda_port.specs.declared.play.HostEvent.TheVariants.{WriteIp, ReadIp, WriteSa, Word}
 use Rattle.uda_port.specs.declared.play.HostEvent.TheVariants.{Turn as TurnEvent}
 use Rattle.uda_port.specs.Port.{PortState, port_at_start, port_asked}
-use Rattle.uda_port.specs.Startup.{has_bit, has_area, by_word}
+use Rattle.uda_port.specs.Startup.{has_bit, area_of, has_area, by_word}
 use Rattle.uda_port.specs.Turn.{port_turn_on, Unchanged, TurnGoes, NothingToFetch, LosesCommandRing}
 use Rattle.uda_port.specs.Turn.{LosesCommand, ExceedsCredits, TakesForeign, LosesResponseRing, LosesResponse}
 
@@ -26,7 +29,7 @@ pub record WritesWord (address word : ℕ) (memory memory_after : List ℕ) : Ty
 
 -- what one event does
 abbrev pub EventGoes : HostEvent → PortState → List ℕ → PortState → List ℕ → Type 0
-EventGoes WriteIp old memory new memory_after = (new ≡ port_at_start old.exec) × (memory_after ≡ memory)
+EventGoes WriteIp old memory new memory_after = (new ≡ port_at_start old.profile old.exec) × (memory_after ≡ memory)
 EventGoes ReadIp old memory new memory_after = (new ≡ port_asked old.phase old) × (memory_after ≡ memory)
 EventGoes (WriteSa word) old memory new memory_after = (new, memory_after) ≡ by_word old.phase old memory word
 EventGoes (Word address word) old memory new memory_after =
@@ -48,17 +51,23 @@ pub record Delivers (port : PortState) (memory : List ℕ) : Type 0 where
   pub nothing_to_fetch : NothingToFetch port memory
   pub nothing_pending : port.exec.pending ≡ []
 
+-- the third word has no bit that the profile hasn't
+abbrev pub IsHighPart : Profile → ℕ → Type 0
+IsHighPart Strict word = word ≤ 3
+IsHighPart ForGuests word = ⊤
+
 -- a word of the start-up asks for what this port hasn't
-abbrev pub AsksMore : Phase → ℕ → Type 0
-AsksMore Step1 word = (has_bit word 15 ≡ true) × (has_bit word 14 ≡ true)
-AsksMore (Step2 first) word = has_bit word 0 ≡ true
-AsksMore (Step3 first second) word = 3 < word
-AsksMore _ word = ⊥
+abbrev pub AsksMore : Phase → Profile → ℕ → Type 0
+AsksMore Step1 profile word = (has_bit word 15 ≡ true) × (has_bit word 14 ≡ true)
+AsksMore (Step2 first) Strict word = has_bit word 0 ≡ true
+AsksMore (Step3 first second) Strict word = 3 < word
+AsksMore _ profile word = ⊥
 
 -- the communication area that the words describe isn't in memory
-abbrev pub LosesArea : Phase → ℕ → List ℕ → Type 0
-LosesArea (Step3 first second) word memory = (word ≤ 3) × (has_area first second word (length memory) ≡ false)
-LosesArea _ word memory = ⊥
+abbrev pub LosesArea : Phase → Profile → ℕ → List ℕ → Type 0
+LosesArea (Step3 first second) profile word memory =
+    IsHighPart profile word × (has_area (area_of profile first second word) (length memory) ≡ false)
+LosesArea _ profile word memory = ⊥
 
 -- a turn of a running port takes a packet that it can't have
 pub record TakesBad (Bad : PortState → List ℕ → PortState → List ℕ → Type 0) (port : PortState)
@@ -80,8 +89,8 @@ FatalTurn StartUpWord port memory = ⊥
 
 -- a start-up word's reason, cause by cause; the causes of a turn are none
 abbrev pub FatalWord : Fatal → ℕ → PortState → List ℕ → Type 0
-FatalWord RingWrite word port memory = LosesArea port.phase word memory
-FatalWord StartUpWord word port memory = AsksMore port.phase word
+FatalWord RingWrite word port memory = LosesArea port.phase port.profile word memory
+FatalWord StartUpWord word port memory = AsksMore port.phase port.profile word
 FatalWord _ word port memory = ⊥
 
 -- an event meets a cause: a turn of a running port, which counts itself first, or a start-up word, and no

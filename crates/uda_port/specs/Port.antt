@@ -4,14 +4,16 @@ use Rattle.std.specs.Prelude.{◌≡◌, ℕ, ◌+◌, ◌-◌, ◌*◌, ◌≤�
 use Rattle.uda_packet.specs.declared.end.End.{End}
 use Rattle.uda_exec.specs.Disks.{ExecState, PENDING_LIMIT}
 use Rattle.uda_exec.specs.Drives.{reset_unit}
+use Rattle.uda_port.specs.declared.profile.Profile.{Profile}
 use Rattle.uda_port.specs.declared.phase.Phase.{Phase}
-use Rattle.uda_port.specs.declared.phase.Phase.TheVariants.{Step1, Running}
+use Rattle.uda_port.specs.declared.phase.Phase.TheVariants.{Step1, Poll, Step4, Running}
 use Rattle.uda_port.specs.Ring.{RingState}
 
--- the phase, the executor and the two rings; the ends that wait for delivery, the next one first; whether the
--- port looks at its command ring; its credits; and since start-up the turns, the fetches, the deliveries, and
--- the load: at each execution the commands then pending
+-- the profile, the phase, the executor and the two rings; the ends that wait for delivery, the next one first;
+-- whether the port looks at its command ring; its credits; and since start-up the turns, the fetches, the
+-- deliveries, and the load: at each execution the commands then pending
 pub record PortState : Type 0 where
+  pub profile : Profile
   pub phase : Phase
   pub exec : ExecState
   pub responses : RingState
@@ -34,8 +36,9 @@ abbrev pub exec_at_start : ExecState → ExecState
 exec_at_start exec = record { units = map reset_unit exec.units; pending = [] }
 
 -- start-up begins over these units
-abbrev pub port_at_start : ExecState → PortState
-port_at_start exec = record {
+abbrev pub port_at_start : Profile → ExecState → PortState
+port_at_start profile exec = record {
+  profile = profile;
   phase = Step1;
   exec = exec_at_start exec;
   responses = ring_at_start;
@@ -65,7 +68,8 @@ pub record CreditsAgree (port : PortState) : Type 0 where
   pub conserved : port.fetches ≡ port.deliveries + (length port.exec.pending + length port.waiting)
   pub within : length port.exec.pending + length port.waiting ≤ PENDING_LIMIT
 
--- a port whose IP register is read begins to look, if it runs
+-- a port whose IP register is read begins to look, if it runs; in the poll test step 4 follows
 abbrev pub port_asked : Phase → PortState → PortState
 port_asked Running old = record old { looking = true }
+port_asked Poll old = record old { phase = Step4 }
 port_asked _ old = old

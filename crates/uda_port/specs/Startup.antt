@@ -1,13 +1,18 @@
 -- The start-up: what each word that the host writes to SA does, by the phase of the port.
 -- UDA50 Programmer's Documentation Kit: initialisation, communication area, fatal errors.
-use Rattle.std.specs.Prelude.{ℕ, ◌+◌, ◌-◌, ◌*◌, ◌/◌, ◌%◌, ◌^◌, ◌==◌, Bool, ◌&&◌, nat_le, nat_lt, List, length}
-use Rattle.std.specs.Prelude.{replicate, if◌then◌else◌}
+use Rattle.std.specs.Prelude.{◌≡◌, ℕ, ◌+◌, ◌-◌, ◌*◌, ◌/◌, ◌%◌, ◌^◌, ◌==◌, ◌<◌, ◌≤◌, Bool, false, ◌&&◌, nat_le}
+use Rattle.std.specs.Prelude.{nat_lt, IsTrue, List, length, replicate, if◌then◌else◌}
 use Rattle.uda_mem.specs.Put.{put}
 use Rattle.uda_port.specs.declared.phase.Phase.{Phase}
-use Rattle.uda_port.specs.declared.phase.Phase.TheVariants.{Step1, Step2, Step3, Step4, Running, Dead}
+use Rattle.uda_port.specs.declared.phase.Phase.TheVariants.{Step1, Step2, Step3, Purge, Poll, Step4}
+use Rattle.uda_port.specs.declared.phase.Phase.TheVariants.{Running, Dead}
 use Rattle.uda_port.specs.declared.phase.Fatal.{Fatal}
 use Rattle.uda_port.specs.declared.phase.Fatal.TheVariants.{PacketRead, PacketWrite, RingRead, RingWrite}
 use Rattle.uda_port.specs.declared.phase.Fatal.TheVariants.{CreditsExceeded, WrongEnvelope, StartUpWord}
+use Rattle.uda_port.specs.declared.profile.Profile.{Profile}
+use Rattle.uda_port.specs.declared.profile.Profile.TheVariants.{Strict, ForGuests}
+use Rattle.uda_port.specs.declared.area.Area.{Area}
+use Rattle.uda_port.specs.Ring.{is_ring_length}
 use Rattle.uda_port.specs.Port.{PortState}
 
 -- the codes of the fatal errors
@@ -20,12 +25,15 @@ code_of CreditsExceeded = 10
 code_of WrongEnvelope = 14
 code_of StartUpWord = 19
 
--- SA as the host reads it: S1 in step 1; S2 with the high byte of the first word; S3 with its low byte; S4
--- with module 6 and version 3; 0 while the port runs; ER with the code of a fatal error
+-- SA as the host reads it: S1 in step 1; S2 with the high byte of the first word; S3 with its low byte; 0
+-- during the purge and poll test; S4 with module 6 and version 3; 0 while the port runs; ER with the code of a
+-- fatal error
 abbrev pub sa_of : Phase → ℕ
 sa_of Step1 = 0x0800
 sa_of (Step2 first) = 0x1000 + first / 256
 sa_of (Step3 first second) = 0x2000 + first % 256
+sa_of Purge = 0
+sa_of Poll = 0
 sa_of Step4 = 0x4063
 sa_of Running = 0
 sa_of (Dead cause) = 0x8000 + code_of cause
@@ -46,19 +54,43 @@ command_count first = 2 ^ (first / 0x800 % 8)
 abbrev pub ring_base : ℕ → ℕ → ℕ
 ring_base second third = 2 * (second / 2) + 0x10000 * third
 
+-- The communication area that the first three words describe. Strictly four bytes below the ring base belong to
+-- it, and the third word is the high part of the base. A guest that asks for purge interrupts, by bit 0 of the
+-- second word, has eight bytes below, and bit 15 of its third word asks for the purge and poll test.
+abbrev pub area_of : Profile → ℕ → ℕ → ℕ → Area
+area_of Strict first second third = record {
+  base = ring_base second third;
+  below = 4;
+  responses = response_count first;
+  commands = command_count first;
+}
+area_of ForGuests first second third = record {
+  base = ring_base second (third % 0x8000);
+  below = if has_bit second 0 then 8 else 4;
+  responses = response_count first;
+  commands = command_count first;
+}
+
+-- what is true of each
+pub record IsArea (area : Area) : Type 0 where
+  pub even : area.base % 2 ≡ 0
+  pub within : area.base < 2 ^ 31
+  pub below_few : area.below ≤ 8
+  pub responses_are : IsTrue (is_ring_length area.responses)
+  pub commands_are : IsTrue (is_ring_length area.commands)
+  pub responses_few : area.responses ≤ 128
+  pub commands_few : area.commands ≤ 128
+
 -- the bytes of both rings
-abbrev pub rings_size : ℕ → ℕ
-rings_size first = 4 * (response_count first + command_count first)
+abbrev pub rings_size : Area → ℕ
+rings_size area = 4 * (area.responses + area.commands)
 
--- the communication area, the four bytes below the ring base and both rings, lies in a memory of so many
--- bytes
-abbrev pub has_area : ℕ → ℕ → ℕ → ℕ → Bool
-has_area first second third size =
-    nat_le 4 (ring_base second third) && nat_le (ring_base second third + rings_size first) size
+-- the area lies in a memory of so many bytes
+abbrev pub has_area : Area → ℕ → Bool
+has_area area size = nat_le area.below area.base && nat_le (area.base + rings_size area) size
 
-abbrev pub memory_with_area : ℕ → ℕ → ℕ → List ℕ → List ℕ
-memory_with_area first second third memory =
-    put memory (ring_base second third - 4) (replicate (4 + rings_size first) 0)
+abbrev pub memory_with_area : Area → List ℕ → List ℕ
+memory_with_area area memory = put memory (area.base - area.below) (replicate (area.below + rings_size area) 0)
 
 abbrev pub dead_port : PortState → Fatal → PortState
 dead_port port cause = record port { phase = Dead cause }
@@ -70,30 +102,46 @@ by_first old word =
     (if has_bit word 14 then dead_port old StartUpWord else record old { phase = Step2 word })
     else old
 
+-- what the strict profile hasn't: purge interrupts, by bit 0 of the second word, and any bit of the third but
+-- bits 1 and 0
+abbrev pub refuses_second : Profile → ℕ → Bool
+refuses_second Strict word = has_bit word 0
+refuses_second ForGuests word = false
+
+abbrev pub refuses_third : Profile → ℕ → Bool
+refuses_third Strict word = nat_lt 3 word
+refuses_third ForGuests word = false
+
 -- step 2: bit 0 asks for purge interrupts
 abbrev pub by_second : PortState → ℕ → ℕ → PortState
 by_second old first word =
-    if has_bit word 0 then dead_port old StartUpWord else record old { phase = Step3 first word }
+    if refuses_second old.profile word then dead_port old StartUpWord
+    else record old { phase = Step3 first word }
 
--- the rings are where the words say, each with its place at 0
-abbrev pub port_with_rings : PortState → ℕ → ℕ → ℕ → PortState
-port_with_rings old first second third = record old {
-  phase = Step4;
-  responses = record { base = ring_base second third; count = response_count first; place = 0 };
-  commands = record {
-    base = ring_base second third + 4 * response_count first;
-    count = command_count first;
-    place = 0;
-  };
+-- what follows the third word: a guest's purge and poll test, where it asks for it, and else step 4
+abbrev pub after_third : Profile → ℕ → Phase
+after_third Strict word = Step4
+after_third ForGuests word = if has_bit word 15 then Purge else Step4
+
+-- the rings are where the area has them, each with its place at 0
+abbrev pub port_with_rings : PortState → Area → PortState
+port_with_rings old area = record old {
+  responses = record { base = area.base; count = area.responses; place = 0 };
+  commands = record { base = area.base + 4 * area.responses; count = area.commands; place = 0 };
 }
 
--- step 3: the high part of the ring base alone; the communication area is zeroed
+-- step 3: the high part of the ring base; the communication area is zeroed
 abbrev pub by_third : PortState → List ℕ → ℕ → ℕ → ℕ → PortState × List ℕ
 by_third old memory first second word =
-    if nat_lt 3 word then (dead_port old StartUpWord, memory)
-    else if has_area first second word (length memory) then
-    (port_with_rings old first second word, memory_with_area first second word memory)
+    let area = area_of old.profile first second word in
+    if refuses_third old.profile word then (dead_port old StartUpWord, memory)
+    else if has_area area (length memory) then
+    (record (port_with_rings old area) { phase = after_third old.profile word }, memory_with_area area memory)
     else (dead_port old RingWrite, memory)
+
+-- the purge test: the host writes 0, and the poll test follows
+abbrev pub by_purge : PortState → ℕ → PortState
+by_purge old word = if word == 0 then record old { phase = Poll } else old
 
 -- step 4: bit 0 says go
 abbrev pub by_fourth : PortState → ℕ → PortState
@@ -104,6 +152,8 @@ abbrev pub by_word : Phase → PortState → List ℕ → ℕ → PortState × L
 by_word Step1 old memory word = (by_first old word, memory)
 by_word (Step2 first) old memory word = (by_second old first word, memory)
 by_word (Step3 first second) old memory word = by_third old memory first second word
+by_word Purge old memory word = (by_purge old word, memory)
+by_word Poll old memory word = (old, memory)
 by_word Step4 old memory word = (by_fourth old word, memory)
 by_word Running old memory word = (old, memory)
 by_word (Dead cause) old memory word = (old, memory)

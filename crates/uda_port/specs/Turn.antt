@@ -17,6 +17,8 @@ use Rattle.uda_port.specs.declared.phase.Fatal.{Fatal}
 use Rattle.uda_port.specs.declared.phase.Fatal.TheVariants.{PacketRead, PacketWrite, RingRead}
 use Rattle.uda_port.specs.declared.phase.Fatal.TheVariants.{CreditsExceeded, WrongEnvelope}
 use Rattle.uda_port.specs.Fetch.{Takes, TakesFirst, FindsNone, LosesRing, LosesPacket}
+use Rattle.uda_port.specs.declared.packet.Delivery.{Delivery}
+use Rattle.uda_port.specs.Packet.{end_text}
 use Rattle.uda_port.specs.Delivery.{Puts, LosesRoom}
 use Rattle.uda_port.specs.Message.{IsSequential, message_in}
 use Rattle.uda_port.specs.Port.{PortState, next_grant}
@@ -51,7 +53,7 @@ pub record FetchesOne (old : PortState) (memory : List ℕ) (new : PortState)
   pub credit : 0 < old.credits
   pub sequential : IsSequential packet
   pub others : new
-      ≡ record (port_with_message old (message_in packet)) {
+      ≡ record (port_with_message old (message_in old.profile packet)) {
         commands = new.commands;
         credits = old.credits - 1;
         fetches = old.fetches + 1;
@@ -126,12 +128,16 @@ ExecuteLine old memory false new memory_after =
 
 -- ---- the third line: the first waiting end is delivered
 
+-- what goes with the next end
+abbrev pub delivery_of : PortState → Delivery
+delivery_of port = record { profile = port.profile; credits = next_grant port.deliveries }
+
 pub record DeliversOne (old : PortState) (memory : List ℕ) (new : PortState)
     (memory_after : List ℕ) : Type 0 where
   pub end : End
   pub first : old.waiting ≡ end ∷ new.waiting
-  pub puts : Puts old.responses memory (next_grant old.deliveries) (written_end end) new.responses
-      memory_after
+  pub puts :
+      Puts (delivery_of old) old.responses memory (end_text old.profile end) new.responses memory_after
   pub legible : read_end (written_end end) ≡ Some end
   pub others : new ≡ record old {
     responses = new.responses;
@@ -155,7 +161,7 @@ pub record LosesResponseRing (old : PortState) (memory : List ℕ) : Type 0 wher
 pub record LosesResponse (old : PortState) (memory : List ℕ) : Type 0 where
   pub end : End
   pub waits : slice_get old.waiting 0 ≡ Some end
-  pub no_room : LosesRoom old.responses memory
+  pub no_room : LosesRoom old.profile old.responses memory (length (end_text old.profile end))
 
 -- whether the third line fits, or why it is fatal
 abbrev pub DeliverLine : PortState → List ℕ → Result Bool Fatal → PortState → List ℕ → Type 0

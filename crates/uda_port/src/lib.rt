@@ -1,6 +1,7 @@
 //! The port of a UDA50 disk controller.
 #![tactic(auto)]
 
+mod area;
 mod descriptor;
 mod drives;
 mod look;
@@ -9,6 +10,7 @@ mod packet;
 mod phase;
 mod play;
 mod port;
+mod profile;
 mod ring;
 mod startup;
 mod tally;
@@ -20,6 +22,7 @@ pub use packet::Fetched;
 pub use phase::{Fatal, Phase};
 pub use play::HostEvent;
 pub use port::Port;
+pub use profile::Profile;
 pub use ring::{RING_BASE_LIMIT, Ring, Ring as CommandRing, RingFault};
 pub use trace::Trace;
 pub use turn::Turn;

@@ -2,12 +2,23 @@
 //!
 //! UDA50 Programmer's Documentation Kit: message envelopes.
 ghost use Rattle.std.specs.Prelude.{◌≡◌, ◌≤◌, ◌↔◌, IsTrue, IsSome, IfSome, length};
-ghost use Rattle.uda_port.specs.Packet.{HasPacket, HasRoom, IsPacketAt, packet_put};
+ghost use Rattle.uda_port.specs.Packet.{HasPacket, HasText, IsPacketAt, TellsRoom, HasRoom};
+ghost use Rattle.uda_port.specs.Packet.{end_length, packet_put};
 
-use uda_packet::Envelope;
+use crate::profile::Profile;
+use uda_packet::{EndBody, Envelope};
 
 /// The bytes of a text.
 pub(crate) const TEXT: u16 = 48;
+
+/// What goes with a text that is delivered.
+#[derive(Clone, Copy, Debug, PartialEq, Eq)]
+pub(crate) struct Delivery {
+    /// The profile, by which the buffer's room is judged.
+    pub(crate) profile: Profile,
+    /// The credits that the envelope grants.
+    pub(crate) credits: u8,
+}
 
 /// A command packet as it stood in host memory: the two words of its envelope, and its text.
 ///
@@ -41,10 +52,40 @@ pub(crate) fn packet_at(memory: &[u8], address: u32) -> Option<Fetched>
     })
 }
 
-/// Whether a packet can be written at an address: it lies in memory, and the length word says that
-/// its buffer holds a text.
-pub(crate) fn has_room(memory: &[u8], address: u32) -> bool
-    ensures { IsTrue result ↔ HasRoom memory.now address }
+/// How many bytes an end message of each kind has.
+pub(crate) fn end_length(body: &EndBody) -> u16
+    ensures length { result ≡ end_length body.now }
+    ensures within { result ≤ 48 }
+{
+    match body {
+        EndBody::Invalid | EndBody::Available => 12,
+        EndBody::Controller | EndBody::Moved { .. } => 32,
+        EndBody::Online { .. } => 44,
+        EndBody::Status { .. } => 48,
+    }
+}
+
+/// Whether a packet with a text of so many bytes can be written at an address: it lies in memory, and
+/// in the strict profile the length word says that its buffer holds a text.
+pub(crate) fn has_room(profile: Profile, memory: &[u8], address: u32, size: u16) -> bool
+    ensures { IsTrue result ↔ HasRoom profile memory.now address size }
+{
+    match profile {
+        Profile::Strict => tells_room(memory, address),
+        Profile::ForGuests => has_text(memory, address, size),
+    }
+}
+
+// Whether a packet with a text of so many bytes lies in memory.
+fn has_text(memory: &[u8], address: u32, size: u16) -> bool
+    ensures { IsTrue result ↔ HasText memory.now address size }
+{
+    address % 2 == 0 && address >= 4 && uda_mem::has(memory, address, u32::from(size))
+}
+
+// The same with a text of 48 bytes, for which the length word says that there is room.
+fn tells_room(memory: &[u8], address: u32) -> bool
+    ensures { IsTrue result ↔ TellsRoom memory.now address }
 {
     if address % 2 != 0 || address < 4 || !uda_mem::has(memory, address, u32::from(TEXT)) {
         return false;
@@ -57,14 +98,15 @@ pub(crate) fn has_room(memory: &[u8], address: u32) -> bool
 
 /// Writes a text, and then the envelope below it, which grants so many credits.
 #[tactic(auto, using(crate::proofs::Length::lengths))]
-pub(crate) fn put_packet(memory: &mut [u8], address: u32, credits: u8, text: &[u8; 48])
+pub(crate) fn put_packet(memory: &mut [u8], address: u32, credits: u8, text: &[u8])
     requires few { credits ≤ 15 }
-    requires room { HasPacket memory.old address }
+    requires short { length text.now ≤ 48 }
+    requires room { HasText memory.old address (length text.now) }
     ensures written { memory.new ≡ packet_put memory.old address credits text.now }
     ensures length { length memory.new ≡ length memory.old }
 {
     let envelope = Envelope {
-        length: TEXT,
+        length: text.len() as u16,
         credits,
         kind: 0,
         connection: 0,

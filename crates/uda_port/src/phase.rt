@@ -26,6 +26,10 @@ pub enum Phase {
         /// The second word.
         second: u16,
     },
+    /// It waits for 0 in SA, the purge test.
+    Purge,
+    /// It waits for a read of IP, the poll test.
+    Poll,
     /// It waits for the word that says go.
     Step4,
     /// It runs.
@@ -95,8 +99,8 @@ impl fmt::Display for Fatal {
 impl Error for Fatal {}
 
 impl Phase {
-    /// What SA shows: the step and its echo, 0 while the port runs, or bit 15 with the code of the
-    /// fatal error.
+    /// What SA shows: the step and its echo, 0 during the purge and poll test and while the port runs, or
+    /// bit 15 with the code of the fatal error.
     ///
     /// UDA50 Programmer's Documentation Kit: initialisation.
     pub fn sa(self) -> u16
@@ -107,7 +111,7 @@ impl Phase {
             Phase::Step2 { first } => 0x1000 | first >> 8,
             Phase::Step3 { first, .. } => 0x2000 | first & 0xff,
             Phase::Step4 => 0x4063,
-            Phase::Running => 0,
+            Phase::Purge | Phase::Poll | Phase::Running => 0,
             Phase::Dead { cause } => 0x8000 | cause.code(),
         }
     }

@@ -3,8 +3,10 @@
 //! UDA50 Programmer's Documentation Kit: port registers, initialisation.
 ghost use Rattle.std.specs.Prelude.{◌≡◌, ◌≤◌, IfOk, IfErr, length};
 ghost use Rattle.uda_port.specs.Port.{port_at_start, port_asked};
+ghost use Rattle.uda_port.specs.declared.profile.Profile.TheVariants.{Strict, ForGuests};
 
 use crate::phase::Phase;
+use crate::profile::Profile;
 use crate::ring::Ring;
 use crate::tally::Tally;
 use circular_buffer::HeapCircularBuffer;
@@ -24,7 +26,7 @@ use uda_packet::End;
 /// in it, and whatever the host writes to the registers, the port does what its contracts say, and
 /// dies only of a [`Fatal`](crate::Fatal) cause, with that cause's code, until IP is written.
 ///
-/// Contracts see the phase, the executor's units and pending commands, both rings' bases, lengths and
+/// Contracts see the profile, the phase, the executor's units and pending commands, both rings' bases, lengths and
 /// places, the ends that wait, whether the port looks at its command ring, the credits that the host
 /// has, and four counts since start-up: turns, fetches, deliveries, and the load, to which each
 /// execution adds the number of commands then pending. The counts exist for contracts alone.
@@ -32,6 +34,7 @@ use uda_packet::End;
 /// UDA50 Programmer's Documentation Kit: port registers, initialisation, credits.
 #[derive(Drop)]
 pub struct Port<S: BlockStore> {
+    pub(crate) profile: Profile,
     pub(crate) phase: Phase,
     // Whether an end was delivered since start-up.
     pub(crate) begun: bool,
@@ -58,6 +61,7 @@ impl<S: BlockStore> Model for Port<S> {
     ghost Value = { PortState };
 
     ghost view = { λ p. record {
+      profile = p.profile;
       phase = p.phase;
       exec = p.exec;
       responses = p.responses;
@@ -75,14 +79,31 @@ impl<S: BlockStore> Model for Port<S> {
 }
 
 impl<S: BlockStore> Port<S> {
-    /// A port over `exec`, which is reset: it stands in step 1, as after [`write_ip`](Port::write_ip).
+    /// A port of the strict profile over `exec`, which is reset: it stands in step 1, as after
+    /// [`write_ip`](Port::write_ip).
     ///
-    /// Takes memory for the ends that wait, and no other call does. Where `alloc` has none the answer
+    /// Takes memory for the ends that wait, and no later call does. Where `alloc` has none the answer
     /// is [`NoMemory`] with `exec` as it was.
     ///
     /// UDA50 Programmer's Documentation Kit: initialisation.
     pub fn new(alloc: Global, exec: Exec<S>) -> Result<Port<S>, (NoMemory, Exec<S>)>
-        ensures ok { IfOk result (λ port. port ≡ port_at_start exec) }
+        ensures ok { IfOk result (λ port. port ≡ port_at_start Strict exec) }
+        ensures err { IfErr result (λ refusal. refusal.1 ≡ exec) }
+    {
+        Port::over(alloc, Profile::Strict, exec)
+    }
+
+    /// The same of the profile for guests: [`new`](Port::new) for hosts as they were shipped.
+    pub fn for_guests(alloc: Global, exec: Exec<S>) -> Result<Port<S>, (NoMemory, Exec<S>)>
+        ensures ok { IfOk result (λ port. port ≡ port_at_start ForGuests exec) }
+        ensures err { IfErr result (λ refusal. refusal.1 ≡ exec) }
+    {
+        Port::over(alloc, Profile::ForGuests, exec)
+    }
+
+    // A port of either profile.
+    fn over(alloc: Global, profile: Profile, exec: Exec<S>) -> Result<Port<S>, (NoMemory, Exec<S>)>
+        ensures ok { IfOk result (λ port. port ≡ port_at_start profile exec) }
         ensures err { IfErr result (λ refusal. refusal.1 ≡ exec) }
     {
         match HeapCircularBuffer::with_capacity(alloc, PENDING) {
@@ -91,6 +112,7 @@ impl<S: BlockStore> Port<S> {
                 let mut exec = exec;
                 exec.reset();
                 Ok(Port {
+                    profile,
                     phase: Phase::Step1,
                     begun: false,
                     exec,
@@ -112,11 +134,11 @@ impl<S: BlockStore> Port<S> {
     ///
     /// Commands and ends are dropped, every unit with a drive is available without software
     /// protection, the port doesn't look, and credits, places and counts begin anew. Blocks and
-    /// hardware protection stay.
+    /// hardware protection stay, and so does the profile.
     ///
     /// UDA50 Programmer's Documentation Kit: initialisation.
     pub fn write_ip(&mut self, _value: u16)
-        ensures starts { self.new ≡ port_at_start self.old.exec }
+        ensures starts { self.new ≡ port_at_start self.old.profile self.old.exec }
     {
         self.phase = Phase::Step1;
         self.begun = false;
@@ -132,17 +154,27 @@ impl<S: BlockStore> Port<S> {
         self.load = Tally::new();
     }
 
-    /// The host reads IP: a port that runs begins to look at its command ring. The value is always 0.
+    /// The host reads IP: a port that runs begins to look at its command ring, and one in the poll test
+    /// goes on to step 4. The value is always 0.
     ///
-    /// UDA50 Programmer's Documentation Kit: command ring polling.
+    /// UDA50 Programmer's Documentation Kit: command ring polling, initialisation.
     pub fn read_ip(&mut self) -> u16
         ensures zero { result ≡ 0 }
         ensures looks { self.new ≡ port_asked self.old.phase self.old }
     {
-        if self.phase == Phase::Running {
-            self.looking = true;
+        match self.phase {
+            Phase::Running => self.looking = true,
+            Phase::Poll => self.phase = Phase::Step4,
+            _ => {}
         }
         0
+    }
+
+    /// Which hosts the port serves.
+    pub fn profile(&self) -> Profile
+        ensures profile { result ≡ self.now.profile }
+    {
+        self.profile
     }
 
     /// What the port is doing, with the cause where it is dead.

@@ -5,7 +5,7 @@
 ghost use Rattle.std.specs.Prelude.{◌≡◌};
 
 use crate::descriptor::Descriptor;
-use crate::packet::{Fetched, has_room, packet_at, put_packet};
+use crate::packet::{Delivery, Fetched, has_room, packet_at, put_packet};
 use std::error::Error;
 use std::fmt;
 use std::marker::Model;
@@ -55,15 +55,15 @@ pub struct Ring {
 }
 
 impl Model for Ring {
-    ghost use Rattle.std.specs.Prelude.{◌≡◌, ◌%◌, ◌<◌, ◌≤◌};
+    ghost use Rattle.std.specs.Prelude.{◌≡◌, ◌+◌, ◌%◌, ◌^◌, ◌<◌, ◌≤◌};
     ghost use Rattle.uda_port.specs.Ring.{RingState};
 
     ghost Value = { RingState };
 
     ghost view = { λ r. record { base = r.base; count = r.count; place = r.place } };
 
-    // The base of a command ring may be past 18 bits, behind a response ring of 128 descriptors.
-    ghost invariant = { λ r. (r.base % 2 ≡ 0) × (r.base ≤ 262654) × (r.count ≤ 128) × (r.place < r.count) };
+    // A guest's ring base has 31 bits, and its command ring stands behind up to 128 descriptors.
+    ghost invariant = { λ r. (r.base % 2 ≡ 0) × (r.base ≤ 2 ^ 31 + 512) × (r.count ≤ 128) × (r.place < r.count) };
 
     ghost inverse = { λ r. record { base = r.base; count = r.count; place = r.place } };
 }
@@ -75,6 +75,7 @@ impl Ring {
     ghost use Rattle.uda_port.specs.Ring.{memory_given_back};
     ghost use Rattle.uda_port.specs.Fetch.{FetchGoes, Looks, OrderKept};
     ghost use Rattle.uda_port.specs.Delivery.{PutGoes};
+    ghost use Rattle.uda_port.specs.declared.profile.Profile.TheVariants.{Strict};
 
     /// A ring of `n` descriptors from the address `base` on, of which the first is next.
     ///
@@ -87,14 +88,14 @@ impl Ring {
         requires count { IsTrue (is_ring_length n) }
         ensures ring { result ≡ record { base = base; count = n; place = 0 } }
     {
-        Ring::behind(base, n)
+        Ring::placed(base, n)
     }
 
-    /// A ring of `n` descriptors from the even address `base` on, which is at most the bytes of the longest
-    /// ring past [`RING_BASE_LIMIT`]: so far a command ring begins that stands behind a response ring.
-    pub(crate) fn behind(base: u32, n: u16) -> Ring
+    /// A ring of `n` descriptors from the even address `base` on, where a start-up's words have it: a guest's
+    /// ring base has 31 bits, and a command ring stands behind up to 128 descriptors.
+    pub(crate) fn placed(base: u32, n: u16) -> Ring
         requires even { base % 2 ≡ 0 }
-        requires within { base ≤ 262654 }
+        requires within { base ≤ 2 ^ 31 + 512 }
         requires count { IsTrue (is_ring_length n) }
         ensures ring { result ≡ record { base = base; count = n; place = 0 } }
     {
@@ -178,7 +179,7 @@ impl Ring {
     }
 
     /// Delivers a text: writes it to the buffer of the descriptor at the place, with an envelope that
-    /// grants so many `credits`, gives the descriptor back and goes on by one, round the ring.
+    /// grants so many credits, gives the descriptor back and goes on by one, round the ring.
     ///
     /// The three writes come in this order: text, envelope, the descriptor's second word. False where
     /// the port doesn't own that descriptor; [`RingFault::Ring`] where it isn't wholly in memory, and
@@ -189,20 +190,23 @@ impl Ring {
     pub(crate) fn put(
         &mut self,
         memory: &mut [u8],
-        credits: u8,
-        text: &[u8; 48],
+        delivery: Delivery,
+        text: &[u8],
     ) -> Result<bool, RingFault>
         requires memory { IsMemory memory.old }
-        requires few { credits ≤ 15 }
-        ensures goes { PutGoes self.old memory.old credits text.now result self.new memory.new }
+        requires few { delivery.credits ≤ 15 }
+        requires long { delivery.profile ≡ Strict → length text.now ≡ 48 }
+        requires short { length text.now ≤ 48 }
+        ensures goes { PutGoes delivery self.old memory.old text.now result self.new memory.new }
     {
         let Some(descriptor) = self.next(memory)? else {
             return Ok(false);
         };
-        if !has_room(memory, descriptor.address()) {
+        let address = descriptor.address();
+        if !has_room(delivery.profile, memory, address, text.len() as u16) {
             return Err(RingFault::Packet);
         }
-        put_packet(memory, descriptor.address(), credits, text);
+        put_packet(memory, address, delivery.credits, text);
         self.give_back(memory, descriptor);
         Ok(true)
     }
@@ -239,7 +243,7 @@ impl Ring {
     fn address(&self) -> u32
         ensures address { result ≡ descriptor_address self.now }
         ensures even { result % 2 ≡ 0 }
-        ensures within { result < 2 ^ 20 }
+        ensures within { result + 4 < 2 ^ 32 }
         ensures place { self.now.place < self.now.count }
     {
         self.base + 4 * u32::from(self.place)

@@ -1,14 +1,15 @@
 //! The start-up: the SA register, and the four words that a host writes to it.
 //!
 //! UDA50 Programmer's Documentation Kit: initialisation, communication area.
-ghost use Rattle.std.specs.Prelude.{◌≡◌, ◌+◌, ◌-◌, ◌≤◌, ◌%◌, ◌^◌, ◌<◌, IsTrue, length};
-ghost use Rattle.uda_port.specs.Ring.{is_ring_length};
-ghost use Rattle.uda_port.specs.Startup.{sa_of, by_first, by_second, by_third, by_fourth, by_word, has_area};
-ghost use Rattle.uda_port.specs.Startup.{has_bit, memory_with_area, port_with_rings, ring_base};
-ghost use Rattle.uda_port.specs.Startup.{response_count, command_count, rings_size, dead_port};
+ghost use Rattle.std.specs.Prelude.{◌≡◌, ◌≤◌, ◌<◌};
+ghost use Rattle.uda_port.specs.Startup.{sa_of, by_first, by_second, by_third, by_purge, by_fourth, by_word};
+ghost use Rattle.uda_port.specs.Startup.{has_bit, refuses_second, refuses_third, after_third};
+ghost use Rattle.uda_port.specs.Startup.{IsArea, port_with_rings, dead_port};
 
+use crate::area::Area;
 use crate::phase::{Fatal, Phase};
 use crate::port::Port;
+use crate::profile::Profile;
 use crate::ring::Ring;
 use uda_image::BlockStore;
 use uda_mem::HostMemory;
@@ -22,8 +23,11 @@ const WRAP: u16 = 14;
 /// The bit of the second word by which the host asks for purge interrupts.
 const PURGE: u16 = 0;
 
-/// The bits of the third word that are the high part of the ring base.
+/// The bits of the third word that are the high part of the ring base in the strict profile.
 const BASE_HIGH: u16 = 0x0003;
+
+/// The bit of the third word by which the host asks for the purge and poll test.
+const TEST: u16 = 15;
 
 /// The bit of the fourth word that says go.
 const GO: u16 = 0;
@@ -47,7 +51,11 @@ impl<S: BlockStore> Port<S> {
     /// rings become zero; where they don't all lie in `memory` the port is dead with
     /// [`Fatal::RingWrite`], and nothing is written. The fourth has bit 0 set, or it is ignored, and
     /// then the port runs. Wrap (bit 14 of the first), purge interrupts (bit 0 of the second) and any
-    /// other bit of the third are not in this profile: [`Fatal::StartUpWord`].
+    /// other bit of the third are not in the strict profile: [`Fatal::StartUpWord`].
+    ///
+    /// In the profile for guests wrap alone isn't. With purge interrupts eight bytes below the ring base
+    /// become zero. The third word's bits 14-0 are the high part of the base, and bit 15 asks for the purge
+    /// and poll test: SA shows 0, the host writes 0 to SA and then reads IP, and step 4 follows.
     ///
     /// UDA50 Programmer's Documentation Kit: initialisation, communication area.
     #[tactic(auto, using(crate::proofs::Length::wholes))]
@@ -65,8 +73,9 @@ impl<S: BlockStore> Port<S> {
             Phase::Step1 => self.first_word(word),
             Phase::Step2 { first } => self.second_word(first, word),
             Phase::Step3 { first, second } => self.third_word(first, second, word, memory),
+            Phase::Purge => self.purge_word(word),
             Phase::Step4 => self.fourth_word(word),
-            Phase::Running | Phase::Dead { .. } => {}
+            Phase::Poll | Phase::Running | Phase::Dead { .. } => {}
         }
     }
 
@@ -92,7 +101,7 @@ impl<S: BlockStore> Port<S> {
     fn second_word(&mut self, first: u16, word: u16)
         ensures { self.new ≡ by_second self.old first word }
     {
-        if has_bit(word, PURGE) {
+        if refuses_second(self.profile, word) {
             return self.die(Fatal::StartUpWord);
         }
         self.phase = Phase::Step3 {
@@ -104,14 +113,25 @@ impl<S: BlockStore> Port<S> {
     fn third_word(&mut self, first: u16, second: u16, word: u16, memory: &mut [u8])
         ensures { (self.new, memory.new) ≡ by_third self.old memory.old first second word }
     {
-        if word > BASE_HIGH {
+        if refuses_third(self.profile, word) {
             return self.die(Fatal::StartUpWord);
         }
-        if !has_area(memory, first, second, word) {
+        let area = Area::of_words(self.profile, first, second, word);
+        if !area.is_in(memory) {
             return self.die(Fatal::RingWrite);
         }
-        zero_area(memory, first, second, word);
-        self.place_rings(first, second, word);
+        area.zero(memory);
+        self.place_rings(area);
+        self.phase = after_third(self.profile, word);
+    }
+
+    // The purge test: any other word than 0 is ignored.
+    fn purge_word(&mut self, word: u16)
+        ensures { self.new ≡ by_purge self.old word }
+    {
+        if word == 0 {
+            self.phase = Phase::Poll;
+        }
     }
 
     fn fourth_word(&mut self, word: u16)
@@ -122,16 +142,45 @@ impl<S: BlockStore> Port<S> {
         }
     }
 
-    // The rings are where the words say: the responses at the ring base, the commands behind them.
-    fn place_rings(&mut self, first: u16, second: u16, third: u16)
-        requires high { third ≤ 3 }
-        ensures { self.new ≡ port_with_rings self.old first second third }
+    // The rings are where the area has them: the responses at the ring base, the commands behind them.
+    fn place_rings(&mut self, area: Area)
+        requires sound { IsArea area }
+        ensures { self.new ≡ port_with_rings self.old area }
     {
-        let base = ring_base(second, third);
-        let responses = response_count(first);
-        self.responses = Ring::new(base, responses);
-        self.commands = Ring::behind(base + 4 * u32::from(responses), command_count(first));
-        self.phase = Phase::Step4;
+        let behind = area.base + 4 * u32::from(area.responses);
+        self.responses = Ring::placed(area.base, area.responses);
+        self.commands = Ring::placed(behind, area.commands);
+    }
+}
+
+// Whether the second word asks for what the profile hasn't.
+fn refuses_second(profile: Profile, word: u16) -> bool
+    ensures { result ≡ refuses_second profile word }
+{
+    match profile {
+        Profile::Strict => has_bit(word, PURGE),
+        Profile::ForGuests => false,
+    }
+}
+
+// Whether the third word does.
+fn refuses_third(profile: Profile, word: u16) -> bool
+    ensures { result ≡ refuses_third profile word }
+{
+    match profile {
+        Profile::Strict => word > BASE_HIGH,
+        Profile::ForGuests => false,
+    }
+}
+
+// What follows the third word.
+fn after_third(profile: Profile, word: u16) -> Phase
+    ensures { result ≡ after_third profile word }
+{
+    match profile {
+        Profile::Strict => Phase::Step4,
+        Profile::ForGuests if has_bit(word, TEST) => Phase::Purge,
+        Profile::ForGuests => Phase::Step4,
     }
 }
 
@@ -141,81 +190,4 @@ fn has_bit(word: u16, bit: u16) -> bool
     ensures { result ≡ has_bit word bit }
 {
     word >> bit & 1 != 0
-}
-
-// How many descriptors a ring of this exponent has.
-fn ring_count(exponent: u16) -> u16
-    requires { exponent < 8 }
-    ensures count { result ≡ 2 ^ exponent }
-    ensures length { IsTrue (is_ring_length result) }
-    ensures within { result ≤ 128 }
-{
-    match exponent {
-        0 => 1,
-        1 => 2,
-        2 => 4,
-        3 => 8,
-        4 => 16,
-        5 => 32,
-        6 => 64,
-        _ => 128,
-    }
-}
-
-// How many descriptors the response ring has: bits 10-8 of the first word.
-fn response_count(first: u16) -> u16
-    ensures count { result ≡ response_count first }
-    ensures length { IsTrue (is_ring_length result) }
-    ensures within { result ≤ 128 }
-{
-    ring_count(first >> 8 & 7)
-}
-
-// How many descriptors the command ring has: bits 13-11 of the first word.
-fn command_count(first: u16) -> u16
-    ensures count { result ≡ command_count first }
-    ensures length { IsTrue (is_ring_length result) }
-    ensures within { result ≤ 128 }
-{
-    ring_count(first >> 11 & 7)
-}
-
-// Where the rings start.
-fn ring_base(second: u16, third: u16) -> u32
-    requires high { third ≤ 3 }
-    ensures base { result ≡ ring_base second third }
-    ensures even { result % 2 ≡ 0 }
-    ensures within { result < 2 ^ 18 }
-{
-    u32::from(third) << 16 | u32::from(second & !1)
-}
-
-// The bytes of both rings.
-fn rings_size(first: u16) -> u32
-    ensures size { result ≡ rings_size first }
-    ensures within { result ≤ 1024 }
-{
-    4 * (u32::from(response_count(first)) + u32::from(command_count(first)))
-}
-
-// Whether the communication area lies in memory.
-fn has_area(memory: &[u8], first: u16, second: u16, third: u16) -> bool
-    requires high { third ≤ 3 }
-    ensures area { result ≡ has_area first second third (length memory.now) }
-    ensures above { IsTrue result → 4 ≤ ring_base second third }
-    ensures within { IsTrue result → ring_base second third + rings_size first ≤ length memory.now }
-{
-    let base = ring_base(second, third);
-    base >= 4 && (base + rings_size(first)) as usize <= memory.len()
-}
-
-// Zeroes the communication area: the four bytes below the ring base, and both rings.
-fn zero_area(memory: &mut [u8], first: u16, second: u16, third: u16)
-    requires high { third ≤ 3 }
-    requires above { 4 ≤ ring_base second third }
-    requires within { ring_base second third + rings_size first ≤ length memory.old }
-    ensures { memory.new ≡ memory_with_area first second third memory.old }
-{
-    let size = rings_size(first);
-    uda_mem::put_zeros(memory, ring_base(second, third) - 4, 4 + size);
 }

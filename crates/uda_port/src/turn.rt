@@ -9,11 +9,17 @@ ghost use Rattle.circular_buffer.specs.Buffer.{buffer};
 ghost use Rattle.uda_port.specs.Port.{CreditsAgree, next_grant};
 ghost use Rattle.uda_port.specs.Turn.{FetchLine, ExecuteLine, DeliverLine, RestGoes, LinesGo, RunningTurn};
 ghost use Rattle.uda_port.specs.Turn.{TurnGoes};
+ghost use Rattle.uda_port.specs.Packet.{end_text};
+ghost use Rattle.uda_port.specs.Delivery.{PutGoes};
+ghost use Rattle.uda_packet.specs.Reading.{read_end};
+ghost use Rattle.uda_packet.specs.Written.{written_end};
 
 use crate::message::message_in;
+use crate::packet::{Delivery, end_length};
 use crate::phase::{Fatal, Phase};
 use crate::port::Port;
-use crate::ring::RingFault;
+use crate::profile::Profile;
+use crate::ring::{Ring, RingFault};
 use circular_buffer::HeapCircularBuffer;
 use uda_exec::PENDING;
 use uda_image::BlockStore;
@@ -100,6 +106,8 @@ impl<S: BlockStore> Port<S> {
             Phase::Step1 => Turn::Idle,
             Phase::Step2 { .. } => Turn::Idle,
             Phase::Step3 { .. } => Turn::Idle,
+            Phase::Purge => Turn::Idle,
+            Phase::Poll => Turn::Idle,
             Phase::Step4 => Turn::Idle,
         }
     }
@@ -167,7 +175,7 @@ impl<S: BlockStore> Port<S> {
         if self.credits == 0 {
             return Err(Fatal::CreditsExceeded);
         }
-        let Some(message) = message_in(&fetched) else {
+        let Some(message) = message_in(self.profile, &fetched) else {
             return Err(Fatal::WrongEnvelope);
         };
         self.credits -= 1;
@@ -202,7 +210,11 @@ impl<S: BlockStore> Port<S> {
             return Ok(false);
         };
         let grant = self.next_grant();
-        match self.responses.put(memory, grant, &encode_end(&end)) {
+        let delivery = Delivery {
+            profile: self.profile,
+            credits: grant,
+        };
+        match put_end(&mut self.responses, memory, delivery, &end) {
             Err(RingFault::Ring) => return Err(Fatal::RingRead),
             Err(RingFault::Packet) => return Err(Fatal::PacketWrite),
             Ok(false) => return Ok(false),
@@ -222,6 +234,29 @@ impl<S: BlockStore> Port<S> {
         ensures room { self.now.credits + result ≤ PENDING_LIMIT + 1 }
     {
         if self.begun { 1 } else { PENDING as u8 }
+    }
+}
+
+// Delivers an end to a response ring, in as many bytes as its profile gives it.
+fn put_end(
+    responses: &mut Ring,
+    memory: &mut [u8],
+    delivery: Delivery,
+    end: &End,
+) -> Result<bool, RingFault>
+    requires memory { IsMemory memory.old }
+    requires few { delivery.credits ≤ 15 }
+    ensures goes { PutGoes delivery responses.old memory.old (end_text delivery.profile end.now) result
+        responses.new memory.new }
+    ensures legible { read_end (written_end end.now) ≡ Some end.now }
+{
+    let text = encode_end(end);
+    match delivery.profile {
+        Profile::Strict => responses.put(memory, delivery, &text),
+        Profile::ForGuests => {
+            let size = usize::from(end_length(&end.body));
+            responses.put(memory, delivery, &text[..size])
+        }
     }
 }
 

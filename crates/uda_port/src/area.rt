@@ -1,0 +1,131 @@
+//! The communication area, which a host's start-up words describe.
+//!
+//! UDA50 Programmer's Documentation Kit: initialisation, communication area.
+ghost use Rattle.std.specs.Prelude.{◌≡◌, ◌+◌, ◌≤◌, ◌%◌, ◌^◌, ◌<◌, ◌⊎◌, IsTrue, length};
+ghost use Rattle.uda_port.specs.declared.profile.Profile.TheVariants.{ForGuests};
+ghost use Rattle.uda_port.specs.Ring.{is_ring_length};
+ghost use Rattle.uda_port.specs.Startup.{area_of, IsArea, has_area, memory_with_area, rings_size, ring_base};
+ghost use Rattle.uda_port.specs.Startup.{response_count, command_count};
+
+use crate::profile::Profile;
+
+/// Where a host's rings stand, and what belongs to them.
+#[derive(Clone, Copy, Debug, PartialEq, Eq)]
+pub(crate) struct Area {
+    /// The ring base, where the response ring begins; the command ring stands behind it.
+    pub(crate) base: u32,
+    /// How many bytes below the ring base belong to it.
+    pub(crate) below: u32,
+    /// How many descriptors the response ring has.
+    pub(crate) responses: u16,
+    /// How many descriptors the command ring has.
+    pub(crate) commands: u16,
+}
+
+/// The bits of a guest's third word that are the high part of the ring base.
+const BASE_HIGH: u16 = 0x7fff;
+
+/// The bit of the second word by which the host asks for purge interrupts.
+const PURGE: u16 = 0x0001;
+
+impl Area {
+    /// The area of the first three words; strictly the third is the high part of the ring base alone.
+    pub(crate) fn of_words(profile: Profile, first: u16, second: u16, third: u16) -> Area
+        requires high { (third < 2 ^ 15) ⊎ (profile ≡ ForGuests) }
+        ensures area { result ≡ area_of profile first second third }
+        ensures sound { IsArea result }
+    {
+        let responses = response_count(first);
+        let commands = command_count(first);
+        match profile {
+            Profile::Strict => Area {
+                base: ring_base(second, third),
+                below: 4,
+                responses,
+                commands,
+            },
+            Profile::ForGuests => Area {
+                base: ring_base(second, third & BASE_HIGH),
+                below: if second & PURGE == 0 { 4 } else { 8 },
+                responses,
+                commands,
+            },
+        }
+    }
+
+    /// Whether the area lies in memory.
+    pub(crate) fn is_in(&self, memory: &[u8]) -> bool
+        requires sound { IsArea self.now }
+        ensures area { result ≡ has_area self.now (length memory.now) }
+        ensures above { IsTrue result → self.now.below ≤ self.now.base }
+        ensures within { IsTrue result → self.now.base + rings_size self.now ≤ length memory.now }
+    {
+        self.base >= self.below && (self.base + self.size()) as usize <= memory.len()
+    }
+
+    /// Zeroes the area: the bytes below the ring base that belong to it, and both rings.
+    pub(crate) fn zero(&self, memory: &mut [u8])
+        requires sound { IsArea self.now }
+        requires above { self.now.below ≤ self.now.base }
+        requires within { self.now.base + rings_size self.now ≤ length memory.old }
+        ensures { memory.new ≡ memory_with_area self.now memory.old }
+    {
+        uda_mem::put_zeros(memory, self.base - self.below, self.below + self.size());
+    }
+
+    // The bytes of both rings.
+    fn size(&self) -> u32
+        requires sound { IsArea self.now }
+        ensures size { result ≡ rings_size self.now }
+        ensures within { result ≤ 1024 }
+    {
+        4 * (u32::from(self.responses) + u32::from(self.commands))
+    }
+}
+
+// How many descriptors a ring of this exponent has.
+fn ring_count(exponent: u16) -> u16
+    requires { exponent < 8 }
+    ensures count { result ≡ 2 ^ exponent }
+    ensures length { IsTrue (is_ring_length result) }
+    ensures within { result ≤ 128 }
+{
+    match exponent {
+        0 => 1,
+        1 => 2,
+        2 => 4,
+        3 => 8,
+        4 => 16,
+        5 => 32,
+        6 => 64,
+        _ => 128,
+    }
+}
+
+// How many descriptors the response ring has: bits 10-8 of the first word.
+fn response_count(first: u16) -> u16
+    ensures count { result ≡ response_count first }
+    ensures length { IsTrue (is_ring_length result) }
+    ensures within { result ≤ 128 }
+{
+    ring_count(first >> 8 & 7)
+}
+
+// How many descriptors the command ring has: bits 13-11 of the first word.
+fn command_count(first: u16) -> u16
+    ensures count { result ≡ command_count first }
+    ensures length { IsTrue (is_ring_length result) }
+    ensures within { result ≤ 128 }
+{
+    ring_count(first >> 11 & 7)
+}
+
+// Where the rings start.
+fn ring_base(second: u16, third: u16) -> u32
+    requires high { third < 2 ^ 15 }
+    ensures base { result ≡ ring_base second third }
+    ensures even { result % 2 ≡ 0 }
+    ensures within { result < 2 ^ 31 }
+{
+    u32::from(third) << 16 | u32::from(second & !1)
+}

@@ -7,7 +7,7 @@ use Rattle.circular_buffer.specs.Buffer.{last_item}
 use Rattle.uda_packet.specs.declared.command.Command.{Command}
 use Rattle.uda_packet.specs.declared.end.End.{End}
 use Rattle.uda_port.specs.declared.phase.Phase.{Phase}
-use Rattle.uda_port.specs.declared.phase.Phase.TheVariants.{Step1, Step2, Step3, Step4, Running, Dead as DeadPhase}
+use Rattle.uda_port.specs.declared.phase.Phase.TheVariants.{Step1, Step2, Step3, Purge, Poll, Step4, Running, Dead as DeadPhase}
 use Rattle.uda_port.specs.declared.turn.Turn.TheVariants as turn
 use Rattle.uda_port.specs.Port.{PortState}
 use Rattle.uda_port.specs.Message.{message_in}
@@ -36,11 +36,13 @@ one_more old memory new memory_after (Ok c) is = ACommand c (ap (λ (p : PortSta
 one_more old memory new memory_after (Err e) is = AnEnd e (ap (λ (p : PortState). p.exec.pending) is) (ap (λ (p : PortState). p.waiting) is)
 
 pub fetched : (phase : Phase) (old : PortState) (memory : List ℕ) (new : PortState) (memory_after : List ℕ) → TurnGoes phase old memory turn.Fetched new memory_after → OneMore old new
-fetched Running old memory new memory_after goes = one_more old memory new memory_after (message_in goes.packet) goes.others
+fetched Running old memory new memory_after goes = one_more old memory new memory_after (message_in old.profile goes.packet) goes.others
 fetched Step1 old memory new memory_after goes = absurd (cc)
 fetched (Step2 first) old memory new memory_after goes = absurd (cc)
 fetched (Step3 first second) old memory new memory_after goes = absurd (cc)
 fetched Step4 old memory new memory_after goes = absurd (cc)
+fetched Purge old memory new memory_after goes = absurd (cc)
+fetched Poll old memory new memory_after goes = absurd (cc)
 fetched (DeadPhase cause) old memory new memory_after goes = absurd (cc)
 
 pub executed : (phase : Phase) (old : PortState) (memory : List ℕ) (new : PortState) (memory_after : List ℕ) → TurnGoes phase old memory turn.Executed new memory_after
@@ -50,6 +52,8 @@ executed Step1 old memory new memory_after goes = absurd (cc)
 executed (Step2 first) old memory new memory_after goes = absurd (cc)
 executed (Step3 first second) old memory new memory_after goes = absurd (cc)
 executed Step4 old memory new memory_after goes = absurd (cc)
+executed Purge old memory new memory_after goes = absurd (cc)
+executed Poll old memory new memory_after goes = absurd (cc)
 executed (DeadPhase cause) old memory new memory_after goes = absurd (cc)
 
 pub delivered : (phase : Phase) (old : PortState) (memory : List ℕ) (new : PortState) (memory_after : List ℕ) → TurnGoes phase old memory turn.Delivered new memory_after
@@ -59,6 +63,8 @@ delivered Step1 old memory new memory_after goes = absurd (cc)
 delivered (Step2 first) old memory new memory_after goes = absurd (cc)
 delivered (Step3 first second) old memory new memory_after goes = absurd (cc)
 delivered Step4 old memory new memory_after goes = absurd (cc)
+delivered Purge old memory new memory_after goes = absurd (cc)
+delivered Poll old memory new memory_after goes = absurd (cc)
 delivered (DeadPhase cause) old memory new memory_after goes = absurd (cc)
 
 pub died : (phase : Phase) (old : PortState) (memory : List ℕ) (new : PortState) (memory_after : List ℕ) → phase ≡ old.phase → TurnGoes phase old memory turn.Dead new memory_after → IsDead new.phase
@@ -67,6 +73,8 @@ died Step1 old memory new memory_after is goes = absurd (cc)
 died (Step2 first) old memory new memory_after is goes = absurd (cc)
 died (Step3 first second) old memory new memory_after is goes = absurd (cc)
 died Step4 old memory new memory_after is goes = absurd (cc)
+died Purge old memory new memory_after is goes = absurd (cc)
+died Poll old memory new memory_after is goes = absurd (cc)
 died (DeadPhase cause) old memory new memory_after is goes = subst IsDead (is ∙ sym (ap (λ (p : PortState). p.phase) goes.unchanged.state)) tt
 
 -- what is told of a fetch

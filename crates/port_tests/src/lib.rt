@@ -4,11 +4,15 @@
 #![tactic(auto)]
 
 #[cfg(test)]
+mod bootstrap;
+#[cfg(test)]
 mod guest_start;
 #[cfg(test)]
 mod guests;
 #[cfg(test)]
 mod hostile;
+#[cfg(test)]
+mod interrupts;
 #[cfg(test)]
 mod machine;
 #[cfg(test)]

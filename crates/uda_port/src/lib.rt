@@ -3,6 +3,7 @@
 
 mod area;
 mod descriptor;
+mod interrupt;
 mod message;
 mod packet;
 mod phase;
@@ -15,6 +16,7 @@ mod tally;
 mod turn;
 
 pub use descriptor::Descriptor;
+pub use interrupt::Interrupts;
 pub use packet::Fetched;
 pub use phase::{Fatal, Phase};
 pub use play::HostEvent;

@@ -1,5 +1,5 @@
-//! The start-up of hosts as they were shipped: purge interrupts, the purge and poll test, and ring bases of more
-//! than 18 bits.
+//! The start-up of hosts as they were shipped: purge interrupts, the purge and poll test, and ring bases of
+//! more than 18 bits.
 
 use super::machine::{Machine, new_guest_port};
 use std::alloc::Global;
@@ -18,10 +18,7 @@ fn full_machine(alloc: Global) -> Result<Machine, Fail> {
 
 /// Whether the bytes from `start` up to `end` are zero, and all others of one byte.
 fn is_zero_there(bytes: &[u8], start: usize, end: usize, other: u8) -> bool {
-    bytes
-        .iter()
-        .enumerate()
-        .all(|(i, byte)| *byte == if start <= i && i < end { 0 } else { other })
+    bytes.iter().enumerate().all(|(i, byte)| *byte == if start <= i && i < end { 0 } else { other })
 }
 
 /// Writes words to SA and asserts what SA shows after each.
@@ -35,7 +32,11 @@ fn write_words(rt: &impl Abort, machine: &mut Machine, steps: &[(u16, u16)]) {
 #[test]
 fn purge_and_poll(rt: HostRuntime) -> Result<(), Fail> {
     let mut machine = full_machine(rt.alloc())?;
-    write_words(&rt, &mut machine, &[(0x9b00, 0x109b), (0x0009, 0x2000), (0x8000, 0)]);
+    write_words(
+        &rt,
+        &mut machine,
+        &[(0x9b00, 0x109b), (0x0009, 0x2000), (0x8000, 0)],
+    );
     machine.assert_phase(&rt, Phase::Purge);
     // eight bytes below the ring base are cleared
     assert!(rt; is_zero_there(machine.bytes(), 0, 72, 0xff));
@@ -58,9 +59,18 @@ fn purge_and_poll(rt: HostRuntime) -> Result<(), Fail> {
 
 #[test]
 fn purge_without_room(rt: HostRuntime) -> Result<(), Fail> {
-    for (second, sa) in [(0x0004, 0x4063), (0x0005, 0x8007), (0x0007, 0x8007), (0x0009, 0x4063)] {
+    for (second, sa) in [
+        (0x0004, 0x4063),
+        (0x0005, 0x8007),
+        (0x0007, 0x8007),
+        (0x0009, 0x4063),
+    ] {
         let mut machine = full_machine(rt.alloc())?;
-        write_words(&rt, &mut machine, &[(0x9b00, 0x109b), (second, 0x2000), (0, sa)]);
+        write_words(
+            &rt,
+            &mut machine,
+            &[(0x9b00, 0x109b), (second, 0x2000), (0, sa)],
+        );
     }
     // wrap is in neither profile
     let mut machine = full_machine(rt.alloc())?;

@@ -1,5 +1,5 @@
-//! Hosts as they were shipped: short texts, lengths that aren't judged, and ends of as many bytes as their kind
-//! has.
+//! Hosts as they were shipped: short texts, lengths that aren't judged, and ends of as many bytes as their
+//! kind has.
 
 use super::machine::Machine;
 use std::alloc::Global;

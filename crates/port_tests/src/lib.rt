@@ -4,6 +4,8 @@
 #![tactic(auto)]
 
 #[cfg(test)]
+mod bootstrap;
+#[cfg(test)]
 mod drives;
 #[cfg(test)]
 mod guest_start;
@@ -11,6 +13,8 @@ mod guest_start;
 mod guests;
 #[cfg(test)]
 mod hostile;
+#[cfg(test)]
+mod interrupts;
 #[cfg(test)]
 mod look;
 #[cfg(test)]

@@ -153,6 +153,17 @@ impl Machine {
         self.port.read_ip()
     }
 
+    /// Takes the request of an interrupt that waits.
+    pub(crate) fn take_interrupt(&mut self) -> Option<u16> {
+        self.port.take_interrupt()
+    }
+
+    /// Asserts what request of an interrupt waits, and takes it.
+    pub(crate) fn assert_interrupt(&mut self, rt: &impl Abort, request: Option<u16>) {
+        assert_eq!(rt; self.take_interrupt(), request);
+        assert_eq!(rt; self.take_interrupt(), None);
+    }
+
     /// One turn of the port.
     pub(crate) fn turn(&mut self) -> Turn {
         self.port.turn(&mut self.memory)
@@ -265,6 +276,11 @@ impl Machine {
     /// Writes words of memory, each at its address.
     pub(crate) fn poke(&mut self, rt: &impl Abort, words: &[(u32, u16)]) {
         poke(rt, &mut self.memory, words);
+    }
+
+    /// Writes bytes of memory, from an address on.
+    pub(crate) fn put(&mut self, rt: &impl Abort, addr: u32, bytes: &[u8]) {
+        put(rt, &mut self.memory, addr, bytes);
     }
 
     /// Posts a text as command i, with an envelope of 48 bytes.

@@ -5,7 +5,7 @@ use super::machine::{Machine, START_UP};
 use std::alloc::Global;
 use std::process::Abort;
 use std::test::Fail;
-use uda_port::{Fatal, HostEvent, Phase};
+use uda_port::{Fatal, HostEvent, Phase, Profile};
 
 /// What SA shows after the start-up words with bit `bit` of word `step` changed.
 fn sa_after(step: usize, bit: u32) -> u16 {
@@ -180,26 +180,38 @@ fn random_events(alloc: Global) -> Result<Vec<HostEvent>, Fail> {
     Ok(events)
 }
 
-/// What SA shows and what the port is doing after events played in one call.
-fn played_at_once(alloc: Global, events: &[HostEvent]) -> Result<(u16, Phase), Fail> {
-    let mut machine = Machine::running(alloc)?;
-    let sa = machine.play(events);
-    Ok((sa, machine.phase()))
+/// A machine of this profile that runs.
+fn running(alloc: Global, profile: Profile) -> Result<Machine, Fail> {
+    match profile {
+        Profile::Strict => Machine::running(alloc),
+        Profile::ForGuests => Machine::running_for_guests(alloc),
+    }
 }
 
-#[test]
-fn a_trace_of_random_events(rt: HostRuntime) -> Result<(), Fail> {
-    let events = random_events(rt.alloc())?;
-    let mut machine = Machine::running(rt.alloc())?;
-    let (deaths, busy) = play_one_by_one(&rt, &mut machine, &events);
+/// Plays a trace of random events to a port of this profile.
+fn assert_trace(rt: &impl Abort, alloc: Global, profile: Profile) -> Result<(), Fail> {
+    let events = random_events(alloc)?;
+    let mut machine = running(alloc, profile)?;
+    let (deaths, busy) = play_one_by_one(rt, &mut machine, &events);
     // the trace reached both
     assert!(rt;
         deaths > 20 && busy > 20,
         "{deaths} deaths, {busy} turns with work"
     );
     // played again in one call, it ends alike
-    let (sa, phase) = played_at_once(rt.alloc(), &events)?;
-    machine.assert_sa(&rt, sa);
-    machine.assert_phase(&rt, phase);
+    let mut again = running(alloc, profile)?;
+    again.assert_play(rt, &events, machine.sa());
+    again.assert_phase(rt, machine.phase());
+    assert_eq!(rt; again.profile(), profile);
     Ok(())
+}
+
+#[test]
+fn a_trace_of_random_events(rt: HostRuntime) -> Result<(), Fail> {
+    assert_trace(&rt, rt.alloc(), Profile::Strict)
+}
+
+#[test]
+fn a_trace_of_random_events_of_a_guest(rt: HostRuntime) -> Result<(), Fail> {
+    assert_trace(&rt, rt.alloc(), Profile::ForGuests)
 }

@@ -1,5 +1,5 @@
 -- What a turn of the port does to its host.
-use Rattle.std.proofs.Common.{◌≡◌, ℕ, ◌^◌, ◌+◌, ◌-◌, ◌/◌, ◌%◌, ◌<◌, ◌≤◌, true, false, List, [], ◌∷◌, ◌++◌, length, drop, Option, Some, refl, sym, ap, ap₂, ◌∙◌, arith, subst, length-append}
+use Rattle.std.proofs.Common.{◌≡◌, ℕ, ◌^◌, ◌+◌, ◌-◌, ◌/◌, ◌%◌, ◌<◌, ◌≤◌, true, false, List, [], ◌∷◌, ◌++◌, length, drop, Option, Some, None, refl, sym, ap, ap₂, ◌∙◌, arith, subst, length-append}
 use Rattle.std.specs.Prelude.{Result, Ok, Err, slice_get, nat_eq, All, if◌then◌else◌}
 use Rattle.std.proofs.Math.Seq.{get_or-append_seam}
 use Rattle.std.proofs.lemmas.Bool.{le-leb, lt-leb}
@@ -28,7 +28,8 @@ use Rattle.uda_port.specs.Packet.{HasRoom, end_text}
 use Rattle.uda_port.specs.Fetch.{Takes}
 use Rattle.uda_port.specs.Delivery.{Puts}
 use Rattle.uda_port.specs.Message.{message_of_text, message_in}
-use Rattle.uda_port.specs.Port.{PortState, CreditsAgree, next_grant}
+use Rattle.uda_port.specs.Interrupt.{told_at, word_below, memory_told}
+use Rattle.uda_port.specs.Port.{PortState, CreditsAgree, next_grant, commands_told, responses_told, interrupts_told}
 use Rattle.uda_port.specs.Turn.{port_turn_on, port_with_message, delivery_of, FetchesOne, NothingToFetch, FetchLine, GoesOn, Fails, InFetch, InRest, RunningTurn, TurnGoes}
 use Rattle.uda_host.specs.Layout.{slots, memory_size, response_descriptor, command_descriptor, response_packet, command_packet, owner_word, flag_word}
 use Rattle.uda_host.specs.Slots.{Slot, slot_at, command_at, response_at, owned, memory_reopened, RingsHold, WritesSlot}
@@ -77,7 +78,7 @@ module _ {S : Type 0} {h : Inside S} {c : Command} {rest : List Command} (host :
   must_fetch : NothingToFetch (port_turn_on h.port) h.memory → ⊥
   must_fetch nothing = let free = nothing (host.looks (omega (arith, ap length were))) in not_both posted_seen free.is_next refl free.not_owned
 
-  module _ {p : Fetched} {ring : RingState} {after : List ℕ} (takes : Takes h.port.commands h.memory p ring after) where
+  module _ {told : Option ℕ} {p : Fetched} {ring : RingState} {after : List ℕ} (takes : Takes told h.port.commands h.memory p ring after) where
     first_is : takes.first ≡ owned (command_packet h.port.commands.place)
     first_is = let next = takes.is_next in let seen = posted_seen in cc
 
@@ -99,10 +100,13 @@ fetched {h = h} {c} {rest} new after host were agree goes =
     let sound : IsSound c = subst IsSound (get_or-append_seam pending c rest c) ((rw were at host.sound) (length pending) c (omega (arith, length-append pending (c ∷ rest)))) in
     let read : ℕ → List ℕ → Result Command End = λ size text. if nat_eq size 48 then message_of_text (read_command text) else Err (other_length_end text) in
     let message : message_in port.profile goes.packet ≡ Ok c = ap (λ (p : Profile). message_in p goes.packet) host.strict ∙ ap₂ read (size_read host were takes) (text_read host were takes) ∙ ap message_of_text sound.legible in
-    let leaves = λ (m : Result Command End) (r : RingState). record (port_with_message (port_turn_on port) m) { commands = r; credits = port.credits - 1; fetches = port.fetches + 1 } in
-    let is = goes.others ∙ ap₂ leaves message (takes.advanced ∙ ap ring_advanced host.rings.commands_are) in
-    let given = λ (d : Descriptor) (r : RingState). put h.memory (descriptor_address r + 2) (word_bytes (word_given_back d.high)) in
-    let memory_is = takes.written ∙ ap₂ given (first_is host were takes) host.rings.commands_are in
+    let untold : commands_told port h.memory ≡ None = ap (λ (p : Profile). told_at p (word_below port.responses.base 4) h.memory port.commands) host.strict in
+    let leaves = λ (m : Result Command End) (r : RingState) (told : Option ℕ). record (port_with_message (port_turn_on port) m) { commands = r; credits = port.credits - 1; interrupts = interrupts_told port told; fetches = port.fetches + 1 } in
+    let ring_is = takes.advanced ∙ ap ring_advanced host.rings.commands_are in
+    let is = goes.others ∙ (λ i. leaves (message i) (ring_is i) (untold i)) in
+    let given = λ (d : Descriptor) (r : RingState) (told : Option ℕ). put (memory_told h.memory told) (descriptor_address r + 2) (word_bytes (word_given_back d.high)) in
+    let first = first_is host were takes in
+    let memory_is = takes.written ∙ (λ i. given (first i) (host.rings.commands_are i) (untold i)) in
     let w = high_written (unwritten h.memory (command_stands place host.written.within) host.written.size) flag_word (omega arith) in
     let rest_is : drop (port.fetches + 1) h.posted ≡ rest = sym (drop-drop 1 port.fetches h.posted) ∙ ap (λ (cs : List Command). drop 1 cs) were in
     let due : (pending ++ c ∷ []) ++ drop (port.fetches + 1) h.posted ≡ pending ++ unfetched h = ap (λ (cs : List Command). (pending ++ c ∷ []) ++ cs) rest_is ∙ append_assoc pending (c ∷ []) rest ∙ ap (λ (cs : List Command). pending ++ cs) (sym were) in
@@ -153,7 +157,10 @@ executed {h = h} new after host none agree goes =
 abbrev delivered_slot : List ℕ → ℕ → ℕ → End → Slot
 delivered_slot memory i credits e = record { descriptor = record (response_at memory i).descriptor { high = flag_word }; size = 48; credits = credits; text = written_end e }
 
-delivery_written : {S : Type 0} {h : Inside S} (e : End) (ring : RingState) (after : List ℕ) → IsHost h → next_grant h.port.deliveries < 2 ^ 16 → Puts (delivery_of h.port) h.port.responses h.memory (end_text h.port.profile e) ring after
+responses_untold : {S : Type 0} {h : Inside S} → IsHost h → responses_told h.port h.memory ≡ None
+responses_untold {h = h} host = ap (λ (p : Profile). told_at p (word_below h.port.responses.base 2) h.memory h.port.responses) host.strict
+
+delivery_written : {S : Type 0} {h : Inside S} (e : End) (ring : RingState) (after : List ℕ) → IsHost h → next_grant h.port.deliveries < 2 ^ 16 → Puts (delivery_of h.port h.memory) h.port.responses h.memory (end_text h.port.profile e) ring after
     → WritesSlot (response_descriptor h.response_place) (response_packet h.response_place) (delivered_slot h.memory h.response_place (next_grant h.port.deliveries) e) h.memory after
 delivery_written {h = h} e ring after host fits puts =
     let credits = next_grant h.port.deliveries in
@@ -166,7 +173,8 @@ delivery_written {h = h} e ring after host fits puts =
     let text : address_of puts.first ≡ response_packet place + 4 = omega arith in
     let text_is : end_text h.port.profile e ≡ written_end e = ap (λ (p : Profile). end_text p e) host.strict in
     let long = ap length text_is ∙ length-written_end e in
-    let is = puts.written ∙ (λ i. put (put (put (put h.memory (text i) (text_is i)) (size i) (word_bytes (long i))) (second i) (word_bytes credits)) (at i) (word_bytes (high i))) in
+    let untold = responses_untold host in
+    let is = puts.written ∙ (λ i. put (memory_told (put (put (put h.memory (text i) (text_is i)) (size i) (word_bytes (long i))) (second i) (word_bytes credits)) (untold i)) (at i) (word_bytes (high i))) in
     let written = text_written (unwritten h.memory (response_stands place host.rings.looks_within) host.written.size) (written_end e) (length-written_end e) in
     let all = high_written (credits_written (size_written written 48 (omega arith)) credits fits) flag_word (omega arith) in
     subst (WritesSlot (response_descriptor place) (response_packet place) (delivered_slot h.memory place credits e) h.memory) (sym is) all
@@ -199,8 +207,8 @@ module _ {S : Type 0} {h : Inside S} (host : IsHost h) (new : PortState) (after 
       let grant : credits ≡ next_grant port.deliveries = credits_by sent.size ∙ ap (λ (s : Slot). s.credits) sent.holds in
       let w = high_written sent owner_word (omega arith) in
       let open_then = (host.written.opens h.response_place host.rings.looks_within).owned_is in
-      let leaves = λ (r : RingState). record port { turns = port.turns + 1; looking = false; responses = r; waiting = new.waiting; credits = port.credits + next_grant port.deliveries; deliveries = port.deliveries + 1 } in
-      let new_is = one.others ∙ ap leaves (one.puts.advanced ∙ ap ring_advanced host.rings.responses_are) in
+      let leaves = λ (r : RingState) (told : Option ℕ). record port { turns = port.turns + 1; looking = false; responses = r; waiting = new.waiting; credits = port.credits + next_grant port.deliveries; interrupts = interrupts_told port told; deliveries = port.deliveries + 1 } in
+      let new_is = one.others ∙ ap₂ leaves (one.puts.advanced ∙ ap ring_advanced host.rings.responses_are) (responses_untold host) in
       let rings = host.rings in let counts = host.counts in
       rw (new_is, left_by sent.size, grant, end_is, ← is) (record {
         host = record {

@@ -22,8 +22,8 @@ host_view h = record {
   load = h.port.load;
 }
 
--- The port is a strict one, runs, and looks while anything is unfetched; each sees what the other wrote; rings, credits and
--- counts agree; and each command that is due is sound.
+-- The port is a strict one, runs, and looks while anything is unfetched; each sees what the other wrote;
+-- rings, credits and counts agree; and each command that is due is sound.
 pub record IsHost {S : Type 0} (h : Inside S) : Type 0 where
   pub strict : h.port.profile ≡ Strict
   pub runs : h.port.phase ≡ Running

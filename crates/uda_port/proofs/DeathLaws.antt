@@ -15,8 +15,9 @@ use Rattle.uda_port.specs.declared.turn.Turn.{Turn}
 use Rattle.uda_port.specs.declared.turn.Turn.TheVariants.{Fetched, Executed, Delivered, Idle, Dead as DeadTurn}
 use Rattle.uda_port.specs.declared.play.HostEvent.{HostEvent}
 use Rattle.uda_port.specs.declared.play.HostEvent.TheVariants.{WriteIp, ReadIp, WriteSa, Word, Turn as TurnEvent}
-use Rattle.uda_port.specs.Port.{PortState, port_asked}
-use Rattle.uda_port.specs.Startup.{has_bit, area_of, has_area, refuses_second, refuses_third, after_third, by_word, dead_port, port_with_rings, memory_with_area}
+use Rattle.uda_port.specs.Port.{PortState, port_shows, port_asked}
+use Rattle.uda_port.specs.Interrupt.{interrupts_asked}
+use Rattle.uda_port.specs.Startup.{has_bit, area_of, has_area, refuses_second, refuses_third, asks_test, after_third, by_word, dead_port, port_with_rings, memory_with_area}
 use Rattle.uda_port.specs.Turn.{port_turn_on, port_with_message, TurnGoes, RunningTurn, GoesOn, Fails, InFetch, InRest, FetchLine}
 use Rattle.uda_port.specs.Message.{message_in}
 use Rattle.uda_port.specs.Play.{EventGoes, Played, FatalTurn, FatalWord, MeetsCause, LeavesIp, DiedOf, StaysDead, DeathHasCause}
@@ -43,36 +44,35 @@ of_word : (met cause : Fatal) (word : ℕ) (old new : PortState) (memory : List 
 of_word met cause word old new memory is dead fatal = subst (λ (x : Fatal). FatalWord x word old memory) (same_cause met cause (sym (phases new (dead_port old met) is) ∙ dead)) fatal
 
 first_word : (cause : Fatal) (word : ℕ) (old new : PortState) (memory : List ℕ) (step wrap : Bool) → old.phase ≡ Step1 → has_bit word 15 ≡ step → has_bit word 14 ≡ wrap
-    → new ≡ (if step then (if wrap then dead_port old StartUpWord else record old { phase = Step2 word }) else old) → new.phase ≡ Dead cause → FatalWord cause word old memory
+    → new ≡ (if step then (if wrap then dead_port old StartUpWord else port_shows (record old { interrupts = interrupts_asked old.profile old.interrupts word }) (Step2 word)) else old) → new.phase ≡ Dead cause → FatalWord cause word old memory
 first_word cause word old new memory true true p step wrap is dead = of_word StartUpWord cause word old new memory is dead (rw p (step, wrap))
 first_word cause word old new memory true false p step wrap is dead = let same = phases new _ is in absurd (cc)
 first_word cause word old new memory false wrap' p step wrap is dead = let same = phases new _ is in absurd (cc)
 
 second_word : (cause : Fatal) (first word : ℕ) (old new : PortState) (memory : List ℕ) (profile : Profile) (refuses : Bool) → old.phase ≡ Step2 first → old.profile ≡ profile → refuses_second profile word ≡ refuses
-    → new ≡ (if refuses then dead_port old StartUpWord else record old { phase = Step3 first word }) → new.phase ≡ Dead cause → FatalWord cause word old memory
+    → new ≡ (if refuses then dead_port old StartUpWord else port_shows old (Step3 first word)) → new.phase ≡ Dead cause → FatalWord cause word old memory
 second_word cause first word old new memory Strict true p q purge is dead = of_word StartUpWord cause word old new memory is dead (rw (p, q) purge)
 second_word cause first word old new memory ForGuests true p q purge is dead = absurd (cc)
 second_word cause first word old new memory profile' false p q purge is dead = let same = phases new _ is in absurd (cc)
 
 -- what follows the third word isn't dead
-lives_on : (cause : Fatal) (profile : Profile) (word : ℕ) → after_third profile word ≡ Dead cause → ⊥
-lives_on cause Strict word is = cc
-lives_on cause ForGuests word is = by (has_bit word 15) is
+lives_on : (cause : Fatal) (old : PortState) (word : ℕ) → (after_third old word).phase ≡ Dead cause → ⊥
+lives_on cause old word is = by (asks_test old.profile word) is
   where
-    by : (test : Bool) → (if test then Purge else Step4) ≡ Dead cause → ⊥
+    by : (test : Bool) → (if test then record old { phase = Purge } else port_shows old Step4).phase ≡ Dead cause → ⊥
     by true is = cc
     by false is = cc
 
 third_word : (cause : Fatal) (first second word : ℕ) (old new : PortState) (memory memory_after : List ℕ) (profile : Profile) (refuses has : Bool) → old.phase ≡ Step3 first second → old.profile ≡ profile
     → refuses_third profile word ≡ refuses → has_area (area_of profile first second word) (length memory) ≡ has
     → ◌≡◌ {A = PortState × List ℕ} (new, memory_after) (if refuses then (dead_port old StartUpWord, memory)
-    else if has then (record (port_with_rings old (area_of profile first second word)) { phase = after_third profile word }, memory_with_area (area_of profile first second word) memory)
+    else if has then (after_third (port_with_rings old (area_of profile first second word)) word, memory_with_area (area_of profile first second word) memory)
     else (dead_port old RingWrite, memory)) → new.phase ≡ Dead cause → FatalWord cause word old memory
 third_word cause first second word old new memory memory_after Strict true has' p q high area is dead =
     of_word StartUpWord cause word old new memory (ap (λ (x : PortState × List ℕ). x.0) is) dead (rw (p, q) (ltb-true 3 word high))
 third_word cause first second word old new memory memory_after ForGuests true has' p q high area is dead = absurd (cc)
 third_word cause first second word old new memory memory_after profile' false true p q high area is dead =
-    absurd (lives_on cause profile' word (sym (phases new _ (ap (λ (x : PortState × List ℕ). x.0) is)) ∙ dead))
+    absurd (lives_on cause (port_with_rings old (area_of profile' first second word)) word (sym (phases new _ (ap (λ (x : PortState × List ℕ). x.0) is)) ∙ dead))
 third_word cause first second word old new memory memory_after Strict false false p q high area is dead =
     of_word RingWrite cause word old new memory (ap (λ (x : PortState × List ℕ). x.0) is) dead (rw (p, q) (ltb-false 3 word high, area))
 third_word cause first second word old new memory memory_after ForGuests false false p q high area is dead =

@@ -1,4 +1,6 @@
 pub mod RingLaws
+pub mod InterruptLaws
+pub mod StrictLaws
 pub mod Length
 pub mod TurnLaws
 pub mod PlayLaws

@@ -11,7 +11,8 @@ use Rattle.uda_mem.proofs.PutLaws.{length-put}
 use Rattle.uda_mem.proofs.WordLaws.{length-word_bytes, word_at-put_apart, word_at-put_at}
 use Rattle.uda_port.specs.declared.descriptor.Descriptor.{Descriptor}
 use Rattle.uda_port.specs.declared.packet.Fetched.{Fetched}
-use Rattle.uda_port.specs.Ring.{is_owned, word_given_back, descriptor_at, ring, owned_front, posted, RingState, descriptor_address, posted_in}
+use Rattle.uda_port.specs.Ring.{is_owned, word_given_back, descriptor_at, ring, owned_front, posted, RingState, descriptor_address, next_descriptor, ring_advanced, memory_given_back, posted_in}
+use Rattle.uda_port.specs.Interrupt.{memory_told, IsBelow}
 use Rattle.uda_port.specs.declared.ring.RingFault.{RingFault}
 use Rattle.uda_port.specs.declared.ring.RingFault.TheVariants.{Ring as RingLost, Packet as PacketLost}
 use Rattle.uda_port.specs.Fetch.{Takes, TakesFirst, FetchGoes, OrderKept}
@@ -125,34 +126,60 @@ advanced ds place count given within long = elim (cases_lt (place + 1) count) [
       rw (round, none) (append-nil (set ds place given) ∙ whole)
 ]
 
--- a fetch takes the first that is posted, and leaves the rest posted
-pub takes_first : (old : RingState) (memory : List ℕ) (p : Fetched) (new : RingState) (memory_after : List ℕ) → old.place < old.count → Takes old memory p new memory_after → TakesFirst old memory p new memory_after
-takes_first old memory p new memory_after within t =
-    let room = descriptor_at-within memory (descriptor_address old) t.first t.is_next in
-    let word = word_given_back t.first.high in
+-- a descriptor that is given back leaves the rest posted
+given_back : (memory : List ℕ) (old : RingState) (first : Descriptor) → old.place < old.count → next_descriptor memory old ≡ Some first → is_owned first ≡ true
+    → posted_in memory old ≡ first ∷ posted_in (memory_given_back memory old first) (ring_advanced old)
+given_back memory old first within is_next owned =
+    let room = descriptor_at-within memory (descriptor_address old) first is_next in
+    let word = word_given_back first.high in
     let given : Descriptor = record { low = word_at memory (descriptor_address old); high = word } in
-    let after = ring_after memory old word within room (word_given_back-fits t.first.high) in
-    let next : RingState = record old { place = (old.place + 1) % old.count } in
-    let rest : posted_in (put memory (descriptor_address old + 2) (word_bytes word)) next ≡ owned_front (behind memory old) =
+    let after = ring_after memory old word within room (word_given_back-fits first.high) in
+    let rest : posted_in (memory_given_back memory old first) (ring_advanced old) ≡ owned_front (behind memory old) =
     ap (λ (ds : List (Option Descriptor)). posted ds ((old.place + 1) % old.count)) after
     ∙ ap owned_front (advanced (ring memory old.base old.count) old.place old.count (Some given) within (length-ring memory old.base old.count))
-    ∙ owned_front-append (behind memory old) given (word_given_back-free (word_at memory (descriptor_address old)) t.first.high) in
+    ∙ owned_front-append (behind memory old) given (word_given_back-free (word_at memory (descriptor_address old)) first.high) in
+    owned_posted memory old first within is_next owned ∙ ap (λ (ds : List Descriptor). first ∷ ds) (sym rest)
+
+-- a word below a ring's base is none of its descriptors
+descriptor_told : (memory : List ℕ) (told : Option ℕ) (base other : ℕ) → IsBelow told base → base ≤ other → descriptor_at (memory_told memory told) other ≡ descriptor_at memory other
+descriptor_told memory None base other below above = refl
+descriptor_told memory (Some at) base other below above =
+    let two = length-word_bytes 1 in let under = below.1 in
+    let low = word_at-put_apart memory at (word_bytes 1) other (λ meet. omega arith) in
+    let high = word_at-put_apart memory at (word_bytes 1) (other + 2) (λ meet. omega arith) in
+    let make : ℕ → ℕ → ℕ → Option Descriptor = λ size l h. if nat_le (other + 4) size then Some (record { low = l; high = h }) else None in
+    ap (λ (n : ℕ). make n (word_at (put memory at (word_bytes 1)) other) (word_at (put memory at (word_bytes 1)) (other + 2))) (length-put memory at (word_bytes 1))
+    ∙ ap₂ (make (length memory)) low high
+
+ring_told : (memory : List ℕ) (told : Option ℕ) (base n : ℕ) → IsBelow told base → ring (memory_told memory told) base n ≡ ring memory base n
+ring_told memory told base n below = same_lists _ _ (length-ring (memory_told memory told) base n ∙ sym (length-ring memory base n)) (λ k d less.
+    let inside : k < n = omega (arith, length-ring (memory_told memory told) base n) in
+    get_or-ring (memory_told memory told) base n k d inside ∙ descriptor_told memory told base (base + 4 * k) below (omega arith) ∙ sym (get_or-ring memory base n k d inside))
+
+-- a fetch takes the first that is posted, and leaves the rest posted
+pub takes_first : (told : Option ℕ) (old : RingState) (memory : List ℕ) (p : Fetched) (new : RingState) (memory_after : List ℕ) → IsBelow told old.base → old.place < old.count → Takes told old memory p new memory_after
+    → TakesFirst old memory p new memory_after
+takes_first told old memory p new memory_after below within t =
+    let there = memory_told memory told in
+    let same : ring there old.base old.count ≡ ring memory old.base old.count = ring_told memory told old.base old.count below in
+    let is_next : next_descriptor there old ≡ Some t.first = descriptor_told memory told old.base (descriptor_address old) below (omega arith) ∙ t.is_next in
     record {
       first = t.first;
-      in_order = owned_posted memory old t.first within t.is_next t.owned ∙ ap (λ (ds : List Descriptor). t.first ∷ ds) (sym (ap₂ posted_in t.written t.advanced ∙ rest));
+      in_order = ap (λ (ds : List (Option Descriptor)). posted ds old.place) (sym same) ∙ given_back there old t.first within is_next t.owned
+          ∙ ap (λ (ds : List Descriptor). t.first ∷ ds) (sym (ap₂ posted_in t.written t.advanced));
       readable = t.readable;
       is_packet = t.is_packet;
     }
 
 -- what a fetch does by the descriptor at the place it does by what is posted: ring order
-pub order_kept : (old : RingState) (memory : List ℕ) (result : Result (Option Fetched) RingFault) (new : RingState) (memory_after : List ℕ)
-    → old.place < old.count → FetchGoes old memory result new memory_after → OrderKept old memory result new memory_after
-order_kept old memory (Ok (Some p)) new memory_after within goes = takes_first old memory p new memory_after within goes
-order_kept old memory (Ok None) new memory_after within goes = not_owned_posted memory old goes.0.next within goes.0.is_next goes.0.not_owned
-order_kept old memory (Err PacketLost) new memory_after within goes = record {
+pub order_kept : (told : Option ℕ) (old : RingState) (memory : List ℕ) (result : Result (Option Fetched) RingFault) (new : RingState) (memory_after : List ℕ)
+    → IsBelow told old.base → old.place < old.count → FetchGoes told old memory result new memory_after → OrderKept old memory result new memory_after
+order_kept told old memory (Ok (Some p)) new memory_after below within goes = takes_first told old memory p new memory_after below within goes
+order_kept told old memory (Ok None) new memory_after below within goes = not_owned_posted memory old goes.0.next within goes.0.is_next goes.0.not_owned
+order_kept told old memory (Err PacketLost) new memory_after below within goes = record {
   first = goes.0.next;
   rest = owned_front (behind memory old);
   is_first = owned_posted memory old goes.0.next within goes.0.is_next goes.0.owned;
   unreadable = goes.0.unreadable;
 }
-order_kept old memory (Err RingLost) new memory_after within goes = none_posted memory old within goes.0
+order_kept told old memory (Err RingLost) new memory_after below within goes = none_posted memory old within goes.0

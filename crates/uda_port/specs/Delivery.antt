@@ -7,18 +7,22 @@ use Rattle.uda_port.specs.declared.ring.RingFault.{RingFault}
 use Rattle.uda_port.specs.declared.ring.RingFault.TheVariants.{Ring as RingLost, Packet as PacketLost}
 use Rattle.uda_port.specs.Ring.{is_owned, address_of, RingState, next_descriptor, ring_advanced}
 use Rattle.uda_port.specs.Ring.{memory_given_back}
+use Rattle.uda_port.specs.Interrupt.{memory_told}
 use Rattle.uda_port.specs.declared.packet.Delivery.{Delivery}
 use Rattle.uda_port.specs.Packet.{HasRoom, packet_put}
 use Rattle.uda_port.specs.Fetch.{Stays, FindsNone, LosesRing}
 
--- the packet is written to the buffer of the descriptor at the place, which is then given back
+-- the packet is written to the buffer of the descriptor at the place, the host is told where it is to be, and
+-- the descriptor is given back
 pub record Puts (d : Delivery) (old : RingState) (memory : List ℕ) (text : List ℕ) (new : RingState)
     (memory_after : List ℕ) : Type 0 where
   pub first : Descriptor
   pub is_next : next_descriptor memory old ≡ Some first
   pub owned : is_owned first ≡ true
   pub room : HasRoom d.profile memory (address_of first) (length text)
-  pub written : memory_after ≡ memory_given_back (packet_put memory (address_of first) d.credits text) old first
+  pub written :
+      memory_after
+      ≡ memory_given_back (memory_told (packet_put memory (address_of first) d.credits text) d.told) old first
   pub advanced : new ≡ ring_advanced old
 
 -- the port owns the descriptor at the place, and its buffer can't take a text of n bytes

@@ -7,6 +7,7 @@ use Rattle.uda_port.specs.declared.ring.RingFault.{RingFault}
 use Rattle.uda_port.specs.declared.ring.RingFault.TheVariants.{Ring as RingLost, Packet as PacketLost}
 use Rattle.uda_port.specs.Ring.{is_owned, address_of, RingState, next_descriptor, ring_advanced}
 use Rattle.uda_port.specs.Ring.{memory_given_back, posted_in}
+use Rattle.uda_port.specs.Interrupt.{memory_told}
 use Rattle.uda_port.specs.Packet.{HasPacket, IsPacketAt}
 
 pub record Stays (old : RingState) (memory : List ℕ) (new : RingState) (memory_after : List ℕ) : Type 0 where
@@ -35,16 +36,16 @@ Looks r memory (Ok None) = FindsNone r memory
 Looks r memory (Err RingLost) = LosesRing r memory
 Looks r memory (Err PacketLost) = ⊥
 
--- the descriptor at the place is taken: its packet is read, it is given back, and the place goes on by one,
--- round the ring
-pub record Takes (old : RingState) (memory : List ℕ) (p : Fetched) (new : RingState)
+-- the descriptor at the place is taken: its packet is read, the host is told where it is to be, the
+-- descriptor is given back, and the place goes on by one, round the ring
+pub record Takes (told : Option ℕ) (old : RingState) (memory : List ℕ) (p : Fetched) (new : RingState)
     (memory_after : List ℕ) : Type 0 where
   pub first : Descriptor
   pub is_next : next_descriptor memory old ≡ Some first
   pub owned : is_owned first ≡ true
   pub readable : HasPacket memory (address_of first)
   pub is_packet : IsPacketAt memory (address_of first) p
-  pub written : memory_after ≡ memory_given_back memory old first
+  pub written : memory_after ≡ memory_given_back (memory_told memory told) old first
   pub advanced : new ≡ ring_advanced old
 
 -- the port owns the descriptor at the place, but its packet isn't wholly in memory, or stands at an odd
@@ -56,12 +57,14 @@ pub record LosesPacket (old : RingState) (memory : List ℕ) : Type 0 where
   pub unreadable : HasPacket memory (address_of next) → ⊥
 
 -- a fetch by the descriptor at the place
-abbrev pub FetchGoes : RingState → List ℕ → Result (Option Fetched) RingFault → RingState → List ℕ → Type 0
-FetchGoes old memory (Ok (Some p)) new memory_after = Takes old memory p new memory_after
-FetchGoes old memory (Ok None) new memory_after = FindsNone old memory × Stays old memory new memory_after
-FetchGoes old memory (Err PacketLost) new memory_after =
+abbrev pub FetchGoes :
+    Option ℕ → RingState → List ℕ → Result (Option Fetched) RingFault → RingState → List ℕ → Type 0
+FetchGoes told old memory (Ok (Some p)) new memory_after = Takes told old memory p new memory_after
+FetchGoes told old memory (Ok None) new memory_after =
+    FindsNone old memory × Stays old memory new memory_after
+FetchGoes told old memory (Err PacketLost) new memory_after =
     LosesPacket old memory × Stays old memory new memory_after
-FetchGoes old memory (Err RingLost) new memory_after =
+FetchGoes told old memory (Err RingLost) new memory_after =
     LosesRing old memory × Stays old memory new memory_after
 
 -- the packet is that of the first that is posted, and what is posted afterwards is the rest

@@ -1,5 +1,5 @@
 -- What is always true of a port's fields.
-use Rattle.std.specs.Prelude.{◌≡◌, ◌+◌, ◌<◌, ◌↔◌, IsTrue, length}
+use Rattle.std.specs.Prelude.{◌≡◌, ◌+◌, ◌<◌, ◌≤◌, ◌↔◌, IsTrue, length}
 use Rattle.uda_disk.specs.Units.{AreImages}
 use Rattle.uda_exec.specs.Disks.{PENDING_LIMIT}
 use Rattle.uda_port.specs.Port.{credits_granted}
@@ -11,4 +11,5 @@ pub record IsPort {S : Type 0} (p : Inside S) : Type 0 where
   pub conserved : p.fetches ≡ p.deliveries + (length p.exec.pending + length p.waiting.items)
   pub four : length p.exec.units ≡ 4
   pub images : AreImages p.exec.units
+  pub ordered : p.responses.base ≤ p.commands.base
   pub begun : IsTrue p.begun ↔ (0 < p.deliveries)

@@ -1,4 +1,5 @@
 pub mod Ring
+pub mod Interrupt
 pub mod Packet
 pub mod Fetch
 pub mod Delivery

@@ -28,7 +28,8 @@ pub record IsPacketAt (memory : List ℕ) (at : ℕ) (p : Fetched) : Type 0 wher
   pub second_word : p.words.1 ≡ word_at memory (at - 2)
   pub text : p.text ≡ part memory at 48
 
--- a text of 48 bytes can be written at an address, and the length word below it says that its buffer holds one
+-- a text of 48 bytes can be written at an address, and the length word below it says that its buffer holds
+-- one
 pub record TellsRoom (memory : List ℕ) (at : ℕ) : Type 0 where
   pub packet : HasPacket memory at
   pub long : 48 ≤ word_at memory (at - 4)

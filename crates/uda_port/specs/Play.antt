@@ -29,7 +29,8 @@ pub record WritesWord (address word : ℕ) (memory memory_after : List ℕ) : Ty
 
 -- what one event does
 abbrev pub EventGoes : HostEvent → PortState → List ℕ → PortState → List ℕ → Type 0
-EventGoes WriteIp old memory new memory_after = (new ≡ port_at_start old.profile old.exec) × (memory_after ≡ memory)
+EventGoes WriteIp old memory new memory_after =
+    (new ≡ port_at_start old.profile old.exec) × (memory_after ≡ memory)
 EventGoes ReadIp old memory new memory_after = (new ≡ port_asked old.phase old) × (memory_after ≡ memory)
 EventGoes (WriteSa word) old memory new memory_after = (new, memory_after) ≡ by_word old.phase old memory word
 EventGoes (Word address word) old memory new memory_after =

@@ -1,17 +1,20 @@
 -- A port as its callers see it, and its credits.
 -- UDA50 Programmer's Documentation Kit: port registers, initialisation, credits.
 use Rattle.std.specs.Prelude.{◌≡◌, ℕ, ◌+◌, ◌-◌, ◌*◌, ◌≤◌, min, Bool, true, false, List, [], length, map}
+use Rattle.std.specs.Prelude.{Option, Some, None}
 use Rattle.uda_packet.specs.declared.end.End.{End}
 use Rattle.uda_exec.specs.Disks.{ExecState, PENDING_LIMIT}
 use Rattle.uda_exec.specs.Drives.{reset_unit}
 use Rattle.uda_port.specs.declared.profile.Profile.{Profile}
 use Rattle.uda_port.specs.declared.phase.Phase.{Phase}
 use Rattle.uda_port.specs.declared.phase.Phase.TheVariants.{Step1, Poll, Step4, Running}
+use Rattle.uda_port.specs.declared.interrupt.Interrupts.{Interrupts}
 use Rattle.uda_port.specs.Ring.{RingState}
+use Rattle.uda_port.specs.Interrupt.{NO_INTERRUPTS, raised, noted, told_at, word_below}
 
--- the profile, the phase, the executor and the two rings; the ends that wait for delivery, the next one first;
--- whether the port looks at its command ring; its credits; and since start-up the turns, the fetches, the
--- deliveries, and the load: at each execution the commands then pending
+-- the profile, the phase, the executor and the two rings; the ends that wait for delivery, the next one
+-- first; whether the port looks at its command ring; its credits; its interrupts; and since start-up the
+-- turns, the fetches, the deliveries, and the load: at each execution the commands then pending
 pub record PortState : Type 0 where
   pub profile : Profile
   pub phase : Phase
@@ -21,6 +24,7 @@ pub record PortState : Type 0 where
   pub waiting : List End
   pub looking : Bool
   pub credits : ℕ
+  pub interrupts : Interrupts
   pub turns : ℕ
   pub fetches : ℕ
   pub deliveries : ℕ
@@ -46,6 +50,7 @@ port_at_start profile exec = record {
   waiting = [];
   looking = false;
   credits = 1;
+  interrupts = NO_INTERRUPTS;
   turns = 0;
   fetches = 0;
   deliveries = 0;
@@ -68,8 +73,24 @@ pub record CreditsAgree (port : PortState) : Type 0 where
   pub conserved : port.fetches ≡ port.deliveries + (length port.exec.pending + length port.waiting)
   pub within : length port.exec.pending + length port.waiting ≤ PENDING_LIMIT
 
+-- SA shows another phase, and a request is raised
+abbrev pub port_shows : PortState → Phase → PortState
+port_shows old phase = record old { phase = phase; interrupts = raised old.profile old.interrupts }
+
+-- where the host is told of the commands' transition, and of the responses': in the words four and two bytes
+-- below the ring base
+abbrev pub commands_told : PortState → List ℕ → Option ℕ
+commands_told port memory = told_at port.profile (word_below port.responses.base 4) memory port.commands
+
+abbrev pub responses_told : PortState → List ℕ → Option ℕ
+responses_told port memory = told_at port.profile (word_below port.responses.base 2) memory port.responses
+
+-- its interrupts then
+abbrev pub interrupts_told : PortState → Option ℕ → Interrupts
+interrupts_told port told = noted told port.profile port.interrupts
+
 -- a port whose IP register is read begins to look, if it runs; in the poll test step 4 follows
 abbrev pub port_asked : Phase → PortState → PortState
 port_asked Running old = record old { looking = true }
-port_asked Poll old = record old { phase = Step4 }
+port_asked Poll old = port_shows old Step4
 port_asked _ old = old

@@ -13,7 +13,8 @@ use Rattle.uda_port.specs.declared.profile.Profile.{Profile}
 use Rattle.uda_port.specs.declared.profile.Profile.TheVariants.{Strict, ForGuests}
 use Rattle.uda_port.specs.declared.area.Area.{Area}
 use Rattle.uda_port.specs.Ring.{is_ring_length}
-use Rattle.uda_port.specs.Port.{PortState}
+use Rattle.uda_port.specs.Interrupt.{interrupts_asked}
+use Rattle.uda_port.specs.Port.{PortState, port_shows}
 
 -- the codes of the fatal errors
 abbrev pub code_of : Fatal → ℕ
@@ -26,8 +27,8 @@ code_of WrongEnvelope = 14
 code_of StartUpWord = 19
 
 -- SA as the host reads it: S1 in step 1; S2 with the high byte of the first word; S3 with its low byte; 0
--- during the purge and poll test; S4 with module 6 and version 3; 0 while the port runs; ER with the code of a
--- fatal error
+-- during the purge and poll test; S4 with module 6 and version 3; 0 while the port runs; ER with the code of
+-- a fatal error
 abbrev pub sa_of : Phase → ℕ
 sa_of Step1 = 0x0800
 sa_of (Step2 first) = 0x1000 + first / 256
@@ -54,9 +55,9 @@ command_count first = 2 ^ (first / 0x800 % 8)
 abbrev pub ring_base : ℕ → ℕ → ℕ
 ring_base second third = 2 * (second / 2) + 0x10000 * third
 
--- The communication area that the first three words describe. Strictly four bytes below the ring base belong to
--- it, and the third word is the high part of the base. A guest that asks for purge interrupts, by bit 0 of the
--- second word, has eight bytes below, and bit 15 of its third word asks for the purge and poll test.
+-- The communication area that the first three words describe. Strictly four bytes below the ring base belong
+-- to it, and the third word is the high part of the base. A guest that asks for purge interrupts, by bit 0 of
+-- the second word, has eight bytes below, and bit 15 of its third word is no part of the base.
 abbrev pub area_of : Profile → ℕ → ℕ → ℕ → Area
 area_of Strict first second third = record {
   base = ring_base second third;
@@ -90,16 +91,18 @@ abbrev pub has_area : Area → ℕ → Bool
 has_area area size = nat_le area.below area.base && nat_le (area.base + rings_size area) size
 
 abbrev pub memory_with_area : Area → List ℕ → List ℕ
-memory_with_area area memory = put memory (area.base - area.below) (replicate (area.below + rings_size area) 0)
+memory_with_area area memory =
+    put memory (area.base - area.below) (replicate (area.below + rings_size area) 0)
 
 abbrev pub dead_port : PortState → Fatal → PortState
-dead_port port cause = record port { phase = Dead cause }
+dead_port port cause = port_shows port (Dead cause)
 
--- step 1: a word without bit 15 is none; bit 14 asks for wrap
+-- step 1: a word without bit 15 is none; bit 14 asks for wrap; a guest's asks for interrupts
 abbrev pub by_first : PortState → ℕ → PortState
 by_first old word =
+    let asked = record old { interrupts = interrupts_asked old.profile old.interrupts word } in
     if has_bit word 15 then
-    (if has_bit word 14 then dead_port old StartUpWord else record old { phase = Step2 word })
+    (if has_bit word 14 then dead_port old StartUpWord else port_shows asked (Step2 word))
     else old
 
 -- what the strict profile hasn't: purge interrupts, by bit 0 of the second word, and any bit of the third but
@@ -116,12 +119,16 @@ refuses_third ForGuests word = false
 abbrev pub by_second : PortState → ℕ → ℕ → PortState
 by_second old first word =
     if refuses_second old.profile word then dead_port old StartUpWord
-    else record old { phase = Step3 first word }
+    else port_shows old (Step3 first word)
 
 -- what follows the third word: a guest's purge and poll test, where it asks for it, and else step 4
-abbrev pub after_third : Profile → ℕ → Phase
-after_third Strict word = Step4
-after_third ForGuests word = if has_bit word 15 then Purge else Step4
+abbrev pub asks_test : Profile → ℕ → Bool
+asks_test Strict word = false
+asks_test ForGuests word = has_bit word 15
+
+abbrev pub after_third : PortState → ℕ → PortState
+after_third old word =
+    if asks_test old.profile word then record old { phase = Purge } else port_shows old Step4
 
 -- the rings are where the area has them, each with its place at 0
 abbrev pub port_with_rings : PortState → Area → PortState
@@ -136,7 +143,7 @@ by_third old memory first second word =
     let area = area_of old.profile first second word in
     if refuses_third old.profile word then (dead_port old StartUpWord, memory)
     else if has_area area (length memory) then
-    (record (port_with_rings old area) { phase = after_third old.profile word }, memory_with_area area memory)
+    (after_third (port_with_rings old area) word, memory_with_area area memory)
     else (dead_port old RingWrite, memory)
 
 -- the purge test: the host writes 0, and the poll test follows

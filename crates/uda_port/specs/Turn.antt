@@ -21,7 +21,7 @@ use Rattle.uda_port.specs.declared.packet.Delivery.{Delivery}
 use Rattle.uda_port.specs.Packet.{end_text}
 use Rattle.uda_port.specs.Delivery.{Puts, LosesRoom}
 use Rattle.uda_port.specs.Message.{IsSequential, message_in}
-use Rattle.uda_port.specs.Port.{PortState, next_grant}
+use Rattle.uda_port.specs.Port.{PortState, next_grant, commands_told, responses_told, interrupts_told}
 use Rattle.uda_port.specs.Startup.{dead_port}
 
 -- a turn of a running port counts itself
@@ -48,7 +48,7 @@ pub record FetchesOne (old : PortState) (memory : List ℕ) (new : PortState)
     (memory_after : List ℕ) : Type 0 where
   pub packet : Fetched
   pub looks : old.looking ≡ true
-  pub takes : Takes old.commands memory packet new.commands memory_after
+  pub takes : Takes (commands_told old memory) old.commands memory packet new.commands memory_after
   pub in_order : TakesFirst old.commands memory packet new.commands memory_after
   pub credit : 0 < old.credits
   pub sequential : IsSequential packet
@@ -56,6 +56,7 @@ pub record FetchesOne (old : PortState) (memory : List ℕ) (new : PortState)
       ≡ record (port_with_message old (message_in old.profile packet)) {
         commands = new.commands;
         credits = old.credits - 1;
+        interrupts = interrupts_told old (commands_told old memory);
         fetches = old.fetches + 1;
       }
 
@@ -67,8 +68,12 @@ NothingToFetch old memory = old.looking ≡ true → FindsNone old.commands memo
 pub record TakesPacket (old : PortState) (memory : List ℕ) (packet : Fetched) (new : PortState)
     (memory_after : List ℕ) : Type 0 where
   pub looks : old.looking ≡ true
-  pub takes : Takes old.commands memory packet new.commands memory_after
-  pub others : new ≡ record old { commands = new.commands }
+  pub takes : Takes (commands_told old memory) old.commands memory packet new.commands memory_after
+  pub others : new
+      ≡ record old {
+        commands = new.commands;
+        interrupts = interrupts_told old (commands_told old memory);
+      }
 
 -- fatal: the next command descriptor isn't in memory
 pub record LosesCommandRing (old : PortState) (memory : List ℕ) : Type 0 where
@@ -129,20 +134,25 @@ ExecuteLine old memory false new memory_after =
 -- ---- the third line: the first waiting end is delivered
 
 -- what goes with the next end
-abbrev pub delivery_of : PortState → Delivery
-delivery_of port = record { profile = port.profile; credits = next_grant port.deliveries }
+abbrev pub delivery_of : PortState → List ℕ → Delivery
+delivery_of port memory = record {
+  profile = port.profile;
+  credits = next_grant port.deliveries;
+  told = responses_told port memory;
+}
 
 pub record DeliversOne (old : PortState) (memory : List ℕ) (new : PortState)
     (memory_after : List ℕ) : Type 0 where
   pub end : End
   pub first : old.waiting ≡ end ∷ new.waiting
   pub puts :
-      Puts (delivery_of old) old.responses memory (end_text old.profile end) new.responses memory_after
+      Puts (delivery_of old memory) old.responses memory (end_text old.profile end) new.responses memory_after
   pub legible : read_end (written_end end) ≡ Some end
   pub others : new ≡ record old {
     responses = new.responses;
     waiting = new.waiting;
     credits = old.credits + next_grant old.deliveries;
+    interrupts = interrupts_told old (responses_told old memory);
     deliveries = old.deliveries + 1;
   }
 

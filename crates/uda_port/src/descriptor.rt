@@ -21,7 +21,11 @@ pub struct Descriptor {
 /// Bit 15 of the second word: the port owns the descriptor.
 const OWN: u16 = 0x8000;
 
-/// Bit 14 of the second word, which the port sets as it gives the descriptor back.
+/// The bit of the second word by which a host asks to be told that the ring fills or empties, and which the
+/// port sets as it gives the descriptor back.
+const FLAG_BIT: u16 = 14;
+
+/// That bit alone.
 const FLAG: u16 = 0x4000;
 
 /// Bits 13-0 of the second word: the high part of the address.
@@ -31,6 +35,7 @@ impl Descriptor {
     ghost use Rattle.std.specs.Prelude.{◌≡◌, ◌+◌, ◌%◌, ◌^◌, ◌<◌, ◌≤◌, OnSome, length};
     ghost use Rattle.uda_mem.specs.Slices.{IsMemory};
     ghost use Rattle.uda_port.specs.Ring.{descriptor_at, is_owned, address_of, word_given_back};
+    ghost use Rattle.uda_port.specs.Interrupt.{is_flagged};
 
     /// The descriptor at the address `at`, or None where its four bytes aren't all in memory.
     ///
@@ -67,6 +72,13 @@ impl Descriptor {
         ensures owned { result ≡ is_owned self }
     {
         self.high & OWN != 0
+    }
+
+    /// Whether the host asks to be told that the ring fills or empties: bit 14 of the second word is set.
+    pub fn is_flagged(self) -> bool
+        ensures flagged { result ≡ is_flagged self }
+    {
+        self.high >> FLAG_BIT & 1 != 0
     }
 
     /// The address of the message text, below 2^30. One past 18 bits is in no [`HostMemory`], and may be in a

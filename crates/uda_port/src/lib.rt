@@ -4,6 +4,7 @@
 mod area;
 mod descriptor;
 mod drives;
+mod interrupt;
 mod look;
 mod message;
 mod packet;
@@ -18,6 +19,7 @@ mod trace;
 mod turn;
 
 pub use descriptor::Descriptor;
+pub use interrupt::Interrupts;
 pub use packet::Fetched;
 pub use phase::{Fatal, Phase};
 pub use play::HostEvent;

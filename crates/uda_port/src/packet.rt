@@ -18,6 +18,8 @@ pub(crate) struct Delivery {
     pub(crate) profile: Profile,
     /// The credits that the envelope grants.
     pub(crate) credits: u8,
+    /// Where the host is told of the ring's transition, if it is.
+    pub(crate) told: Option<u32>,
 }
 
 /// A command packet as it stood in host memory: the two words of its envelope, and its text.

@@ -2,9 +2,11 @@
 //!
 //! UDA50 Programmer's Documentation Kit: port registers, initialisation.
 ghost use Rattle.std.specs.Prelude.{◌≡◌, ◌≤◌, IfOk, IfErr, length};
-ghost use Rattle.uda_port.specs.Port.{port_at_start, port_asked};
+ghost use Rattle.uda_port.specs.Port.{port_at_start, port_asked, port_shows};
+ghost use Rattle.uda_port.specs.Interrupt.{request_of, served};
 ghost use Rattle.uda_port.specs.declared.profile.Profile.TheVariants.{Strict, ForGuests};
 
+use crate::interrupt::Interrupts;
 use crate::phase::Phase;
 use crate::profile::Profile;
 use crate::ring::Ring;
@@ -26,10 +28,10 @@ use uda_packet::End;
 /// in it, and whatever the host writes to the registers, the port does what its contracts say, and
 /// dies only of a [`Fatal`](crate::Fatal) cause, with that cause's code, until IP is written.
 ///
-/// Contracts see the profile, the phase, the executor's units and pending commands, both rings' bases, lengths and
-/// places, the ends that wait, whether the port looks at its command ring, the credits that the host
-/// has, and four counts since start-up: turns, fetches, deliveries, and the load, to which each
-/// execution adds the number of commands then pending. The counts exist for contracts alone.
+/// Contracts see the profile, the phase, the executor's units and pending commands, both rings' bases,
+/// lengths and places, the ends that wait, whether the port looks at its command ring, the credits that
+/// the host has, its interrupts, and four counts since start-up: turns, fetches, deliveries, and the load,
+/// to which each execution adds the number of commands then pending. The counts exist for contracts alone.
 ///
 /// UDA50 Programmer's Documentation Kit: port registers, initialisation, credits.
 #[derive(Drop)]
@@ -46,6 +48,7 @@ pub struct Port<S: BlockStore> {
     pub(crate) looking: bool,
     // The credits that the host has.
     pub(crate) credits: u8,
+    pub(crate) interrupts: Interrupts,
     pub(crate) turns: Tally,
     pub(crate) fetches: Tally,
     pub(crate) deliveries: Tally,
@@ -69,6 +72,7 @@ impl<S: BlockStore> Model for Port<S> {
       waiting = p.waiting.items;
       looking = p.looking;
       credits = p.credits;
+      interrupts = p.interrupts;
       turns = p.turns;
       fetches = p.fetches;
       deliveries = p.deliveries;
@@ -121,6 +125,7 @@ impl<S: BlockStore> Port<S> {
                     waiting,
                     looking: false,
                     credits: 1,
+                    interrupts: Interrupts::none(),
                     turns: Tally::new(),
                     fetches: Tally::new(),
                     deliveries: Tally::new(),
@@ -132,9 +137,9 @@ impl<S: BlockStore> Port<S> {
 
     /// The host writes IP, with any value and in any phase: start-up begins anew.
     ///
-    /// Commands and ends are dropped, every unit with a drive is available without software
-    /// protection, the port doesn't look, and credits, places and counts begin anew. Blocks and
-    /// hardware protection stay, and so does the profile.
+    /// Commands, ends and a request of an interrupt are dropped, every unit with a drive is available
+    /// without software protection, the port doesn't look, and credits, places and counts begin anew.
+    /// Blocks and hardware protection stay, and so does the profile.
     ///
     /// UDA50 Programmer's Documentation Kit: initialisation.
     pub fn write_ip(&mut self, _value: u16)
@@ -148,6 +153,7 @@ impl<S: BlockStore> Port<S> {
         self.waiting.clear();
         self.looking = false;
         self.credits = 1;
+        self.interrupts = Interrupts::none();
         self.turns = Tally::new();
         self.fetches = Tally::new();
         self.deliveries = Tally::new();
@@ -164,10 +170,35 @@ impl<S: BlockStore> Port<S> {
     {
         match self.phase {
             Phase::Running => self.looking = true,
-            Phase::Poll => self.phase = Phase::Step4,
+            Phase::Poll => self.show(Phase::Step4),
             _ => {}
         }
         0
+    }
+
+    /// Takes the request of an interrupt that waits, where one does: the address of its vector.
+    ///
+    /// In the profile for guests a request is raised when SA shows a step to which a word of the host
+    /// led, or the poll test; when the host is told that a ring fills or empties; and when the port dies.
+    /// All that only where the first word of the start-up enabled interrupts, and never in the strict
+    /// profile. One that waits stays one, and a write to IP drops it.
+    ///
+    /// UDA50 Programmer's Documentation Kit: interrupts.
+    pub fn take_interrupt(&mut self) -> Option<u16>
+        ensures vector { result ≡ request_of self.old.interrupts }
+        ensures gone { self.new ≡ record self.old { interrupts = served self.old.interrupts } }
+    {
+        let request = self.interrupts.request();
+        self.interrupts = self.interrupts.served();
+        request
+    }
+
+    // SA shows another phase, and a request is raised.
+    pub(crate) fn show(&mut self, phase: Phase)
+        ensures { self.new ≡ port_shows self.old phase }
+    {
+        self.phase = phase;
+        self.interrupts = self.interrupts.raised(self.profile);
     }
 
     /// Which hosts the port serves.

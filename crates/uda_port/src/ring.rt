@@ -2,7 +2,8 @@
 //! response ring, each at the ring's place, which then goes on by one.
 //!
 //! UDA50 Programmer's Documentation Kit: communication area, command and response rings.
-ghost use Rattle.std.specs.Prelude.{◌≡◌};
+ghost use Rattle.std.specs.Prelude.{◌≡◌, length};
+ghost use Rattle.uda_port.specs.Interrupt.{IsBelow, memory_told};
 
 use crate::descriptor::Descriptor;
 use crate::packet::{Delivery, Fetched, has_room, packet_at, put_packet};
@@ -63,16 +64,18 @@ impl Model for Ring {
     ghost view = { λ r. record { base = r.base; count = r.count; place = r.place } };
 
     // A guest's ring base has 31 bits, and its command ring stands behind up to 128 descriptors.
-    ghost invariant = { λ r. (r.base % 2 ≡ 0) × (r.base ≤ 2 ^ 31 + 512) × (r.count ≤ 128) × (r.place < r.count) };
+    ghost invariant = { λ r. (r.base % 2 ≡ 0) × (r.base ≤ 2 ^ 31 + 512) × (r.count ≤ 128)
+        × (r.place < r.count) };
 
     ghost inverse = { λ r. record { base = r.base; count = r.count; place = r.place } };
 }
 
 impl Ring {
-    ghost use Rattle.std.specs.Prelude.{◌≡◌, ◌+◌, ◌%◌, ◌^◌, ◌<◌, ◌≤◌, ◌↔◌, IsTrue, length, OnOk};
+    ghost use Rattle.std.specs.Prelude.{◌≡◌, ◌+◌, ◌%◌, ◌^◌, ◌<◌, ◌≤◌, ◌↔◌, IsTrue, length, OnOk, None};
     ghost use Rattle.uda_mem.specs.Slices.{IsMemory};
     ghost use Rattle.uda_port.specs.Ring.{IsRingBase, is_ring_length, descriptor_address, ring_advanced};
-    ghost use Rattle.uda_port.specs.Ring.{memory_given_back};
+    ghost use Rattle.uda_port.specs.Ring.{memory_given_back, next_descriptor};
+    ghost use Rattle.uda_port.specs.Interrupt.{transits, ring_before, any_owned, word_below};
     ghost use Rattle.uda_port.specs.Fetch.{FetchGoes, Looks, OrderKept};
     ghost use Rattle.uda_port.specs.Delivery.{PutGoes};
     ghost use Rattle.uda_port.specs.declared.profile.Profile.TheVariants.{Strict};
@@ -147,7 +150,7 @@ impl Ring {
     /// UDA50 Programmer's Documentation Kit: command ring, message envelopes.
     #[tactic(auto, using(crate::proofs::Length::wholes))]
     pub fn fetch(&mut self, memory: &mut HostMemory) -> Result<Option<Fetched>, RingFault>
-        ensures goes { FetchGoes self.old memory.old result self.new memory.new }
+        ensures goes { FetchGoes None self.old memory.old result self.new memory.new }
         ensures order { OrderKept self.old memory.old result self.new memory.new }
     {
         self.fetch_in(memory.as_mut_slice())
@@ -156,17 +159,35 @@ impl Ring {
     /// The same in memory that is somebody else's: [`fetch`](Ring::fetch) from a slice.
     pub fn fetch_in(&mut self, memory: &mut [u8]) -> Result<Option<Fetched>, RingFault>
         requires memory { IsMemory memory.old }
-        ensures goes { FetchGoes self.old memory.old result self.new memory.new }
+        ensures goes { FetchGoes None self.old memory.old result self.new memory.new }
         ensures order { OrderKept self.old memory.old result self.new memory.new }
     {
-        self.take(memory)
+        self.fetch_told(memory, None)
+    }
+
+    /// The same where the host is told of the ring's transition in this word, if it is: before the
+    /// descriptor is given back.
+    pub(crate) fn fetch_told(
+        &mut self,
+        memory: &mut [u8],
+        told: Option<u32>,
+    ) -> Result<Option<Fetched>, RingFault>
+        requires memory { IsMemory memory.old }
+        requires below { IsBelow told self.old.base }
+        ensures goes { FetchGoes told self.old memory.old result self.new memory.new }
+        ensures order { OrderKept self.old memory.old result self.new memory.new }
+        ensures base { self.new.base ≡ self.old.base }
+    {
+        self.take(memory, told)
     }
 
     // What a fetch does, by the descriptor at the place.
-    fn take(&mut self, memory: &mut [u8]) -> Result<Option<Fetched>, RingFault>
+    fn take(&mut self, memory: &mut [u8], told: Option<u32>) -> Result<Option<Fetched>, RingFault>
         requires memory { IsMemory memory.old }
-        ensures goes { FetchGoes self.old memory.old result self.new memory.new }
+        requires below { IsBelow told self.old.base }
+        ensures goes { FetchGoes told self.old memory.old result self.new memory.new }
         ensures place { self.old.place < self.old.count }
+        ensures base { self.new.base ≡ self.old.base }
     {
         let Some(descriptor) = self.next(memory)? else {
             return Ok(None);
@@ -174,6 +195,7 @@ impl Ring {
         let Some(fetched) = packet_at(memory, descriptor.address()) else {
             return Err(RingFault::Packet);
         };
+        tell(memory, told);
         self.give_back(memory, descriptor);
         Ok(Some(fetched))
     }
@@ -181,7 +203,8 @@ impl Ring {
     /// Delivers a text: writes it to the buffer of the descriptor at the place, with an envelope that
     /// grants so many credits, gives the descriptor back and goes on by one, round the ring.
     ///
-    /// The three writes come in this order: text, envelope, the descriptor's second word. False where
+    /// The writes come in this order: text, envelope, the word by which the host is told of the ring's
+    /// transition, if it is, and the descriptor's second word. False where
     /// the port doesn't own that descriptor; [`RingFault::Ring`] where it isn't wholly in memory, and
     /// [`RingFault::Packet`] where it is the port's and its buffer can't take a text. After false or a
     /// fault nothing has changed.
@@ -195,9 +218,11 @@ impl Ring {
     ) -> Result<bool, RingFault>
         requires memory { IsMemory memory.old }
         requires few { delivery.credits ≤ 15 }
+        requires below { IsBelow delivery.told self.old.base }
         requires long { delivery.profile ≡ Strict → length text.now ≡ 48 }
         requires short { length text.now ≤ 48 }
         ensures goes { PutGoes delivery self.old memory.old text.now result self.new memory.new }
+        ensures base { self.new.base ≡ self.old.base }
     {
         let Some(descriptor) = self.next(memory)? else {
             return Ok(false);
@@ -207,8 +232,47 @@ impl Ring {
             return Err(RingFault::Packet);
         }
         put_packet(memory, address, delivery.credits, text);
+        tell(memory, delivery.told);
         self.give_back(memory, descriptor);
         Ok(true)
+    }
+
+    /// Whether giving the next descriptor back is a transition that the host asks to be told of: its flag
+    /// is set, and the port owns the descriptor before it, round the ring.
+    pub(crate) fn transits(&self, memory: &[u8]) -> bool
+        requires memory { IsMemory memory.now }
+        ensures transits { result ≡ transits memory.now self.now }
+    {
+        match Descriptor::read_in(memory, self.address()) {
+            Some(descriptor) if descriptor.is_flagged() => self.owns_before(memory),
+            _ => false,
+        }
+    }
+
+    // Whether the port owns the descriptor before the one at the place.
+    fn owns_before(&self, memory: &[u8]) -> bool
+        requires memory { IsMemory memory.now }
+        ensures owns { result ≡ any_owned (next_descriptor memory.now (ring_before self.now)) }
+    {
+        let before = (self.place + (self.count - 1)) % self.count;
+        match Descriptor::read_in(memory, self.base + 4 * u32::from(before)) {
+            Some(descriptor) => descriptor.is_owned(),
+            None => false,
+        }
+    }
+
+    /// The word so many bytes below the ring's base, where there are as many.
+    pub(crate) fn word_below(&self, bytes: u32) -> Option<u32>
+        requires even { bytes % 2 ≡ 0 }
+        requires some { 2 ≤ bytes }
+        ensures word { result ≡ word_below self.now.base bytes }
+        ensures below { IsBelow result self.now.base }
+    {
+        if bytes <= self.base {
+            Some(self.base - bytes)
+        } else {
+            None
+        }
     }
 
     // The descriptor at the place, or None where the port doesn't own it.
@@ -247,5 +311,16 @@ impl Ring {
         ensures place { self.now.place < self.now.count }
     {
         self.base + 4 * u32::from(self.place)
+    }
+}
+
+// Tells the host of a transition, by a 1 in this word.
+fn tell(memory: &mut [u8], told: Option<u32>)
+    requires there { IsBelow told (length memory.old) }
+    ensures told { memory.new ≡ memory_told memory.old told }
+    ensures length { length memory.new ≡ length memory.old }
+{
+    if let Some(at) = told {
+        uda_mem::put_word(memory, at, 1);
     }
 }

@@ -3,7 +3,7 @@
 //! UDA50 Programmer's Documentation Kit: initialisation, communication area.
 ghost use Rattle.std.specs.Prelude.{◌≡◌, ◌≤◌, ◌<◌};
 ghost use Rattle.uda_port.specs.Startup.{sa_of, by_first, by_second, by_third, by_purge, by_fourth, by_word};
-ghost use Rattle.uda_port.specs.Startup.{has_bit, refuses_second, refuses_third, after_third};
+ghost use Rattle.uda_port.specs.Startup.{has_bit, refuses_second, refuses_third, asks_test, after_third};
 ghost use Rattle.uda_port.specs.Startup.{IsArea, port_with_rings, dead_port};
 
 use crate::area::Area;
@@ -83,7 +83,7 @@ impl<S: BlockStore> Port<S> {
     pub(crate) fn die(&mut self, cause: Fatal)
         ensures { self.new ≡ dead_port self.old cause }
     {
-        self.phase = Phase::Dead { cause };
+        self.show(Phase::Dead { cause });
     }
 
     fn first_word(&mut self, word: u16)
@@ -95,7 +95,8 @@ impl<S: BlockStore> Port<S> {
         if has_bit(word, WRAP) {
             return self.die(Fatal::StartUpWord);
         }
-        self.phase = Phase::Step2 { first: word };
+        self.interrupts = self.interrupts.asked(self.profile, word);
+        self.show(Phase::Step2 { first: word });
     }
 
     fn second_word(&mut self, first: u16, word: u16)
@@ -104,10 +105,10 @@ impl<S: BlockStore> Port<S> {
         if refuses_second(self.profile, word) {
             return self.die(Fatal::StartUpWord);
         }
-        self.phase = Phase::Step3 {
+        self.show(Phase::Step3 {
             first,
             second: word,
-        };
+        });
     }
 
     fn third_word(&mut self, first: u16, second: u16, word: u16, memory: &mut [u8])
@@ -122,7 +123,18 @@ impl<S: BlockStore> Port<S> {
         }
         area.zero(memory);
         self.place_rings(area);
-        self.phase = after_third(self.profile, word);
+        self.leave_third(word);
+    }
+
+    // What follows the third word.
+    fn leave_third(&mut self, word: u16)
+        ensures { self.new ≡ after_third self.old word }
+    {
+        if asks_test(self.profile, word) {
+            self.phase = Phase::Purge;
+        } else {
+            self.show(Phase::Step4);
+        }
     }
 
     // The purge test: any other word than 0 is ignored.
@@ -173,14 +185,13 @@ fn refuses_third(profile: Profile, word: u16) -> bool
     }
 }
 
-// What follows the third word.
-fn after_third(profile: Profile, word: u16) -> Phase
-    ensures { result ≡ after_third profile word }
+// Whether the third word asks for the purge and poll test; strictly none does.
+fn asks_test(profile: Profile, word: u16) -> bool
+    ensures { result ≡ asks_test profile word }
 {
     match profile {
-        Profile::Strict => Phase::Step4,
-        Profile::ForGuests if has_bit(word, TEST) => Phase::Purge,
-        Profile::ForGuests => Phase::Step4,
+        Profile::Strict => false,
+        Profile::ForGuests => has_bit(word, TEST),
     }
 }
 

@@ -6,9 +6,10 @@ ghost use Rattle.uda_mem.specs.Slices.{IsMemory};
 ghost use Rattle.uda_disk.specs.Units.{AreImages};
 ghost use Rattle.uda_exec.specs.Disks.{PENDING_LIMIT};
 ghost use Rattle.circular_buffer.specs.Buffer.{buffer};
-ghost use Rattle.uda_port.specs.Port.{CreditsAgree, next_grant};
+ghost use Rattle.uda_port.specs.Port.{CreditsAgree, next_grant, commands_told, responses_told};
+ghost use Rattle.uda_port.specs.Interrupt.{IsBelow};
 ghost use Rattle.uda_port.specs.Turn.{FetchLine, ExecuteLine, DeliverLine, RestGoes, LinesGo, RunningTurn};
-ghost use Rattle.uda_port.specs.Turn.{TurnGoes};
+ghost use Rattle.uda_port.specs.Turn.{TurnGoes, delivery_of};
 ghost use Rattle.uda_port.specs.Packet.{end_text};
 ghost use Rattle.uda_port.specs.Delivery.{PutGoes};
 ghost use Rattle.uda_packet.specs.Reading.{read_end};
@@ -56,6 +57,13 @@ impl<S: BlockStore> Port<S> {
     ///    with its credits (15 with the first end since start-up, then 1), then the descriptor's second
     ///    word are written. The port dies where descriptor or buffer can't be used.
     /// 4. [`Turn::Idle`].
+    ///
+    /// That is the strict profile. A port for guests reads a text by its length: of one that is shorter than
+    /// 48 bytes the bytes behind its length count as 0, a longer one is read as far as 48, and one under 12
+    /// makes the end of status 0x0001. It judges no response's length, and writes an end with the bytes of
+    /// its kind: 12, 32, 44 or 48. Where a descriptor that it gives back has its flag, and the one before it
+    /// in its ring is the port's, it first writes 1 to the word at 4 (commands) or 2 (responses) bytes below
+    /// the ring base, and raises a request ([`take_interrupt`](Port::take_interrupt)).
     ///
     /// A port in start-up answers [`Turn::Idle`] and a dead one [`Turn::Dead`], and neither changes
     /// anything.
@@ -166,12 +174,14 @@ impl<S: BlockStore> Port<S> {
         if !self.looking {
             return Ok(false);
         }
-        let fetched = match self.commands.fetch_in(memory) {
+        let told = self.commands_told(memory);
+        let fetched = match self.commands.fetch_told(memory, told) {
             Ok(None) => return Ok(false),
             Ok(Some(fetched)) => fetched,
             Err(RingFault::Ring) => return Err(Fatal::RingRead),
             Err(RingFault::Packet) => return Err(Fatal::PacketRead),
         };
+        self.interrupts = self.interrupts.noted(self.profile, told);
         if self.credits == 0 {
             return Err(Fatal::CreditsExceeded);
         }
@@ -209,11 +219,7 @@ impl<S: BlockStore> Port<S> {
         let Some(end) = self.waiting.front().copied() else {
             return Ok(false);
         };
-        let grant = self.next_grant();
-        let delivery = Delivery {
-            profile: self.profile,
-            credits: grant,
-        };
+        let delivery = self.delivery(memory);
         match put_end(&mut self.responses, memory, delivery, &end) {
             Err(RingFault::Ring) => return Err(Fatal::RingRead),
             Err(RingFault::Packet) => return Err(Fatal::PacketWrite),
@@ -221,10 +227,50 @@ impl<S: BlockStore> Port<S> {
             Ok(true) => {}
         }
         release(&mut self.waiting, end);
-        self.credits += grant;
+        self.interrupts = self.interrupts.noted(self.profile, delivery.told);
+        self.credits += delivery.credits;
         self.begun = true;
         self.deliveries.add(1);
         Ok(true)
+    }
+
+    // Where the host is told of the commands' transition, if it is.
+    fn commands_told(&self, memory: &[u8]) -> Option<u32>
+        requires { IsMemory memory.now }
+        ensures told { result ≡ commands_told self.now memory.now }
+        ensures below { IsBelow result self.now.commands.base }
+    {
+        match self.profile {
+            Profile::ForGuests if self.commands.transits(memory) => self.responses.word_below(4),
+            _ => None,
+        }
+    }
+
+    // The same of the responses' transition.
+    fn responses_told(&self, memory: &[u8]) -> Option<u32>
+        requires { IsMemory memory.now }
+        ensures told { result ≡ responses_told self.now memory.now }
+        ensures below { IsBelow result self.now.responses.base }
+    {
+        match self.profile {
+            Profile::ForGuests if self.responses.transits(memory) => self.responses.word_below(2),
+            _ => None,
+        }
+    }
+
+    // What goes with the next end.
+    fn delivery(&self, memory: &[u8]) -> Delivery
+        requires { IsMemory memory.now }
+        ensures delivery { result ≡ delivery_of self.now memory.now }
+        ensures below { IsBelow result.told self.now.responses.base }
+        ensures few { result.credits ≤ PENDING_LIMIT }
+        ensures room { self.now.credits + result.credits ≤ PENDING_LIMIT + 1 }
+    {
+        Delivery {
+            profile: self.profile,
+            credits: self.next_grant(),
+            told: self.responses_told(memory),
+        }
     }
 
     // The credits that the next end grants.
@@ -246,8 +292,10 @@ fn put_end(
 ) -> Result<bool, RingFault>
     requires memory { IsMemory memory.old }
     requires few { delivery.credits ≤ 15 }
+    requires below { IsBelow delivery.told responses.old.base }
     ensures goes { PutGoes delivery responses.old memory.old (end_text delivery.profile end.now) result
         responses.new memory.new }
+    ensures base { responses.new.base ≡ responses.old.base }
     ensures legible { read_end (written_end end.now) ≡ Some end.now }
 {
     let text = encode_end(end);

@@ -24,6 +24,7 @@ invariant_of-self-2 g c =
       conserved = omega (arith, conserved, fewer, longer);
       four = c.in-Some.ensures.four;
       images = c.in-Some.ensures.images;
+      ordered = c.self.invariant.ordered;
       begun = c.self.invariant.begun;
     }
 

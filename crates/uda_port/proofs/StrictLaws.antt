@@ -1,0 +1,71 @@
+-- What each definition that depends on the profile says of the strict one, where no host is told anything.
+use Rattle.std.proofs.Common.{◌≡◌, ℕ, ◌+◌, ◌-◌, ◌*◌, List, length, Option, Some, None, Result, Ok, Err, refl}
+use Rattle.std.specs.Prelude.{◌==◌, ◌&&◌, nat_le, nat_lt, replicate, if◌then◌else◌}
+use Rattle.uda_mem.specs.Put.{put}
+use Rattle.uda_packet.specs.declared.end.End.{End}
+use Rattle.uda_packet.specs.Bad.{other_length_end}
+use Rattle.uda_packet.specs.Reading.{read_command}
+use Rattle.uda_packet.specs.Written.{written_end}
+use Rattle.uda_port.specs.declared.packet.Fetched.{Fetched}
+use Rattle.uda_port.specs.declared.interrupt.Interrupts.{Interrupts}
+use Rattle.uda_port.specs.declared.profile.Profile.TheVariants.{Strict}
+use Rattle.uda_port.specs.declared.phase.Phase.{Phase}
+use Rattle.uda_port.specs.declared.phase.Phase.TheVariants.{Step2, Step3, Step4, Dead}
+use Rattle.uda_port.specs.declared.phase.Fatal.TheVariants.{RingWrite, StartUpWord}
+use Rattle.uda_port.specs.Message.{message_of_text, message_in}
+use Rattle.uda_port.specs.Packet.{TellsRoom, HasRoom, end_text}
+use Rattle.uda_port.specs.Ring.{RingState}
+use Rattle.uda_port.specs.Interrupt.{memory_told}
+use Rattle.uda_port.specs.Port.{PortState, port_shows, commands_told, responses_told, interrupts_told}
+use Rattle.uda_port.specs.Startup.{has_bit, ring_base, response_count, command_count, by_first, by_second, by_third}
+
+-- ---- texts
+
+strict_message : (p : Fetched) → message_in Strict p ≡ (if p.words.0 == 48 then message_of_text (read_command p.text) else Err (other_length_end p.text))
+strict_message p = refl
+
+strict_text : (e : End) → end_text Strict e ≡ written_end e
+strict_text e = refl
+
+strict_room : (memory : List ℕ) (at n : ℕ) → HasRoom Strict memory at n ≡ TellsRoom memory at
+strict_room memory at n = refl
+
+-- ---- the start-up
+
+module _ (old : PortState) (strict : old.profile ≡ Strict) where
+  strict_shows : (phase : Phase) → port_shows old phase ≡ record old { phase = phase }
+  strict_shows phase = rw strict refl
+
+  strict_first : (word : ℕ) → by_first old word ≡ (if has_bit word 15 then (if has_bit word 14 then record old { phase = Dead StartUpWord } else record old { phase = Step2 word }) else old)
+  strict_first word = rw strict refl
+
+  strict_second : (first word : ℕ) → by_second old first word ≡ (if has_bit word 0 then record old { phase = Dead StartUpWord } else record old { phase = Step3 first word })
+  strict_second first word = rw strict refl
+
+  strict_third : (memory : List ℕ) (first second word : ℕ) → by_third old memory first second word ≡ (
+    if nat_lt 3 word then (record old { phase = Dead StartUpWord }, memory)
+    else if nat_le 4 (ring_base second word) && nat_le (ring_base second word + 4 * (response_count first + command_count first)) (length memory) then (
+      record old {
+        phase = Step4;
+        responses = record { base = ring_base second word; count = response_count first; place = 0 };
+        commands = record { base = ring_base second word + 4 * response_count first; count = command_count first; place = 0 };
+      },
+      put memory (ring_base second word - 4) (replicate (4 + 4 * (response_count first + command_count first)) 0),
+    )
+    else (record old { phase = Dead RingWrite }, memory))
+  strict_third memory first second word = rw strict refl
+
+  -- ---- turns
+
+  strict_commands : (memory : List ℕ) → commands_told old memory ≡ None
+  strict_commands memory = rw strict refl
+
+  strict_responses : (memory : List ℕ) → responses_told old memory ≡ None
+  strict_responses memory = rw strict refl
+
+-- where no host is told, memory and interrupts stay
+untold_memory : (memory : List ℕ) → memory_told memory None ≡ memory
+untold_memory memory = refl
+
+untold_interrupts : (port : PortState) → interrupts_told port None ≡ port.interrupts
+untold_interrupts port = refl

@@ -1,0 +1,98 @@
+//! Interrupts: what a host asked for, and the request that waits.
+//!
+//! UDA50 Programmer's Documentation Kit: initialisation, interrupts.
+ghost use Rattle.std.specs.Prelude.{◌≡◌};
+ghost use Rattle.uda_port.specs.Interrupt.{NO_INTERRUPTS, interrupts_asked, raised, noted, request_of};
+ghost use Rattle.uda_port.specs.Interrupt.{served};
+
+use crate::profile::Profile;
+
+/// The interrupts that a host asked for by the first word of its start-up, and whether a request waits.
+///
+/// UDA50 Programmer's Documentation Kit: initialisation, interrupts.
+#[derive(Clone, Copy, Debug, PartialEq, Eq)]
+pub struct Interrupts {
+    /// Whether the host enabled them: bit 7 of the word.
+    pub enabled: bool,
+    /// The address of their vector: four times bits 6-0 of the word.
+    pub vector: u16,
+    /// Whether a request waits.
+    pub requested: bool,
+}
+
+/// The bit of the first word that enables interrupts.
+const ENABLE: u16 = 7;
+
+/// The bits of the first word that are a fourth of the vector.
+const VECTOR: u16 = 0x007f;
+
+impl Interrupts {
+    /// None, as before the first word.
+    pub(crate) fn none() -> Interrupts
+        ensures { result ≡ NO_INTERRUPTS }
+    {
+        Interrupts {
+            enabled: false,
+            vector: 0,
+            requested: false,
+        }
+    }
+
+    /// Those that the first word asks for; strictly none.
+    pub(crate) fn asked(self, profile: Profile, first: u16) -> Interrupts
+        ensures { result ≡ interrupts_asked profile self first }
+    {
+        match profile {
+            Profile::Strict => self,
+            Profile::ForGuests => Interrupts {
+                enabled: first >> ENABLE & 1 != 0,
+                vector: 4 * (first & VECTOR),
+                requested: false,
+            },
+        }
+    }
+
+    /// A request is raised, where they are enabled; strictly none ever is.
+    pub(crate) fn raised(self, profile: Profile) -> Interrupts
+        ensures { result ≡ raised profile self }
+    {
+        match profile {
+            Profile::Strict => self,
+            Profile::ForGuests => Interrupts {
+                requested: self.requested || self.enabled,
+                ..self
+            },
+        }
+    }
+
+    /// The same where the host was told of a ring's transition.
+    pub(crate) fn noted(self, profile: Profile, told: Option<u32>) -> Interrupts
+        ensures { result ≡ noted told profile self }
+    {
+        match told {
+            Some(_) => self.raised(profile),
+            None => self,
+        }
+    }
+
+    /// The vector of the request that waits.
+    pub(crate) fn request(self) -> Option<u16>
+        ensures { result ≡ request_of self }
+    {
+        if self.requested {
+            Some(self.vector)
+        } else {
+            None
+        }
+    }
+
+    /// With no request.
+    pub(crate) fn served(self) -> Interrupts
+        ensures { result ≡ served self }
+    {
+        Interrupts {
+            requested: false,
+            ..self
+        }
+    }
+}

@@ -1,7 +1,7 @@
 -- The answers before anything is posted.
-use Rattle.std.proofs.Common.{◌≡◌, ℕ, ◌+◌, ◌<◌, ◌≤◌, inl, inr, true, false, List, [], ◌∷◌, ◌++◌, length, map, set, take, drop, get_or, Some, refl, sym, ap, ◌∙◌, arith, subst₂}
+use Rattle.std.proofs.Common.{◌≡◌, ℕ, ◌<◌, ◌≤◌, inl, inr, true, false, List, [], ◌∷◌, ◌++◌, length, take, drop, get_or, Some, refl, sym, ap, ◌∙◌, arith, subst₂}
 use Rattle.std.specs.Prelude.{slice_get, option_map}
-use Rattle.std.proofs.lemmas.List.{length-map, map_push, length_push, map-set, take-take}
+use Rattle.std.proofs.lemmas.List.{length_push, take-take}
 use Rattle.std.proofs.lemmas.Bool.{cases_eq}
 use Rattle.std.proofs.lemmas.Bool.Decides.{nat_tests}
 use Rattle.std.proofs.lemmas.Option.{slice_get_within, slice_get-map, slice_get-get_or}
@@ -11,32 +11,31 @@ use Rattle.uda_exec.specs.Commands.{buffer_start, room_of}
 use Rattle.uda_exec.specs.Execution.{bytes_of}
 use Rattle.uda_disk.specs.Request.{Act, Request, Online, Available, Status, Read, Access, Write, Erase}
 use Rattle.uda_disk.specs.PlainRun.{too_long}
-use Rattle.uda_disk.specs.Answer.{Answer, TooLong, Data}
+use Rattle.uda_disk.specs.Answer.{Data}
 use Rattle.uda_posting.specs.Posting.{op_of, answer_of}
-use Rattle.uda_disk.specs.Values.{request_value, answer_value, request_values, answer_values}
+use Rattle.uda_disk.specs.Values.{request_value, answer_value, request_values}
 use Rattle.uda_disk.specs.declared.request.Request.{Request as CodeRequest}
 use Rattle.uda_disk.specs.declared.answer.Answer.{Answer as CodeAnswer}
+use Rattle.uda_disk.specs.declared.answer.Answer.TheVariants.{TooLong}
 use Rattle.uda_disk.proofs.Lists.{slice_get-last, slice_get-before}
 use Rattle.uda_driver.specs.Blank.{Prepared, IsBlank, AreBlank}
 
 pub blank_more : (requests : List CodeRequest) (i : ℕ) (answers : List CodeAnswer) (request : CodeRequest) (a : CodeAnswer) → length answers ≡ i → i < length requests → request ≡ get_or requests i request
-    → (too_long (request_value request) ≡ true → answer_value a ≡ TooLong) → (too_long (request_value request) ≡ false → Prepared (request_value request) (answer_value a))
-    → AreBlank (request_values requests) 0 (answer_values answers) → AreBlank (request_values requests) 0 (map answer_value (answers ++ a ∷ []))
+    → (too_long (request_value request) ≡ true → a ≡ TooLong) → (too_long (request_value request) ≡ false → Prepared (request_value request) a)
+    → AreBlank (request_values requests) 0 answers → AreBlank (request_values requests) 0 (answers ++ a ∷ [])
 blank_more requests i answers request a size lt is long room all k r b le at told =
-    let pushed : slice_get (answer_values answers ++ answer_value a ∷ []) k ≡ Some b = ap (λ (l : List Answer). slice_get l k) (sym (map_push answer_value answers a)) ∙ told in
-    let count = length-map answers answer_value in
     elim (cases_eq k i) [
       | inl same ↦
-          let last : Some (answer_value a) ≡ Some b = sym (slice_get-last (answer_values answers) k (answer_value a) (same ∙ sym size ∙ sym count)) ∙ pushed in
-          let b_is : answer_value a ≡ b = cc in
+          let last : Some a ≡ Some b = sym (slice_get-last answers k a (same ∙ sym size)) ∙ told in
+          let b_is : a ≡ b = cc in
           let stands : slice_get (request_values requests) k ≡ Some (request_value request) =
           ap (slice_get (request_values requests)) same ∙ slice_get-map request_value requests i ∙ ap (option_map request_value) (slice_get-get_or requests i request lt ∙ ap (λ (x : CodeRequest). Some x) (sym is)) in
           let both : Some r ≡ Some (request_value request) = sym at ∙ stands in
           let r_is : request_value request ≡ r = cc in
           subst₂ IsBlank r_is b_is (record { long = long; room = room })
       | inr other ↦
-          let low : k < length (answer_values answers) = omega (arith, slice_get_within (answer_values answers ++ answer_value a ∷ []) k b pushed, length_push (answer_values answers) (answer_value a), count) in
-          all k r b le at (sym (slice_get-before (answer_values answers) (answer_value a) k low) ∙ pushed)
+          let low : k < length answers = omega (arith, slice_get_within (answers ++ a ∷ []) k b told, length_push answers a) in
+          all k r b le at (sym (slice_get-before answers a k low) ∙ told)
     ]
 
 -- ---- an answer by its end reads no more of a buffer than its command has
@@ -57,8 +56,7 @@ answer-in_buffer unit (Write lbn payload) e memory address size short is = refl
 answer-in_buffer unit (Erase lbn bytes) e memory address size short is = refl
 
 -- the answer that is told is by the request's end and its buffer
-pub answer_told : (answers : List CodeAnswer) (place : ℕ) (r : Request) (e : End) (memory : List ℕ) (address : ℕ) (told : CodeAnswer) → too_long r ≡ false
+pub answer_told : (r : Request) (e : End) (memory : List ℕ) (address : ℕ) (told : CodeAnswer) → too_long r ≡ false
     → answer_value told ≡ answer_of r.act e (take (room_of (op_of r.act 0)) (part memory address 16384))
-    → answer_values (set answers place told) ≡ set (answer_values answers) place (answer_of r.act e (part memory (buffer_start (op_of r.act address)) (room_of (op_of r.act address))))
-answer_told answers place r e memory address told short tells =
-    map-set answer_value answers place told ∙ ap (set (answer_values answers) place) (tells ∙ answer-in_buffer r.unit r.act e memory address 16384 short refl)
+    → answer_value told ≡ answer_of r.act e (part memory (buffer_start (op_of r.act address)) (room_of (op_of r.act address)))
+answer_told r e memory address told short tells = tells ∙ answer-in_buffer r.unit r.act e memory address 16384 short refl

@@ -1,13 +1,13 @@
 -- The steps of a driver: those of its host and those of what is owed, together.
-use Rattle.std.proofs.Common.{◌≡◌, ◌≢◌, ℕ, zero, suc, min, max, Bool, ◌+◌, ◌<◌, ◌≤◌, inl, inr, false, true, List, [], ◌∷◌, ◌++◌, length, map, set, get_or, Option, Some, None, refl, sym, ap, ap₂, ◌∙◌, arith, subst, subst₂, length-append}
-use Rattle.std.specs.Prelude.{slice_get, slice_set, remove, replicate, All, AllPairs, nat_eq, nat_lt, ◌&&◌, ◌||◌}
+use Rattle.std.proofs.Common.{◌≡◌, ◌≢◌, ℕ, min, max, Bool, ◌+◌, ◌<◌, ◌≤◌, inl, inr, false, true, List, [], ◌∷◌, ◌++◌, length, map, set, get_or, Option, Some, None, refl, sym, ap, ap₂, ◌∙◌, arith, subst, subst₂, length-append}
+use Rattle.std.specs.Prelude.{slice_get, slice_set, remove, replicate, All, nat_eq, nat_lt, ◌&&◌, ◌||◌}
 use Rattle.std.proofs.Math.Bool.{and_comm, or_comm}
 use Rattle.std.proofs.lemmas.Bool.Decides.{nat_tests}
 use Rattle.std.proofs.lemmas.List.{length-map, map_push, length_push, nil_from_length}
 use Rattle.std.proofs.lemmas.List.Elements.{All-nil, All-cons, All-head, All-tail, All-map}
 use Rattle.std.proofs.lemmas.Option.{slice_get_within}
 use Rattle.uda_mem.specs.Put.{put, part}
-use Rattle.uda_mem.proofs.PutLaws.{length-part, length-put}
+use Rattle.uda_mem.proofs.PutLaws.{length-part}
 use Rattle.uda_packet.specs.declared.command.Command.{Command}
 use Rattle.uda_packet.specs.declared.end.End.{End}
 use Rattle.uda_exec.specs.Disks.{PENDING_LIMIT}
@@ -17,7 +17,7 @@ use Rattle.uda_disk.specs.PlainRun.{too_long}
 use Rattle.uda_disk.specs.Answer.{Answer, TooLong}
 use Rattle.uda_disk.specs.Order.{clash, NoClash}
 use Rattle.uda_posting.specs.Posting.{Posted, posted_command, commands_in, answer_of, buffer_of, bytes_brought}
-use Rattle.uda_disk.specs.Values.{request_value, answer_value}
+use Rattle.uda_disk.specs.Values.{request_value}
 use Rattle.uda_disk.specs.Units.{Units}
 use Rattle.uda_posting.specs.Keeping.{Misses, Beside, Owes, Ended, answer_now, Keeps, Tells as TellsIn}
 use Rattle.uda_posting.proofs.Owing.{owes_start}
@@ -25,14 +25,13 @@ use Rattle.uda_posting.proofs.Posts.{buffer-at, bytes_fit, ready-put}
 use Rattle.uda_posting.proofs.Ending.{keeps_put, keeps_skip, keeps_post, Ends, keeps_execute, keeps_deliver, keeps_end}
 use Rattle.uda_host.specs.Layout.{buffers_start, buffer_address, memory_size}
 use Rattle.uda_host.specs.InStep.{IsAbove}
-use Rattle.uda_host.specs.Host.{HostState, out_of, BuffersStay, Fetches, Does, TakesEnd, Works, OneFetched, OneDone, AddsUp, IsIdle}
-use Rattle.uda_driver.specs.Blank.{Prepared}
-use Rattle.uda_driver.specs.Out.{posted_with, count_out, clashes_with, IsFit, AreFit, IsOut}
-use Rattle.uda_driver.specs.Steps.{with_brought, PutsOut, IsReferred, TellsEnd}
+use Rattle.uda_host.specs.Host.{HostState, out_of, BuffersStay, TakesEnd, Works, OneFetched, OneDone, IsIdle}
+use Rattle.uda_driver.specs.Out.{posted_with, count_out, clashes_with, IsFit, AreFit}
+use Rattle.uda_driver.specs.Steps.{PutsOut, IsReferred}
 use Rattle.uda_driver.specs.Underway.{alive, Outs, Driving}
 use Rattle.uda_driver.specs.declared.buffers.Out.{Out}
 use Rattle.uda_driver.proofs.Slots.{set_at, freed_at}
-use Rattle.uda_driver.proofs.Outs.{none_at, outs_none, of_alive, outs_post, outs_execute, own, own_reference, TakenBack, outs_take}
+use Rattle.uda_driver.proofs.Outs.{none_at, outs_none, of_alive, outs_post, outs_execute, own, own_reference, outs_take}
 
 -- ---- buffers
 

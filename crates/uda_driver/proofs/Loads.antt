@@ -1,5 +1,5 @@
 -- The load of a run, step by step.
-use Rattle.std.proofs.Common.{◌≡◌, ℕ, zero, suc, ◌+◌, ◌-◌, ◌*◌, ◌/◌, ◌<◌, ◌≤◌, Bool, true, false, List, [], ◌∷◌, ◌++◌, length, take, drop, set, get_or, Some, None, refl, sym, ap, ap₂, ◌∙◌, arith, add-one}
+use Rattle.std.proofs.Common.{◌≡◌, ℕ, zero, suc, ◌+◌, ◌-◌, ◌*◌, ◌/◌, ◌<◌, Bool, true, false, List, [], ◌∷◌, ◌++◌, length, take, drop, set, Some, None, refl, sym, ap, ap₂, ◌∙◌, arith, add-one}
 use Rattle.std.specs.Prelude.{Option, slice_get, replicate, ◌||◌, not, nat_eq}
 use Rattle.std.specs.List.{list_any}
 use Rattle.std.proofs.lemmas.List.{length-take, length_push, take_more, drop_more}
@@ -8,16 +8,15 @@ use Rattle.std.proofs.lemmas.List.Edits.{length-remove}
 use Rattle.std.proofs.lemmas.List.Sums.{count_by_more_no, count_by_more_yes}
 use Rattle.std.proofs.lemmas.Option.{slice_get_within, get_or_from_slice_get}
 use Rattle.uda_exec.specs.Disks.{PENDING_LIMIT}
-use Rattle.uda_packet.specs.declared.command.Command.{Command}
 use Rattle.uda_packet.specs.declared.end.End.{End}
 use Rattle.uda_disk.specs.Request.{Request}
 use Rattle.uda_disk.specs.PlainRun.{too_long, is_short, posted_count}
 use Rattle.uda_disk.specs.Order.{clash, lead_from, lead}
 use Rattle.uda_posting.specs.Posting.{posted_command}
 use Rattle.uda_disk.specs.Values.{request_value}
-use Rattle.uda_host.specs.Host.{HostState, Posts, Fetches, Does, Works, OneFetched, OneDone, TakesEnd}
+use Rattle.uda_host.specs.Host.{HostState, Works, OneFetched, OneDone, TakesEnd}
 use Rattle.uda_driver.specs.Out.{posted_with, clashes_with_any}
-use Rattle.uda_driver.specs.Steps.{with_brought, PutsOut}
+use Rattle.uda_driver.specs.Steps.{PutsOut}
 use Rattle.uda_driver.specs.Load.{triangle, InLead, LeadOver, LoadAt, GoesOn, IsOver}
 use Rattle.uda_driver.specs.declared.buffers.Out.{Out}
 use Rattle.uda_driver.proofs.Slots.{clashes-taken}

@@ -1,12 +1,11 @@
 -- What is out, as a request is posted, done, and taken back with its end.
-use Rattle.std.proofs.Common.{◌≡◌, ◌≢◌, ℕ, zero, suc, ◌+◌, ◌<◌, ◌⊎◌, inl, inr, List, [], ◌∷◌, ◌++◌, length, map, set, get_or, Option, Some, None, refl, sym, ap, ap₂, ◌∙◌, arith, subst, subst₂, length-append}
+use Rattle.std.proofs.Common.{◌≡◌, ◌≢◌, ℕ, zero, suc, ◌+◌, ◌⊎◌, inl, inr, List, [], ◌∷◌, ◌++◌, length, map, set, Option, Some, None, refl, sym, ap, ap₂, ◌∙◌, arith, subst, subst₂, length-append}
 use Rattle.std.specs.Prelude.{slice_get, remove, replicate, All, AllPairs}
-use Rattle.std.proofs.lemmas.List.{map_push, append_assoc, length-set, length-map, length_push}
+use Rattle.std.proofs.lemmas.List.{map_push, append_assoc, length-set, length_push}
 use Rattle.std.proofs.lemmas.List.Edits.{length-remove}
-use Rattle.std.proofs.lemmas.List.Elements.{All-nil, All-cons, All-head, All-tail, All-push, All-weaker}
+use Rattle.std.proofs.lemmas.List.Elements.{All-nil, All-cons, All-head, All-tail, All-push}
 use Rattle.std.proofs.lemmas.List.Quantifiers.{all_pairs_push, all_pairs_remove}
 use Rattle.std.proofs.lemmas.List.Kept.{AllPairs-cons}
-use Rattle.std.proofs.lemmas.Bool.{cases_eq}
 use Rattle.std.proofs.lemmas.Option.{slice_get_within}
 use Rattle.uda_packet.specs.declared.end.End.{End}
 use Rattle.uda_exec.specs.Disks.{PENDING_LIMIT}
@@ -14,7 +13,7 @@ use Rattle.uda_disk.proofs.Slots.{slice_get-set_same, slice_get-set_other}
 use Rattle.uda_posting.specs.Posting.{Posted}
 use Rattle.uda_posting.specs.Keeping.{Ended, RefersBack, AreTwo}
 use Rattle.uda_disk.proofs.Lists.{All-remove, All-at, pairs_first, pairs_rest, pairs_others}
-use Rattle.uda_driver.specs.Out.{posted_with, count_out, IsOut, HaveOwnPlaces}
+use Rattle.uda_driver.specs.Out.{posted_with, IsOut}
 use Rattle.uda_driver.specs.Underway.{alive, Outs}
 use Rattle.uda_driver.specs.declared.buffers.Out.{Out}
 use Rattle.uda_driver.proofs.Slots.{set_at, freed_at, count-taken, count-freed}

@@ -1,20 +1,19 @@
 -- The steps of a run of requests.
-use Rattle.std.proofs.Common.{◌≡◌, ℕ, zero, suc, ◌+◌, ◌-◌, ◌*◌, ◌<◌, ◌≤◌, ◌⊎◌, inl, inr, Bool, true, false, List, [], ◌∷◌, ◌++◌, length, map, take, drop, set, get_or, nat_eq, Option, Some, None, refl, sym, ap, ap₂, ◌∙◌, arith, subst, subst₂}
+use Rattle.std.proofs.Common.{◌≡◌, ℕ, ◌+◌, ◌<◌, ◌≤◌, inl, inr, Bool, true, false, List, [], ◌∷◌, ◌++◌, length, map, take, drop, set, get_or, nat_eq, Option, Some, None, refl, sym, ap, ◌∙◌, arith, subst}
 use Rattle.std.specs.Prelude.{slice_get, slice_set, option_map, replicate, ◌||◌}
 use Rattle.std.proofs.lemmas.List.{length-map, length-take, length-set, length_push, map-set, take_all, drop_all, nil_from_length}
 use Rattle.std.proofs.lemmas.List.Edits.{length-remove}
 use Rattle.std.proofs.lemmas.Bool.{eqb-true, eqb-false, or_cases, or_parts}
-use Rattle.std.proofs.lemmas.Option.{slice_get_within, slice_get-map, slice_get-get_or}
+use Rattle.std.proofs.lemmas.Option.{slice_get-map, slice_get-get_or}
 use Rattle.uda_packet.specs.declared.end.End.{End}
-use Rattle.uda_disk.specs.Units.{UnitState, AreImages, Units}
+use Rattle.uda_disk.specs.Units.{AreImages}
 use Rattle.uda_exec.specs.Disks.{PENDING_LIMIT}
 use Rattle.uda_disk.proofs.Slots.{slice_get-set_other}
 use Rattle.uda_disk.specs.Request.{Request}
 use Rattle.uda_disk.specs.PlainRun.{too_long, posted_count}
-use Rattle.uda_disk.specs.Answer.{Answer, TooLong}
-use Rattle.uda_disk.specs.Order.{clash, lead, lead_from}
+use Rattle.uda_disk.specs.Answer.{TooLong}
+use Rattle.uda_disk.specs.Order.{lead, lead_from}
 use Rattle.uda_posting.specs.Posting.{posted_command, answer_of, buffer_of}
-use Rattle.uda_posting.specs.Keeping.{Keeps}
 use Rattle.uda_disk.specs.Values.{request_value, answer_value, request_values, answer_values}
 use Rattle.uda_disk.specs.declared.request.Request.{Request as CodeRequest}
 use Rattle.uda_disk.specs.declared.answer.Answer.{Answer as CodeAnswer}
@@ -22,10 +21,10 @@ use Rattle.uda_disk.specs.declared.answer.Answer.TheVariants.{TooLong as CodeToo
 use Rattle.uda_host.specs.Host.{HostState, out_of, turns_left, Works, OneFetched, OneDone, TakesEnd, AddsUp}
 use Rattle.uda_driver.specs.Run.{CountsOn}
 use Rattle.uda_driver.specs.Driver.{IsAtRest, IsDriver}
-use Rattle.uda_driver.specs.Blank.{Prepared, AreBlank}
-use Rattle.uda_driver.specs.Out.{posted_with, count_out, clashes_with_any, must_wait, IsFit}
-use Rattle.uda_driver.specs.Steps.{HasFree, PutsOut, TellsEnd, Steps, TellsNone, TellsOne}
-use Rattle.uda_driver.specs.Load.{triangle, InLead, LoadAt, IsOver}
+use Rattle.uda_driver.specs.Blank.{AreBlank}
+use Rattle.uda_driver.specs.Out.{posted_with, clashes_with_any, must_wait, IsFit}
+use Rattle.uda_driver.specs.Steps.{HasFree, PutsOut, Steps, TellsNone, TellsOne}
+use Rattle.uda_driver.specs.Load.{triangle, InLead, IsOver}
 use Rattle.uda_driver.specs.Underway.{Driving, IsAtWork, Underway}
 use Rattle.uda_driver.specs.Drive.{IsDriving, Ran}
 use Rattle.uda_driver.specs.declared.buffers.Out.{Out}
@@ -85,8 +84,8 @@ module _ {start : HostState} {requests : List CodeRequest} {n : ℕ} {out : List
   buffer_left r free = some_free out (omega (arith, credit_left r free, all_credits, counted_out U.driving, U.driving.outs.sized))
 
   -- an answer that is told leaves the blanks as they are
-  blank_told : (place : ℕ) (a : Answer) (told : List CodeAnswer) → place < n → answer_values told ≡ slice_set (answer_values answers) place a → AreBlank (request_values requests) n (answer_values told)
-  blank_told place a told low is = λ k r b from stands at. U.blank k r b from stands (sym (slice_get-set_other (answer_values answers) place k a (λ same. omega (arith, same, from, low))) ∙ ap (λ (as' : List Answer). slice_get as' k) (sym is) ∙ at)
+  blank_told : (place : ℕ) (a : CodeAnswer) (told : List CodeAnswer) → place < n → told ≡ slice_set answers place a → AreBlank (request_values requests) n told
+  blank_told place a told low is = λ k r b from stands at. U.blank k r b from stands (sym (slice_get-set_other answers place k a (λ same. omega (arith, same, from, low))) ∙ ap (λ (as' : List CodeAnswer). slice_get as' k) (sym is) ∙ at)
 
   still_works : {new : HostState} → AddsUp new → AreImages new.units → Turned host new → IsAtWork new
   still_works adds_up images t = record { begun = omega (arith, U.at_work.begun, t.taken); images = images; adds_up = adds_up }
@@ -110,10 +109,12 @@ module _ {start : HostState} {requests : List CodeRequest} {n : ℕ} {out : List
         let place = tells.done.one.place in
         let low : place < n = omega (arith, (U.driving.fit tells.done.number tells.done.one tells.done.stands).before, length-take n (request_values requests)) in
         let a = answer_of (request_value tells.done.one.request.now).act e (buffer_of (posted_with tells.done.number tells.done.one) new.memory) in
+        let values : answer_values told ≡ slice_set (answer_values answers) place a =
+        ap answer_values tells.answers_are ∙ map-set answer_value answers place tells.told ∙ ap (set (answer_values answers) place) tells.told_is in
         rw tells.out_is (record {
-          driving = rw tells.answers_are (driving_takes U.driving takes room tells.done);
-          blank = blank_told place a told low tells.answers_are;
-          sized = sym (length-map told answer_value) ∙ ap length tells.answers_are ∙ length-set (answer_values answers) place a ∙ length-map answers answer_value ∙ U.sized;
+          driving = rw values (driving_takes U.driving takes room tells.done);
+          blank = blank_told place tells.told told low tells.answers_are;
+          sized = ap length tells.answers_are ∙ length-set answers place tells.told ∙ U.sized;
           at_work = still_works adds_up images t;
           posted = omega (arith, U.posted, t.all);
           load = IsOver (over_takes (over_from ends U.load) takes);
@@ -139,13 +140,14 @@ module _ {start : HostState} {requests : List CodeRequest} {n : ℕ} {out : List
   w : Next (request_values requests) n (request_value request)
   w = next_at it
 
-  blank_here : slice_get (answer_values answers) n ≡ Some (get_or (answer_values answers) n TooLong)
-  blank_here = slice_get-get_or (answer_values answers) n TooLong (omega (arith, it.low, U.sized, length-map answers answer_value))
+  blank_here : slice_get answers n ≡ Some (get_or answers n CodeTooLong)
+  blank_here = slice_get-get_or answers n CodeTooLong (omega (arith, it.low, U.sized))
 
   pub underway_skip : too_long (request_value request) ≡ true → Underway start requests (n + 1) out answers host
   underway_skip long =
-      let own = U.blank n (request_value request) (get_or (answer_values answers) n TooLong) (omega arith) (at_place it) blank_here in
-      let blank = ap (slice_get (answer_values answers)) w.counted ∙ blank_here ∙ ap (λ (a : Answer). Some a) (own.long long) in
+      let own = U.blank n (request_value request) (get_or answers n CodeTooLong) (omega arith) (at_place it) blank_here in
+      let here = slice_get-map answer_value answers n ∙ ap (option_map answer_value) (blank_here ∙ ap (λ (a : CodeAnswer). Some a) (own.long long)) in
+      let blank = ap (slice_get (answer_values answers)) w.counted ∙ here in
       record {
         driving = subst (λ (rs : List Request). Driving start.units rs out (answer_values answers) host) (sym w.more) (driving_skip U.driving (request_value request) long blank);
         blank = λ k q a from. U.blank k q a (omega (arith, from));
@@ -169,8 +171,8 @@ module _ {start : HostState} {requests : List CodeRequest} {n : ℕ} {out : List
     underway_post {one} {new} {after} {left} d short place is answer_is left_is puts adds_up =
         let rs = request_values requests in
         let request_is = ap request_value is in
-        let own = U.blank n (request_value request) (answer_value one.answer) (omega arith) (at_place it)
-        (slice_get-map answer_value answers n ∙ ap (option_map answer_value) (slice_get-get_or answers n d (omega (arith, it.low, U.sized)) ∙ ap (λ (a : CodeAnswer). Some a) (sym answer_is))) in
+        let own = U.blank n (request_value request) one.answer (omega arith) (at_place it)
+        (slice_get-get_or answers n d (omega (arith, it.low, U.sized)) ∙ ap (λ (a : CodeAnswer). Some a) (sym answer_is)) in
         let fit : IsFit (length (take n rs) + 1) one = record {
           before = omega (arith, place, w.counted);
           short = ap too_long request_is ∙ short;
@@ -183,7 +185,7 @@ module _ {start : HostState} {requests : List CodeRequest} {n : ℕ} {out : List
         let changed = puts.posts.is in
         record {
           driving = rw (← more, told_is) posted;
-          blank = λ k q a from stands at. U.blank k q a (omega (arith, from)) stands (sym (slice_get-set_other (answer_values answers) _ k TooLong (λ same. omega (arith, same, from, w.counted))) ∙ ap (λ (as' : List Answer). slice_get as' k) (sym told_is) ∙ at);
+          blank = λ k q a from stands at. U.blank k q a (omega (arith, from)) stands (sym (slice_get-set_other answers n k CodeTooLong (λ same. omega (arith, same, from))) ∙ ap (λ (as' : List CodeAnswer). slice_get as' k) (sym left_is) ∙ at);
           sized = ap length left_is ∙ length-set answers n CodeTooLong ∙ U.sized;
           at_work = record { begun = rw changed U.at_work.begun; images = rw changed U.at_work.images; adds_up = adds_up };
           posted = rw changed (omega (arith, U.posted, w.posted short, length_push host.due (posted_command (posted_with puts.number one))));
@@ -193,7 +195,7 @@ module _ {start : HostState} {requests : List CodeRequest} {n : ℕ} {out : List
 -- ---- the beginning and the end
 
 pub underway_start : {start : HostState} {requests : List CodeRequest} {out : List (Option Out)} {answers : List CodeAnswer} → IsDriver start → out ≡ replicate PENDING_LIMIT None → length answers ≡ length requests
-    → AreBlank (request_values requests) 0 (answer_values answers) → Underway start requests 0 out answers start
+    → AreBlank (request_values requests) 0 answers → Underway start requests 0 out answers start
 underway_start {start} {requests} {answers = answers} ready none sized blank =
     let rest = ready.rest in
     record {

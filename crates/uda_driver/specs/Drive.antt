@@ -6,7 +6,7 @@ use Rattle.uda_disk.specs.Values.{request_values, answer_values}
 use Rattle.uda_disk.specs.declared.request.Request.{Request as CodeRequest}
 use Rattle.uda_disk.specs.declared.answer.Answer.{Answer as CodeAnswer}
 use Rattle.uda_posting.specs.Keeping.{Owes}
-use Rattle.uda_host.specs.Host.{HostState, AddsUp}
+use Rattle.uda_host.specs.Host.{HostState}
 use Rattle.uda_driver.specs.Run.{CountsOn}
 use Rattle.uda_driver.specs.Driver.{IsDriver}
 use Rattle.uda_driver.specs.Underway.{Driving}

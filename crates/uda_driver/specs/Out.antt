@@ -7,7 +7,7 @@ use Rattle.uda_disk.specs.Request.{Request}
 use Rattle.uda_disk.specs.PlainRun.{too_long}
 use Rattle.uda_disk.specs.Order.{clash}
 use Rattle.uda_posting.specs.Posting.{Posted}
-use Rattle.uda_disk.specs.Values.{request_value, answer_value}
+use Rattle.uda_disk.specs.Values.{request_value}
 use Rattle.uda_host.specs.Layout.{buffer_address}
 use Rattle.uda_host.specs.Host.{HostState}
 use Rattle.uda_driver.specs.Blank.{Prepared}
@@ -43,7 +43,7 @@ must_wait host out r = nat_eq host.credits 0 || clashes_with_any r out
 pub record IsFit (n : ℕ) (one : Out) : Type 0 where
   pub before : one.place < n
   pub short : too_long (request_value one.request.now) ≡ false
-  pub prepared : Prepared (request_value one.request.now) (answer_value one.answer)
+  pub prepared : Prepared (request_value one.request.now) one.answer
 
 abbrev pub AreFit : ℕ → List (Option Out) → Type 0
 AreFit n out = (number : ℕ) (one : Out) → slice_get out number ≡ Some (Some one) → IsFit n one

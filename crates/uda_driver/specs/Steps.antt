@@ -3,7 +3,7 @@ use Rattle.std.specs.Prelude.{◌≡◌, ℕ, ◌+◌, List, Option, Some, None,
 use Rattle.uda_mem.specs.Put.{put}
 use Rattle.uda_packet.specs.declared.end.End.{End}
 use Rattle.uda_posting.specs.Posting.{posted_command, answer_of, buffer_of, bytes_brought}
-use Rattle.uda_disk.specs.Values.{request_value, answer_values}
+use Rattle.uda_disk.specs.Values.{request_value, answer_value}
 use Rattle.uda_disk.specs.declared.answer.Answer.{Answer}
 use Rattle.uda_host.specs.Layout.{buffer_address}
 use Rattle.uda_host.specs.Host.{HostState, Posts, Works, TakesEnd}
@@ -42,11 +42,12 @@ pub record TellsEnd (end : End) (memory : List ℕ) (out : List (Option Out)) (a
     (out_after : List (Option Out)) (answers_after : List Answer) : Type 0 where
   pub done : IsReferred end.reference out
   pub out_is : out_after ≡ slice_set out done.number None
-  pub answers_are :
-      answer_values answers_after
-      ≡ slice_set (answer_values answers) done.one.place
-      (answer_of (request_value done.one.request.now).act end
-      (buffer_of (posted_with done.number done.one) memory))
+  pub told : Answer
+  pub told_is :
+      answer_value told
+      ≡ answer_of (request_value done.one.request.now).act end
+      (buffer_of (posted_with done.number done.one) memory)
+  pub answers_are : answers_after ≡ slice_set answers done.one.place told
 
 -- a turn, by which nothing is told, or the answer of the end that was taken
 pub data Steps (host : HostState) (out : List (Option Out)) (answers : List Answer)

@@ -1,6 +1,6 @@
 -- What a driver knows between two steps of a run: four records, of which `Underway` is the whole.
-use Rattle.std.specs.Prelude.{◌≡◌, ℕ, ◌+◌, ◌<◌, ◌≤◌, List, [], ◌++◌, length, map, take, Option, Some}
-use Rattle.std.specs.Prelude.{slice_get, All, AllPairs}
+use Rattle.std.specs.Prelude.{◌≡◌, ℕ, ◌+◌, ◌<◌, List, ◌++◌, length, map, take, Option}
+use Rattle.std.specs.Prelude.{All, AllPairs}
 use Rattle.uda_packet.specs.declared.end.End.{End}
 use Rattle.uda_disk.specs.Units.{AreImages, Units}
 use Rattle.uda_exec.specs.Disks.{PENDING_LIMIT}
@@ -8,13 +8,11 @@ use Rattle.uda_disk.specs.Request.{Request}
 use Rattle.uda_disk.specs.Answer.{Answer}
 use Rattle.uda_disk.specs.PlainRun.{posted_count}
 use Rattle.uda_posting.specs.Posting.{Posted, commands_in}
-use Rattle.uda_posting.specs.Keeping.{Owes, Ended, Keeps, RefersBack, AreTwo}
+use Rattle.uda_posting.specs.Keeping.{Ended, Keeps, RefersBack, AreTwo}
 use Rattle.uda_disk.specs.Values.{request_values, answer_values}
 use Rattle.uda_disk.specs.declared.request.Request.{Request as CodeRequest}
 use Rattle.uda_disk.specs.declared.answer.Answer.{Answer as CodeAnswer}
 use Rattle.uda_host.specs.Host.{HostState, out_of, AddsUp}
-use Rattle.uda_driver.specs.Run.{CountsOn}
-use Rattle.uda_driver.specs.Driver.{IsDriver}
 use Rattle.uda_driver.specs.Blank.{AreBlank}
 use Rattle.uda_driver.specs.Out.{count_out, AreFit, IsOut, HaveOwnPlaces}
 use Rattle.uda_driver.specs.Load.{LoadAt}
@@ -57,7 +55,7 @@ pub record IsAtWork (host : HostState) : Type 0 where
 pub record Underway (start : HostState) (requests : List CodeRequest) (n : ℕ) (out : List (Option Out))
     (answers : List CodeAnswer) (host : HostState) : Type 0 where
   pub driving : Driving start.units (take n (request_values requests)) out (answer_values answers) host
-  pub blank : AreBlank (request_values requests) n (answer_values answers)
+  pub blank : AreBlank (request_values requests) n answers
   pub sized : length answers ≡ length requests
   pub at_work : IsAtWork host
   pub posted : host.taken + out_of host ≡ start.taken + posted_count (take n (request_values requests))

@@ -1,9 +1,9 @@
 //! The answers, as they are prepared before the first command, and as ends fill them.
-ghost use Rattle.std.specs.Prelude.{◌≡◌, ◌≤◌, true, false, length, take, IfOk};
+ghost use Rattle.std.specs.Prelude.{◌≡◌, ◌≤◌, true, false, length, take, vec_capacity, IfOk};
 ghost use Rattle.uda_exec.specs.Commands.{room_of};
 ghost use Rattle.uda_disk.specs.PlainRun.{too_long};
 ghost use Rattle.uda_posting.specs.Posting.{op_of, answer_of};
-ghost use Rattle.uda_disk.specs.Values.{request_value, answer_value, request_values, answer_values};
+ghost use Rattle.uda_disk.specs.Values.{request_value, answer_value, request_values};
 ghost use Rattle.uda_host.specs.Layout.{buffer_size};
 ghost use Rattle.uda_driver.specs.Blank.{Prepared, AreBlank};
 
@@ -17,12 +17,12 @@ fn blank(alloc: Global, request: &Request) -> Result<Answer, AllocError>
         too_long (request_value request.now) ≡ true → a ≡ Answer.TooLong) }
     ensures room { IfOk result (λ a.
         too_long (request_value request.now) ≡ false
-        → Prepared (request_value request.now) (answer_value a)) }
+        → Prepared (request_value request.now) a) }
 {
     match request {
         Request::Read { bytes, .. } if !request.is_too_long() => Ok(Answer::Data {
             status: 0,
-            bytes: Vec::from_elem(alloc, 0, *bytes as usize)?,
+            bytes: Vec::with_capacity(alloc, *bytes as usize)?,
         }),
         _ => Ok(Answer::TooLong),
     }
@@ -32,7 +32,7 @@ fn blank(alloc: Global, request: &Request) -> Result<Answer, AllocError>
 pub(crate) fn blanks(alloc: Global, requests: &[Request]) -> Result<Vec<Answer>, AllocError>
     ensures counted { IfOk result (λ answers. length answers.items ≡ length requests.now) }
     ensures blank { IfOk result (λ answers.
-        AreBlank (request_values requests.now) 0 (answer_values answers.items)) }
+        AreBlank (request_values requests.now) 0 answers.items) }
 {
     let mut answers = Vec::new(alloc);
     for request in requests {
@@ -45,7 +45,7 @@ pub(crate) fn blanks(alloc: Global, requests: &[Request]) -> Result<Vec<Answer>,
 pub(crate) fn answer_for(blank: Answer, request: &Request, end: End, buffer: &[u8]) -> Answer
     requires short { too_long (request_value request.now) ≡ false }
     requires whole { length buffer.now ≡ buffer_size }
-    ensures { Prepared (request_value request.now) (answer_value blank)
+    ensures { Prepared (request_value request.now) blank
         → answer_value result
         ≡ answer_of (request_value request.now).act end
         (take (room_of (op_of (request_value request.now).act 0)) buffer.now) }
@@ -83,12 +83,12 @@ pub(crate) fn answer_for(blank: Answer, request: &Request, end: End, buffer: &[u
     }
 }
 
-// Makes the bytes these, where there are as many or more.
+// Makes the bytes these, where there is room for them: so none is taken from memory.
 fn fill(bytes: &mut Vec<u8>, from: &[u8])
-    ensures { length from.now ≤ length bytes.old.items → bytes.new.items ≡ from.now }
+    ensures { length from.now ≤ vec_capacity bytes.old → bytes.new.items ≡ from.now }
 {
-    if from.len() <= bytes.len() {
-        bytes.truncate(from.len());
-        bytes.copy_from_slice(from);
+    if from.len() <= bytes.capacity() {
+        bytes.clear();
+        let _ = bytes.extend_from_slice(from);
     }
 }

@@ -123,7 +123,7 @@ fn prepare(alloc: Global, requests: &[Request]) -> Result<Vec<Answer>, RunError>
     ensures few { IfOk result (λ _. length requests.now ≤ request_limit) }
     ensures counted { IfOk result (λ answers. length answers.items ≡ length requests.now) }
     ensures blank { IfOk result (λ answers.
-        AreBlank (request_values requests.now) 0 (answer_values answers.items)) }
+        AreBlank (request_values requests.now) 0 answers.items) }
 {
     if requests.len() > REQUEST_LIMIT {
         return Err(RunError::TooMany);

@@ -3,7 +3,7 @@ ghost use Rattle.std.specs.Prelude.{◌≡◌, ◌<◌, ◌≤◌, false, length
 ghost use Rattle.uda_disk.specs.Units.{AreImages};
 ghost use Rattle.uda_exec.specs.Disks.{PENDING_LIMIT};
 ghost use Rattle.uda_disk.specs.PlainRun.{too_long};
-ghost use Rattle.uda_disk.specs.Values.{request_value, request_values, answer_values};
+ghost use Rattle.uda_disk.specs.Values.{request_value, request_values};
 ghost use Rattle.uda_host.specs.Host.{out_of, AddsUp};
 ghost use Rattle.uda_driver.specs.Blank.{AreBlank};
 ghost use Rattle.uda_driver.specs.Run.{request_limit};
@@ -31,7 +31,7 @@ pub(crate) fn drive<S: BlockStore>(
     requires ready { IsDriver host.old }
     requires few { length requests.now ≤ request_limit }
     requires counted { length answers.items ≡ length requests.now }
-    requires blank { AreBlank (request_values requests.now) 0 (answer_values answers.items) }
+    requires blank { AreBlank (request_values requests.now) 0 answers.items }
     ensures { Ran host.old requests.now result.items host.new }
 {
     let mut out = none_out();

@@ -1,4 +1,4 @@
-use Rattle.std.proofs.Common.{◌∙◌, ◌≡◌, ◌<◌, ℕ, length, refl, ap, sym, subst, arith, rules}
+use Rattle.std.proofs.Common.{◌∙◌, ◌<◌, ℕ, length, refl, ap, sym, subst, arith, rules}
 use Rattle.std.specs.Prelude.{slice_set}
 use Rattle.uda_driver.specs.Underway.{Underway}
 use Rattle.uda_driver.proofs.Underways.{steps_less, is_driving, all_credits, underway_step, IsAt, underway_skip, wait_some, wait_ends, credit_left, buffer_left, underway_post, underway_start, drain_ends, ran}

@@ -1,8 +1,7 @@
-use Rattle.std.proofs.Common.{◌∙◌, ◌<◌, ℕ, length, rules, refl, sym, ap, subst, arith}
+use Rattle.std.proofs.Common.{◌∙◌, ◌<◌, length, rules, refl, sym, ap, subst, arith}
 use Rattle.uda_disk.specs.Values.{request_value}
 use Rattle.uda_posting.proofs.Posts.{buffer-at, bytes_fit}
 use Rattle.std.specs.Prelude.{None, is_none}
-use Rattle.uda_exec.specs.Disks.{PENDING_LIMIT}
 use Rattle.uda_host.specs.Host.{HostState}
 use Rattle.uda_driver.specs.Out.{posted_with}
 use Rattle.uda_driver.proofs.Slots.{never_missed, found_free}

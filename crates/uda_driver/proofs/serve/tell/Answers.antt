@@ -1,4 +1,4 @@
-use Rattle.std.proofs.Common.{◌∙◌, List, ℕ, ap, arith, take}
+use Rattle.std.proofs.Common.{◌∙◌, List, ℕ, refl, ap, arith, take}
 use Rattle.uda_exec.specs.Commands.{room_of}
 use Rattle.uda_disk.specs.Values.{request_value}
 use Rattle.uda_posting.specs.Posting.{op_of, answer_of}
@@ -20,5 +20,7 @@ returns g c =
     record {
       done = record { number = c.take_out-number.result.0; one = c.take_out-number.result.1; stands = taken.stands; refers = taken.refers };
       out_is = taken.left;
-      answers_are = answer_told c.args.answers.now.items c.take_out-number.result.1.place (request_value c.take_out-number.result.1.request.now) c.args.end c.args.host.now.memory _ _ fit.short told;
+      told = c.answer_for.result;
+      told_is = answer_told (request_value c.take_out-number.result.1.request.now) c.args.end c.args.host.now.memory _ c.answer_for.result fit.short told;
+      answers_are = refl;
     }

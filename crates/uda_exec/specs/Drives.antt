@@ -1,9 +1,10 @@
 -- Drives as they are handed to an executor and handed back.
-use Rattle.std.specs.Prelude.{ℕ, Bool, false, List, Option, map, option_map, set}
+use Rattle.std.specs.Prelude.{ℕ, Bool, false, List, Option, Some, None, map, option_map, set}
 use Rattle.uda_image.specs.declared.store.Drive.{Drive}
 use Rattle.uda_image.specs.Store.{StoreState}
 use Rattle.uda_disk.specs.Units.{UnitState}
 use Rattle.uda_exec.specs.Disks.{ExecState}
+use Rattle.uda_exec.specs.declared.drive_unit.UnitLook.{UnitLook}
 
 -- what contracts see of a drive: its store, and its own write protection
 pub record DriveState : Type 0 where
@@ -38,3 +39,11 @@ reset_unit unit = option_map (λ u. fresh_unit (drive_in u)) unit
 -- the executor with this drive as unit u, or with none there; the commands that are pending wait on
 abbrev pub with_drive : ExecState → ℕ → Option DriveState → ExecState
 with_drive exec u drive = record exec { units = set exec.units u (option_map fresh_unit drive) }
+
+-- what is to be seen of a unit: its mode and its size
+abbrev pub look_of : UnitState → UnitLook
+look_of unit = record { mode = unit.mode; size = unit.store.size }
+
+abbrev pub look_at : Option (Option UnitState) → Option UnitLook
+look_at (Some (Some unit)) = Some (look_of unit)
+look_at _ = None

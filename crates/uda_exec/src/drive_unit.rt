@@ -10,7 +10,7 @@ ghost use Rattle.uda_disk.specs.Plain.{Done, mode_after, answer_on};
 ghost use Rattle.uda_disk.specs.Units.{HoldsImage, disk_of};
 ghost use Rattle.uda_exec.specs.Commands.{act_of};
 ghost use Rattle.uda_exec.specs.Effect.{end_for};
-ghost use Rattle.uda_exec.specs.Drives.{drive_state, drive_in, fresh_unit};
+ghost use Rattle.uda_exec.specs.Drives.{drive_state, drive_in, fresh_unit, look_of};
 ghost use Rattle.uda_exec.specs.Execution.{ServesUnit};
 
 use crate::movement::{BLOCK, move_blocks};
@@ -26,6 +26,15 @@ use uda_packet::{Command, End, EndBody, Op, Transfer, status};
 pub struct DriveUnit<S: BlockStore> {
     store: S,
     mode: Mode,
+}
+
+/// What is to be seen of a unit with a drive.
+#[derive(Clone, Copy, Debug, PartialEq, Eq)]
+pub struct UnitLook {
+    /// Whether it is online, and how it is protected.
+    pub mode: Mode,
+    /// Its size in blocks.
+    pub size: u32,
 }
 
 impl<S: BlockStore> Model for DriveUnit<S> {
@@ -59,6 +68,16 @@ impl<S: BlockStore> DriveUnit<S> {
         Drive {
             store,
             hard: mode.hard,
+        }
+    }
+
+    /// Its mode and its size.
+    pub fn look(&self) -> UnitLook
+        ensures look { result ≡ look_of self.now }
+    {
+        UnitLook {
+            mode: self.mode,
+            size: self.store.size(),
         }
     }
 

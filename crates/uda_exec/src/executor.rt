@@ -8,11 +8,11 @@ ghost use Rattle.uda_disk.specs.Units.{HoldsImage, AreImages, is_faithful, is_su
 ghost use Rattle.uda_exec.specs.Disks.{PENDING_LIMIT};
 ghost use Rattle.uda_exec.specs.Commands.{is_controller};
 ghost use Rattle.uda_exec.specs.Drives.{drive_state, drive_states, drive_in, fresh_unit, fresh_units};
-ghost use Rattle.uda_exec.specs.Drives.{drives_in, reset_unit, with_drive};
+ghost use Rattle.uda_exec.specs.Drives.{drives_in, reset_unit, with_drive, look_at};
 ghost use Rattle.uda_exec.specs.Execution.{Executes, ExecutesAt};
 
 use crate::choice::{Position, next_place};
-use crate::drive_unit::DriveUnit;
+use crate::drive_unit::{DriveUnit, UnitLook};
 use crate::reply::{plain_body, refuse, reply};
 use arrayvec::ArrayVec;
 use std::marker::Model;
@@ -111,6 +111,14 @@ impl<S: BlockStore> Exec<S> {
         ensures within { result ≤ PENDING_LIMIT }
     {
         self.pending.len()
+    }
+
+    /// The mode and the size of a unit; None where it has no drive, or there is no such unit.
+    pub fn unit(&self, unit: usize) -> Option<UnitLook>
+        ensures look { result ≡ look_at (slice_get self.now.units unit) }
+    {
+        let unit = self.units.get(unit)?.as_ref()?;
+        Some(unit.look())
     }
 
     /// The command that was accepted last of those that are pending.

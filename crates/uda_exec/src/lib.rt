@@ -17,4 +17,5 @@ pub mod order;
 mod refusal;
 mod reply;
 
+pub use drive_unit::UnitLook;
 pub use executor::{Exec, PENDING};

@@ -1,10 +1,14 @@
 //! To look in: what an emulator shows of a port beside its registers.
 //!
 //! UDA50 Programmer's Documentation Kit: communication area, credits.
-ghost use Rattle.std.specs.Prelude.{◌≡◌};
+ghost use Rattle.std.specs.Prelude.{◌≡◌, slice_get};
+ghost use Rattle.uda_exec.specs.Drives.{look_at};
 
+use crate::interrupt::Interrupts;
 use crate::port::Port;
+use crate::profile::Profile;
 use crate::ring::Ring;
+use uda_exec::UnitLook;
 use uda_image::BlockStore;
 
 impl<S: BlockStore> Port<S> {
@@ -21,6 +25,27 @@ impl<S: BlockStore> Port<S> {
         ensures ring { result ≡ self.now.commands }
     {
         self.commands
+    }
+
+    /// The mode and the size of a unit; None where it has no drive, or there is no such unit.
+    pub fn unit(&self, unit: usize) -> Option<UnitLook>
+        ensures look { result ≡ look_at (slice_get self.now.exec.units unit) }
+    {
+        self.exec.unit(unit)
+    }
+
+    /// Whether the port is strict or for guests.
+    pub fn profile(&self) -> Profile
+        ensures profile { result ≡ self.now.profile }
+    {
+        self.profile
+    }
+
+    /// Whether the host enabled interrupts, their vector, and whether a request waits.
+    pub fn interrupts(&self) -> Interrupts
+        ensures interrupts { result ≡ self.now.interrupts }
+    {
+        self.interrupts
     }
 
     /// The credits that the host has: so many commands it may still post.

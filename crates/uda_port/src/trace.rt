@@ -36,6 +36,21 @@ pub enum Trace {
     Dead(Fatal),
 }
 
+impl Trace {
+    /// The turn that was taken.
+    pub fn turn(self) -> Turn
+        ensures turn { result ≡ turn_of self }
+    {
+        match self {
+            Trace::Fetched(_) | Trace::Refused(_) => Turn::Fetched,
+            Trace::Executed(_) => Turn::Executed,
+            Trace::Delivered(_) => Turn::Delivered,
+            Trace::Idle => Turn::Idle,
+            Trace::Dead(_) => Turn::Dead,
+        }
+    }
+}
+
 /// A line of a trace: `fetched 3 Read unit 0 lbn 9 bytes 512`, `executed 3 Read unit 0 status 0x0000 bytes 512`,
 /// `delivered 4 Online unit 0 status 0x0000`, `refused 0 invalid command unit 0 status 0x0001`, `idle` or
 /// `dead of code 10`.

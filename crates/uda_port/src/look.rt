@@ -6,7 +6,6 @@ ghost use Rattle.uda_exec.specs.Drives.{look_at};
 
 use crate::interrupt::Interrupts;
 use crate::port::Port;
-use crate::profile::Profile;
 use crate::ring::Ring;
 use uda_exec::UnitLook;
 use uda_image::BlockStore;
@@ -32,13 +31,6 @@ impl<S: BlockStore> Port<S> {
         ensures look { result ≡ look_at (slice_get self.now.exec.units unit) }
     {
         self.exec.unit(unit)
-    }
-
-    /// Whether the port is strict or for guests.
-    pub fn profile(&self) -> Profile
-        ensures profile { result ≡ self.now.profile }
-    {
-        self.profile
     }
 
     /// Whether the host enabled interrupts, their vector, and whether a request waits.

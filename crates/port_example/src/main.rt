@@ -1,5 +1,6 @@
 //! How the port is called: an emulator whose guest starts the port up, posts a Get Unit Status of
-//! unit 0, and finds its end message in its own memory.
+//! unit 0, and finds its end message in its own memory. After each call the emulator asks the port for
+//! the interrupt that it would request of its bus.
 #![tactic(auto)]
 
 use anyhow::Result;
@@ -13,18 +14,22 @@ fn main(rt: HostRuntime) -> Result<()> {
     let store = MemImage::new(rt.alloc(), 8)?;
     let drive = Drive { store, hard: true };
     let mut memory = HostMemory::new(rt.alloc(), 4096)?;
-    let mut port = match Port::new(rt.alloc(), Exec::new([Some(drive), None, None, None])) {
+    let exec = Exec::new([Some(drive), None, None, None]);
+    let mut port = match Port::for_guests(rt.alloc(), exec) {
         Ok(port) => port,
         Err((error, _)) => return Err(error.into()),
     };
 
-    // the guest writes four words to SA, and reads it after each: rings of one descriptor from 8 on
-    for word in [0x8000, 0x0008, 0x0000, 0x0001] {
+    // the guest writes four words to SA, and reads it after each: interrupts by the vector at 108, and
+    // rings of one descriptor from 8 on
+    for word in [0x809b, 0x0008, 0x0000, 0x0001] {
         port.write_sa(word, &mut memory);
-        println!(rt; "SA {:#06x}", port.read_sa())?;
+        let request = port.take_interrupt();
+        println!(rt; "SA {:#06x}, interrupt {request:?}", port.read_sa())?;
     }
 
-    // it hands the port a buffer and a command: lengths, a text, and both descriptors, owned
+    // it hands the port a buffer and a command: a text and its length, and both descriptors, owned and
+    // with the flag
     let command = Command {
         reference: 1,
         unit: 0,
@@ -34,12 +39,11 @@ fn main(rt: HostRuntime) -> Result<()> {
         text.copy_from_slice(&encode_command(&command));
     }
     let words = [
-        (0xfc, 48),
-        (0x1fc, 48),
+        (0x1fc, 12),
         (8, 0x100),
-        (10, 0x8000),
+        (10, 0xc000),
         (12, 0x200),
-        (14, 0x8000),
+        (14, 0xc000),
     ];
     for (address, word) in words {
         memory.write_word(address, word);
@@ -48,7 +52,9 @@ fn main(rt: HostRuntime) -> Result<()> {
     // it reads IP, and the emulator lets the port take its turns
     port.read_ip();
     for _ in 0..4 {
-        println!(rt; "{:?}", port.turn(&mut memory))?;
+        let turn = port.turn(&mut memory);
+        let request = port.take_interrupt();
+        println!(rt; "{turn:?}, interrupt {request:?}")?;
     }
     if let Some(end) = memory
         .window(0x100, 48)

@@ -48,7 +48,7 @@ pub enum Phase {
 pub enum Fatal {
     /// Code 1: a command's address is odd, or its envelope or its text isn't in memory.
     PacketRead,
-    /// Code 2: the same of a response's buffer, or its length word is under 48.
+    /// Code 2: the same of a response's buffer, or, strictly, its length word is under 48.
     PacketWrite,
     /// Code 6: the next descriptor of a ring isn't in memory.
     RingRead,

@@ -5,8 +5,11 @@
 /// How far a port bears with its host.
 #[derive(Clone, Copy, Debug, PartialEq, Eq)]
 pub enum Profile {
-    /// What it asks of a host is all that it serves: for whoever tests a driver.
+    /// For whoever tests a driver: every text has 48 bytes, a start-up word asks for nothing beside rings in
+    /// 18 bits, and there are no interrupts.
     Strict,
-    /// It serves hosts as they were shipped: for whoever runs guests.
+    /// For whoever runs hosts as they were shipped: a command has as many bytes as its length says and an
+    /// end as many as its kind has, purge interrupts and the purge and poll test are taken, a ring base has
+    /// up to 31 bits, and there are interrupts.
     ForGuests,
 }

@@ -26,8 +26,8 @@ pub enum RingFault {
     /// The next descriptor isn't wholly in memory: fewer than four bytes stand from it on.
     Ring,
     /// The next descriptor is the port's, and its text is at an odd address, at one below 4, which
-    /// leaves no room for the envelope, or at one from which fewer than 48 bytes stand in memory. A
-    /// response ring has it too where the buffer's length word is under 48.
+    /// leaves no room for the envelope, or not wholly in memory. A strict port's response ring has it too
+    /// where the buffer's length word is under 48.
     Packet,
 }
 

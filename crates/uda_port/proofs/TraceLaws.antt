@@ -30,13 +30,18 @@ pub data OneMore (old new : PortState) : Type 0 where
   ACommand : (c : Command) → new.exec.pending ≡ old.exec.pending ++ c ∷ [] → OneMore old new
   AnEnd : (e : End) → new.exec.pending ≡ old.exec.pending → new.waiting ≡ old.waiting ++ e ∷ [] → OneMore old new
 
-one_more : (old : PortState) (memory : List ℕ) (new : PortState) (memory_after : List ℕ) → (message : Result Command End)
-    → new ≡ record (port_with_message (port_turn_on old) message) { commands = new.commands; credits = old.credits - 1; fetches = old.fetches + 1 } → OneMore old new
-one_more old memory new memory_after (Ok c) is = ACommand c (ap (λ (p : PortState). p.exec.pending) is)
-one_more old memory new memory_after (Err e) is = AnEnd e (ap (λ (p : PortState). p.exec.pending) is) (ap (λ (p : PortState). p.waiting) is)
+one_more : (old new : PortState) (message : Result Command End) → new.exec.pending ≡ (port_with_message old message).exec.pending → new.waiting ≡ (port_with_message old message).waiting → OneMore old new
+one_more old new (Ok c) pending waiting = ACommand c pending
+one_more old new (Err e) pending waiting = AnEnd e pending waiting
+
+-- a port that has counted its turn has what it had
+one_more_turned : (old new : PortState) → OneMore (port_turn_on old) new → OneMore old new
+one_more_turned old new (ACommand c is) = ACommand c is
+one_more_turned old new (AnEnd e stays is) = AnEnd e stays is
 
 pub fetched : (phase : Phase) (old : PortState) (memory : List ℕ) (new : PortState) (memory_after : List ℕ) → TurnGoes phase old memory turn.Fetched new memory_after → OneMore old new
-fetched Running old memory new memory_after goes = one_more old memory new memory_after (message_in old.profile goes.packet) goes.others
+fetched Running old memory new memory_after goes =
+    one_more_turned old new (one_more (port_turn_on old) new (message_in old.profile goes.packet) (ap (λ (p : PortState). p.exec.pending) goes.others) (ap (λ (p : PortState). p.waiting) goes.others))
 fetched Step1 old memory new memory_after goes = absurd (cc)
 fetched (Step2 first) old memory new memory_after goes = absurd (cc)
 fetched (Step3 first second) old memory new memory_after goes = absurd (cc)

@@ -1,12 +1,41 @@
-use Rattle.std.proofs.Common.{◌≡◌, ◌<◌, ◌≤◌, length, Some, subst, sym, ap, ◌∙◌, arith}
-use Rattle.std.specs.Prelude.{slice_get}
+use Rattle.std.proofs.Common.{◌≡◌, ◌<◌, ◌≤◌, List, [], ◌∷◌, length, Some, refl, subst, sym, ap, ◌∙◌, arith, length-append}
+use Rattle.std.specs.Prelude.{slice_get, IsSome}
 use Rattle.circular_buffer.specs.Buffer.{last_item}
 use Rattle.uda_packet.specs.declared.end.End.{End}
 use Rattle.uda_port.specs.Port.{PortState}
-use Rattle.uda_port.specs.Trace.{Tells}
+use Rattle.uda_port.specs.Trace.{Tells, IsDead}
 use Rattle.uda_port.proofs.TraceLaws.{fetched, executed, delivered, died, ends_with, told_command, told_refusal, told_first}
 use Rattle.uda_port.proofs.port.Port.turn_traced_in.Goals as goal
 use Rattle.uda_port.proofs.port.Port.turn_traced_in.Goals.{in-Fetched, in-Fetched-2, in-Executed, in-Delivered, in-Idle, in-Dead}
+
+pub newest-requires-in-Executed : goal.newest-requires-in-Executed
+newest-requires-in-Executed g c =
+    let put = executed _ c.args.self.now _ c.turn_in.new.self _ c.in-Executed.ensures.goes in
+    let longer = ap length put.1 ∙ length-append c.args.self.now.waiting (put.0 ∷ []) in
+    let here = ap (λ (p : PortState). length p.waiting) c.self-2.view_is in
+    record { some = omega (arith, longer, here) }
+
+pub unwrap-requires-in-Delivered : goal.unwrap-requires-in-Delivered
+unwrap-requires-in-Delivered g c =
+    let taken = delivered _ c.args.self.now _ c.turn_in.new.self _ c.in-Delivered.ensures.goes in
+    let first = c.copied-first.ensures ∙ c.front.ensures ∙ ap (λ (p : PortState). slice_get p.waiting 0) c.self.view_is ∙ ap (λ (w : List End). slice_get w 0) taken.1 in
+    subst IsSome (sym first) refl
+
+pub cause_of-requires : goal.cause_of-requires
+cause_of-requires g c =
+    let dead = died c.args.self.now.phase c.args.self.now _ c.turn_in.new.self _ refl c.in-Dead.ensures.goes in
+    record { dead = subst IsDead (sym (ap (λ (p : PortState). p.phase) c.self-2.view_is)) dead }
+
+pub returns-clause-goes : goal.returns-clause-goes
+returns-clause-goes g c =
+    elim c.match-turn_in.branch [
+      in-Fetched w ↦ rw w.result-is w.in-Fetched.ensures.goes
+    | in-Fetched-2 w ↦ rw w.result-is w.in-Fetched-2.ensures.goes
+    | in-Executed w ↦ rw w.result-is w.in-Executed.ensures.goes
+    | in-Delivered w ↦ rw w.result-is w.in-Delivered.ensures.goes
+    | in-Idle w ↦ rw w.result-is w.in-Idle.ensures.goes
+    | in-Dead w ↦ rw w.result-is w.in-Dead.ensures.goes
+    ]
 
 pub returns-clause-tells : goal.returns-clause-tells
 returns-clause-tells g c =

@@ -126,9 +126,9 @@ fn transit(rt: &impl Abort, machine: &mut Machine, command: u16, response: u16, 
     machine.take_turns(rt, turns);
 }
 
-/// Gives the port the last descriptor of a ring of 8, which is the one before the first.
-fn own_last(rt: &impl Abort, machine: &mut Machine, ring: u32) {
-    machine.poke(rt, &[(ring + 30, OWNED)]);
+/// Gives the port the last descriptors of both rings, which are the ones before the first.
+fn own_last(rt: &impl Abort, machine: &mut Machine) {
+    machine.poke(rt, &[(38, OWNED), (COMMANDS + 30, OWNED)]);
 }
 
 /// Asserts what a Status leaves whose descriptors have these second words, while the rings are full of
@@ -143,8 +143,7 @@ fn assert_transit(
     let request = if told == 1 { Some(VECTOR) } else { None };
     let mut machine = running(rt, alloc, ENABLED)?;
     if full {
-        own_last(rt, &mut machine, 8);
-        own_last(rt, &mut machine, COMMANDS);
+        own_last(rt, &mut machine);
     }
     transit(rt, &mut machine, flag, flag, &[Turn::Fetched]);
     machine.assert_interrupt(rt, request);
@@ -171,8 +170,7 @@ fn ring_interrupts(rt: HostRuntime) -> Result<(), Fail> {
 #[test]
 fn told_without_interrupts(rt: HostRuntime) -> Result<(), Fail> {
     let mut machine = running(&rt, rt.alloc(), NOT_ENABLED)?;
-    own_last(&rt, &mut machine, 8);
-    own_last(&rt, &mut machine, COMMANDS);
+    own_last(&rt, &mut machine);
     let turns = [Turn::Fetched, Turn::Executed, Turn::Delivered];
     transit(&rt, &mut machine, FLAGGED, FLAGGED, &turns);
     machine.assert_interrupt(&rt, None);

@@ -49,3 +49,18 @@ pub fn move_file_blocks(file: &mut File, work: Work, size: u32) -> io::Result<()
     }
     Ok(())
 }
+
+/// Reads or writes the blocks of a work of transfers of 32 in a file of `size` blocks, a transfer a call.
+pub fn move_file_transfers(file: &mut File, work: Work, size: u32) -> io::Result<()> {
+    let mut buffer = [0; 16_384];
+    let mut block: u32 = 0;
+    for _ in 0..work.transfers {
+        let place = u64::from(block).saturating_mul(512);
+        match work.direction {
+            Direction::Read => file.read_exact_at(&mut buffer, place)?,
+            Direction::Write => file.write_all_at(&buffer, place)?,
+        }
+        block = work.next(block, size);
+    }
+    Ok(())
+}

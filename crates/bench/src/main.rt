@@ -7,7 +7,8 @@
 //! go through the rings of a port in a slice, beside a port over a host memory.
 //!
 //! Otherwise the words are a store, `memory` (an image of 1,000 blocks) or the path of an image file of
-//! 131,072 blocks; a work, `read` or `write`; the blocks of each transfer, `32` or `1`; and how many rounds.
+//! 131,072 blocks; a work, `read` or `write`; the blocks of each transfer, `32` or `1`; and how many rounds. The
+//! bare loop moves one block a call, and with a last word `32` over a file the 32 of a transfer.
 //! Each round prints a line: the nanoseconds of processor time of the executor, and those of the bare loop.
 #![tactic(auto)]
 
@@ -20,6 +21,8 @@ mod work;
 
 use anyhow::{Result, bail};
 use std::env;
+use stores::Call;
+use work::Work;
 
 fn main(rt: HostRuntime) -> Result<()> {
     let owned: Vec<String> = env::args(&rt)?.skip(1).collect(rt.alloc())?;
@@ -32,6 +35,10 @@ fn run(rt: &HostRuntime, words: &[&str]) -> Result<()> {
     match words {
         [] => Ok(()),
         [subject, work, blocks, rounds] => rounds_of(rt, subject, work, blocks, number(rounds)?),
+        [path, work, "32", rounds, "32"] => {
+            let work = Work::named(work, "32")?;
+            stores::over_file(rt, path, work, Call::Transfer, number(rounds)?)
+        }
         _ => bail!("words: memory, a file, port, driver or slice; a work; its blocks; rounds"),
     }
 }
@@ -47,6 +54,6 @@ fn rounds_of(rt: &HostRuntime, subject: &str, work: &str, blocks: &str, rounds: 
         "slice" => slices::through_slice(rt, work, blocks, rounds),
         "driver" => layers::through_driver(rt, work, blocks, rounds),
         "memory" => stores::over_memory(rt, work, blocks, rounds),
-        path => stores::over_file(rt, path, work, blocks, rounds),
+        path => stores::over_file(rt, path, Work::named(work, blocks)?, Call::Block, rounds),
     }
 }

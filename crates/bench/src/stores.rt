@@ -1,5 +1,5 @@
 //! An executor over a store, beside a bare loop over blocks of the same kind.
-use crate::bare::{copy_blocks, move_file_blocks};
+use crate::bare::{copy_blocks, move_file_blocks, move_file_transfers};
 use crate::measure::{Contest, by_turns};
 use crate::work::{Work, bring_online, execute_all};
 use anyhow::Result;
@@ -61,11 +61,21 @@ impl Contest for InMemory {
     }
 }
 
+/// How many blocks a bare call moves.
+#[derive(Clone, Copy, Debug, PartialEq, Eq)]
+pub enum Call {
+    /// One.
+    Block,
+    /// Those of a transfer of 32.
+    Transfer,
+}
+
 // An image file; the bare loop reads and writes the same file.
 #[derive(Drop)]
 struct InFile {
     over: OverStore<FileImage>,
     file: File,
+    call: Call,
 }
 
 impl Contest for InFile {
@@ -74,7 +84,11 @@ impl Contest for InFile {
     }
 
     fn compared(&mut self) -> Result<()> {
-        Ok(move_file_blocks(&mut self.file, self.over.work, self.over.size)?)
+        let (work, size) = (self.over.work, self.over.size);
+        match self.call {
+            Call::Block => Ok(move_file_blocks(&mut self.file, work, size)?),
+            Call::Transfer => Ok(move_file_transfers(&mut self.file, work, size)?),
+        }
     }
 }
 
@@ -102,23 +116,17 @@ fn memory_drive(alloc: Global) -> Result<Exec<MemImage>> {
     Ok(Exec::new([drive, None, None, None]))
 }
 
-/// The rounds over an image file.
-pub fn over_file(
-    rt: &HostRuntime,
-    path: &str,
-    work: &str,
-    blocks: &str,
-    rounds: u32,
-) -> Result<()> {
-    let mut pair = in_file(rt, path, Work::named(work, blocks)?)?;
+/// The rounds over an image file, beside calls of so many blocks.
+pub fn over_file(rt: &HostRuntime, path: &str, work: Work, call: Call, rounds: u32) -> Result<()> {
+    let mut pair = in_file(rt, path, work, call)?;
     by_turns(rt, &mut pair, rounds)
 }
 
-fn in_file(rt: &HostRuntime, path: &str, work: Work) -> Result<InFile> {
+fn in_file(rt: &HostRuntime, path: &str, work: Work, call: Call) -> Result<InFile> {
     let (exec, size) = file_drive(rt, path)?;
     let over = OverStore::new(rt.alloc(), exec, size, work)?;
     let file = opened(rt, path)?;
-    Ok(InFile { over, file })
+    Ok(InFile { over, file, call })
 }
 
 // An executor with an image file as unit 0, and no other drive; and the file's blocks.

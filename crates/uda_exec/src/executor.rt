@@ -151,11 +151,11 @@ impl<S: BlockStore> Exec<S> {
     ///
     /// A transfer that passes asks the store for its whole blocks at once, where they are two or more, an
     /// Access and an Erase for 32 at most: `read_at_once` for Access and Read, `write_at_once` for Erase and
-    /// Write. From where the store declines, which one of single blocks does at once, and for a part block,
-    /// it calls `read` or `write` once a block, in rising order. The first of these calls that errs ends it
-    /// with status 0x000B and the byte count of the blocks before. That block of a Write's or an Erase's range, or the bytes of a Read's buffer
-    /// that are its, may then hold anything, and what lies behind them is as it was. No other command
-    /// calls a store, but for its size.
+    /// Write. From where the store declines, as one of single blocks does from the first, and for a part
+    /// block, it calls `read` or `write` once a block, in rising order. The first of these calls that errs
+    /// ends it with status 0x000B and the byte count of the blocks before. That block of a Write's or an
+    /// Erase's range, or the bytes of a Read's buffer that are its, may then hold anything, and what lies
+    /// behind them is as it was. No other command calls a store, but for its size.
     ///
     /// MSCP Basic Disk Functions Manual: commands and end messages, status and event codes, command
     /// ordering.

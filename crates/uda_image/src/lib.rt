@@ -1,6 +1,7 @@
 //! Stores of the blocks of a disk unit: images in memory, images that fail once, and files.
 #![tactic(auto)]
 
+pub mod blocks;
 mod error;
 mod failing;
 mod file;

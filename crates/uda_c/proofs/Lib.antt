@@ -1,0 +1,2 @@
+mod HandleSteps
+pub mod Images

@@ -1,0 +1,20 @@
+//! What C hands over.
+ghost use Rattle.uda_c.specs.Lies.{lies};
+ghost use Rattle.std.specs.Prelude.{List, ℕ};
+
+use std::marker::Model;
+
+mod methods;
+
+/// `len` bytes at `at`, below 2^63, that nobody else reads or writes while the library has the struct.
+#[repr(C)]
+#[derive(Drop)]
+pub struct Lent {
+    at: *mut u8,
+    len: usize,
+    pub ghost held: { List ℕ },
+}
+
+impl Model for Lent {
+    ghost also_owns = { λ m. lies m.at m.len m.held };
+}

@@ -1,0 +1,15 @@
+//! Reaching the bytes.
+ghost use Rattle.uda_c.specs.LendsBytes.{lent_follows};
+ghost use Rattle.std.specs.Prelude.{length, ◌≡◌};
+ghost use types.Logic.{sem};
+
+use super::Lent;
+
+impl Lent {
+    pub fn bytes_mut(&mut self) -> &mut [u8]
+        ensures* writes_back { sem 𝓛 (lent_follows self.entry result) }
+        ensures value { result.now ≡ self.old.held }
+    {
+        unsafe { std::slice::from_raw_parts_mut(self.at, self.len) }
+    }
+}

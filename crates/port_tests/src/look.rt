@@ -52,8 +52,16 @@ fn trace_of_what_is_no_command(rt: HostRuntime) -> Result<(), Fail> {
     text[8] = 0x0b;
     machine.post(&rt, 0, &text);
     machine.read_ip();
-    machine.assert_trace(&rt, rt.alloc(), "refused 7 invalid command unit 0 status 0x0801")?;
-    machine.assert_trace(&rt, rt.alloc(), "delivered 7 invalid command unit 0 status 0x0801")?;
+    machine.assert_trace(
+        &rt,
+        rt.alloc(),
+        "refused 7 invalid command unit 0 status 0x0801",
+    )?;
+    machine.assert_trace(
+        &rt,
+        rt.alloc(),
+        "delivered 7 invalid command unit 0 status 0x0801",
+    )?;
     machine.assert_trace(&rt, rt.alloc(), "idle")?;
     // the next command ring is gone
     machine.lose_memory(rt.alloc())?;

@@ -429,7 +429,12 @@ impl Machine {
     }
 
     /// Takes a turn, and asserts the line that a trace has of it.
-    pub(crate) fn assert_trace(&mut self, rt: &impl Abort, alloc: Global, line: &str) -> Result<(), Fail> {
+    pub(crate) fn assert_trace(
+        &mut self,
+        rt: &impl Abort,
+        alloc: Global,
+        line: &str,
+    ) -> Result<(), Fail> {
         let told = self.turn_text(alloc)?;
         assert_eq!(rt; &*told, line);
         Ok(())
@@ -437,7 +442,9 @@ impl Machine {
 
     /// Asserts each ring's base, count and place, of the responses and of the commands, and the credits.
     pub(crate) fn assert_rings(&self, rt: &impl Abort, wanted: [(u32, u16, u16); 2], credits: u8) {
-        let rings = self.rings().map(|ring| (ring.base(), ring.count(), ring.place()));
+        let rings = self
+            .rings()
+            .map(|ring| (ring.base(), ring.count(), ring.place()));
         assert_eq!(rt; rings, wanted);
         assert_eq!(rt; self.credits(), credits);
     }

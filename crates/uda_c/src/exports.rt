@@ -51,7 +51,7 @@ pub extern "C" fn uda_free(alloc: Global, handle: &mut Handle)
 pub extern "C" fn uda_attach(handle: &mut Handle, unit: u32, image: Lent, hard: bool) -> u32
     ensures attaches { OnHandle handle.old.value handle.new.value (result ≡ code_of NoController)
         (λ old new. (answer : Answer) × (result ≡ code_of answer)
-            × Attaches old unit (record { bytes = image.held; hard = hard }) answer new) }
+        × Attaches old unit (record { bytes = image.held; hard = hard }) answer new) }
 {
     match handle.get() {
         Some(controller) => controller.attach(unit, image, hard).code(),
@@ -124,7 +124,7 @@ pub extern "C" fn uda_turn(handle: &mut Handle, memory: &mut [u8]) -> u32
     ensures goes { OnHandle handle.old.value handle.new.value
         ((result ≡ code_of NoController) × (memory.new ≡ memory.old))
         (λ old new. (answer : Answer) × (result ≡ code_of answer)
-            × TurnsWhereMemory old memory.old answer new memory.new) }
+        × TurnsWhereMemory old memory.old answer new memory.new) }
 {
     match handle.get() {
         Some(controller) => controller.turn(memory).code(),

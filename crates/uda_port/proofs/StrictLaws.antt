@@ -43,16 +43,16 @@ module _ (old : PortState) (strict : old.profile ≡ Strict) where
   strict_second first word = rw strict refl
 
   strict_third : (memory : List ℕ) (first second word : ℕ) → by_third old memory first second word ≡ (
-    if nat_lt 3 word then (record old { phase = Dead StartUpWord }, memory)
-    else if nat_le 4 (ring_base second word) && nat_le (ring_base second word + 4 * (response_count first + command_count first)) (length memory) then (
-      record old {
-        phase = Step4;
-        responses = record { base = ring_base second word; count = response_count first; place = 0 };
-        commands = record { base = ring_base second word + 4 * response_count first; count = command_count first; place = 0 };
-      },
-      put memory (ring_base second word - 4) (replicate (4 + 4 * (response_count first + command_count first)) 0),
-    )
-    else (record old { phase = Dead RingWrite }, memory))
+      if nat_lt 3 word then (record old { phase = Dead StartUpWord }, memory)
+      else if nat_le 4 (ring_base second word) && nat_le (ring_base second word + 4 * (response_count first + command_count first)) (length memory) then (
+        record old {
+          phase = Step4;
+          responses = record { base = ring_base second word; count = response_count first; place = 0 };
+          commands = record { base = ring_base second word + 4 * response_count first; count = command_count first; place = 0 };
+        },
+        put memory (ring_base second word - 4) (replicate (4 + 4 * (response_count first + command_count first)) 0),
+      )
+      else (record old { phase = Dead RingWrite }, memory))
   strict_third memory first second word = rw strict refl
 
   -- ---- turns

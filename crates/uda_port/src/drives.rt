@@ -26,7 +26,8 @@ impl<S: BlockStore> Port<S> {
         ensures handed_back { slice_get (drives_in self.old.exec.units) unit
             ≡ Some (option_map (drive_state S.state) result) }
         ensures set { self.new ≡ record self.old {
-            exec = with_drive self.old.exec unit (option_map (drive_state S.state) drive) } }
+          exec = with_drive self.old.exec unit (option_map (drive_state S.state) drive);
+        } }
         ensures credits { CreditsAgree self.new }
         ensures four { length self.new.exec.units ≡ 4 }
         ensures images { AreImages self.new.exec.units }

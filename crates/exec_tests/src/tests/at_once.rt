@@ -94,7 +94,10 @@ fn assert_counted(
 ) {
     assert_eq!(rt; store.at_once.as_slice(), at_once, "at {op:?}");
     let blocks = store.alone.as_slice();
-    let rising = blocks.iter().zip(first..100).all(|(n, wanted)| *n == wanted);
+    let rising = blocks
+        .iter()
+        .zip(first..100)
+        .all(|(n, wanted)| *n == wanted);
     assert!(rt; blocks.len() == count && rising, "at {op:?}: {blocks:?}");
 }
 
@@ -122,12 +125,30 @@ fn calls_of_many_blocks(rt: HostRuntime) -> Result<(), Fail> {
         (write(0, 2048, 5), 2048, 9, [(5, 4)].as_slice(), (0, 0)),
         (write(0, 2050, 5), 2050, 9, [(5, 4)].as_slice(), (9, 1)),
         // no more than 32 where nothing stands in memory
-        (access(20_480, 2), 20_480, 9, [(2, 32), (34, 8)].as_slice(), (0, 0)),
-        (erase(20_482, 2), 20_482, 9, [(2, 32), (34, 8)].as_slice(), (42, 1)),
+        (
+            access(20_480, 2),
+            20_480,
+            9,
+            [(2, 32), (34, 8)].as_slice(),
+            (0, 0),
+        ),
+        (
+            erase(20_482, 2),
+            20_482,
+            9,
+            [(2, 32), (34, 8)].as_slice(),
+            (42, 1),
+        ),
         // one at a time from where the store declined
         (read(0, 2048, 5), 2048, 0, [(5, 4)].as_slice(), (5, 4)),
         (write(0, 2050, 5), 2050, 0, [(5, 4)].as_slice(), (5, 5)),
-        (access(20_480, 2), 20_480, 1, [(2, 32), (34, 8)].as_slice(), (34, 8)),
+        (
+            access(20_480, 2),
+            20_480,
+            1,
+            [(2, 32), (34, 8)].as_slice(),
+            (34, 8),
+        ),
         (erase(20_480, 2), 20_480, 0, [(2, 32)].as_slice(), (2, 40)),
         // a single whole block is no matter for it, and no block is none
         (read(0, 512, 5), 512, 9, none, (5, 1)),
@@ -191,7 +212,11 @@ fn assert_stops(
         let mut bench = failing_bench(alloc, at)?;
         bench.assert_moved(rt, &[(op, status, count)]);
         let store = first_of(bench.into_drives()).ok_or("no drive")?;
-        assert_eq!(rt; store.into_inner().bytes(), halves_of(left).as_slice(), "at {at} of {op:?}");
+        assert_eq!(rt;
+            store.into_inner().bytes(),
+            halves_of(left).as_slice(),
+            "at {at} of {op:?}"
+        );
     }
     Ok(())
 }
@@ -199,10 +224,30 @@ fn assert_stops(
 #[test]
 fn each_write_fails_in_turn(rt: HostRuntime) -> Result<(), Fail> {
     for (at, status, count, [c, d, e, f, g, h, i, j]) in [
-        (1, 0x000b, 0, [0x66, 0x32, 0x33, 0x33, 0x34, 0x34, 0x35, 0x35]),
-        (2, 0x000b, 512, [0x66, 0x66, 0x66, 0x33, 0x34, 0x34, 0x35, 0x35]),
-        (3, 0x000b, 1024, [0x66, 0x66, 0x66, 0x66, 0x66, 0x34, 0x35, 0x35]),
-        (4, 0x000b, 1536, [0x66, 0x66, 0x66, 0x66, 0x66, 0x66, 0x66, 0x35]),
+        (
+            1,
+            0x000b,
+            0,
+            [0x66, 0x32, 0x33, 0x33, 0x34, 0x34, 0x35, 0x35],
+        ),
+        (
+            2,
+            0x000b,
+            512,
+            [0x66, 0x66, 0x66, 0x33, 0x34, 0x34, 0x35, 0x35],
+        ),
+        (
+            3,
+            0x000b,
+            1024,
+            [0x66, 0x66, 0x66, 0x66, 0x66, 0x34, 0x35, 0x35],
+        ),
+        (
+            4,
+            0x000b,
+            1536,
+            [0x66, 0x66, 0x66, 0x66, 0x66, 0x66, 0x66, 0x35],
+        ),
         (5, 0, 2048, [0x66; 8]),
     ] {
         let left = [

@@ -38,6 +38,12 @@ fn refusal(status: u16) -> Option<End> {
     })
 }
 
+/// The hardware protection of a drive, and the first byte of its block 1.
+fn seen_of(drive: &Option<Drive<MemImage>>) -> Option<(bool, Option<&u8>)> {
+    let drive = drive.as_ref()?;
+    Some((drive.hard, drive.store.bytes().get(512)))
+}
+
 /// Fetches a Write of unit 0 as command 1, and exchanges the drive for another before it is executed: the old
 /// drive comes back as it was, and the Write meets the new state of the unit.
 fn replace(rt: &impl Abort, machine: &mut Machine, new: Option<Drive<MemImage>>, status: u16) {
@@ -46,8 +52,7 @@ fn replace(rt: &impl Abort, machine: &mut Machine, new: Option<Drive<MemImage>>,
     machine.take_turns(rt, &[Turn::Fetched]);
     let old = machine.set_drive(new);
     machine.assert_load(rt, 1, 0);
-    let was = old.map(|drive| (drive.hard, drive.store.bytes()[512]));
-    assert_eq!(rt; was, Some((false, 1)));
+    assert_eq!(rt; seen_of(&old), Some((false, Some(&1))));
     machine.assert_turn(rt, Turn::Executed);
     machine.assert_turn(rt, Turn::Delivered);
     assert_eq!(rt; machine.end(rt, 1), refusal(status));

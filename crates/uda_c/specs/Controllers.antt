@@ -8,10 +8,10 @@ use Rattle.uda_port.specs.declared.profile.Profile.{Profile}
 use Rattle.uda_port.specs.declared.profile.Profile.TheVariants.{Strict, ForGuests}
 use Rattle.uda_port.specs.declared.trace.Trace.{Trace}
 use Rattle.uda_port.specs.Port.{PortState, port_at_start}
-use Rattle.uda_port.specs.Interrupt.{request_of, served}
+use Rattle.uda_port.specs.Interrupt.{vector_of, served}
 use Rattle.uda_port.specs.Startup.{by_word}
 use Rattle.uda_port.specs.Turn.{TurnGoes}
-use Rattle.uda_port.specs.Trace.{turn_of, Tells}
+use Rattle.uda_port.specs.Trace.{turn_of, Traces}
 use Rattle.uda_c.specs.declared.answer.Answer.{Answer}
 use Rattle.uda_c.specs.declared.answer.Answer.TheVariants.{Done, Took, NoSuchUnit, UnitTaken, UnitEmpty}
 use Rattle.uda_c.specs.declared.answer.Answer.TheVariants.{BadLength, TooLong}
@@ -93,7 +93,7 @@ pub record TakesTurn (old : Controller) (memory : List ℕ) (answer : Answer) (n
   pub answer_is : answer ≡ Took (turn_of trace)
   pub last_is : new.last ≡ Some trace
   pub goes : TurnGoes old.port.phase old.port memory (turn_of trace) new.port memory_after
-  pub tells : Tells trace old.port new.port
+  pub tells : Traces trace old.port new.port
 
 -- other memory is refused
 pub record RefusesMemory (old : Controller) (memory : List ℕ) (answer : Answer) (new : Controller)
@@ -114,5 +114,5 @@ TellsVector None before told after = (told ≡ false) × (after ≡ before)
 
 pub record TakesInterrupt (old : Controller) (before : ℕ) (told : Bool) (new : Controller)
     (after : ℕ) : Type 0 where
-  pub vector : TellsVector (request_of old.port.interrupts) before told after
+  pub vector : TellsVector (vector_of old.port.interrupts) before told after
   pub gone : new ≡ record old { port = record old.port { interrupts = served old.port.interrupts } }

@@ -1,5 +1,6 @@
 -- Drives as they are handed to an executor and handed back.
 use Rattle.std.specs.Prelude.{ℕ, Bool, false, List, Option, Some, None, map, option_map, set}
+use Rattle.std.specs.Prelude.{slice_get, unwrap_or}
 use Rattle.uda_image.specs.declared.store.Drive.{Drive}
 use Rattle.uda_image.specs.Store.{StoreState}
 use Rattle.uda_disk.specs.Units.{UnitState}
@@ -36,9 +37,15 @@ drives_in units = map (option_map drive_in) units
 abbrev pub reset_unit : Option UnitState → Option UnitState
 reset_unit unit = option_map (λ u. fresh_unit (drive_in u)) unit
 
--- the executor with this drive as unit u, or with none there; the commands that are pending wait on
+-- the executor with this drive as unit u, or with none there; the commands that are pending wait on, and
+-- where there is no unit u all stays as it is
 abbrev pub with_drive : ExecState → ℕ → Option DriveState → ExecState
 with_drive exec u drive = record exec { units = set exec.units u (option_map fresh_unit drive) }
+
+-- what is handed back for a drive that is to be unit u: the drive that was there, or itself where there is
+-- no unit u
+abbrev pub handed_back : List (Option UnitState) → ℕ → Option DriveState → Option DriveState
+handed_back units u drive = unwrap_or (slice_get (drives_in units) u) drive
 
 -- what is to be seen of a unit: its mode and its size
 abbrev pub look_of : UnitState → UnitLook

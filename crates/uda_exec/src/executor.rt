@@ -8,7 +8,7 @@ ghost use Rattle.uda_disk.specs.Units.{HoldsImage, AreImages, is_faithful, is_su
 ghost use Rattle.uda_exec.specs.Disks.{PENDING_LIMIT};
 ghost use Rattle.uda_exec.specs.Commands.{is_controller};
 ghost use Rattle.uda_exec.specs.Drives.{drive_state, drive_states, drive_in, fresh_unit, fresh_units};
-ghost use Rattle.uda_exec.specs.Drives.{drives_in, reset_unit, with_drive, look_at};
+ghost use Rattle.uda_exec.specs.Drives.{drives_in, handed_back, reset_unit, with_drive, look_at};
 ghost use Rattle.uda_exec.specs.Execution.{Executes, ExecutesAt};
 
 use crate::choice::{Position, next_place};
@@ -222,20 +222,18 @@ impl<S: BlockStore> Exec<S> {
     ///
     /// The unit is then available, without software protection, as [`new`](Exec::new) would have made it. The
     /// other units and the pending commands stay as they are: a command that waits for this unit meets the
-    /// drive that it has when it goes. No store is called.
-    ///
-    /// `unit` is below 4.
+    /// drive that it has when it goes. No store is called. Where `unit` is above 3 nothing changes, and the drive
+    /// that is given is handed back.
     ///
     /// MSCP Basic Disk Functions Manual: unit states.
     pub fn set_drive(&mut self, unit: usize, drive: Option<Drive<S>>) -> Option<Drive<S>>
-        requires there { unit < 4 }
-        ensures handed_back { slice_get (drives_in self.old.units) unit
-            ≡ Some (option_map (drive_state S.state) result) }
+        ensures handed_back { option_map (drive_state S.state) result
+            ≡ handed_back self.old.units unit (option_map (drive_state S.state) drive) }
         ensures set { self.new ≡ with_drive self.old unit (option_map (drive_state S.state) drive) }
         ensures four { length self.new.units ≡ 4 }
         ensures images { AreImages self.new.units }
     {
-        exchange(&mut self.units, unit, unit_from(drive))
+        exchange(&mut self.units, unit, drive)
     }
 
     /// The drives, taken out: drive `u` is that of unit `u`, None where that has none. Each has its blocks
@@ -263,18 +261,23 @@ fn drives_of<S: BlockStore>(units: [Option<DriveUnit<S>>; 4]) -> [Option<Drive<S
     [drive_of(a), drive_of(b), drive_of(c), drive_of(d)]
 }
 
-// Puts one unit in the place of another, whose drive is handed back.
+// Puts a drive in the place of a unit's, which is handed back.
 fn exchange<S: BlockStore>(
     units: &mut [Option<DriveUnit<S>>],
     unit: usize,
-    new: Option<DriveUnit<S>>,
+    drive: Option<Drive<S>>,
 ) -> Option<Drive<S>>
-    requires there { unit < length units.old }
-    ensures handed_back { slice_get (drives_in units.old) unit
-        ≡ Some (option_map (drive_state S.state) result) }
-    ensures set { units.new ≡ set units.old unit new }
+    requires images { AreImages units.old }
+    ensures handed_back { option_map (drive_state S.state) result
+        ≡ handed_back units.old unit (option_map (drive_state S.state) drive) }
+    ensures set { units.new
+        ≡ set units.old unit (option_map fresh_unit (option_map (drive_state S.state) drive)) }
+    ensures images { AreImages units.new }
 {
-    let old = std::mem::replace(&mut units[unit], new);
+    if unit >= units.len() {
+        return drive;
+    }
+    let old = std::mem::replace(&mut units[unit], unit_from(drive));
     drive_of(old)
 }
 

@@ -27,7 +27,7 @@ adds_up {h = h} host =
     let due = length-append h.port.exec.pending (unfetched h) in
     let agree = host.agree in let counts = host.counts in
     record {
-      runs = host.runs;
+      runs = host.port.runs;
       size = host.written.size;
       credits_are = λ taken. omega (arith, due);
       done_were_fetched = omega arith;
@@ -38,8 +38,7 @@ adds_up {h = h} host =
 -- bytes are put into a buffer
 pub buffer_filled : {S : Type 0} {h : Inside S} → IsHost h → (at : ℕ) (bytes : List ℕ) → (Meet at (length bytes) 0 buffers_start → ⊥) → IsHost (record h { memory = put h.memory at bytes })
 buffer_filled host at bytes above = record {
-  strict = host.strict;
-  runs = host.runs;
+  port = record { strict = host.port.strict; runs = host.port.runs };
   looks = host.looks;
   rings = record { commands_are = host.rings.commands_are; responses_are = host.rings.responses_are; posts_next = host.rings.posts_next; looks_within = host.rings.looks_within };
   written = rings-put at bytes above host.written;
@@ -57,13 +56,12 @@ host_posts {h = h} c is host some above legible after_is asked more_is =
     let left = drop-append-le h.port.fetches h.posted (c ∷ []) counts.fetched in
     let due = ap (λ (cs : List Command). h.port.exec.pending ++ cs) left ∙ sym (append_assoc h.port.exec.pending (unfetched h) (c ∷ [])) in
     let long = length_push (unfetched h) c in
-    let new_is = asked ∙ ap (λ (p : Phase). port_asked p h.port) host.runs in
+    let new_is = asked ∙ ap (λ (p : Phase). port_asked p h.port) host.port.runs in
     let w = command_written h.memory h.command_place c (omega arith) host.written.size in
     let held = ap (λ (v : HostState). v.credits) is in
     rw (after_is, new_is, more_is, ← is) (record {
       host = record {
-        strict = host.strict;
-        runs = host.runs;
+        port = record { strict = host.port.strict; runs = host.port.runs };
         looks = λ _. refl;
         rings = record { commands_are = rings.commands_are; responses_are = rings.responses_are; posts_next = omega (arith, ap length left); looks_within = rings.looks_within };
         written = rw left (rings_posted h.command_place c w (omega arith) rings.posts_next host.written);

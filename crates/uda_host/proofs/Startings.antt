@@ -79,8 +79,7 @@ pub opened : {S : Type 0} (exec : ExecState) (start zeroed memory : List ℕ) (p
     → ((i : ℕ) → i < slots → IsOpen (response_packet i) (response_at memory i)) → ((i : ℕ) → i < slots → IsFree (command_at zeroed i) → IsFree (command_at memory i)) → port ≡ port_running (port_at_start Strict exec) → posted ≡ []
     → IsHost {S = S} (record { memory = memory; command_place = 0; response_place = 0; held = 1; posted = posted; port = port })
 opened exec start zeroed memory port posted size_then zeroed_is size opens kept port_is none = rw (port_is, none) (record {
-  strict = refl;
-  runs = refl;
+  port = record { strict = refl; runs = refl };
   looks = λ some. absurd (omega arith);
   rings = record { commands_are = refl; responses_are = refl; posts_next = omega arith; looks_within = omega arith };
   written = record {

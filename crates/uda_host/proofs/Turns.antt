@@ -99,8 +99,8 @@ fetched {h = h} {c} {rest} new after host were agree goes =
     let port = h.port in let place = port.commands.place in let pending = port.exec.pending in let takes = goes.takes in
     let sound : IsSound c = subst IsSound (get_or-append_seam pending c rest c) ((rw were at host.sound) (length pending) c (omega (arith, length-append pending (c ∷ rest)))) in
     let read : ℕ → List ℕ → Result Command End = λ size text. if nat_eq size 48 then message_of_text (read_command text) else Err (other_length_end text) in
-    let message : message_in port.profile goes.packet ≡ Ok c = ap (λ (p : Profile). message_in p goes.packet) host.strict ∙ ap₂ read (size_read host were takes) (text_read host were takes) ∙ ap message_of_text sound.legible in
-    let untold : commands_told port h.memory ≡ None = ap (λ (p : Profile). told_at p (word_below port.responses.base 4) h.memory port.commands) host.strict in
+    let message : message_in port.profile goes.packet ≡ Ok c = ap (λ (p : Profile). message_in p goes.packet) host.port.strict ∙ ap₂ read (size_read host were takes) (text_read host were takes) ∙ ap message_of_text sound.legible in
+    let untold : commands_told port h.memory ≡ None = ap (λ (p : Profile). told_at p (word_below port.responses.base 4) h.memory port.commands) host.port.strict in
     let leaves = λ (m : Result Command End) (r : RingState) (told : Option ℕ). record (port_with_message (port_turn_on port) m) { commands = r; credits = port.credits - 1; interrupts = interrupts_told port told; fetches = port.fetches + 1 } in
     let ring_is = takes.advanced ∙ ap ring_advanced host.rings.commands_are in
     let is = goes.others ∙ (λ i. leaves (message i) (ring_is i) (untold i)) in
@@ -113,8 +113,7 @@ fetched {h = h} {c} {rest} new after host were agree goes =
     let rings = host.rings in let counts = host.counts in
     rw (is, memory_is) (record {
       host = record {
-        strict = host.strict;
-        runs = host.runs;
+        port = record { strict = host.port.strict; runs = host.port.runs };
         looks = λ some. host.looks (omega (arith, ap length were));
         rings = record { commands_are = refl; responses_are = rings.responses_are; posts_next = omega (arith, ap length were, ap length rest_is); looks_within = rings.looks_within };
         written = rw rest_is (rings_fetched w (omega arith) (rings_were host were));
@@ -140,8 +139,7 @@ executed {h = h} new after host none agree goes =
     let rings = host.rings in let counts = host.counts in
     rw one.others (record {
       host = record {
-        strict = host.strict;
-        runs = host.runs;
+        port = record { strict = host.port.strict; runs = host.port.runs };
         looks = λ some. absurd (omega (arith, ap length none));
         rings = record { commands_are = rings.commands_are; responses_are = rings.responses_are; posts_next = rings.posts_next; looks_within = rings.looks_within };
         written = rw one.executes.executes.memory_stays (rings-put at bytes (λ meet. above (omega arith)) host.written);
@@ -158,7 +156,7 @@ abbrev delivered_slot : List ℕ → ℕ → ℕ → End → Slot
 delivered_slot memory i credits e = record { descriptor = record (response_at memory i).descriptor { high = flag_word }; size = 48; credits = credits; text = written_end e }
 
 responses_untold : {S : Type 0} {h : Inside S} → IsHost h → responses_told h.port h.memory ≡ None
-responses_untold {h = h} host = ap (λ (p : Profile). told_at p (word_below h.port.responses.base 2) h.memory h.port.responses) host.strict
+responses_untold {h = h} host = ap (λ (p : Profile). told_at p (word_below h.port.responses.base 2) h.memory h.port.responses) host.port.strict
 
 delivery_written : {S : Type 0} {h : Inside S} (e : End) (ring : RingState) (after : List ℕ) → IsHost h → next_grant h.port.deliveries < 2 ^ 16 → Puts (delivery_of h.port h.memory) h.port.responses h.memory (end_text h.port.profile e) ring after
     → WritesSlot (response_descriptor h.response_place) (response_packet h.response_place) (delivered_slot h.memory h.response_place (next_grant h.port.deliveries) e) h.memory after
@@ -171,7 +169,7 @@ delivery_written {h = h} e ring after host fits puts =
     let size : address_of puts.first - 4 ≡ response_packet place = omega arith in
     let second : address_of puts.first - 2 ≡ response_packet place + 2 = omega arith in
     let text : address_of puts.first ≡ response_packet place + 4 = omega arith in
-    let text_is : end_text h.port.profile e ≡ written_end e = ap (λ (p : Profile). end_text p e) host.strict in
+    let text_is : end_text h.port.profile e ≡ written_end e = ap (λ (p : Profile). end_text p e) host.port.strict in
     let long = ap length text_is ∙ length-written_end e in
     let untold = responses_untold host in
     let is = puts.written ∙ (λ i. put (memory_told (put (put (put h.memory (text i) (text_is i)) (size i) (word_bytes (long i))) (second i) (word_bytes credits)) (untold i)) (at i) (word_bytes (high i))) in
@@ -182,7 +180,7 @@ delivery_written {h = h} e ring after host fits puts =
 -- the host reads it, and gives its slot back
 module _ {S : Type 0} {h : Inside S} (host : IsHost h) (new : PortState) (after : List ℕ) (goes : TurnGoes h.port.phase h.port h.memory Delivered new after) where
   pub lines : GoesOn (port_turn_on h.port) h.memory (Ok Delivered) new after
-  lines = subst (λ (p : Phase). TurnGoes p h.port h.memory Delivered new after) host.runs goes
+  lines = subst (λ (p : Phase). TurnGoes p h.port h.memory Delivered new after) host.port.runs goes
 
   none_left : unfetched h ≡ []
   none_left = by (unfetched h) refl
@@ -212,8 +210,7 @@ module _ {S : Type 0} {h : Inside S} (host : IsHost h) (new : PortState) (after 
       let rings = host.rings in let counts = host.counts in
       rw (new_is, left_by sent.size, grant, end_is, ← is) (record {
         host = record {
-          strict = host.strict;
-          runs = host.runs;
+          port = record { strict = host.port.strict; runs = host.port.runs };
           looks = λ some. absurd (omega (arith, ap length none_left));
           rings = record { commands_are = rings.commands_are; responses_are = refl; posts_next = rings.posts_next; looks_within = omega arith };
           written = rings_answered h.response_place rings.looks_within w (record { owned_is = ap (λ (d : Descriptor). record d { high = owner_word }) open_then; room = omega arith }) host.written;
@@ -261,7 +258,7 @@ module _ {S : Type 0} {h : Inside S} (host : IsHost h) (before : PortState) (aft
       let room = (host.written.opens h.response_place within).room in
       let word : word_at h.memory (address_of lost.next - 4) ≡ word_at h.memory (response_packet h.response_place) = ap (word_at h.memory) (omega arith) in
       let n = length (end_text h.port.profile goes.rest.1.0.end) in
-      subst (λ (p : Profile). HasRoom p h.memory (address_of lost.next) n → ⊥) host.strict lost.no_room (record { packet = record { even = omega arith; above = omega arith; within = omega arith }; long = omega arith })
+      subst (λ (p : Profile). HasRoom p h.memory (address_of lost.next) n → ⊥) host.port.strict lost.no_room (record { packet = record { even = omega arith; above = omega arith; within = omega arith }; long = omega arith })
   rest_lives _ goes = goes.rest.1
 
   lives : (cause : Fatal) → Fails cause (port_turn_on h.port) h.memory before after → ⊥
@@ -273,7 +270,7 @@ module _ {S : Type 0} {h : Inside S} (host : IsHost h) (before : PortState) (aft
 module _ {S : Type 0} {h : Inside S} {value : HostState} (is : host_view h ≡ value) (host : IsHost h) (new : PortState) (after : List ℕ) (agree : CreditsAgree new) where
   -- one that takes no end
   pub host_works : (turn : Turn) → (turn ≡ Delivered → ⊥) → 0 < out_of value → TurnGoes h.port.phase h.port h.memory turn new after → HostThat (Works value) (record h { memory = after; port = new })
-  host_works turn other some goes = rw (← is) (by turn other (subst (λ (p : Phase). TurnGoes p h.port h.memory turn new after) host.runs goes) (unfetched h) refl)
+  host_works turn other some goes = rw (← is) (by turn other (subst (λ (p : Phase). TurnGoes p h.port h.memory turn new after) host.port.runs goes) (unfetched h) refl)
     where
       by : (turn : Turn) → (turn ≡ Delivered → ⊥) → RunningTurn h.port h.memory turn new after → (cs : List Command) → unfetched h ≡ cs → HostThat (Works (host_view h)) (record h { memory = after; port = new })
       by TurnFetched other goes [] none = absurd (none_owned host none goes.takes.first goes.takes.is_next goes.takes.owned)

@@ -2,7 +2,7 @@
 use Rattle.std.specs.Prelude.{◌≡◌, ◌<◌, true, ◌++◌, length, All}
 use Rattle.uda_port.specs.declared.phase.Phase.TheVariants.{Running}
 use Rattle.uda_port.specs.declared.profile.Profile.TheVariants.{Strict}
-use Rattle.uda_port.specs.Port.{CreditsAgree}
+use Rattle.uda_port.specs.Port.{PortState, CreditsAgree}
 use Rattle.uda_host.specs.Slots.{RingsHold}
 use Rattle.uda_host.specs.InStep.{IsSound, unfetched, RingsAgree, CountsAgree}
 use Rattle.uda_host.specs.Host.{HostState}
@@ -22,11 +22,15 @@ host_view h = record {
   load = h.port.load;
 }
 
--- The port is a strict one, runs, and looks while anything is unfetched; each sees what the other wrote;
--- rings, credits and counts agree; and each command that is due is sound.
+-- The port is a strict one, and runs.
+pub record RunsStrict (port : PortState) : Type 0 where
+  pub strict : port.profile ≡ Strict
+  pub runs : port.phase ≡ Running
+
+-- The port runs, and looks while anything is unfetched; each sees what the other wrote; rings, credits and
+-- counts agree; and each command that is due is sound.
 pub record IsHost {S : Type 0} (h : Inside S) : Type 0 where
-  pub strict : h.port.profile ≡ Strict
-  pub runs : h.port.phase ≡ Running
+  pub port : RunsStrict h.port
   pub looks : 0 < length (unfetched h) → h.port.looking ≡ true
   pub rings : RingsAgree h
   pub written : RingsHold h.memory h.port.commands.place (unfetched h)

@@ -29,8 +29,8 @@ raised Strict i = i
 raised ForGuests i = record i { requested = i.requested || i.enabled }
 
 -- the vector of the request that waits
-abbrev pub request_of : Interrupts → Option ℕ
-request_of i = if i.requested then Some i.vector else None
+abbrev pub vector_of : Interrupts → Option ℕ
+vector_of i = if i.requested then Some i.vector else None
 
 -- and it waits no more
 abbrev pub served : Interrupts → Interrupts

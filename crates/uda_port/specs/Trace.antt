@@ -28,13 +28,13 @@ turn_of (Dead cause) = turn.Dead
 -- what is told is what was done: a command that was fetched is pending, last; the end of what was none, and
 -- that of a command that was executed, waits, last; an end that was delivered was the first that waited; and a
 -- dead port is dead of this cause
-abbrev pub Tells : Trace → PortState → PortState → Type 0
-Tells (Fetched command) old new = new.exec.pending ≡ old.exec.pending ++ command ∷ []
-Tells (Refused end) old new = new.waiting ≡ old.waiting ++ end ∷ []
-Tells (Executed end) old new = new.waiting ≡ old.waiting ++ end ∷ []
-Tells (Delivered end) old new = old.waiting ≡ end ∷ new.waiting
-Tells Idle old new = Unit
-Tells (Dead cause) old new = new.phase ≡ DeadPhase cause
+abbrev pub Traces : Trace → PortState → PortState → Type 0
+Traces (Fetched command) old new = new.exec.pending ≡ old.exec.pending ++ command ∷ []
+Traces (Refused end) old new = new.waiting ≡ old.waiting ++ end ∷ []
+Traces (Executed end) old new = new.waiting ≡ old.waiting ++ end ∷ []
+Traces (Delivered end) old new = old.waiting ≡ end ∷ new.waiting
+Traces Idle old new = Unit
+Traces (Dead cause) old new = new.phase ≡ DeadPhase cause
 
 -- a port in this phase is dead
 abbrev pub IsDead : Phase → Type 0

@@ -1,9 +1,9 @@
 //! Drives that come and go while a guest runs.
 //!
 //! MSCP Basic Disk Functions Manual: unit states.
-ghost use Rattle.std.specs.Prelude.{◌≡◌, ◌<◌, Some, length, option_map, slice_get};
+ghost use Rattle.std.specs.Prelude.{◌≡◌, length, option_map};
 ghost use Rattle.uda_disk.specs.Units.{AreImages};
-ghost use Rattle.uda_exec.specs.Drives.{drive_state, drives_in, with_drive};
+ghost use Rattle.uda_exec.specs.Drives.{drive_state, handed_back, with_drive};
 ghost use Rattle.uda_port.specs.Port.{CreditsAgree};
 
 use crate::port::Port;
@@ -16,15 +16,13 @@ impl<S: BlockStore> Port<S> {
     /// The unit is then available, without software protection. Nothing else of the port changes: the other
     /// units, the rings, the commands that are pending and the ends that wait stay as they are, and a command
     /// that is pending for this unit meets the drive that is there when it goes. It may be called between any
-    /// two turns, in every phase; no message tells the host of it.
-    ///
-    /// `unit` is below 4.
+    /// two turns, in every phase; no message tells the host of it. Where `unit` is above 3 nothing changes, and
+    /// the drive that is given is handed back.
     ///
     /// MSCP Basic Disk Functions Manual: unit states.
     pub fn set_drive(&mut self, unit: usize, drive: Option<Drive<S>>) -> Option<Drive<S>>
-        requires there { unit < 4 }
-        ensures handed_back { slice_get (drives_in self.old.exec.units) unit
-            ≡ Some (option_map (drive_state S.state) result) }
+        ensures handed_back { option_map (drive_state S.state) result
+            ≡ handed_back self.old.exec.units unit (option_map (drive_state S.state) drive) }
         ensures set { self.new ≡ record self.old {
           exec = with_drive self.old.exec unit (option_map (drive_state S.state) drive);
         } }

@@ -2,7 +2,7 @@
 //!
 //! UDA50 Programmer's Documentation Kit: initialisation, interrupts.
 ghost use Rattle.std.specs.Prelude.{◌≡◌};
-ghost use Rattle.uda_port.specs.Interrupt.{NO_INTERRUPTS, interrupts_asked, raised, noted, request_of};
+ghost use Rattle.uda_port.specs.Interrupt.{NO_INTERRUPTS, interrupts_asked, raised, noted, vector_of};
 ghost use Rattle.uda_port.specs.Interrupt.{served};
 
 use crate::profile::Profile;
@@ -77,7 +77,7 @@ impl Interrupts {
 
     /// The vector of the request that waits.
     pub(crate) fn request(self) -> Option<u16>
-        ensures { result ≡ request_of self }
+        ensures { result ≡ vector_of self }
     {
         if self.requested {
             Some(self.vector)

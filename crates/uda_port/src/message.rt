@@ -51,6 +51,7 @@ fn message_by_length(packet: &Fetched) -> Result<Command, End>
 }
 
 // The command of a text, or the end that says what is wrong with it.
+#[inline(always)]
 fn message_of(text: &[u8; 48]) -> Result<Command, End>
     ensures { result ≡ message_of_text (read_command text.now) }
 {

@@ -100,6 +100,7 @@ fn tells_room(memory: &[u8], address: u32) -> bool
 
 /// Writes a text, and then the envelope below it, which grants so many credits.
 #[tactic(auto, using(crate::proofs::Length::lengths))]
+#[inline(always)]
 pub(crate) fn put_packet(memory: &mut [u8], address: u32, credits: u8, text: &[u8])
     requires few { credits ≤ 15 }
     requires short { length text.now ≤ 48 }

@@ -3,7 +3,7 @@
 //! UDA50 Programmer's Documentation Kit: port registers, initialisation.
 ghost use Rattle.std.specs.Prelude.{◌≡◌, ◌≤◌, IfOk, IfErr, length};
 ghost use Rattle.uda_port.specs.Port.{port_at_start, port_asked, port_shows};
-ghost use Rattle.uda_port.specs.Interrupt.{request_of, served};
+ghost use Rattle.uda_port.specs.Interrupt.{vector_of, served};
 ghost use Rattle.uda_port.specs.declared.profile.Profile.TheVariants.{Strict, ForGuests};
 
 use crate::interrupt::Interrupts;
@@ -185,7 +185,7 @@ impl<S: BlockStore> Port<S> {
     ///
     /// UDA50 Programmer's Documentation Kit: interrupts.
     pub fn take_interrupt(&mut self) -> Option<u16>
-        ensures vector { result ≡ request_of self.old.interrupts }
+        ensures vector { result ≡ vector_of self.old.interrupts }
         ensures gone { self.new ≡ record self.old { interrupts = served self.old.interrupts } }
     {
         let request = self.interrupts.request();

@@ -210,6 +210,8 @@ impl Ring {
     /// fault nothing has changed.
     ///
     /// UDA50 Programmer's Documentation Kit: response ring, message envelopes.
+    // inlined, a strict port's texts are copied by their fixed length
+    #[inline(always)]
     pub(crate) fn put(
         &mut self,
         memory: &mut [u8],

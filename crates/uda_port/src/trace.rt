@@ -8,7 +8,7 @@ ghost use Rattle.circular_buffer.specs.Buffer.{last_item};
 ghost use Rattle.uda_port.specs.declared.phase.Phase.TheVariants.{Dead as DeadPhase};
 ghost use Rattle.uda_port.specs.Port.{CreditsAgree};
 ghost use Rattle.uda_port.specs.Turn.{TurnGoes};
-ghost use Rattle.uda_port.specs.Trace.{turn_of, Tells, IsDead, trace_display};
+ghost use Rattle.uda_port.specs.Trace.{turn_of, Traces, IsDead, trace_display};
 
 use crate::phase::{Fatal, Phase};
 use crate::port::Port;
@@ -104,7 +104,7 @@ impl<S: BlockStore> Port<S> {
     #[tactic(auto, using(crate::proofs::Length::wholes))]
     pub fn turn_traced(&mut self, memory: &mut HostMemory) -> Trace
         ensures goes { TurnGoes self.old.phase self.old memory.old (turn_of result) self.new memory.new }
-        ensures tells { Tells result self.old self.new }
+        ensures tells { Traces result self.old self.new }
         ensures credits { CreditsAgree self.new }
         ensures four { length self.new.exec.units ≡ 4 }
         ensures images { AreImages self.new.exec.units }
@@ -116,7 +116,7 @@ impl<S: BlockStore> Port<S> {
     pub fn turn_traced_in(&mut self, memory: &mut [u8]) -> Trace
         requires memory { IsMemory memory.old }
         ensures goes { TurnGoes self.old.phase self.old memory.old (turn_of result) self.new memory.new }
-        ensures tells { Tells result self.old self.new }
+        ensures tells { Traces result self.old self.new }
         ensures credits { CreditsAgree self.new }
         ensures four { length self.new.exec.units ≡ 4 }
         ensures images { AreImages self.new.exec.units }

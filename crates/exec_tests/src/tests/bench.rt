@@ -45,13 +45,8 @@ impl<S: BlockStore> Bench<S> {
         self.exec.reset();
     }
 
-    /// Exchanges the drive of a unit, where there is that unit.
     pub fn set_drive(&mut self, unit: usize, drive: Option<Drive<S>>) -> Option<Drive<S>> {
-        if unit < 4 {
-            self.exec.set_drive(unit, drive)
-        } else {
-            drive
-        }
+        self.exec.set_drive(unit, drive)
     }
 
     pub fn into_drives(self) -> [Option<Drive<S>>; 4] {

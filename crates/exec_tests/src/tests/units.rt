@@ -213,6 +213,21 @@ fn assert_exchanged(rt: &impl Abort, bench: &mut Bench<MemImage>) {
 }
 
 #[test]
+fn drive_for_a_unit_that_is_not_there(rt: HostRuntime) -> Result<(), Fail> {
+    let mut bench = units_to_hand_back(rt.alloc())?;
+    let drive = protected_drive(rt.alloc(), &[0x55; 512])?;
+    let back = bench.set_drive(4, drive);
+    assert_drive(&rt, &back, true, &[0x55; 512]);
+    let none = bench.set_drive(usize::MAX, None);
+    assert!(rt; none.is_none());
+    let [first, second, third, _] = &bench.into_drives();
+    assert_drive(&rt, first, false, &[0; 1024]);
+    assert_eq!(rt; contents(second), None);
+    assert_drive(&rt, third, true, &[0x11; 512]);
+    Ok(())
+}
+
+#[test]
 fn drive_taken_out_and_put_in(rt: HostRuntime) -> Result<(), Fail> {
     let mut bench = units_to_hand_back(rt.alloc())?;
     let second = bench.set_drive(2, None);

@@ -130,18 +130,21 @@ impl Alone {
     // A round by the executor alone.
     fn execute(&mut self) -> Result<()> {
         for n in 0..COMMANDS {
-            self.execute_one(self.errand.command(n))?;
+            if !self.execute_one(self.errand.command(n)) {
+                bail!("no success");
+            }
         }
         Ok(())
     }
 
-    fn execute_one(&mut self, command: Command) -> Result<()> {
+    // Whether a command was executed, with success.
+    fn execute_one(&mut self, command: Command) -> bool {
         if self.exec.pending() < PENDING {
             self.exec.accept(command);
         }
         match self.exec.execute_one(&mut self.memory) {
-            Some(end) if end.status == 0 => Ok(()),
-            _ => bail!("no success"),
+            Some(end) => end.status == 0,
+            None => false,
         }
     }
 }
@@ -234,7 +237,9 @@ impl Contest for ThroughPort {
     fn measured(&mut self) -> Result<()> {
         let errand = self.alone.errand;
         for n in 0..COMMANDS {
-            send(&mut self.port, &mut self.memory, &errand.command(n))?;
+            if !send(&mut self.port, &mut self.memory, &errand.command(n)) {
+                bail!("no success");
+            }
         }
         Ok(())
     }
@@ -259,7 +264,9 @@ fn port(alloc: Global, memory: &mut HostMemory) -> Result<Port<MemImage>> {
         unit: 0,
         op: Op::Online { soft: None },
     };
-    send(&mut port, memory, &online)?;
+    if !send(&mut port, memory, &online) {
+        bail!("no success");
+    }
     Ok(port)
 }
 
@@ -273,19 +280,16 @@ fn start_up(port: &mut Port<MemImage>, memory: &mut HostMemory) {
     }
 }
 
-// Posts a command, and lets the port take the turns that it needs.
-fn send(port: &mut Port<MemImage>, memory: &mut HostMemory, command: &Command) -> Result<()> {
+// Posts a command, and lets the port take the turns that it needs. Whether it did, with success.
+fn send(port: &mut Port<MemImage>, memory: &mut HostMemory, command: &Command) -> bool {
     post(memory, command);
     port.read_ip();
     for turn in [Turn::Fetched, Turn::Executed, Turn::Delivered] {
         if port.turn(memory) != turn {
-            bail!("another turn than was due");
+            return false;
         }
     }
-    match memory.read_word(0x10a) {
-        Some(0) => Ok(()),
-        _ => bail!("no success"),
-    }
+    memory.read_word(0x10a) == Some(0)
 }
 
 fn post(memory: &mut HostMemory, command: &Command) {

@@ -44,7 +44,9 @@ impl Contest for ThroughSlice {
     // One command after the other: three turns each.
     fn measured(&mut self) -> Result<()> {
         for n in 0..COMMANDS {
-            send(&mut self.port, &mut self.bytes, &self.errand.command(n))?;
+            if !send(&mut self.port, &mut self.bytes, &self.errand.command(n)) {
+                bail!("no success");
+            }
         }
         Ok(())
     }
@@ -64,7 +66,9 @@ fn port(alloc: Global, memory: &mut [u8]) -> Result<Port<MemImage>> {
         unit: 0,
         op: Op::Online { soft: None },
     };
-    send(&mut port, memory, &online)?;
+    if !send(&mut port, memory, &online) {
+        bail!("no success");
+    }
     Ok(port)
 }
 
@@ -78,19 +82,16 @@ fn start_up(port: &mut Port<MemImage>, memory: &mut [u8]) {
     }
 }
 
-// Posts a command, and lets the port take the turns that it needs.
-fn send(port: &mut Port<MemImage>, memory: &mut [u8], command: &Command) -> Result<()> {
+// Posts a command, and lets the port take the turns that it needs. Whether it did, with success.
+fn send(port: &mut Port<MemImage>, memory: &mut [u8], command: &Command) -> bool {
     post(memory, command);
     port.read_ip();
     for turn in [Turn::Fetched, Turn::Executed, Turn::Delivered] {
         if !is_memory(memory) || port.turn_in(memory) != turn {
-            bail!("another turn than was due");
+            return false;
         }
     }
-    match uda_mem::read_word(memory, 0x10a) {
-        Some(0) => Ok(()),
-        _ => bail!("no success"),
-    }
+    uda_mem::read_word(memory, 0x10a) == Some(0)
 }
 
 fn post(memory: &mut [u8], command: &Command) {

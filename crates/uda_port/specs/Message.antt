@@ -1,7 +1,7 @@
 -- What a command packet says.
 -- UDA50 Programmer's Documentation Kit: message envelopes; MSCP Basic Disk Functions Manual: invalid
 -- commands.
-use Rattle.std.specs.Prelude.{◌≡◌, ℕ, ◌-◌, ◌==◌, nat_lt, List, replicate, Result, Ok, Err, if◌then◌else◌}
+use Rattle.std.specs.Prelude.{◌≡◌, ℕ, ◌-◌, ◌==◌, nat_le, nat_lt, Bool, List, replicate, Result, Ok, Err, if◌then◌else◌}
 use Rattle.uda_mem.specs.Put.{put}
 use Rattle.uda_packet.specs.declared.bad.Bad.{Bad}
 use Rattle.uda_packet.specs.declared.command.Command.{Command}
@@ -28,13 +28,20 @@ abbrev pub text_by_length : Fetched → List ℕ
 text_by_length p =
     if nat_lt p.words.0 48 then put p.text p.words.0 (replicate (48 - p.words.0) 0) else p.text
 
+-- the text as it is read: strictly as it stands
+abbrev pub text_read : Profile → Fetched → List ℕ
+text_read Strict p = p.text
+text_read ForGuests p = text_by_length p
+
+-- Whether a command may have so many bytes: strictly each has 48; a guest's has 12 or more, which is as far as
+-- its opcode and modifiers go.
+abbrev pub is_length : Profile → ℕ → Bool
+is_length Strict n = n == 48
+is_length ForGuests n = nat_le 12 n
+
 -- A command, or the end of what is none: a packet of a length that no command has, or a text that is no
--- command's. Strictly every command has 48 bytes; a guest's has 12 or more, which is as far as its opcode and
--- modifiers go.
+-- command's.
 abbrev pub message_in : Profile → Fetched → Result Command End
-message_in Strict p =
-    if p.words.0 == 48 then message_of_text (read_command p.text) else Err (other_length_end p.text)
-message_in ForGuests p =
-    if nat_lt p.words.0 12
-    then Err (other_length_end (text_by_length p))
-    else message_of_text (read_command (text_by_length p))
+message_in profile p =
+    let text = text_read profile p in
+    if is_length profile p.words.0 then message_of_text (read_command text) else Err (other_length_end text)

@@ -65,13 +65,12 @@ impl Interrupts {
         }
     }
 
-    /// The same where the host was told of a ring's transition.
-    pub(crate) fn noted(self, profile: Profile, told: Option<u32>) -> Interrupts
-        ensures { result ≡ noted told profile self }
+    /// A request is raised, where the host was told of a ring's transition.
+    pub(crate) fn note(&mut self, profile: Profile, told: Option<u32>)
+        ensures { self.new ≡ noted told profile self.old }
     {
-        match told {
-            Some(_) => self.raised(profile),
-            None => self,
+        if let Some(_) = told {
+            *self = self.raised(profile);
         }
     }
 

@@ -2,9 +2,7 @@
 //!
 //! UDA50 Programmer's Documentation Kit: message envelopes.
 ghost use Rattle.std.specs.Prelude.{◌≡◌, MatchOption, length};
-ghost use Rattle.uda_port.specs.Message.{IsSequential, message_of_text, message_in, text_by_length};
-ghost use Rattle.uda_packet.specs.Reading.{read_command};
-ghost use Rattle.uda_port.specs.declared.profile.Profile.TheVariants.{Strict, ForGuests};
+ghost use Rattle.uda_port.specs.Message.{IsSequential, is_length, message_in, text_by_length, text_read};
 
 use crate::packet::{Fetched, TEXT};
 use crate::profile::Profile;
@@ -23,39 +21,38 @@ pub(crate) fn message_in(profile: Profile, packet: &Fetched) -> Option<Result<Co
     if envelope.kind != 0 || envelope.connection != 0 {
         return None;
     }
-    Some(match profile {
-        Profile::Strict => strict_message(packet),
-        Profile::ForGuests => message_by_length(packet),
-    })
+    Some(message_of(profile, packet))
 }
 
-// A packet's message where every command has 48 bytes.
-fn strict_message(packet: &Fetched) -> Result<Command, End>
-    ensures { result ≡ message_in Strict packet.now }
+// A packet's message.
+fn message_of(profile: Profile, packet: &Fetched) -> Result<Command, End>
+    ensures { result ≡ message_in profile packet.now }
 {
-    if packet.words.0 != TEXT {
-        return Err(End::of_other_length(&packet.text));
-    }
-    message_of(&packet.text)
-}
-
-// A packet's message by its length.
-fn message_by_length(packet: &Fetched) -> Result<Command, End>
-    ensures { result ≡ message_in ForGuests packet.now }
-{
-    let text = text_by_length(packet);
-    if packet.words.0 < HEAD {
+    let text = text_read(profile, packet);
+    if !is_length(profile, packet.words.0) {
         return Err(End::of_other_length(&text));
     }
-    message_of(&text)
+    decode_command(&text).map_err(|bad| bad.end())
 }
 
-// The command of a text, or the end that says what is wrong with it.
-#[inline(always)]
-fn message_of(text: &[u8; 48]) -> Result<Command, End>
-    ensures { result ≡ message_of_text (read_command text.now) }
+// Whether a command may have so many bytes: strictly each has 48.
+fn is_length(profile: Profile, length: u16) -> bool
+    ensures { result ≡ is_length profile length }
 {
-    decode_command(text).map_err(|bad| bad.end())
+    match profile {
+        Profile::Strict => length == TEXT,
+        Profile::ForGuests => length >= HEAD,
+    }
+}
+
+// The text of a packet as it is read: strictly as it stands, else by its length.
+fn text_read(profile: Profile, packet: &Fetched) -> [u8; 48]
+    ensures { result ≡ text_read profile packet.now }
+{
+    match profile {
+        Profile::Strict => packet.text,
+        Profile::ForGuests => text_by_length(packet),
+    }
 }
 
 // The text of a packet, with zeros behind its length.

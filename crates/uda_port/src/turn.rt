@@ -181,7 +181,7 @@ impl<S: BlockStore> Port<S> {
             Err(RingFault::Ring) => return Err(Fatal::RingRead),
             Err(RingFault::Packet) => return Err(Fatal::PacketRead),
         };
-        self.interrupts = self.interrupts.noted(self.profile, told);
+        self.interrupts.note(self.profile, told);
         if self.credits == 0 {
             return Err(Fatal::CreditsExceeded);
         }
@@ -227,7 +227,7 @@ impl<S: BlockStore> Port<S> {
             Ok(true) => {}
         }
         release(&mut self.waiting, end);
-        self.interrupts = self.interrupts.noted(self.profile, delivery.told);
+        self.interrupts.note(self.profile, delivery.told);
         self.credits += delivery.credits;
         self.begun = true;
         self.deliveries.add(1);

@@ -1,5 +1,5 @@
 -- What each definition that depends on the profile says of the strict one, where no host is told anything.
-use Rattle.std.proofs.Common.{◌≡◌, ℕ, ◌+◌, ◌-◌, ◌*◌, List, length, Option, Some, None, Result, Ok, Err, refl}
+use Rattle.std.proofs.Common.{◌≡◌, ℕ, ◌+◌, ◌-◌, ◌*◌, List, length, None, Err, refl}
 use Rattle.std.specs.Prelude.{◌==◌, ◌&&◌, nat_le, nat_lt, replicate, if◌then◌else◌}
 use Rattle.uda_mem.specs.Put.{put}
 use Rattle.uda_packet.specs.declared.end.End.{End}
@@ -7,14 +7,12 @@ use Rattle.uda_packet.specs.Bad.{other_length_end}
 use Rattle.uda_packet.specs.Reading.{read_command}
 use Rattle.uda_packet.specs.Written.{written_end}
 use Rattle.uda_port.specs.declared.packet.Fetched.{Fetched}
-use Rattle.uda_port.specs.declared.interrupt.Interrupts.{Interrupts}
 use Rattle.uda_port.specs.declared.profile.Profile.TheVariants.{Strict}
 use Rattle.uda_port.specs.declared.phase.Phase.{Phase}
 use Rattle.uda_port.specs.declared.phase.Phase.TheVariants.{Step2, Step3, Step4, Dead}
 use Rattle.uda_port.specs.declared.phase.Fatal.TheVariants.{RingWrite, StartUpWord}
 use Rattle.uda_port.specs.Message.{message_of_text, message_in}
 use Rattle.uda_port.specs.Packet.{TellsRoom, HasRoom, end_text}
-use Rattle.uda_port.specs.Ring.{RingState}
 use Rattle.uda_port.specs.Interrupt.{memory_told}
 use Rattle.uda_port.specs.Port.{PortState, port_shows, commands_told, responses_told, interrupts_told}
 use Rattle.uda_port.specs.Startup.{has_bit, ring_base, response_count, command_count, by_first, by_second, by_third}

@@ -1,6 +1,6 @@
 -- Interrupts, and where a host is told that a ring fills or empties.
 -- UDA50 Programmer's Documentation Kit: initialisation, interrupts, ring transitions.
-use Rattle.std.specs.Prelude.{◌≡◌, ℕ, ◌+◌, ◌-◌, ◌*◌, ◌/◌, ◌%◌, ◌≤◌, ◌==◌, nat_le, Bool, true, false}
+use Rattle.std.specs.Prelude.{◌≡◌, ℕ, ◌+◌, ◌-◌, ◌*◌, ◌/◌, ◌%◌, ◌≤◌, ◌==◌, nat_le, Bool, false}
 use Rattle.std.specs.Prelude.{◌&&◌, ◌||◌, List, Option, Some, None, IfSome, if◌then◌else◌}
 use Rattle.uda_mem.specs.Put.{put}
 use Rattle.uda_mem.specs.Words.{word_bytes}

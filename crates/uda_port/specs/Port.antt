@@ -1,7 +1,7 @@
 -- A port as its callers see it, and its credits.
 -- UDA50 Programmer's Documentation Kit: port registers, initialisation, credits.
 use Rattle.std.specs.Prelude.{◌≡◌, ℕ, ◌+◌, ◌-◌, ◌*◌, ◌≤◌, min, Bool, true, false, List, [], length, map}
-use Rattle.std.specs.Prelude.{Option, Some, None}
+use Rattle.std.specs.Prelude.{Option}
 use Rattle.uda_packet.specs.declared.end.End.{End}
 use Rattle.uda_exec.specs.Disks.{ExecState, PENDING_LIMIT}
 use Rattle.uda_exec.specs.Drives.{reset_unit}

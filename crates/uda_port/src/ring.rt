@@ -295,6 +295,7 @@ impl Ring {
     }
 
     // Gives the descriptor at the place back, and goes on by one.
+    #[inline(always)]
     fn give_back(&mut self, memory: &mut [u8], descriptor: Descriptor)
         requires there { descriptor_address self.old + 4 ≤ length memory.old }
         ensures ring { self.new ≡ ring_advanced self.old }
@@ -302,7 +303,16 @@ impl Ring {
     {
         let at = self.address();
         uda_mem::put_word(memory, at + 2, descriptor.given_back());
-        self.place = (self.place + 1) % self.count;
+        self.place = self.place_behind();
+    }
+
+    // The place behind the one at hand, round the ring: compared, since a division takes longer.
+    fn place_behind(&self) -> u16
+        ensures place { result ≡ (self.now.place + 1) % self.now.count }
+        ensures within { result < self.now.count }
+    {
+        let next = self.place + 1;
+        if next < self.count { next } else { 0 }
     }
 
     // Where the descriptor at the place stands.

@@ -203,6 +203,9 @@ impl<S: BlockStore> Port<S> {
         ensures { ExecuteLine self.old memory.old result self.new memory.new }
     {
         let pending = self.exec.pending();
+        if pending == 0 {
+            return false;
+        }
         let Some(end) = self.exec.execute_one_in(memory) else {
             return false;
         };

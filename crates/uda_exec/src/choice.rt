@@ -83,6 +83,9 @@ pub fn next_place(pending: &[Command], position: Position) -> Option<usize>
     ensures none { IsNone result ↔ (pending.now ≡ []) }
     ensures may { IfSome result (λ place. MayGo pending.now place) }
 {
+    if pending.len() == 1 {
+        return Some(0);
+    }
     let mut least: Option<Candidate> = None;
     for (place, command) in pending.iter().enumerate() {
         if !may_go(pending, place) {

@@ -1,8 +1,8 @@
 -- A transfer takes effect, done, lost or refused; and so does a command that moves no blocks.
 use Rattle.std.proofs.Common.{◌≡◌, ℕ, suc, ◌+◌, ◌*◌, ◌<◌, ◌≤◌, zero-le, inl, inr, Bool, true, false, List, [], ◌∷◌, ◌++◌, length, get_or, take, set, refl, sym, ap, ap₂, subst, ◌∙◌, arith, add-one, add-zero, Option, Some, None, length-take, length-set}
-use Rattle.std.specs.Prelude.{if◌then◌else◌, nat_lt, unwrap_or, ◌&&◌, IfSome}
+use Rattle.std.specs.Prelude.{if◌then◌else◌, nat_lt, replicate, unwrap_or, ◌&&◌, IfSome}
 use Rattle.std.specs.List.{concat}
-use Rattle.std.proofs.lemmas.List.{take_all, take_more, set_at, length-take-le}
+use Rattle.std.proofs.lemmas.List.{take_all, take_more, set_at, length-take-le, length-replicate}
 use Rattle.std.proofs.lemmas.List.Elements.{All-take, All-set}
 use Rattle.std.proofs.lemmas.Bool.{cases_lt, le-ltb}
 use Rattle.std.proofs.lemmas.Bool.Decides.{nat_tests}
@@ -14,7 +14,7 @@ use Rattle.uda_packet.specs.Opcode.{answered_opcode, blank_body}
 use Rattle.uda_disk.specs.Request as ask
 use Rattle.uda_disk.specs.Status.{SUCCESS, DRIVE_ERROR}
 use Rattle.uda_disk.specs.Answer.{status_of}
-use Rattle.uda_exec.proofs.Words.{put, Command, Op, Kind, End, EndBody, Transfer, transfer_of, changes_blocks, StoreState, KeepsNature, IsImage, Mode, Refusal, Disk, Act, blocks_for, extent_of, lbn_of, UnitState, disk_of, blank_answer, block_count, room_in, room_of, blocks_asked, buffer_start, bytes_asked, changes_memory, refusal_status, extent_refusal, Bar, Barred, Free, bar_by, refusal_on, with_buffer, bar_with, extent_in, is_odd, is_missing, transfer_refusal, ChangesAt, asks_by, act_of, blocks_due, bytes_landing, blocks_stored, Progress, StopsAt, Outcome, Done, Lost, FitsCount, blocks_moved, due, stored, brought, mode_after, bytes_on, answer_on, reply, plain_body, with_bytes_moved, body_for, end_for, is_free, transfer_status, transfer_bytes, is_lost, bytes_of, IsBodyOf, Answers, bar_on, TakesEffectOn, ServesUnit}
+use Rattle.uda_exec.proofs.Words.{put, Command, Op, Kind, End, EndBody, Transfer, transfer_of, changes_blocks, StoreState, KeepsNature, IsImage, Mode, Refusal, Disk, Act, blocks_for, extent_of, lbn_of, UnitState, disk_of, blank_answer, block_count, room_in, room_of, blocks_asked, buffer_start, bytes_asked, changes_memory, refusal_status, extent_refusal, Bar, Barred, Free, bar_by, refusal_on, with_buffer, bar_with, extent_in, is_odd, is_missing, transfer_refusal, ChangesAt, asks_by, act_of, blocks_due, bytes_landing, blocks_stored, Progress, StopsAt, Outcome, Done, Lost, FitsCount, blocks_moved, due, stored, brought, mode_after, bytes_on, answer_on, reply, plain_body, with_bytes_moved, body_for, end_for, is_free, transfer_status, transfer_bytes, is_lost, bytes_of, IsBodyOf, Answers, bar_on, EndsTransfer, TakesEffectOn, ServesUnit}
 use Rattle.uda_exec.proofs.Changes.{changes_nothing}
 use Rattle.uda_exec.proofs.Requests.{asks}
 use Rattle.uda_exec.proofs.Blocks.{AreBlocks, length-bytes_at, length-concat_blocks}
@@ -114,6 +114,7 @@ serves_mode c act unit memory none is =
       nature_stays = ap (λ (hard : Bool). record { size = unit.store.size; hard = hard; faithful = unit.store.faithful; never_fails = unit.store.never_fails }) (s.hard_stays unit.mode);
       mode_stays = λ transfers. let not = rw none at transfers in absurd (cc);
       unit_stays = λ idle. let not : is_free (Free (disk_of unit)) ≡ false = ap is_free (sym free) ∙ idle in absurd (cc);
+      ends = λ transfers acting. let not = rw none at transfers in absurd (cc);
       takes_effect = λ trusted. subst (λ (b : Bar). TakesEffectOn c act b unit memory (end_for c (answer_on Done act (disk_of unit))) (record unit { mode = mode_after act unit.mode }) memory) (sym free) (record {
         outcome = Done;
         fits = record { acting = λ lost. absurd (cc); count = tt };
@@ -247,6 +248,7 @@ module _ (c : Command) (t : Transfer) (unit : UnitState) (memory : List ℕ) (is
         nature_stays = refl;
         mode_stays = λ transfers. refl;
         unit_stays = λ idle. refl;
+        ends = λ transfers acting. let not : is_free (Barred refusal) ≡ true = sym (ap is_free b) ∙ acting in absurd (cc);
         takes_effect = λ trusted. subst (λ (b : Bar). TakesEffectOn c act b unit memory e unit memory) (sym b) (record {
           outcome = Done;
           fits = record { acting = λ lost. absurd (cc); count = tt };
@@ -257,6 +259,13 @@ module _ (c : Command) (t : Transfer) (unit : UnitState) (memory : List ℕ) (is
           sure = λ never. refl;
         });
       })
+
+  -- whatever its store, it is done, or lost at a block of its range
+  pub ends_done : EndsTransfer c (reply c SUCCESS (plain_body c.op t.bytes))
+  ends_done = record { outcome = Done; count = tt; end_is = rw is refl }
+
+  pub ends_lost : (k : ℕ) → k < block_count t → EndsTransfer c (reply c DRIVE_ERROR (plain_body c.op (512 * k)))
+  ends_lost k inside = record { outcome = Lost k (replicate 512 0); count = rw is (inside, length-replicate {A = ℕ} 512 0); end_is = refl }
 
   module _ (passed : transfer_refusal t (length memory) unit.store.size unit.mode ≡ None) where
     free : bar_on c act unit memory ≡ Free (disk_of unit)
@@ -273,15 +282,16 @@ module _ (c : Command) (t : Transfer) (unit : UnitState) (memory : List ℕ) (is
 
     -- whatever the store
     pub serves_moved : (new : StoreState) (memory_left : List ℕ) → KeepsNature unit.store new → ChangesAt memory t.buffer (if changes_memory t.kind then t.bytes else 0) memory_left
-        → (status bytes : ℕ) → bytes ≤ t.bytes
+        → (status bytes : ℕ) → bytes ≤ t.bytes → EndsTransfer c (reply c status (plain_body c.op bytes))
         → ((0 < block_count t → unit.store.faithful ≡ true) → TakesEffectOn c act (Free (disk_of unit)) unit memory (reply c status (plain_body c.op bytes)) (record { store = new; mode = unit.mode }) memory_left)
         → (a : Act) → act_of c.op memory ≡ Some a → ServesUnit c a unit memory (reply c status (plain_body c.op bytes)) (record { store = new; mode = unit.mode }) memory_left
-    serves_moved new memory_left nature changes status bytes few takes = asked _ _ _ (record {
+    serves_moved new memory_left nature changes status bytes few ends takes = asked _ _ _ (record {
       answers = Answers-plain c status bytes (rw is few);
       memory_stays = rw is changes;
       nature_stays = rw (nature.size_stays, nature.faithful_stays, nature.never_fails_stays) refl;
       mode_stays = λ transfers. refl;
       unit_stays = λ idle. let none : is_free (Free (disk_of unit)) ≡ false = ap is_free (sym free) ∙ idle in absurd (cc);
+      ends = λ transfers acting. ends;
       takes_effect = λ trusted. subst (λ (b : Bar). TakesEffectOn c act b unit memory (reply c status (plain_body c.op bytes)) (record { store = new; mode = unit.mode }) memory_left) (sym free) (takes (λ some. trusted (is_called some)));
     })
 

@@ -75,7 +75,7 @@ executes_idle c units memory e h answers = record {
   others_stay = λ u apart. refl;
   natures_stay = refl;
   modes_stay = λ transfers. refl;
-  units_stay = λ acts. refl;
+  by_acting = record { idle = λ acts. refl; ends = λ transfers acting. let not : false ≡ true = sym h.idle ∙ acting in absurd (cc) };
   takes_effect = λ trusted. record {
     outcome = Done;
     fits = record { acting = λ lost. absurd (cc); count = tt };
@@ -116,7 +116,10 @@ module _ (c : Command) (act : Act) (units : List (Option UnitState)) (memory : L
     others_stay = λ u apart. slice_get-set_other units c.unit u (Some unit_after) apart;
     natures_stay = map-set_same nature_of units c.unit unit unit_after here s.nature_stays;
     modes_stay = λ transfers. map-set_same (λ (u : UnitState). u.mode) units c.unit unit unit_after here (s.mode_stays transfers);
-    units_stay = λ idle. ap (λ (u : UnitState). set units c.unit (Some u)) (s.unit_stays (sym acting ∙ idle)) ∙ set-itself units c.unit (Some unit) here;
+    by_acting = record {
+      idle = λ idle. ap (λ (u : UnitState). set units c.unit (Some u)) (s.unit_stays (sym acting ∙ idle)) ∙ set-itself units c.unit (Some unit) here;
+      ends = λ transfers acts_too. s.ends transfers (sym acting ∙ acts_too);
+    };
     takes_effect = λ trusted.
         let t = s.takes_effect (λ calls. let faithful = trusted (ap (λ (a : Bool). nat_lt 0 (blocks_asked c.op) && a) acting ∙ calls) in rw here at faithful) in
         let b = bar_on c act unit memory in

@@ -21,6 +21,6 @@ pub use Rattle.uda_exec.specs.Transfers.{ChangesAt, blocks_due, bytes_landing, b
 pub use Rattle.uda_disk.specs.Units.{UnitState, disk_of, disks_of, HoldsImage, AreImages, Nature, nature_of, natures_of, modes_of, is_faithful, is_sure}
 pub use Rattle.uda_exec.specs.Refusal.{first_found, with_buffer, bar_with, is_odd, is_missing, extent_in, transfer_refusal}
 pub use Rattle.uda_exec.specs.Effect.{World, with_bytes_moved, plain_body, reply, body_for, end_for, bar_in, bar_of, memory_by, does, effect_by, effect, acts_by, acts, LossFits}
-pub use Rattle.uda_exec.specs.Execution.{bytes_of, IsBodyOf, Answers, bar_on, TakesEffectOn, ServesUnit, world_of, Executes}
+pub use Rattle.uda_exec.specs.Execution.{bytes_of, IsBodyOf, Answers, bar_on, EndsTransfer, TakesEffectOn, ServesUnit, world_of, Executes}
 pub use Rattle.uda_exec.specs.Drives.{reset_unit}
 pub use Rattle.uda_exec.specs.Order.{may_pass, MayGo, Apart, FixedCommand, effect_of, commands_of, effects, OrderIsFree, OneMore, with_bytes, PassesThrough, SameData, DependsOnDataAlone, effects_first}

@@ -1,7 +1,7 @@
 -- What one execution does: a pending command that may go is taken out and done.
 -- MSCP Basic Disk Functions Manual: command ordering, end messages.
-use Rattle.std.specs.Prelude.{◌≡◌, ◌≢◌, ℕ, ◌+◌, ◌≤◌, true, false, ◌&&◌, List, length, Some, slice_get, nat_lt}
-use Rattle.std.specs.Prelude.{remove, if◌then◌else◌}
+use Rattle.std.specs.Prelude.{◌≡◌, ◌≢◌, ℕ, ◌+◌, ◌≤◌, Bool, true, false, ◌&&◌, List, length, Some, slice_get}
+use Rattle.std.specs.Prelude.{nat_lt, remove, if◌then◌else◌}
 use Rattle.uda_packet.specs.declared.command.Command.{Command}
 use Rattle.uda_packet.specs.declared.command.Op.{Op}
 use Rattle.uda_packet.specs.declared.end.End.{End}
@@ -9,13 +9,15 @@ use Rattle.uda_packet.specs.declared.end.EndBody.{EndBody}
 use Rattle.uda_packet.specs.declared.end.EndBody.TheVariants.{Moved}
 use Rattle.uda_packet.specs.Opcode.{opcode_of, answered_opcode}
 use Rattle.uda_disk.specs.Request.{Act}
-use Rattle.uda_disk.specs.Plain.{Bar, Outcome, Done, is_lost, answer_by, is_free, disk_by}
+use Rattle.uda_disk.specs.Plain.{Bar, Outcome, Done, is_lost, answer_by, is_free, disk_by, FitsCount}
+use Rattle.uda_disk.specs.Plain.{transfer_status, transfer_bytes}
 use Rattle.uda_disk.specs.Units.{UnitState, Units, disk_of, disks_of, is_faithful, is_sure, failures_at}
 use Rattle.uda_disk.specs.Units.{nature_of, natures_of, modes_of}
 use Rattle.uda_exec.specs.Disks.{ExecState}
 use Rattle.uda_exec.specs.Commands.{is_transfer, blocks_asked, bytes_asked, buffer_start, landing_of}
 use Rattle.uda_exec.specs.Transfers.{ChangesAt}
-use Rattle.uda_exec.specs.Effect.{World, LossFits, acts, effect, bar_in, end_for, memory_by}
+use Rattle.uda_exec.specs.Effect.{World, LossFits, acts, effect, bar_in, end_for, memory_by, reply}
+use Rattle.uda_exec.specs.Effect.{plain_body}
 use Rattle.uda_exec.specs.Order.{MayGo}
 
 -- the command at place j is taken out: it stands there, it may go, and the others keep their order
@@ -59,9 +61,23 @@ abbrev pub IsTrusted : Command → Units → List ℕ → Type 0
 IsTrusted c units memory = nat_lt 0 (blocks_asked c.op) && acts c (world_of units memory) ≡ true
     → is_faithful (slice_get units c.unit) ≡ true
 
+-- a transfer was done, or lost at a block of its range, and its end message tells that
+pub record EndsTransfer (c : Command) (e : End) : Type 0 where
+  pub outcome : Outcome
+  pub count : FitsCount (blocks_asked c.op) outcome
+  pub end_is :
+      e ≡ reply c (transfer_status outcome) (plain_body c.op (transfer_bytes outcome (bytes_asked c.op)))
+
+-- a command that doesn't act leaves the units as they are, and a transfer that acts is done or lost
+pub record GoesByActing (c : Command) (acting : Bool) (units : Units) (e : End) (units_after : Units)
+    : Type 0 where
+  pub idle : acting ≡ false → units_after ≡ units
+  pub ends : is_transfer c.op ≡ true → acting ≡ true → EndsTransfer c e
+
 -- a command was executed. Whatever its store: the end answers the command; memory changes only in a Read's
--- buffer; no other unit changes, and of its own not the nature; a transfer leaves the mode, and a command
--- that doesn't act everything. It takes effect where it calls no store, and over a faithful one.
+-- buffer; no other unit changes, and of its own not the nature; a transfer leaves the mode, and is done or
+-- lost where it acts; a command that doesn't act changes no unit. It takes effect where it calls no store,
+-- and over a faithful one.
 pub record Executes (c : Command) (units : Units) (memory : List ℕ) (e : End) (units_after : Units)
     (memory_left : List ℕ) : Type 0 where
   pub answers : Answers c e
@@ -70,7 +86,7 @@ pub record Executes (c : Command) (units : Units) (memory : List ℕ) (e : End) 
   pub others_stay : (u : ℕ) → u ≢ c.unit → slice_get units_after u ≡ slice_get units u
   pub natures_stay : natures_of units_after ≡ natures_of units
   pub modes_stay : is_transfer c.op ≡ true → modes_of units_after ≡ modes_of units
-  pub units_stay : acts c (world_of units memory) ≡ false → units_after ≡ units
+  pub by_acting : GoesByActing c (acts c (world_of units memory)) units e units_after
   pub takes_effect : IsTrusted c units memory → TakesEffect c units memory e units_after memory_left
 
 -- the command at place j is executed and taken out
@@ -104,6 +120,7 @@ pub record ServesUnit (c : Command) (act : Act) (unit : UnitState) (memory : Lis
   pub nature_stays : nature_of unit_after ≡ nature_of unit
   pub mode_stays : is_transfer c.op ≡ true → unit_after.mode ≡ unit.mode
   pub unit_stays : is_free (bar_on c act unit memory) ≡ false → unit_after ≡ unit
+  pub ends : is_transfer c.op ≡ true → is_free (bar_on c act unit memory) ≡ true → EndsTransfer c e
   pub takes_effect : (nat_lt 0 (blocks_asked c.op) && is_free (bar_on c act unit memory) ≡ true
       → unit.store.faithful ≡ true)
       → TakesEffectOn c act (bar_on c act unit memory) unit memory e unit_after memory_left

@@ -122,7 +122,7 @@ characteristics = record { reference = 1; unit = 0; op = Controller }
 pub started : {units : List (Option UnitState)} {old new : HostState} {end : End} → old.units ≡ units → old.credits ≡ 1 → old.taken ≡ 0 → Asked old characteristics end new → IsStarted units new
 started units_are credits_are taken_is asked = record {
   idle = asked.idle;
-  units_are = asked.executes.units_stay refl ∙ units_are;
+  units_are = asked.executes.by_acting.idle refl ∙ units_are;
   credits_are = asked.credits_are ∙ ap₂ (λ (n t : ℕ). n - 1 + next_grant t) credits_are taken_is;
   one_taken = asked.one_taken ∙ ap (λ (n : ℕ). n + 1) taken_is;
 }

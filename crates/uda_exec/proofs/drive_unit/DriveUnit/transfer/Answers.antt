@@ -1,7 +1,7 @@
 use Rattle.std.proofs.Common.{◌≡◌, true, length, Some, None, sym, ◌∙◌, arith}
 use Rattle.std.proofs.lemmas.Bool.{false≢true}
 use Rattle.uda_exec.proofs.Words.{UnitState, transfer_refusal}
-use Rattle.uda_exec.proofs.Transferred.{serves_refused, serves_moved, takes_done, takes_lost}
+use Rattle.uda_exec.proofs.Transferred.{serves_refused, serves_moved, ends_done, ends_lost, takes_done, takes_lost}
 use Rattle.uda_exec.proofs.drive_unit.DriveUnit.transfer.Goals as goal
 use Rattle.uda_exec.proofs.drive_unit.DriveUnit.transfer.Goals.{in-Ok, in-Err}
 
@@ -23,8 +23,8 @@ returns-clause-serves g c =
     let image = λ (faithful : (S.state c.self.inside.store).faithful ≡ true). g.met.S.BlockStore.is_image c.self.inside.store faithful in
     let ensured = c.move_blocks.ensures in
     rw (← is, c.reply.ensures, c.plain_body.ensures) (elim c.match-move_blocks.branch [
-      | in-Ok w ↦ rw w.status-is (serves_moved c.args.command c.args.t unit c.args.memory.now c.requires.transfer passed _ _ ensured.nature ensured.changes _ _ (omega arith)
+      | in-Ok w ↦ rw w.status-is (serves_moved c.args.command c.args.t unit c.args.memory.now c.requires.transfer passed _ _ ensured.nature ensured.changes _ _ (omega arith) (ends_done c.args.command c.args.t unit c.args.memory.now c.requires.transfer)
           (λ called. takes_done c.args.command c.args.t unit c.args.memory.now c.requires.transfer passed (λ some. image (called some)) _ _ ensured.nature (w.in-Ok.ensures.moves called)))
-      | in-Err w ↦ rw w.status-is (serves_moved c.args.command c.args.t unit c.args.memory.now c.requires.transfer passed _ _ ensured.nature ensured.changes _ _ (let inside = w.in-Err.ensures.within in omega arith)
+      | in-Err w ↦ rw w.status-is (serves_moved c.args.command c.args.t unit c.args.memory.now c.requires.transfer passed _ _ ensured.nature ensured.changes _ _ (let inside = w.in-Err.ensures.within in omega arith) (ends_lost c.args.command c.args.t unit c.args.memory.now c.requires.transfer _ w.in-Err.ensures.within)
           (λ called. takes_lost c.args.command c.args.t unit c.args.memory.now c.requires.transfer passed (λ some. image (called some)) _ _ ensured.nature _ w.in-Err.ensures.within (λ never. false≢true (w.in-Err.ensures.sure never)) (w.in-Err.ensures.moves called)))
     ])

@@ -200,7 +200,7 @@ fatal_event cause TurnEvent old new memory memory_after goes dead = elim (fatal_
 ]
 
 dies : (cause : Fatal) (events : List HostEvent) (old : PortState) (memory : List ℕ) (new : PortState) (memory_after : List ℕ) → Played events old memory new memory_after → new.phase ≡ Dead cause
-    → StaysDead cause events old ⊎ DiedOf cause events old memory
+    → StaysDead cause events old ⊎ DiedOf cause events (old, memory) (new, memory_after)
 dies cause [] old memory new memory_after played dead = inl (record { was = sym (phases new old played.state) ∙ dead; leaves_ip = All-nil IsOther })
 dies cause (event ∷ rest) old memory new memory_after played dead = elim (dies cause rest played.0.0 played.0.1 new memory_after played.2 dead) [
   | inl later ↦ elim (fatal_event cause event old played.0.0 memory played.0.1 played.1 later.was) [
@@ -210,10 +210,11 @@ dies cause (event ∷ rest) old memory new memory_after played dead = elim (dies
       fatal = event;
       rest = rest;
       are = refl;
-      port = old;
-      memory_then = memory;
+      found = (old, memory);
       led_there = record { state = refl; memory_stays = refl };
-      meets = met;
+      left = played.0;
+      kills = record { meets = met; goes = played.1; dead = later.was };
+      led_on = played.2;
       leaves_ip = later.leaves_ip;
     })
   ]
@@ -222,10 +223,11 @@ dies cause (event ∷ rest) old memory new memory_after played dead = elim (dies
     fatal = later.fatal;
     rest = later.rest;
     are = ap (λ (events : List HostEvent). event ∷ events) later.are;
-    port = later.port;
-    memory_then = later.memory_then;
+    found = later.found;
     led_there = (played.0, played.1, later.led_there);
-    meets = later.meets;
+    left = later.left;
+    kills = later.kills;
+    led_on = later.led_on;
     leaves_ip = later.leaves_ip;
   })
 ]
@@ -268,7 +270,7 @@ stays cause (event ∷ rest) old memory new memory_after played dead leaves =
     stays cause rest played.0.0 played.0.1 new memory_after played.2
     (dead_event cause event old played.0.0 memory played.0.1 played.1 (All-head IsOther event rest leaves) dead) (All-tail IsOther event rest leaves)
 
-pub death_has_cause : (events : List HostEvent) (old : PortState) (memory : List ℕ) (new : PortState) (memory_after : List ℕ) → Played events old memory new memory_after → DeathHasCause events old memory new
+pub death_has_cause : (events : List HostEvent) (old : PortState) (memory : List ℕ) (new : PortState) (memory_after : List ℕ) → Played events old memory new memory_after → DeathHasCause events old memory new memory_after
 death_has_cause events old memory new memory_after played = record {
   dies = λ cause dead. dies cause events old memory new memory_after played dead;
   stays = λ cause was. stays cause events old memory new memory_after played was.was was.leaves_ip;

@@ -105,16 +105,28 @@ MeetsCause cause _ port memory = ⊥
 abbrev pub LeavesIp : List HostEvent → Type 0
 LeavesIp events = All (λ event. event ≢ WriteIp) events
 
--- one of the events met the cause, and IP wasn't written after it
-pub record DiedOf (cause : Fatal) (events : List HostEvent) (old : PortState) (memory : List ℕ) : Type 0 where
+-- a port with its memory, as one event finds it or leaves it
+abbrev pub Standing : Type 0
+Standing = PortState × List ℕ
+
+-- an event met the cause, and left the port dead of it
+pub record Kills (cause : Fatal) (event : HostEvent) (found left : Standing) : Type 0 where
+  pub meets : MeetsCause cause event found.0 found.1
+  pub goes : EventGoes event found.0 found.1 left.0 left.1
+  pub dead : left.0.phase ≡ Dead cause
+
+-- The events before led to what one of them found; that one killed the port; and the rest, by which IP isn't
+-- written, led on from what it left to the end.
+pub record DiedOf (cause : Fatal) (events : List HostEvent) (start finish : Standing) : Type 0 where
   pub before : List HostEvent
   pub fatal : HostEvent
   pub rest : List HostEvent
   pub are : events ≡ before ++ fatal ∷ rest
-  pub port : PortState
-  pub memory_then : List ℕ
-  pub led_there : Played before old memory port memory_then
-  pub meets : MeetsCause cause fatal port memory_then
+  pub found : Standing
+  pub led_there : Played before start.0 start.1 found.0 found.1
+  pub left : Standing
+  pub kills : Kills cause fatal found left
+  pub led_on : Played rest left.0 left.1 finish.0 finish.1
   pub leaves_ip : LeavesIp rest
 
 -- it was dead of the same cause, and IP wasn't written
@@ -122,10 +134,10 @@ pub record StaysDead (cause : Fatal) (events : List HostEvent) (old : PortState)
   pub was : old.phase ≡ Dead cause
   pub leaves_ip : LeavesIp events
 
--- a port that is dead met a cause, with just that code, or was dead of it; and one that was dead is so until
+-- a port that is dead was killed, with just that code, or was dead of it; and one that was dead is so until
 -- IP is written
 pub record DeathHasCause (events : List HostEvent) (old : PortState) (memory : List ℕ)
-    (new : PortState) : Type 0 where
+    (new : PortState) (memory_after : List ℕ) : Type 0 where
   pub dies : (cause : Fatal) → new.phase ≡ Dead cause
-      → StaysDead cause events old ⊎ DiedOf cause events old memory
+      → StaysDead cause events old ⊎ DiedOf cause events (old, memory) (new, memory_after)
   pub stays : (cause : Fatal) → StaysDead cause events old → new.phase ≡ Dead cause

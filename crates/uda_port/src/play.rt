@@ -44,7 +44,7 @@ impl<S: BlockStore> Port<S> {
     pub fn play(&mut self, events: &[HostEvent], memory: &mut HostMemory) -> u16
         ensures played { Played events.now self.old memory.old self.new memory.new }
         ensures sa { result ≡ sa_of self.new.phase }
-        ensures death { DeathHasCause events.now self.old memory.old self.new }
+        ensures death { DeathHasCause events.now self.old memory.old self.new memory.new }
         ensures credits { CreditsAgree self.new }
         ensures images { AreImages self.new.exec.units }
     {
@@ -56,7 +56,7 @@ impl<S: BlockStore> Port<S> {
         requires memory { IsMemory memory.old }
         ensures played { Played events.now self.old memory.old self.new memory.new }
         ensures sa { result ≡ sa_of self.new.phase }
-        ensures death { DeathHasCause events.now self.old memory.old self.new }
+        ensures death { DeathHasCause events.now self.old memory.old self.new memory.new }
         ensures credits { CreditsAgree self.new }
         ensures images { AreImages self.new.exec.units }
     {

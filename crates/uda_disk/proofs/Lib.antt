@@ -7,4 +7,5 @@ pub mod Filling
 pub mod InBlocks
 pub mod Errors
 pub mod Outcomes
+pub mod Callers
 pub mod Examples

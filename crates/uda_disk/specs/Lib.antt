@@ -10,3 +10,4 @@ pub mod Form
 pub mod Units
 pub mod Values
 pub mod Display
+pub mod Laws

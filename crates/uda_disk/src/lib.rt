@@ -15,6 +15,7 @@ mod answer;
 mod blocks;
 mod extent;
 mod flags;
+pub mod laws;
 pub mod losses;
 mod mode;
 pub mod order;

@@ -5,3 +5,4 @@ pub mod Outs
 pub mod Drivings
 pub mod Loads
 pub mod Underways
+mod Told

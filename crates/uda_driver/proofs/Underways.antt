@@ -6,7 +6,7 @@ use Rattle.std.proofs.lemmas.List.Edits.{length-remove}
 use Rattle.std.proofs.lemmas.Bool.{eqb-true, eqb-false, or_cases, or_parts}
 use Rattle.std.proofs.lemmas.Option.{slice_get-map, slice_get-get_or}
 use Rattle.uda_packet.specs.declared.end.End.{End}
-use Rattle.uda_disk.specs.Units.{AreImages}
+use Rattle.uda_disk.specs.Units.{Units, AreImages, nature_of, natures_of}
 use Rattle.uda_exec.specs.Disks.{PENDING_LIMIT}
 use Rattle.uda_disk.proofs.Slots.{slice_get-set_other}
 use Rattle.uda_disk.specs.Request.{Request}
@@ -14,6 +14,7 @@ use Rattle.uda_disk.specs.PlainRun.{too_long, posted_count}
 use Rattle.uda_disk.specs.Answer.{TooLong}
 use Rattle.uda_disk.specs.Order.{lead, lead_from}
 use Rattle.uda_posting.specs.Posting.{posted_command, answer_of, buffer_of}
+use Rattle.uda_posting.specs.Keeping.{Owes}
 use Rattle.uda_disk.specs.Values.{request_value, answer_value, request_values, answer_values}
 use Rattle.uda_disk.specs.declared.request.Request.{Request as CodeRequest}
 use Rattle.uda_disk.specs.declared.answer.Answer.{Answer as CodeAnswer}
@@ -194,6 +195,10 @@ module _ {start : HostState} {requests : List CodeRequest} {n : ℕ} {out : List
 
 -- ---- the beginning and the end
 
+-- as many units as before
+same_count : (units before : Units) → natures_of units ≡ natures_of before → length units ≡ length before
+same_count units before same = sym (length-map units (option_map nature_of)) ∙ ap length same ∙ length-map before (option_map nature_of)
+
 pub underway_start : {start : HostState} {requests : List CodeRequest} {out : List (Option Out)} {answers : List CodeAnswer} → IsDriver start → out ≡ replicate PENDING_LIMIT None → length answers ≡ length requests
     → AreBlank (request_values requests) 0 answers → Underway start requests 0 out answers start
 underway_start {start} {requests} {answers = answers} ready none sized blank =
@@ -247,10 +252,13 @@ module _ {start : HostState} {requests : List CodeRequest} {n : ℕ} {out : List
         load = omega (arith, over.load, over.within, p, triangle-is (lead (request_values requests)), ap (λ (h : List _). triangle (length h)) none_due);
       }
 
+  owed : Owes start.units (request_values requests) [] (answer_values answers) host.units host.memory
+  owed = driving_end (omega (arith, length-map answers answer_value, length-map requests request_value, U.sized)) none (subst (λ (qs : List Request). Driving start.units qs out (answer_values answers) host) whole U.driving)
+
   pub ran : Ran start requests answers host
   ran = record {
-    ready = record { rest = rests; images = U.at_work.images; adds_up = U.at_work.adds_up };
+    ready = record { rest = rests; four = same_count host.units start.units owed.natures ∙ ready.four; images = U.at_work.images; adds_up = U.at_work.adds_up };
     counted = U.sized;
-    owes = driving_end (omega (arith, length-map answers answer_value, length-map requests request_value, U.sized)) none (subst (λ (qs : List Request). Driving start.units qs out (answer_values answers) host) whole U.driving);
+    owes = owed;
     counts = counted_on;
   }

@@ -1,5 +1,5 @@
 -- A driver as its callers see it.
-use Rattle.std.specs.Prelude.{◌≡◌, ◌<◌}
+use Rattle.std.specs.Prelude.{◌≡◌, ◌<◌, length}
 use Rattle.uda_disk.specs.Units.{AreImages}
 use Rattle.uda_exec.specs.Disks.{PENDING_LIMIT}
 use Rattle.uda_port.specs.declared.phase.Phase.TheVariants.{Running}
@@ -16,5 +16,6 @@ pub record IsAtRest (driver : DriverState) : Type 0 where
 -- what is always true of it
 pub record IsDriver (driver : DriverState) : Type 0 where
   pub rest : IsAtRest driver
+  pub four : length driver.units ≡ 4
   pub images : AreImages driver.units
   pub adds_up : AddsUp driver

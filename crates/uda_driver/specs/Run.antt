@@ -1,12 +1,16 @@
 -- What a driver promises of a run of requests.
-use Rattle.std.specs.Prelude.{◌≡◌, ℕ, ◌+◌, ◌-◌, ◌*◌, ◌/◌, ◌≤◌, List, length, Some, slice_get}
+use Rattle.std.specs.Prelude.{◌≡◌, ℕ, ◌+◌, ◌-◌, ◌*◌, ◌/◌, ◌≤◌, Bool, nat_eq, List, length, Some, slice_get}
+use Rattle.std.specs.List.{list_any}
+use Rattle.uda_disk.specs.Status.{DRIVE_ERROR}
 use Rattle.uda_disk.specs.Units.{Units, disks_of, failures_at}
 use Rattle.uda_host.specs.Host.{HostState}
 use Rattle.uda_disk.specs.Request.{Request}
-use Rattle.uda_disk.specs.Answer.{Answer}
+use Rattle.uda_disk.specs.Answer.{Answer, status_of}
 use Rattle.uda_disk.specs.Form.{IsAnswerOf}
 use Rattle.uda_disk.specs.PlainRun.{plain, PlainWithLosses, drive_errors, posted_count}
 use Rattle.uda_disk.specs.Order.{lead}
+pub use Rattle.uda_posting.specs.Keeping.{SureNeverFail}
+pub use Rattle.uda_posting.specs.Seeming.{SeemsPlain}
 
 -- all that a driver keeps is its host, whose units are its own
 abbrev pub DriverState : Type 0
@@ -25,8 +29,15 @@ abbrev pub NoneFailed : Units → Units → Type 0
 NoneFailed units units_after =
     (u : ℕ) → failures_at (slice_get units_after u) ≡ failures_at (slice_get units u)
 
+-- an answer tells a drive error: a store failed; and of these answers one does
+abbrev pub is_drive_error : Answer → Bool
+is_drive_error answer = nat_eq (status_of answer) DRIVE_ERROR
+
+abbrev pub tells_drive_error : List Answer → Bool
+tells_drive_error answers = list_any is_drive_error answers
+
 -- answers and disks are those of a plain run in which transfers may be lost, and each failure of a store was
--- told once
+-- told once, and none was of a store that never fails
 pub record TellsLosses (units : Units) (requests : List Request) (answers : List Answer)
     (units_after : Units) : Type 0 where
   pub run : PlainWithLosses (disks_of units) requests answers (disks_of units_after)
@@ -34,6 +45,7 @@ pub record TellsLosses (units : Units) (requests : List Request) (answers : List
       (u : ℕ)
       → failures_at (slice_get units_after u)
       ≡ failures_at (slice_get units u) + drive_errors u requests answers
+  pub sure : SureNeverFail units units_after
 
 -- the most requests of one run
 abbrev pub request_limit : ℕ

@@ -1,10 +1,10 @@
 //! The driver.
-ghost use Rattle.std.specs.Prelude.{◌≡◌, ◌<◌, ◌≤◌, ◌↔◌, length, Err, IfOk, IfErr};
+ghost use Rattle.std.specs.Prelude.{◌≡◌, ◌<◌, ◌≤◌, ◌↔◌, false, length, Err, IfOk, IfErr};
 ghost use Rattle.uda_exec.specs.Drives.{drive_states, fresh_units, drives_in};
-ghost use Rattle.uda_disk.specs.Units.{natures_of, AllFaithful};
+ghost use Rattle.uda_disk.specs.Units.{natures_of, AllFaithful, AreImages};
 ghost use Rattle.uda_disk.specs.Values.{request_values, answer_values};
 ghost use Rattle.uda_driver.specs.Run.{request_limit, AreAnswersOf, NoneFailed, IsPlainRun, TellsLosses};
-ghost use Rattle.uda_driver.specs.Run.{CountsOn, units_of};
+ghost use Rattle.uda_driver.specs.Run.{CountsOn, units_of, tells_drive_error, SureNeverFail, SeemsPlain};
 ghost use Rattle.uda_driver.specs.Blank.{AreBlank};
 ghost use Rattle.uda_driver.specs.Driver.{IsAtRest};
 
@@ -67,6 +67,8 @@ impl<S: BlockStore> Driver<S> {
         ensures rest { IfOk result (λ driver. IsAtRest driver) }
         ensures units { IfOk result (λ driver.
             units_of driver ≡ fresh_units (drive_states S.state drives)) }
+        ensures four { IfOk result (λ driver. length (units_of driver) ≡ 4) }
+        ensures images { IfOk result (λ driver. AreImages (units_of driver)) }
         ensures refused { IfErr result (λ refusal.
             drive_states S.state refusal.1 ≡ drive_states S.state drives) }
     {
@@ -80,9 +82,12 @@ impl<S: BlockStore> Driver<S> {
     ///
     /// Up to fifteen commands are out at once, and the controller does them in any order it chooses. Yet
     /// answers and disks are those of one plain array of blocks for each unit, served in order, where
-    /// every store is faithful and none fails (`headline`); where stores fail, those of such a run with
-    /// transfers lost, each loss told once (`losses`). Whatever the stores, each request has an answer of
-    /// its own form (`shape`), and the port's turns are counted (`counts`).
+    /// every store is faithful and none fails (`headline`), or no answer tells a drive error
+    /// (`headline_untold`, which [`tells_drive_error`](crate::tells_drive_error) tests); where stores fail,
+    /// those of such a run with transfers lost, each loss told once (`losses`). A store that never fails has
+    /// not failed (`sure`). Whatever the stores, each request has an answer of its own form (`shape`), modes
+    /// and refusals are the plain run's, and a transfer that is done there is done here or told as lost
+    /// (`seems`); and the port's turns are counted (`counts`).
     ///
     /// More than 4096 requests are `TooMany`, and where no memory is left for the answers the error is
     /// `NoMemory`: then nothing was done. All memory is taken before the first command.
@@ -91,15 +96,27 @@ impl<S: BlockStore> Driver<S> {
         ensures unchanged { IfErr result (λ _. self.new ≡ self.old) }
         ensures rest { IsAtRest self.new }
         ensures natures { natures_of (units_of self.new) ≡ natures_of (units_of self.old) }
+        ensures four { (length (units_of self.old) ≡ 4) × (length (units_of self.new) ≡ 4) }
+        ensures images { AreImages (units_of self.old) × AreImages (units_of self.new) }
         ensures shape { IfOk result (λ answers.
             AreAnswersOf (request_values requests.now) (answer_values answers.items)) }
         ensures headline { IfOk result (λ answers.
             AllFaithful (units_of self.old) → NoneFailed (units_of self.old) (units_of self.new)
             → IsPlainRun (units_of self.old) (request_values requests.now)
             (answer_values answers.items) (units_of self.new)) }
+        ensures headline_untold { IfOk result (λ answers.
+            AllFaithful (units_of self.old)
+            → tells_drive_error (answer_values answers.items) ≡ false
+            → IsPlainRun (units_of self.old) (request_values requests.now)
+            (answer_values answers.items) (units_of self.new)) }
+        ensures sure { AllFaithful (units_of self.old)
+            → SureNeverFail (units_of self.old) (units_of self.new) }
         ensures losses { IfOk result (λ answers.
             AllFaithful (units_of self.old)
             → TellsLosses (units_of self.old) (request_values requests.now)
+            (answer_values answers.items) (units_of self.new)) }
+        ensures seems { IfOk result (λ answers.
+            SeemsPlain (units_of self.old) (request_values requests.now)
             (answer_values answers.items) (units_of self.new)) }
         ensures counts { IfOk result (λ _.
             CountsOn (request_values requests.now) self.old self.new) }

@@ -4,6 +4,8 @@
 mod answers;
 mod buffers;
 mod driver;
+mod losses;
 mod serve;
 
 pub use driver::{Driver, RunError};
+pub use losses::tells_drive_error;

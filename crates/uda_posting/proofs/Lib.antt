@@ -1,5 +1,6 @@
 pub mod Dues
 pub mod Serving
+pub mod Seemings
 pub mod Posts
 pub mod Owing
 pub mod Ending

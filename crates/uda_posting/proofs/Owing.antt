@@ -1,11 +1,11 @@
 -- What is owed, as a request is answered at once, posted, or done by its command.
-use Rattle.std.proofs.Common.{◌≡◌, ◌≢◌, ℕ, zero, suc, ◌+◌, ◌<◌, inl, inr, Bool, true, false, List, [], ◌∷◌, ◌++◌, length, Some, refl, sym, ap, ◌∙◌, arith, subst, subst₂, length-append}
+use Rattle.std.proofs.Common.{◌≡◌, ◌≢◌, ℕ, zero, suc, ◌+◌, ◌<◌, inl, inr, Bool, true, false, List, [], ◌∷◌, ◌++◌, length, get_or, Some, refl, sym, ap, ◌∙◌, arith, subst, subst₂, length-append}
 use Rattle.std.specs.Prelude.{slice_get, slice_set, option_map, remove, All, AllPairs, nat_eq, ◌&&◌, if◌then◌else◌}
 use Rattle.std.proofs.lemmas.List.{length-set, length-map, map_push}
 use Rattle.std.proofs.lemmas.List.Elements.{All-nil, All-cons, All-head, All-tail, All-push}
 use Rattle.std.proofs.lemmas.List.Quantifiers.{all_pairs_push, all_pairs_remove}
 use Rattle.std.proofs.lemmas.Bool.{cases_eq, eq-eqb, ne_eqb}
-use Rattle.std.proofs.lemmas.Option.{slice_get_within, slice_get-map}
+use Rattle.std.proofs.lemmas.Option.{slice_get_within, slice_get-map, slice_get-get_or}
 use Rattle.uda_mem.specs.Put.{part, put}
 use Rattle.uda_mem.proofs.PutLaws.{length-put, length-part}
 use Rattle.uda_packet.specs.declared.command.Command.{Command}
@@ -13,13 +13,13 @@ use Rattle.uda_packet.specs.declared.end.End.{End}
 use Rattle.uda_disk.specs.Disk.{Disks}
 use Rattle.uda_disk.specs.Request.{Act, Request, Online, blocks_named}
 use Rattle.uda_disk.specs.Answer.{Answer, TooLong, blank_answer}
-use Rattle.uda_disk.specs.Plain.{Outcome, is_lost, FitsCount}
+use Rattle.uda_disk.specs.Plain.{Outcome, Done, is_lost, FitsCount}
 use Rattle.uda_disk.specs.Order.{NoClash, PassesOlder}
-use Rattle.uda_disk.specs.PlainRun.{too_long, step_as, plain, PlainWithLosses, tells_error}
+use Rattle.uda_disk.specs.PlainRun.{too_long, step_as, plain, PlainWithLosses, tells_error, drive_errors}
 use Rattle.uda_disk.specs.Form.{SameForm, IsAnswerOf}
 use Rattle.uda_disk.proofs.Slots.{slice_get-set_same, slice_get-set_other}
 use Rattle.uda_exec.specs.Disks.{ExecState}
-use Rattle.uda_disk.specs.Units.{disks_of, AreImages, failures_at, Units, AllFaithful}
+use Rattle.uda_disk.specs.Units.{disks_of, AreImages, failures_at, Units, AllFaithful, is_sure}
 use Rattle.uda_exec.specs.Commands.{buffer_start, landing_of, act_of}
 use Rattle.uda_exec.specs.Effect.{World}
 use Rattle.uda_exec.specs.Transfers.{ChangesAt}
@@ -27,13 +27,15 @@ use Rattle.uda_exec.specs.Order.{MayGo}
 use Rattle.uda_exec.specs.Execution.{world_of, Executes, ExecutesAt}
 use Rattle.uda_exec.proofs.Changes.{landing-le}
 use Rattle.uda_exec.proofs.Requests.{act_of-put}
-use Rattle.uda_exec.proofs.Units.{faithful_stays}
+use Rattle.uda_exec.proofs.Units.{faithful_stays, sure_stays}
 use Rattle.uda_posting.specs.Posting.{answer_of, Posted, posted_command, commands_in, due_of, dues_of, requests_posted, buffer_of, Ready}
 use Rattle.uda_model.specs.Ledger.{Due, requests_due, Ledger}
 use Rattle.uda_posting.specs.Keeping.{Misses, Beside, IsReadyIn, StandsIn, IsUntold, IsBefore, IsEarlier, IsNotAt, IsNotDue, Sound, Owes}
 use Rattle.uda_disk.proofs.Lists.{map-remove, put_back, All-insert, All-remove, All-at, All-front, pairs_others, slice_get-append, slice_get-last, slice_get-before}
 use Rattle.uda_posting.proofs.Dues.{dues_below, dues_rising, dues_ask}
+use Rattle.uda_posting.specs.Seeming.{bares, GoesAs, AsPlain, ReadToo, ReadLost, MoveLost, AllGoAs, SeemsPlain, Seems}
 use Rattle.uda_posting.proofs.Serving.{acts-own, serves}
+use Rattle.uda_posting.proofs.Seemings.{step_seems}
 use Rattle.uda_posting.proofs.Posts.{names_same, beside_others, goes-request}
 use Rattle.uda_model.proofs.LedgerSteps.{ledger_opens, ledger_skips, ledger_takes_in, ledger_carries_out, ledger_closes}
 use Rattle.uda_disk.proofs.Errors.{is_error, losses_told, errors-set, errors-push}
@@ -52,7 +54,8 @@ owes_start units memory = record {
   clear = λ i j d before within. absurd (omega arith);
   formed = λ k r answer stands. absurd (cc);
   natures = refl;
-  sound = λ faithful images. record { ledger = ledger_opens (disks_of units); errors = λ u. omega arith };
+  sound = λ faithful images. record { ledger = ledger_opens (disks_of units); errors = λ u. omega arith; sure = λ u never. refl };
+  seems = record { disks = disks_of units; shown = []; ledger = ledger_opens (disks_of units); errors = λ u. omega arith; alike = refl; counted = refl; go_as = λ k done now here there. absurd (cc) };
 }
 
 -- ---- forms
@@ -97,6 +100,27 @@ one_failure u unit told lost units after same stay grows = elim (cases_eq u unit
   | inr other ↦ let is_not : nat_eq unit u ≡ false = ne_eqb unit u (λ e. other (sym e)) in rw is_not (ap failures_at (stay u other) ∙ omega arith)
 ]
 
+-- one that never fails has not failed, where a command of its unit is lost only if its store may fail
+sure_done : (u unit : ℕ) (o : Outcome) (units after : Units) → is_sure (slice_get units u) ≡ true → (is_sure (slice_get units unit) ≡ true → o ≡ Done) → ((v : ℕ) → v ≢ unit → slice_get after v ≡ slice_get units v)
+    → failures_at (slice_get after unit) ≡ failures_at (slice_get units unit) + (let k : ℕ = if is_lost o then 1 else 0 in k)
+    → failures_at (slice_get after u) ≡ failures_at (slice_get units u)
+sure_done u unit o units after never done stay grows = elim (cases_eq u unit) [
+  | inl own ↦
+      let is : o ≡ Done = done (ap (λ (v : ℕ). is_sure (slice_get units v)) (sym own) ∙ never) in
+      let none : failures_at (slice_get after unit) ≡ failures_at (slice_get units unit) + 0 = rw is at grows in
+      rw own (omega (arith, none))
+  | inr other ↦ ap failures_at (stay u other)
+]
+
+-- what tells no drive error adds none
+tells_none : (u : ℕ) (r : Request) (a : Answer) → is_error a ≡ false → tells_error u r a ≡ 0
+tells_none u r a clean = by (nat_eq r.unit u) (is_error a) clean
+  where
+    by : (own told : Bool) → told ≡ false → (let k : ℕ = if own && told then 1 else 0 in k) ≡ 0
+    by true true h = absurd (cc)
+    by true false h = refl
+    by false told h = refl
+
 -- ---- the steps
 
 module _ {start : Units} {requests : List Request} {due : List Posted} {told : List Answer} {units : Units} {memory : List ℕ} (owes : Owes start requests due told units memory) where
@@ -112,12 +136,36 @@ module _ {start : Units} {requests : List Request} {due : List Posted} {told : L
     formed = owes.formed;
     natures = owes.natures;
     sound = owes.sound;
+    seems = owes.seems;
   }
+
+  -- one more, whose answer is still to come
+  more_seems : {due_after : List Posted} (r : Request) → Ledger (disks_of start) (requests ++ r ∷ []) (dues_of due_after) (owes.seems.shown ++ TooLong ∷ []) owes.seems.disks
+      → Seems start (requests ++ r ∷ []) due_after (told ++ TooLong ∷ []) units
+  more_seems r ledger =
+      let s = owes.seems in
+      record {
+        disks = s.disks;
+        shown = s.shown ++ TooLong ∷ [];
+        ledger = ledger;
+        errors = λ u. errors-push u requests s.shown r s.counted ∙ s.errors u;
+        alike = s.alike;
+        counted = omega (arith, s.counted, length-append requests (r ∷ []), length-append s.shown (TooLong ∷ []));
+        go_as = λ k done now here there. elim (cases_eq k (length requests)) [
+          | inl last ↦
+              let one : Some done ≡ Some TooLong = sym here ∙ slice_get-last s.shown k TooLong (last ∙ sym s.counted) in
+              let two : Some now ≡ Some TooLong = sym there ∙ slice_get-last told k TooLong (last ∙ sym owes.counted) in
+              AsPlain (cc)
+          | inr other ↦
+              let low : k < length requests = omega (arith, slice_get_within (s.shown ++ TooLong ∷ []) k done here, s.counted, length-append s.shown (TooLong ∷ [])) in
+              s.go_as k done now (sym (slice_get-before s.shown TooLong k (omega (arith, low, s.counted))) ∙ here) (sym (slice_get-before told TooLong k (omega (arith, low, owes.counted))) ∙ there)
+        ];
+      }
 
   -- one more request, of these that are then due; it is due itself, or it is too long
   one_more : (r : Request) (due_after : List Posted) → All (StandsIn (requests ++ r ∷ [])) due_after → All (IsUntold (told ++ TooLong ∷ [])) due_after → AllPairs IsEarlier due_after
       → All (IsReadyIn memory) due_after → AllPairs Beside (commands_in due_after) → AllPairs NoClash (requests_posted due_after) → ((k : ℕ) → IsNotDue k due_after → IsNotDue k due) → (IsNotDue (length requests) due_after → too_long r ≡ true)
-      → (Ledger (disks_of start) requests (dues_of due) told (disks_of units) → Ledger (disks_of start) (requests ++ r ∷ []) (dues_of due_after) (told ++ TooLong ∷ []) (disks_of units))
+      → ((answers : List Answer) (disks : Disks) → length answers ≡ length told → Ledger (disks_of start) requests (dues_of due) answers disks → Ledger (disks_of start) (requests ++ r ∷ []) (dues_of due_after) (answers ++ TooLong ∷ []) disks)
       → Owes start (requests ++ r ∷ []) due_after (told ++ TooLong ∷ []) units memory
   one_more r due_after stand untold in_order ready beside clear none long ledger =
       let size = length-append requests (r ∷ []) in
@@ -141,9 +189,11 @@ module _ {start : Units} {requests : List Request} {due : List Posted} {told : L
         sound = λ faithful images.
             let before = owes.sound faithful images in
             record {
-              ledger = ledger before.ledger;
+              ledger = ledger told (disks_of units) refl before.ledger;
               errors = λ u. omega (arith, before.errors u, errors-push u requests told r owes.counted);
+              sure = before.sure;
             };
+        seems = more_seems r (ledger owes.seems.shown owes.seems.disks (owes.seems.counted ∙ sym owes.counted) owes.seems.ledger);
       }
 
   still_stand : (r : Request) → All (StandsIn (requests ++ r ∷ [])) due
@@ -158,16 +208,17 @@ module _ {start : Units} {requests : List Request} {due : List Posted} {told : L
   -- it is too long, and is answered at once
   pub owes_skip : (r : Request) → too_long r ≡ true → Owes start (requests ++ r ∷ []) due (told ++ TooLong ∷ []) units memory
   owes_skip r long =
-      one_more r due (still_stand r) still_untold owes.in_order owes.ready owes.beside owes.clear (λ k not_due. not_due) (λ _. long) (ledger_skips (disks_of start) requests (dues_of due) told (disks_of units) r long (dues_below (length told) due low))
+      one_more r due (still_stand r) still_untold owes.in_order owes.ready owes.beside owes.clear (λ k not_due. not_due) (λ _. long)
+      (λ answers disks same. ledger_skips (disks_of start) requests (dues_of due) answers disks r long (dues_below (length answers) due (λ k d l. omega (arith, low k d l, same))))
 
   pub owes_post : (p : Posted) → p.place ≡ length requests → Ready p memory → All (λ c. Beside c (posted_command p)) (commands_in due) → All (λ r. NoClash r p.request) (requests_posted due)
       → Owes start (requests ++ p.request ∷ []) (due ++ p ∷ []) (told ++ TooLong ∷ []) units memory
   owes_post p last ready beside clear =
       let r = p.request in let more = due ++ p ∷ [] in let answers = told ++ TooLong ∷ [] in
       let at : p.place ≡ length told = last ∙ sym owes.counted in
-      let L : List Due → Type 0 = λ ds. Ledger (disks_of start) (requests ++ r ∷ []) ds answers (disks_of units) in
-      let taken : Ledger (disks_of start) requests (dues_of due) told (disks_of units) → L (dues_of more) = λ ledger.
-      subst L (sym (map_push due_of due p)) (ledger_takes_in (disks_of start) requests (dues_of due) told (disks_of units) (due_of p) (dues_below (length told) due low) at ledger) in
+      let taken = λ (as' : List Answer) (disks : Disks) (same : length as' ≡ length told) (ledger : Ledger (disks_of start) requests (dues_of due) as' disks).
+      subst (λ (ds : List Due). Ledger (disks_of start) (requests ++ r ∷ []) ds (as' ++ TooLong ∷ []) disks) (sym (map_push due_of due p))
+      (ledger_takes_in (disks_of start) requests (dues_of due) as' disks (due_of p) (dues_below (length as') due (λ k d l. omega (arith, low k d l, same))) (at ∙ sym same) ledger) in
       one_more r more (All-push (StandsIn (requests ++ r ∷ [])) due p (still_stand r) (slice_get-last requests p.place r last)) (All-push (IsUntold answers) due p still_untold (slice_get-last told p.place TooLong at))
       (all_pairs_push IsEarlier due p owes.in_order (λ k d l. omega (arith, low k d l, at))) (All-push (IsReadyIn memory) due p owes.ready ready)
       (subst (AllPairs Beside) (sym (map_push posted_command due p)) (all_pairs_push Beside (commands_in due) (posted_command p) owes.beside beside))
@@ -186,16 +237,16 @@ module _ {start : Units} {requests : List Request} {due : List Posted} {told : L
     own_blank = All-at (IsUntold told) due j p owes.untold stands
 
     -- among what is due it is done
-    done_in_ledger : (disks : Disks) (o : Outcome) → FitsCount (blocks_named p.request.act) o → Ledger (disks_of start) requests (dues_of due) told disks
-        → Ledger (disks_of start) requests (dues_of (remove due j)) (slice_set told p.place (step_as o p.request disks).0) (step_as o p.request disks).1
-    done_in_ledger disks o fits ledger =
+    done_in_ledger : (answers : List Answer) (disks : Disks) (o : Outcome) → FitsCount (blocks_named p.request.act) o → Ledger (disks_of start) requests (dues_of due) answers disks
+        → Ledger (disks_of start) requests (dues_of (remove due j)) (slice_set answers p.place (step_as o p.request disks).0) (step_as o p.request disks).1
+    done_in_ledger answers disks o fits ledger =
         let now = step_as o p.request disks in
         let asks : requests_posted due ≡ requests_due (dues_of due) = sym (dues_ask due) in
         let clear = subst (AllPairs NoClash) asks owes.clear in
         let may = subst (λ (rs : List Request). PassesOlder rs j) asks (goes-request due j goes) in
         let stands_due : slice_get (dues_of due) j ≡ Some (due_of p) = slice_get-map due_of due j ∙ ap (option_map due_of) stands in
-        subst (λ (ds : List Due). Ledger (disks_of start) requests ds (slice_set told p.place now.0) now.1) (sym (map-remove due_of due j))
-        (ledger_carries_out (disks_of start) requests (dues_of due) told disks j (due_of p) o clear (dues_rising due owes.in_order) may stands_due fits ledger)
+        subst (λ (ds : List Due). Ledger (disks_of start) requests ds (slice_set answers p.place now.0) now.1) (sym (map-remove due_of due j))
+        (ledger_carries_out (disks_of start) requests (dues_of due) answers disks j (due_of p) o clear (dues_rising due owes.in_order) may stands_due fits ledger)
 
     sound_done : AllFaithful start → AreImages start → Sound start requests (remove due j) (slice_set told p.place (answer_of p.request.act e (buffer_of p left))) after
     sound_done faithful images =
@@ -212,10 +263,50 @@ module _ {start : Units} {requests : List Request} {due : List Posted} {told : L
         let lost : is_error a ≡ is_lost o = ap is_error answer_is ∙ error-lost o r w.disks own_ready.short fits (λ lost. sym (acts-own p w own_ready) ∙ t.fits.acting lost) in
         record {
           ledger = subst₂ (λ (answer : Answer) (disks : Disks). Ledger (disks_of start) requests (dues_of (remove due j)) (slice_set told p.place answer) disks) (sym answer_is) (sym disks_are)
-              (done_in_ledger w.disks o fits before.ledger);
+              (done_in_ledger told w.disks o fits before.ledger);
           errors = λ u.
               let more : failures_at (slice_get after u) ≡ failures_at (slice_get units u) + tells_error u r a = one_failure u r.unit (is_error a) (is_lost o) units after lost x.others_stay t.failures_are in
               omega (arith, before.errors u, errors-set u requests told p.place r a own_request own_blank);
+          sure = λ u never. sure_done u c.unit o units after (sure_stays start units owes.natures u ∙ never) t.sure x.others_stay t.failures_are ∙ before.sure u never;
+        }
+
+    -- what is shown of it is still to come
+    own_unshown : slice_get owes.seems.shown p.place ≡ Some TooLong
+    own_unshown =
+        let s = owes.seems in
+        let low : p.place < length s.shown = omega (arith, slice_get_within told p.place TooLong own_blank, owes.counted, s.counted) in
+        let here = slice_get-get_or s.shown p.place TooLong low in
+        elim (s.go_as p.place (get_or s.shown p.place TooLong) TooLong here own_blank) [
+          | AsPlain is ↦ here ∙ ap (λ (a : Answer). Some a) (sym is)
+          | ReadToo bytes read plain is ↦ absurd (cc)
+          | ReadLost bytes read plain is ↦ absurd (cc)
+          | MoveLost bytes moved plain is ↦ absurd (cc)
+        ]
+
+    seems_done : Seems start requests (remove due j) (slice_set told p.place (answer_of p.request.act e (buffer_of p left))) after
+    seems_done =
+        let s = owes.seems in let r = p.request in
+        let a = answer_of r.act e (buffer_of p left) in
+        let now = step_as Done r s.disks in
+        let step = step_seems p s.disks units memory e after left own_ready s.alike x in
+        let clean : is_error now.0 ≡ false = error-lost Done r s.disks own_ready.short tt (λ lost. absurd (cc)) in
+        record {
+          disks = now.1;
+          shown = slice_set s.shown p.place now.0;
+          ledger = done_in_ledger s.shown s.disks Done tt s.ledger;
+          errors = λ u. omega (arith, s.errors u, errors-set u requests s.shown p.place r now.0 own_request own_unshown, tells_none u r now.0 clean);
+          alike = step.alike;
+          counted = length-set s.shown p.place now.0 ∙ s.counted;
+          go_as = λ k done told_now here there. elim (cases_eq k p.place) [
+            | inl own ↦
+                let mine = slice_get-set_same s.shown p.place now.0 (slice_get_within s.shown p.place TooLong own_unshown) in
+                let his = slice_get-set_same told p.place a (slice_get_within told p.place TooLong own_blank) in
+                let one : Some now.0 ≡ Some done = sym mine ∙ ap (slice_get (slice_set s.shown p.place now.0)) (sym own) ∙ here in
+                let two : Some a ≡ Some told_now = sym his ∙ ap (slice_get (slice_set told p.place a)) (sym own) ∙ there in
+                let first : now.0 ≡ done = cc in let second : a ≡ told_now = cc in
+                subst₂ GoesAs first second step.goes
+            | inr other ↦ s.go_as k done told_now (sym (slice_get-set_other s.shown p.place k now.0 other) ∙ here) (sym (slice_get-set_other told p.place k a other) ∙ there)
+          ];
         }
 
     owes_done : Owes start requests (remove due j) (slice_set told p.place (answer_of p.request.act e (buffer_of p left))) after left
@@ -245,6 +336,7 @@ module _ {start : Units} {requests : List Request} {due : List Posted} {told : L
           ];
           natures = x.natures_stay ∙ owes.natures;
           sound = sound_done;
+          seems = seems_done;
         }
 
 -- ---- an execution
@@ -291,3 +383,18 @@ module _ {start : Units} {requests : List Request} {told : List Answer} {units :
   -- where no store failed, it is the plain run
   pub owes_plain : ((u : ℕ) → failures_at (slice_get units u) ≡ failures_at (slice_get start u)) → (told, disks_of units) ≡ plain (disks_of start) requests
   owes_plain none = losses_told (disks_of start) requests told (disks_of units) owes_end (λ u. omega (arith, (owes.sound faithful images).errors u, none u))
+
+  -- and where no answer tells a drive error, too
+  pub owes_untold : ((u : ℕ) → drive_errors u requests told ≡ 0) → (told, disks_of units) ≡ plain (disks_of start) requests
+  owes_untold none = losses_told (disks_of start) requests told (disks_of units) owes_end none
+
+-- whatever the stores, it seems the plain run
+pub owes_seems : {start : Units} {requests : List Request} {told : List Answer} {units : Units} {memory : List ℕ} → Owes start requests [] told units memory → SeemsPlain start requests told units
+owes_seems {start} {requests} {told} {units} owes =
+    let s = owes.seems in
+    let is : (s.shown, s.disks) ≡ plain (disks_of start) requests =
+    losses_told (disks_of start) requests s.shown s.disks (ledger_closes (disks_of start) requests s.shown s.disks s.ledger) s.errors in
+    record {
+      left = sym s.alike ∙ ap (λ (x : List Answer × Disks). bares x.1) is;
+      answered = subst (λ (x : List Answer × Disks). AllGoAs x.0 told) is s.go_as;
+    }

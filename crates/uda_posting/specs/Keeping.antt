@@ -1,10 +1,11 @@
 -- What a driver keeps between two commands, of requests and disks.
-use Rattle.std.specs.Prelude.{◌≡◌, ◌≢◌, ℕ, ◌+◌, ◌<◌, List, length, All, AllPairs, Some, slice_get}
+use Rattle.std.specs.Prelude.{◌≡◌, ◌≢◌, ℕ, ◌+◌, ◌<◌, true, List, length, All, AllPairs, Some, slice_get}
 use Rattle.uda_mem.specs.Put.{Meet}
 use Rattle.uda_packet.specs.declared.command.Command.{Command}
 use Rattle.uda_packet.specs.declared.end.End.{End}
 use Rattle.uda_exec.specs.Commands.{buffer_start, room_of}
 use Rattle.uda_disk.specs.Units.{Units, AllFaithful, disks_of, AreImages, failures_at, natures_of}
+use Rattle.uda_disk.specs.Units.{is_sure}
 use Rattle.uda_disk.specs.Request.{Request}
 use Rattle.uda_disk.specs.Answer.{Answer, TooLong}
 use Rattle.uda_disk.specs.Order.{NoClash}
@@ -12,6 +13,7 @@ use Rattle.uda_disk.specs.Form.{IsAnswerOf}
 use Rattle.uda_disk.specs.PlainRun.{drive_errors}
 use Rattle.uda_posting.specs.Posting.{Posted, posted_command, commands_in, dues_of, requests_posted}
 use Rattle.uda_posting.specs.Posting.{answer_of, buffer_of, Ready}
+use Rattle.uda_posting.specs.Seeming.{Seems}
 use Rattle.uda_model.specs.Ledger.{Ledger}
 
 -- ---- memory
@@ -53,13 +55,20 @@ IsNotDue k due = All (IsNotAt k) due
 
 -- ---- what is owed
 
--- Over faithful stores: what the commands that are due will make of what was told, and each failure was told
--- once.
+-- a unit whose store never fails has not failed
+abbrev pub SureNeverFail : Units → Units → Type 0
+SureNeverFail units units_after =
+    (u : ℕ) → is_sure (slice_get units u) ≡ true
+    → failures_at (slice_get units_after u) ≡ failures_at (slice_get units u)
+
+-- Over faithful stores: what the commands that are due will make of what was told, each failure was told
+-- once, and what never fails has not failed.
 pub record Sound (start : Units) (requests : List Request) (due : List Posted) (told : List Answer)
     (units : Units) : Type 0 where
   pub ledger : Ledger (disks_of start) requests (dues_of due) told (disks_of units)
   pub errors : (u : ℕ)
       → failures_at (slice_get units u) ≡ failures_at (slice_get start u) + drive_errors u requests told
+  pub sure : SureNeverFail start units
 
 -- Of these requests, posted or answered at once, these are still to be done by their commands; all others
 -- have their answers.
@@ -76,6 +85,7 @@ pub record Owes (start : Units) (requests : List Request) (due : List Posted) (t
       → slice_get told k ≡ Some answer → IsNotDue k due → IsAnswerOf r answer
   pub natures : natures_of units ≡ natures_of start
   pub sound : AllFaithful start → AreImages start → Sound start requests due told units
+  pub seems : Seems start requests due told units
 
 -- ---- what has ended
 

@@ -1,2 +1,3 @@
 pub mod Posting
+pub mod Seeming
 pub mod Keeping

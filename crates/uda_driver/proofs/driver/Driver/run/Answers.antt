@@ -2,7 +2,8 @@ use Rattle.std.proofs.lemmas.List.Elements.{All-nil}
 use Rattle.std.proofs.Common.{◌≢◌, sym, ◌∙◌, rules}
 use Rattle.std.proofs.lemmas.List.{length-map}
 use Rattle.uda_disk.specs.Values.{request_value, answer_value}
-use Rattle.uda_posting.proofs.Owing.{owes_end, owes_plain}
+use Rattle.uda_posting.proofs.Owing.{owes_end, owes_plain, owes_untold, owes_seems}
+use Rattle.uda_driver.proofs.Told.{untold_errors}
 use Rattle.uda_driver.proofs.driver.Driver.run.Goals as goal
 
 pub invariant_of-self : goal.invariant_of-self
@@ -26,4 +27,14 @@ pub returns-clause-losses : goal.returns-clause-losses
 returns-clause-losses g c = rw (← c.self.view_is) (λ faithful. record {
   run = owes_end faithful c.self.invariant.images c.drive.ensures.owes;
   told = (c.drive.ensures.owes.sound faithful c.self.invariant.images).errors;
+  sure = (c.drive.ensures.owes.sound faithful c.self.invariant.images).sure;
 })
+
+pub returns-clause-headline_untold : goal.returns-clause-headline_untold
+returns-clause-headline_untold g c = rw (← c.self.view_is) (λ faithful none. owes_untold faithful c.self.invariant.images c.drive.ensures.owes (λ u. untold_errors u _ _ none))
+
+pub returns-clause-sure : goal.returns-clause-sure
+returns-clause-sure g c = rw (← c.self.view_is) (λ faithful. (c.drive.ensures.owes.sound faithful c.self.invariant.images).sure)
+
+pub returns-clause-seems : goal.returns-clause-seems
+returns-clause-seems g c = rw (← c.self.view_is) (owes_seems c.drive.ensures.owes)

@@ -1,11 +1,11 @@
 -- What a run of a script leaves.
-use Rattle.std.specs.Prelude.{◌≡◌, ℕ, List, ◌++◌, length, Option, Some, IfSome}
+use Rattle.std.specs.Prelude.{◌≡◌, ℕ, false, List, ◌++◌, length, Option, Some, IfSome}
 use Rattle.std.specs.Io.KnownBytes.{Appends, Consumes}
 use Rattle.uda_disk.specs.Units.{AllFaithful}
 use Rattle.uda_disk.specs.Answer.{Answer}
 use Rattle.uda_disk.specs.Request.{Request}
 use Rattle.uda_driver.specs.Run.{DriverState, units_of, AreAnswersOf, IsPlainRun, NoneFailed, TellsLosses}
-use Rattle.uda_driver.specs.Run.{CountsOn}
+use Rattle.uda_driver.specs.Run.{CountsOn, tells_drive_error, SeemsPlain}
 use Rattle.uda_driver.specs.Driver.{IsAtRest}
 use Rattle.uda_grammar.specs.declared.error.ScriptError.{ScriptError}
 use Rattle.uda_grammar.specs.declared.error.ScriptError.TheVariants.{NoMemory, Syntax, TooManyLines}
@@ -20,8 +20,11 @@ pub record Serves (asked : List Request) (told : List Answer)
   pub shape : AreAnswersOf asked told
   pub headline : AllFaithful (units_of driver) → NoneFailed (units_of driver) (units_of driver_after)
       → IsPlainRun (units_of driver) asked told (units_of driver_after)
+  pub headline_untold : AllFaithful (units_of driver) → tells_drive_error told ≡ false
+      → IsPlainRun (units_of driver) asked told (units_of driver_after)
   pub losses : AllFaithful (units_of driver)
       → TellsLosses (units_of driver) asked told (units_of driver_after)
+  pub seems : SeemsPlain (units_of driver) asked told (units_of driver_after)
   pub counts : CountsOn asked driver driver_after
   pub rest : IsAtRest driver_after
 

@@ -36,7 +36,7 @@ pub fn driver(rt: &HostRuntime) -> Result<()> {
     match started {
         Ok(driver) => tell_drives(rt, &driver.into_stores()),
         Err(refusal) => {
-            let drives = refusal.1;
+            let drives = refusal.drives;
             tell(rt, "refused")?;
             tell_drives(rt, &drives)
         }

@@ -6,3 +6,4 @@ pub mod Load
 pub mod Underway
 pub mod Driver
 pub mod Drive
+pub mod Display

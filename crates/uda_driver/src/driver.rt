@@ -9,6 +9,7 @@ ghost use Rattle.uda_driver.specs.Blank.{AreBlank};
 ghost use Rattle.uda_driver.specs.Driver.{IsAtRest};
 
 use crate::answers::blanks;
+use crate::errors::StartError;
 use crate::serve::drive;
 use std::alloc::Global;
 use std::marker::Model;
@@ -16,7 +17,6 @@ use uda_disk::{Answer, Request};
 use uda_exec::Exec;
 use uda_host::Host;
 use uda_image::{BlockStore, Drive};
-use uda_mem::NoMemory;
 
 /// The most requests of one run.
 pub const REQUEST_LIMIT: usize = 4096;
@@ -57,23 +57,22 @@ impl<S: BlockStore> Driver<S> {
     ///
     /// No store is called. Every unit with a drive is then available, without software protection, with
     /// its blocks and hardware protection as given; nothing is out, and the driver holds fifteen credits.
-    /// Where `alloc` has no memory the answer is [`NoMemory`] with the drives as they were.
+    /// Where `alloc` has no memory the answer is a [`StartError`] that has the drives as they were.
     ///
     /// UDA50 Programmer's Documentation Kit: initialisation, credits.
-    pub fn start(
-        alloc: Global,
-        drives: [Option<Drive<S>>; 4],
-    ) -> Result<Driver<S>, (NoMemory, [Option<Drive<S>>; 4])>
+    pub fn start(alloc: Global, drives: [Option<Drive<S>>; 4]) -> Result<Driver<S>, StartError<S>>
         ensures rest { IfOk result (λ driver. IsAtRest driver) }
         ensures units { IfOk result (λ driver.
             units_of driver ≡ fresh_units (drive_states S.state drives)) }
         ensures four { IfOk result (λ driver. length (units_of driver) ≡ 4) }
         ensures images { IfOk result (λ driver. AreImages (units_of driver)) }
         ensures refused { IfErr result (λ refusal.
-            drive_states S.state refusal.1 ≡ drive_states S.state drives) }
+            drive_states S.state refusal.drives ≡ drive_states S.state drives) }
     {
         match Host::start(alloc, Exec::new(drives)) {
-            Err((error, exec)) => Err((error, exec.into_stores())),
+            Err((_, exec)) => Err(StartError {
+                drives: exec.into_stores(),
+            }),
             Ok(host) => Ok(Driver { alloc, host }),
         }
     }

@@ -4,8 +4,11 @@
 mod answers;
 mod buffers;
 mod driver;
+mod errors;
 mod losses;
 mod serve;
 
-pub use driver::{Driver, RunError};
+pub use driver::{Driver, REQUEST_LIMIT, RunError};
+pub use errors::StartError;
 pub use losses::tells_drive_error;
+pub use uda_disk::{Answer, Mode, Refusal, Request, UnitFlags, laws};

@@ -5,3 +5,4 @@ pub mod Amounts
 pub mod Forms
 pub mod Reading
 pub mod Texts
+pub mod Display

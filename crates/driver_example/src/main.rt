@@ -1,55 +1,78 @@
-//! How the driver is called: two disks in memory, one of them protected by its drive, requests for both,
-//! and what each was answered.
+//! How the driver is called: two disks in memory, of which one is copied to the other over two runs, then
+//! requests for both, and what each was answered.
 #![tactic(auto)]
 
-use anyhow::{Result, anyhow};
+ghost use Rattle.std.specs.Prelude.{◌≡◌, ◌*◌, length, IfOk};
+ghost use Rattle.uda_disk.specs.Units.{AllFaithful};
+ghost use Rattle.uda_driver.specs.Run.{units_of};
+ghost use Rattle.driver_example.specs.Copy.{CanCopy};
+
+mod copy;
+
+use anyhow::{Result, bail};
+use copy::copy;
 use std::alloc::Global;
-use uda_disk::Request;
-use uda_driver::Driver;
+use uda_driver::{Driver, Request};
 use uda_image::{Drive, MemImage};
+
+/// How many blocks each disk has.
+const BLOCKS: u32 = 10;
 
 fn main(rt: HostRuntime) -> Result<()> {
     let alloc = rt.alloc();
-    let disk = Drive {
-        store: MemImage::new(alloc, 10)?,
-        hard: false,
-    };
-    let archive = Drive {
-        store: MemImage::new(alloc, 4)?,
-        hard: true,
-    };
-    let drives = [Some(disk), Some(archive), None, None];
-    let mut driver = Driver::start(alloc, drives).map_err(|_| anyhow!("no memory"))?;
-
-    let answers = driver
-        .run(&[
-            online(0),
-            online(1),
-            write(alloc, 0, 8, 1024)?,
-            write(alloc, 1, 0, 512)?,
-            read(0, 9, 1024),
-            read(0, 9, 512),
-        ])
-        .map_err(|_| anyhow!("no memory"))?;
+    let mut driver = start(alloc)?;
+    if !copy(&mut driver, BLOCKS)? {
+        bail!("not copied");
+    }
+    let answers = driver.run(&[
+        read(1, 9, 512),
+        write(alloc, 0, 8, 1024)?,
+        read(0, 9, 1024),
+        read(0, 9, 512),
+        available(1),
+        protect(1),
+        write(alloc, 1, 0, 512)?,
+    ])?;
     for answer in &answers {
         println!(rt; "{answer}")?;
     }
     Ok(())
 }
 
-fn online(unit: u16) -> Request {
+// A driver over two disks, one of bytes 0x55 and one of zeros.
+fn start(alloc: Global) -> Result<Driver<MemImage>>
+    ensures faithful { IfOk result (λ driver. AllFaithful (units_of driver)) }
+    ensures able { IfOk result (λ driver. CanCopy (units_of driver) 10) }
+{
+    let bytes = Vec::from_elem(alloc, 0x55, 5120)?;
+    let disk = Drive {
+        store: MemImage::from_bytes(alloc, &bytes)?,
+        hard: false,
+    };
+    let spare = Drive {
+        store: MemImage::new(alloc, BLOCKS)?,
+        hard: false,
+    };
+    Ok(Driver::start(alloc, [Some(disk), Some(spare), None, None])?)
+}
+
+fn protect(unit: u16) -> Request {
     Request::Online {
         unit,
-        protect: false,
+        protect: true,
     }
+}
+
+fn available(unit: u16) -> Request {
+    Request::Available { unit }
 }
 
 fn read(unit: u16, lbn: u32, bytes: u64) -> Request {
     Request::Read { unit, lbn, bytes }
 }
 
-// A Write of so many bytes 0x55.
+// A Write of so many bytes 0xAA.
 fn write(alloc: Global, unit: u16, lbn: u32, count: usize) -> Result<Request> {
-    let payload = Vec::from_elem(alloc, 0x55, count)?;
+    let payload = Vec::from_elem(alloc, 0xAA, count)?;
     Ok(Request::Write { unit, lbn, payload })
 }

@@ -1,12 +1,13 @@
 -- Laws of plain runs, for those who reason about their own lists of requests.
 -- MSCP Basic Disk Functions Manual: transfer commands, write protection.
-use Rattle.std.specs.Prelude.{◌≡◌, ℕ, ◌+◌, ◌*◌, ◌%◌, ◌<◌, ◌≤◌, true, false, List, length, All, Some, slice_get}
-use Rattle.std.specs.Prelude.{slice_set}
+use Rattle.std.specs.Prelude.{◌≡◌, ℕ, ◌+◌, ◌*◌, ◌%◌, ◌<◌, ◌≤◌, true, false, List, length, All, Some}
+use Rattle.std.specs.Prelude.{slice_get, slice_set}
 use Rattle.std.specs.List.{concat}
 use Rattle.uda_image.specs.Store.{IsImage}
 use Rattle.uda_disk.specs.Status.{SUCCESS}
 use Rattle.uda_disk.specs.Disk.{Disk, Disks}
-use Rattle.uda_disk.specs.Request.{Act, Read, Write, Request, Extent, extent_of, is_writing, blocks_for, in_blocks}
+use Rattle.uda_disk.specs.Request.{Act, Read, Write, Request, Extent, extent_of, is_writing, blocks_for}
+use Rattle.uda_disk.specs.Request.{in_blocks}
 use Rattle.uda_disk.specs.Answer.{Data}
 use Rattle.uda_disk.specs.Plain.{Outcome, Done, answer_on, disk_after}
 use Rattle.uda_disk.specs.PlainRun.{too_long, step}
@@ -34,12 +35,15 @@ abbrev pub WholeCount : Type 0
 WholeCount = (n : ℕ) → blocks_for (512 * n) ≡ n
 
 abbrev pub JoinedAndCut : Type 0
-JoinedAndCut = (blocks : List (List ℕ)) → All (λ block. length block ≡ 512) blocks → in_blocks (concat blocks) ≡ blocks
+JoinedAndCut =
+    (blocks : List (List ℕ)) → All (λ block. length block ≡ 512) blocks
+    → in_blocks (concat blocks) ≡ blocks
 
 -- what isn't a Write or an Erase leaves the blocks as they are
 abbrev pub UnwrittenStays : Type 0
 UnwrittenStays =
-    (o : Outcome) (act : Act) (disk : Disk) → is_writing act ≡ false → (disk_after o act disk).blocks ≡ disk.blocks
+    (o : Outcome) (act : Act) (disk : Disk)
+    → is_writing act ≡ false → (disk_after o act disk).blocks ≡ disk.blocks
 
 -- a Read of a whole unit brings all its bytes
 abbrev pub WholeRead : Type 0

@@ -1,5 +1,5 @@
--- How a run goes whatever the stores: as the plain run does, but for the bytes of blocks and for transfers that
--- a store loses.
+-- How a run goes whatever the stores: as the plain run does, but for the bytes of blocks and for transfers
+-- that a store loses.
 -- MSCP Basic Disk Functions Manual: status and event codes, unit states, write protection.
 use Rattle.std.specs.Prelude.{◌≡◌, ℕ, List, [], length, map, option_map, Some, slice_get}
 use Rattle.uda_disk.specs.Disk.{Disk, Disks}

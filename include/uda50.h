@@ -4,8 +4,8 @@
    copies it, and leaves what is in it alone. Every function may be called on every handle: on one without a
    controller, that was never made or was freed, it changes nothing and answers UDA_NO_CONTROLLER, or 0.
 
-   A handle is used by one call at a time, and by the thread that made it. Nothing waits, and no call but
-   uda_new takes memory.
+   A handle is used by one call at a time; other threads may use other handles meanwhile. Nothing waits, and no
+   call but uda_new and uda_last_text takes memory.
 
    Guest memory is handed to each call that touches it, as a pointer that isn't null and a number of bytes. It
    is used in place, lent for the call, and may be other memory at the next. Words are stored low byte first, so
@@ -53,6 +53,24 @@ enum {
     UDA_DEAD = 4       /* nothing: the port is dead, and SA shows of what */
 };
 
+/* What uda_last tells of a turn beside these. */
+enum {
+    UDA_REFUSED = 5,   /* a packet was fetched that is no command, and the end that says so waits */
+    UDA_NO_TURN = 6    /* no turn was taken yet */
+};
+
+/* What the port is doing. */
+enum {
+    UDA_PHASE_STEP_1 = 1,
+    UDA_PHASE_STEP_2 = 2,
+    UDA_PHASE_STEP_3 = 3,
+    UDA_PHASE_PURGE = 4,   /* it waits for 0 in SA */
+    UDA_PHASE_POLL = 5,    /* it waits for a read of IP */
+    UDA_PHASE_STEP_4 = 6,
+    UDA_PHASE_RUNNING = 7,
+    UDA_PHASE_DEAD = 8
+};
+
 /* Makes a controller without images, whose port stands in step 1 of its start-up: for guests as they were
    shipped, or strict, which is for whoever tests a driver. What the handle had is freed first. UDA_OK, or
    UDA_NO_MEMORY, and then the handle has no controller. */
@@ -89,6 +107,53 @@ uint32_t uda_turn(uda50 *handle, uint8_t *memory, size_t length);
    false where none waits, and then *vector is left. To be called after each call that the guest
    caused, and after each turn. */
 bool uda_take_interrupt(uda50 *handle, uint16_t *vector);
+
+/* Turns, one after another, until one does nothing, and no more than `turns`. What the last of them did is
+   answered: so UDA_IDLE and UDA_DEAD say that nothing is left to do, and any other that the turns were used up.
+   With 0 turns UDA_IDLE; else as uda_turn. */
+uint32_t uda_run(uda50 *handle, uint32_t turns, uint8_t *memory, size_t length);
+
+/* A ring: the address of its first descriptor, how many it has, and the place of the next. */
+typedef struct {
+    uint32_t base;
+    uint16_t count;
+    uint16_t place;
+} uda50_ring;
+
+/* What is to be seen of a port. Before a start-up has told where its rings are, each is one descriptor at 0. */
+typedef struct {
+    uint32_t phase;       /* UDA_PHASE_STEP_1 to UDA_PHASE_DEAD */
+    uda50_ring responses;
+    uda50_ring commands;
+    uint32_t pending;     /* commands that were fetched and not yet executed */
+    uint32_t waiting;     /* ends that wait for a response descriptor */
+    uint16_t sa;          /* as uda_read_sa */
+    uint16_t credits;     /* commands that the guest may still post */
+    uint16_t looking;     /* 1 while the port looks at its command ring, else 0 */
+    uint16_t vector;      /* the address of the interrupts' vector */
+} uda50_shown;
+
+/* Shows the port. UDA_OK, or UDA_NO_CONTROLLER, and then *shown is left. Nothing changes. */
+uint32_t uda_show(uda50 *handle, uda50_shown *shown);
+
+/* What a turn did. What it has no word of is 0. */
+typedef struct {
+    uint32_t kind;        /* UDA_IDLE to UDA_DEAD, UDA_REFUSED, or UDA_NO_TURN */
+    uint32_t reference;   /* of the command */
+    uint32_t lbn;         /* the first block, of a transfer that was fetched */
+    uint32_t bytes;       /* of a transfer that was fetched, or as its end tells them */
+    uint16_t unit;        /* of the command */
+    uint16_t code;        /* the opcode of a command, the end code of an end, or the code of the fatal error */
+    uint16_t status;      /* of an end */
+} uda50_last;
+
+/* Tells the last turn. UDA_OK, or UDA_NO_CONTROLLER, and then *last is left. Nothing changes. */
+uint32_t uda_last(uda50 *handle, uda50_last *last);
+
+/* The same as a line of text, such as "executed 3 Read unit 0 status 0x0000 bytes 512", with a 0 behind it and as
+   much of it as the buffer has room for; 96 bytes are enough for any. Before the first turn the line is empty.
+   UDA_OK; or UDA_NO_CONTROLLER or UDA_NO_MEMORY, and then the buffer is left. */
+uint32_t uda_last_text(uda50 *handle, uint8_t *buffer, size_t length);
 
 #ifdef __cplusplus
 }

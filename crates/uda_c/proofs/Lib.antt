@@ -1,2 +1,3 @@
 mod HandleSteps
 pub mod Images
+pub mod RunLaws

@@ -12,9 +12,9 @@ use Rattle.uda_port.specs.Interrupt.{vector_of, served}
 use Rattle.uda_port.specs.Startup.{by_word}
 use Rattle.uda_port.specs.Turn.{TurnGoes}
 use Rattle.uda_port.specs.Trace.{turn_of, Traces}
-use Rattle.uda_c.specs.declared.answer.Answer.{Answer}
-use Rattle.uda_c.specs.declared.answer.Answer.TheVariants.{Done, Took, NoSuchUnit, UnitTaken, UnitEmpty}
-use Rattle.uda_c.specs.declared.answer.Answer.TheVariants.{BadLength, TooLong}
+use Rattle.uda_c.specs.declared.returned.Returned.{Returned}
+use Rattle.uda_c.specs.declared.returned.Returned.TheVariants.{Done, Took, NoSuchUnit, UnitTaken, UnitEmpty}
+use Rattle.uda_c.specs.declared.returned.Returned.TheVariants.{BadLength, TooLong}
 use Rattle.uda_c.specs.declared.controller.Controller.{Controller}
 use Rattle.uda_c.specs.LentImage.{lent_state}
 
@@ -42,14 +42,14 @@ abbrev pub has_image : Controller → ℕ → Bool
 has_image c unit = is_some (look_at (slice_get c.port.exec.units unit))
 
 -- what an image of so many bytes is answered for a unit
-abbrev pub attach_answer : Controller → ℕ → ℕ → Answer
+abbrev pub attach_answer : Controller → ℕ → ℕ → Returned
 attach_answer c unit bytes =
     if nat_lt 3 unit then NoSuchUnit
     else if has_image c unit then UnitTaken
     else if bytes % 512 == 0 then (if nat_lt BLOCK_LIMIT (bytes / 512) then TooLong else Done)
     else BadLength
 
-abbrev pub detach_answer : Controller → ℕ → Answer
+abbrev pub detach_answer : Controller → ℕ → Returned
 detach_answer c unit =
     if nat_lt 3 unit then NoSuchUnit
     else if has_image c unit then Done
@@ -69,13 +69,13 @@ abbrev pub controller_with : Controller → ℕ → Option DriveState → Contro
 controller_with c unit drive =
     record c { port = record c.port { exec = with_drive c.port.exec unit drive } }
 
-pub record Attaches (old : Controller) (unit : ℕ) (lending : Lending) (answer : Answer)
+pub record Attaches (old : Controller) (unit : ℕ) (lending : Lending) (answer : Returned)
     (new : Controller) : Type 0 where
   pub answer_is : answer ≡ attach_answer old unit (length lending.bytes)
   pub attached : answer ≡ Done → new ≡ controller_with old unit (Some (lent_drive lending))
   pub refused : answer ≢ Done → new ≡ old
 
-pub record Detaches (old : Controller) (unit : ℕ) (answer : Answer) (new : Controller) : Type 0 where
+pub record Detaches (old : Controller) (unit : ℕ) (answer : Returned) (new : Controller) : Type 0 where
   pub answer_is : answer ≡ detach_answer old unit
   pub detached : answer ≡ Done → new ≡ controller_with old unit None
   pub refused : answer ≢ Done → new ≡ old
@@ -87,7 +87,7 @@ pub record WritesSa (old : Controller) (memory : List ℕ) (word : ℕ) (new : C
   pub last_stays : new.last ≡ old.last
 
 -- a turn of the port, in memory that a port works in, is kept as the last
-pub record TakesTurn (old : Controller) (memory : List ℕ) (answer : Answer) (new : Controller)
+pub record TakesTurn (old : Controller) (memory : List ℕ) (answer : Returned) (new : Controller)
     (memory_after : List ℕ) : Type 0 where
   pub trace : Trace
   pub answer_is : answer ≡ Took (turn_of trace)
@@ -95,14 +95,18 @@ pub record TakesTurn (old : Controller) (memory : List ℕ) (answer : Answer) (n
   pub goes : TurnGoes old.port.phase old.port memory (turn_of trace) new.port memory_after
   pub tells : Traces trace old.port new.port
 
--- other memory is refused
-pub record RefusesMemory (old : Controller) (memory : List ℕ) (answer : Answer) (new : Controller)
+-- what memory is answered that no port works in
+abbrev pub memory_refusal : List ℕ → Returned
+memory_refusal memory = if length memory % 2 == 0 then TooLong else BadLength
+
+-- it is refused
+pub record RefusesMemory (old : Controller) (memory : List ℕ) (answer : Returned) (new : Controller)
     (memory_after : List ℕ) : Type 0 where
-  pub answer_is : answer ≡ (if length memory % 2 == 0 then TooLong else BadLength)
+  pub answer_is : answer ≡ memory_refusal memory
   pub stays : new ≡ old
   pub memory_stays : memory_after ≡ memory
 
-pub record TurnsWhereMemory (old : Controller) (memory : List ℕ) (answer : Answer) (new : Controller)
+pub record TurnsWhereMemory (old : Controller) (memory : List ℕ) (answer : Returned) (new : Controller)
     (memory_after : List ℕ) : Type 0 where
   pub turns : IsMemory memory → TakesTurn old memory answer new memory_after
   pub refuses : (IsMemory memory → ⊥) → RefusesMemory old memory answer new memory_after

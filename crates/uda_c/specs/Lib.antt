@@ -3,5 +3,8 @@ pub mod LendsController
 pub mod Lies
 pub mod LendsBytes
 pub mod LentImage
-pub mod Answer
+pub mod Returned
 pub mod Controllers
+pub mod Shown
+pub mod Last
+pub mod Runs

@@ -1,14 +1,19 @@
 //! What a handle of C points to.
 ghost use Rattle.std.specs.Prelude.{◌≡◌, length, IfSome};
+ghost use Rattle.std.specs.Prelude.{IfNone};
+ghost use Rattle.uda_mem.specs.Slices.{IsMemory};
+ghost use Rattle.uda_c.specs.declared.returned.Returned.TheVariants.{Took, Done};
 ghost use Rattle.uda_c.specs.Controllers.{controller_at_start, Attaches, Detaches, TurnsWhereMemory};
+ghost use Rattle.uda_c.specs.Controllers.{TakesTurn, memory_refusal};
+ghost use Rattle.uda_c.specs.Runs.{Runs, RunsWhereMemory, does_nothing};
 
-use crate::answer::Answer;
 use crate::lent::Lent;
 use crate::lent_image::LentImage;
+use crate::returned::Returned;
 use std::alloc::Global;
 use uda_exec::Exec;
 use uda_image::{BLOCK_LIMIT, Drive};
-use uda_port::{Port, Trace};
+use uda_port::{Port, Trace, Turn};
 
 /// A port over the images that C has lent, and what its last turn did.
 #[derive(Drop)]
@@ -35,7 +40,7 @@ impl Controller {
     }
 
     /// Takes the bytes that C lends as the image of a unit.
-    pub fn attach(&mut self, unit: u32, image: Lent, hard: bool) -> Answer
+    pub fn attach(&mut self, unit: u32, image: Lent, hard: bool) -> Returned
         ensures attaches { Attaches self.old unit (record { bytes = image.held; hard = hard })
             result self.new }
     {
@@ -43,50 +48,101 @@ impl Controller {
         let bytes = image.bytes_mut().len();
         let unit = unit as usize;
         if unit > 3 {
-            return Answer::NoSuchUnit;
+            return Returned::NoSuchUnit;
         }
         if self.port.unit(unit).is_some() {
-            return Answer::UnitTaken;
+            return Returned::UnitTaken;
         }
         if bytes % 512 != 0 {
-            return Answer::BadLength;
+            return Returned::BadLength;
         }
         if bytes / 512 > BLOCK_LIMIT as usize {
-            return Answer::TooLong;
+            return Returned::TooLong;
         }
         let store = LentImage::new(image);
         self.port.set_drive(unit, Some(Drive { store, hard }));
-        Answer::Done
+        Returned::Done
     }
 
     /// Gives the image of a unit back to C.
-    pub fn detach(&mut self, unit: u32) -> Answer
+    pub fn detach(&mut self, unit: u32) -> Returned
         ensures detaches { Detaches self.old unit result self.new }
     {
         let unit = unit as usize;
         if unit > 3 {
-            return Answer::NoSuchUnit;
+            return Returned::NoSuchUnit;
         }
         if self.port.unit(unit).is_none() {
-            return Answer::UnitEmpty;
+            return Returned::UnitEmpty;
         }
         self.port.set_drive(unit, None);
-        Answer::Done
+        Returned::Done
     }
 
     /// One turn of the port in the guest's memory.
-    pub fn turn(&mut self, memory: &mut [u8]) -> Answer
+    pub fn turn(&mut self, memory: &mut [u8]) -> Returned
         ensures goes { TurnsWhereMemory self.old memory.old result self.new memory.new }
     {
-        if !uda_mem::is_memory(memory) {
-            return if memory.len() % 2 == 0 {
-                Answer::TooLong
-            } else {
-                Answer::BadLength
-            };
+        match refusal_of(memory) {
+            Some(refusal) => refusal,
+            None => Returned::Took(self.take_turn(memory)),
         }
+    }
+
+    /// Turns, one after another, up to the first that does nothing, and no more than `limit`.
+    pub fn run(&mut self, limit: u32, memory: &mut [u8]) -> Returned
+        ensures runs { RunsWhereMemory limit (self.old, memory.old) result (self.new, memory.new) }
+    {
+        match refusal_of(memory) {
+            Some(refusal) => refusal,
+            None => self.run_in(limit, memory),
+        }
+    }
+
+    // The same in memory that a port works in.
+    fn run_in(&mut self, limit: u32, memory: &mut [u8]) -> Returned
+        requires memory { IsMemory memory.old }
+        ensures { Runs limit Done (self.old, memory.old) result (self.new, memory.new) }
+    {
+        let mut answer = Returned::Done;
+        for _ in 0..limit {
+            let turn = self.take_turn(memory);
+            answer = Returned::Took(turn);
+            if does_nothing(turn) {
+                return answer;
+            }
+        }
+        answer
+    }
+
+    // A turn, which is kept as the last.
+    fn take_turn(&mut self, memory: &mut [u8]) -> Turn
+        requires memory { IsMemory memory.old }
+        ensures { TakesTurn self.old memory.old (Took result) self.new memory.new }
+    {
         let trace = self.port.turn_traced_in(memory);
         self.last = Some(trace);
-        Answer::Took(trace.turn())
+        trace.turn()
+    }
+}
+
+// Whether a turn is one of a port that is idle or dead.
+fn does_nothing(turn: Turn) -> bool
+    ensures { result ≡ does_nothing turn }
+{
+    matches!(turn, Turn::Idle | Turn::Dead)
+}
+
+// What memory is answered that no port works in.
+fn refusal_of(memory: &[u8]) -> Option<Returned>
+    ensures works { IfNone result (IsMemory memory.now) }
+    ensures refused { IfSome result (λ r. (IsMemory memory.now → ⊥) × (r ≡ memory_refusal memory.now)) }
+{
+    if uda_mem::is_memory(memory) {
+        None
+    } else if memory.len() % 2 == 0 {
+        Some(Returned::TooLong)
+    } else {
+        Some(Returned::BadLength)
     }
 }

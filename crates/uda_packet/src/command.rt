@@ -2,6 +2,7 @@
 
 ghost use Rattle.std.specs.Prelude.{◌≡◌, Some};
 ghost use Rattle.uda_packet.specs.Display.{command_display, op_name};
+ghost use Rattle.uda_packet.specs.Opcode.{opcode_of};
 
 use crate::opcode::Opcode;
 use std::fmt;
@@ -96,6 +97,15 @@ pub enum Op {
 }
 
 impl Op {
+    /// The opcode of the command.
+    ///
+    /// MSCP Basic Disk Functions Manual: opcodes.
+    pub fn opcode(self) -> u8
+        ensures opcode { result ≡ opcode_of self }
+    {
+        Opcode::of_op(&self).number()
+    }
+
     /// What the command is called.
     pub fn name(self) -> &'static str
         ensures name { result.now ≡ op_name self }

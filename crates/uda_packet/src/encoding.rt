@@ -5,7 +5,6 @@
 ghost use Rattle.std.specs.Prelude.{◌≡◌, [], ◌∷◌, length};
 ghost use Rattle.uda_packet.specs.Field.{◌holds◌, text_of, with_entries, reference_field, unit_field};
 ghost use Rattle.uda_packet.specs.Field.{code_field};
-ghost use Rattle.uda_packet.specs.Opcode.{end_code};
 ghost use Rattle.uda_packet.specs.Text.{CommandText, EndText};
 ghost use Rattle.uda_packet.specs.Reading.{read_command, read_end};
 ghost use Rattle.uda_packet.specs.Range.{OpFits, BodyFits};
@@ -20,7 +19,7 @@ use crate::field::{
     UNIT, UNIT_FLAGS, UNIT_SIZE,
 };
 use crate::flags::Modifiers;
-use crate::opcode::{END_CODE, Opcode};
+use crate::opcode::Opcode;
 use crate::status::{ALREADY_ONLINE, AVAILABLE, SUCCESS};
 use bitflags::Flags;
 use uda_disk::UnitFlags;
@@ -78,7 +77,7 @@ pub fn encode_end(end: &End) -> [u8; 48]
         status,
         body,
     } = *end;
-    let mut text = head(reference, unit, end_code_of(&body));
+    let mut text = head(reference, unit, body.code());
     STATUS.put(&mut text, status);
     put_answer(&mut text, end);
     text
@@ -95,13 +94,6 @@ fn head(reference: u32, unit: u16, code: u8) -> Text
     UNIT.put(&mut text, unit);
     text[CODE] = code;
     text
-}
-
-// The end code of a body.
-fn end_code_of(body: &EndBody) -> u8
-    ensures { result ≡ end_code body.now }
-{
-    END_CODE + Opcode::of_body(body).map_or(0, Opcode::number)
 }
 
 // Writes what stands behind a command's opcode.

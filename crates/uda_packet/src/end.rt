@@ -2,9 +2,11 @@
 
 ghost use Rattle.std.specs.Prelude.{◌≡◌, Some};
 ghost use Rattle.uda_packet.specs.Bad.{other_length_end};
+ghost use Rattle.uda_packet.specs.Opcode.{end_code};
 ghost use Rattle.uda_packet.specs.Display.{end_display, body_display, body_name, kind_display};
 
 use crate::field::{REFERENCE, UNIT};
+use crate::opcode::{END_CODE, Opcode};
 use crate::status;
 use std::fmt;
 
@@ -96,6 +98,16 @@ pub enum EndBody {
 }
 
 impl EndBody {
+    /// The end code: the opcode of the command that the body answers with bit 7 set, and that bit alone where
+    /// it answers none.
+    ///
+    /// MSCP Basic Disk Functions Manual: end codes.
+    pub fn code(self) -> u8
+        ensures code { result ≡ end_code self }
+    {
+        END_CODE + Opcode::of_body(&self).map_or(0, Opcode::number)
+    }
+
     /// What the command is called that the body answers, and `invalid command` where that was none.
     pub fn name(self) -> &'static str
         ensures name { result.now ≡ body_name self }

@@ -1,12 +1,12 @@
 //! What C is answered.
 ghost use Rattle.std.specs.Prelude.{◌≡◌};
-ghost use Rattle.uda_c.specs.Answer.{code_of};
+ghost use Rattle.uda_c.specs.Returned.{returned_code};
 
 use uda_port::Turn;
 
 /// What an export answers; C sees its code.
 #[derive(Clone, Copy, Debug, PartialEq, Eq)]
-pub enum Answer {
+pub enum Returned {
     /// It was done.
     Done,
     /// A turn, and what it did.
@@ -27,27 +27,27 @@ pub enum Answer {
     TooLong,
 }
 
-impl Answer {
+impl Returned {
     /// The number by which C knows the answer.
     pub fn code(self) -> u32
-        ensures { result ≡ code_of self }
+        ensures { result ≡ returned_code self }
     {
         match self {
-            Answer::Done => 0,
-            Answer::Took(turn) => match turn {
+            Returned::Done => 0,
+            Returned::Took(turn) => match turn {
                 Turn::Idle => 0,
                 Turn::Fetched => 1,
                 Turn::Executed => 2,
                 Turn::Delivered => 3,
                 Turn::Dead => 4,
             },
-            Answer::NoController => 64,
-            Answer::NoMemory => 65,
-            Answer::NoSuchUnit => 66,
-            Answer::UnitTaken => 67,
-            Answer::UnitEmpty => 68,
-            Answer::BadLength => 69,
-            Answer::TooLong => 70,
+            Returned::NoController => 64,
+            Returned::NoMemory => 65,
+            Returned::NoSuchUnit => 66,
+            Returned::UnitTaken => 67,
+            Returned::UnitEmpty => 68,
+            Returned::BadLength => 69,
+            Returned::TooLong => 70,
         }
     }
 }

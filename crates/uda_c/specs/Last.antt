@@ -1,0 +1,86 @@
+-- What C is told of a turn, and its line as a text of C.
+use Rattle.std.specs.Prelude.{◌≡◌, ℕ, List, [], ◌∷◌, ◌++◌, length, take, drop, Option, Some, None}
+use Rattle.uda_packet.specs.declared.command.Command.{Command}
+use Rattle.uda_packet.specs.declared.end.End.{End}
+use Rattle.uda_packet.specs.declared.end.EndBody.{EndBody}
+use Rattle.uda_packet.specs.declared.end.EndBody.TheVariants.{Moved}
+use Rattle.uda_packet.specs.declared.transfer.Transfer.{Transfer}
+use Rattle.uda_packet.specs.Opcode.{opcode_of, end_code}
+use Rattle.uda_packet.specs.Transfer.{transfer_of}
+use Rattle.uda_port.specs.declared.trace.Trace.{Trace}
+use Rattle.uda_port.specs.declared.trace.Trace.TheVariants.{Fetched, Refused, Executed, Delivered, Idle, Dead}
+use Rattle.uda_port.specs.Startup.{code_of}
+use Rattle.uda_port.specs.Trace.{trace_display}
+use Rattle.uda_c.specs.declared.last.LastTurn.{LastTurn}
+use Rattle.uda_c.specs.declared.returned.Returned.{Returned}
+use Rattle.uda_c.specs.declared.returned.Returned.TheVariants.{Done, NoMemory}
+
+-- a turn that was about no command: its number, and the code of what the port died of
+abbrev pub told_number : ℕ → ℕ → LastTurn
+told_number kind code =
+    record { kind = kind; reference = 0; lbn = 0; bytes = 0; unit = 0; code = code; status = 0 }
+
+-- the blocks that a transfer speaks of, and its bytes
+abbrev pub told_lbn : Option Transfer → ℕ
+told_lbn (Some t) = t.lbn
+told_lbn None = 0
+
+abbrev pub told_count : Option Transfer → ℕ
+told_count (Some t) = t.bytes
+told_count None = 0
+
+-- a command that was fetched
+abbrev pub told_command : Command → LastTurn
+told_command c = record {
+  kind = 1;
+  reference = c.reference;
+  lbn = told_lbn (transfer_of c.op);
+  bytes = told_count (transfer_of c.op);
+  unit = c.unit;
+  code = opcode_of c.op;
+  status = 0;
+}
+
+-- the bytes that an end tells
+abbrev pub told_bytes : EndBody → ℕ
+told_bytes (Moved kind bytes) = bytes
+told_bytes _ = 0
+
+-- a turn that was about an end
+abbrev pub told_end : ℕ → End → LastTurn
+told_end kind e = record {
+  kind = kind;
+  reference = e.reference;
+  lbn = 0;
+  bytes = told_bytes e.body;
+  unit = e.unit;
+  code = end_code e.body;
+  status = e.status;
+}
+
+-- a turn, by what it did: 0 to 4 as a turn is answered, 5 for a packet that is no command, 6 for no turn yet
+abbrev pub told_turn : Option Trace → LastTurn
+told_turn (Some Idle) = told_number 0 0
+told_turn (Some (Fetched command)) = told_command command
+told_turn (Some (Executed end)) = told_end 2 end
+told_turn (Some (Delivered end)) = told_end 3 end
+told_turn (Some (Dead cause)) = told_number 4 (code_of cause)
+told_turn (Some (Refused end)) = told_end 5 end
+told_turn None = told_number 6 0
+
+-- its line, and none where there was no turn yet
+abbrev pub last_line : Option Trace → List ℕ
+last_line (Some trace) = trace_display trace
+last_line None = []
+
+-- a text in a buffer as C has it: as much of it as leaves room for a 0, which stands behind it; what is left
+-- of the buffer stays
+abbrev pub text_in : List ℕ → List ℕ → List ℕ
+text_in text [] = []
+text_in text (b ∷ rest) = take (length rest) text ++ 0 ∷ drop (length (take (length rest) text)) rest
+
+-- the line is in the buffer; or no memory was to be had for it, and the buffer is as it was
+abbrev pub TellsLine : Option Trace → List ℕ → Returned → List ℕ → Type 0
+TellsLine last buffer Done after = after ≡ text_in (last_line last) buffer
+TellsLine last buffer NoMemory after = after ≡ buffer
+TellsLine last buffer _ after = ⊥

@@ -1,0 +1,37 @@
+-- Turns one after another.
+use Rattle.std.specs.Prelude.{◌≡◌, ℕ, zero, suc, Bool, true, false, List}
+use Rattle.uda_mem.specs.Slices.{IsMemory}
+use Rattle.uda_port.specs.declared.turn.Turn.{Turn}
+use Rattle.uda_port.specs.declared.turn.Turn.TheVariants as turn
+use Rattle.uda_c.specs.declared.returned.Returned.{Returned}
+use Rattle.uda_c.specs.declared.returned.Returned.TheVariants.{Done, Took}
+use Rattle.uda_c.specs.declared.controller.Controller.{Controller}
+use Rattle.uda_c.specs.Controllers.{TakesTurn, RefusesMemory}
+
+-- a controller, and the guest's memory
+abbrev pub Machine : Type 0
+Machine = Controller × List ℕ
+
+-- a turn of a port that is idle or dead
+abbrev pub does_nothing : Turn → Bool
+does_nothing turn.Idle = true
+does_nothing turn.Dead = true
+does_nothing _ = false
+
+-- after such a turn the run is over, and after any other the rest of it follows
+abbrev pub AfterTurn : Bool → Type 0 → Type 0 → Type 0
+AfterTurn true over rest = over
+AfterTurn false over rest = rest
+
+-- no more than so many turns, one after another; the last is answered, and where there is none what was
+-- answered before
+abbrev pub Runs : ℕ → Returned → Machine → Returned → Machine → Type 0
+Runs zero before old answer new = (answer ≡ before) × (new ≡ old)
+Runs (suc limit) before old answer new =
+    (turn : Turn) × (next : Machine) × TakesTurn old.0 old.1 (Took turn) next.0 next.1
+    × AfterTurn (does_nothing turn) ((answer ≡ Took turn) × (new ≡ next)) (Runs limit (Took turn) next answer new)
+
+-- in memory that a port works in, and other memory is refused
+pub record RunsWhereMemory (limit : ℕ) (old : Machine) (answer : Returned) (new : Machine) : Type 0 where
+  pub runs : IsMemory old.1 → Runs limit Done old answer new
+  pub refuses : (IsMemory old.1 → ⊥) → RefusesMemory old.0 old.1 answer new.0 new.1

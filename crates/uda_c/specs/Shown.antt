@@ -1,0 +1,37 @@
+-- What C is shown of a port.
+use Rattle.std.specs.Prelude.{ℕ, Bool, length, if◌then◌else◌}
+use Rattle.uda_port.specs.declared.phase.Phase.{Phase}
+use Rattle.uda_port.specs.declared.phase.Phase.TheVariants.{Step1, Step2, Step3, Purge, Poll, Step4}
+use Rattle.uda_port.specs.declared.phase.Phase.TheVariants.{Running, Dead}
+use Rattle.uda_port.specs.Port.{PortState}
+use Rattle.uda_port.specs.Ring.{RingState}
+use Rattle.uda_port.specs.Startup.{sa_of}
+use Rattle.uda_c.specs.declared.shown.ShownRing.{ShownRing}
+use Rattle.uda_c.specs.declared.shown.ShownPort.{ShownPort}
+
+-- the number by which C knows a phase: in the order of a start-up
+abbrev pub phase_number : Phase → ℕ
+phase_number Step1 = 1
+phase_number (Step2 first) = 2
+phase_number (Step3 first second) = 3
+phase_number Purge = 4
+phase_number Poll = 5
+phase_number Step4 = 6
+phase_number Running = 7
+phase_number (Dead cause) = 8
+
+abbrev pub shown_ring : RingState → ShownRing
+shown_ring ring = record { base = ring.base; count = ring.count; place = ring.place }
+
+abbrev pub shown_port : PortState → ShownPort
+shown_port port = record {
+  phase = phase_number port.phase;
+  responses = shown_ring port.responses;
+  commands = shown_ring port.commands;
+  pending = length port.exec.pending;
+  waiting = length port.waiting;
+  sa = sa_of port.phase;
+  credits = port.credits;
+  looking = if port.looking then 1 else 0;
+  vector = port.interrupts.vector;
+}

@@ -1,0 +1,116 @@
+//! What C is told of a controller's last turn.
+ghost use Rattle.std.specs.Prelude.{◌≡◌};
+ghost use Rattle.uda_c.specs.Last.{told_number, told_command, told_end, told_turn, TellsLine};
+
+use crate::returned::Returned;
+use crate::text::put_text;
+use std::alloc::Global;
+use uda_packet::{Command, End, EndBody};
+use uda_port::Trace;
+
+/// What a turn did, in the form of C. What it has no word of is 0.
+#[repr(C)]
+#[derive(Clone, Copy, Debug, PartialEq, Eq)]
+pub struct LastTurn {
+    /// The number of what it did.
+    pub kind: u32,
+    /// The command's reference number.
+    pub reference: u32,
+    /// The first block of a transfer that was fetched.
+    pub lbn: u32,
+    /// The byte count of a transfer: as it was asked for, or as it is told by its end.
+    pub bytes: u32,
+    /// The command's unit number.
+    pub unit: u16,
+    /// The opcode of a command, the end code of an end, or the code of the fatal error.
+    pub code: u16,
+    /// The status word of an end.
+    pub status: u16,
+}
+
+impl LastTurn {
+    /// What a trace tells, if there was a turn at all.
+    pub fn of(trace: Option<Trace>) -> LastTurn
+        ensures told { result ≡ told_turn trace }
+    {
+        match trace {
+            Some(Trace::Idle) => LastTurn::plain(0, 0),
+            Some(Trace::Fetched(command)) => LastTurn::of_command(command),
+            Some(Trace::Executed(end)) => LastTurn::of_end(2, end),
+            Some(Trace::Delivered(end)) => LastTurn::of_end(3, end),
+            Some(Trace::Dead(cause)) => LastTurn::plain(4, cause.code()),
+            Some(Trace::Refused(end)) => LastTurn::of_end(5, end),
+            None => LastTurn::plain(6, 0),
+        }
+    }
+
+    // A turn that was about no command.
+    fn plain(kind: u32, code: u16) -> LastTurn
+        ensures { result ≡ told_number kind code }
+    {
+        LastTurn {
+            kind,
+            reference: 0,
+            lbn: 0,
+            bytes: 0,
+            unit: 0,
+            code,
+            status: 0,
+        }
+    }
+
+    // A fetch.
+    fn of_command(command: Command) -> LastTurn
+        ensures { result ≡ told_command command }
+    {
+        let (lbn, bytes) = match command.op.transfer() {
+            Some(t) => (t.lbn, t.bytes),
+            None => (0, 0),
+        };
+        LastTurn {
+            kind: 1,
+            reference: command.reference,
+            lbn,
+            bytes,
+            unit: command.unit,
+            code: u16::from(command.op.opcode()),
+            status: 0,
+        }
+    }
+
+    // A turn that was about an end.
+    fn of_end(kind: u32, end: End) -> LastTurn
+        ensures { result ≡ told_end kind end }
+    {
+        let bytes = match end.body {
+            EndBody::Moved { bytes, .. } => bytes,
+            _ => 0,
+        };
+        LastTurn {
+            kind,
+            reference: end.reference,
+            lbn: 0,
+            bytes,
+            unit: end.unit,
+            code: u16::from(end.body.code()),
+            status: end.status,
+        }
+    }
+}
+
+/// Puts the line of a turn into a buffer, as a text of C.
+pub fn put_line(alloc: Global, last: Option<Trace>, buffer: &mut [u8]) -> Returned
+    ensures tells { TellsLine last buffer.old result buffer.new }
+{
+    let Some(trace) = last else {
+        put_text(buffer, "");
+        return Returned::Done;
+    };
+    match trace.to_string(alloc) {
+        Ok(line) => {
+            put_text(buffer, &line);
+            Returned::Done
+        }
+        Err(_) => Returned::NoMemory,
+    }
+}

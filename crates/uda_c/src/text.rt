@@ -1,0 +1,15 @@
+//! Texts in a buffer of C's.
+ghost use Rattle.std.specs.Prelude.{◌≡◌};
+ghost use Rattle.uda_c.specs.Last.{text_in};
+
+/// Puts a text into a buffer, as much of it as leaves room for the 0 that ends it.
+pub fn put_text(buffer: &mut [u8], text: &str)
+    ensures text { buffer.new ≡ text_in text.now buffer.old }
+{
+    if buffer.is_empty() {
+        return;
+    }
+    let count = text.len().min(buffer.len() - 1);
+    buffer[..count].copy_from_slice(&text.as_bytes()[..count]);
+    buffer[count] = 0;
+}

@@ -88,6 +88,14 @@ uint32_t uda_attach(uda50 *handle, uint32_t unit, uda50_image image, bool hard);
    UDA_NO_SUCH_UNIT or UDA_UNIT_EMPTY. */
 uint32_t uda_detach(uda50 *handle, uint32_t unit);
 
+/* For whoever tests a driver: the unit's call number `call` for a block from now on fails, and no other; where
+   `call` is 0 none does. A read or a write of one block is a call, and they are counted together, from 1. A Read
+   or an Access that meets it ends with a drive error and the bytes of the blocks before; so does a Write or an
+   Erase, and of that block the first 256 bytes are new and the last 256 are old. The unit stays as it is else:
+   online, if it was. A later uda_fail_at takes the place of an earlier one, and uda_detach ends it. UDA_OK,
+   UDA_NO_SUCH_UNIT or UDA_UNIT_EMPTY. */
+uint32_t uda_fail_at(uda50 *handle, uint32_t unit, uint32_t call);
+
 /* The guest writes IP: start-up begins anew. */
 void uda_write_ip(uda50 *handle, uint16_t word);
 

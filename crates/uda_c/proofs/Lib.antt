@@ -1,3 +1,4 @@
 mod HandleSteps
 pub mod Images
 pub mod RunLaws
+pub mod FailingUnits

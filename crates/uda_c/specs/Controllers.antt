@@ -1,8 +1,9 @@
 -- What the calls of C do to a controller, and to what a handle holds.
 use Rattle.std.specs.Prelude.{◌≡◌, ◌≢◌, ℕ, ◌/◌, ◌%◌, ◌==◌, Bool, true, false, List, [], ◌∷◌, Option, Some, None, slice_get}
-use Rattle.std.specs.Prelude.{nat_lt, length, is_some, option_map, if◌then◌else◌}
+use Rattle.std.specs.Prelude.{nat_lt, length, is_some, option_map, set, unwrap_or, if◌then◌else◌}
 use Rattle.uda_mem.specs.Slices.{IsMemory}
 use Rattle.uda_image.specs.declared.store.TheConstants.{BLOCK_LIMIT}
+use Rattle.uda_disk.specs.Units.{UnitState}
 use Rattle.uda_exec.specs.Drives.{DriveState, with_drive, look_at}
 use Rattle.uda_port.specs.declared.profile.Profile.{Profile}
 use Rattle.uda_port.specs.declared.profile.Profile.TheVariants.{Strict, ForGuests}
@@ -16,7 +17,7 @@ use Rattle.uda_c.specs.declared.returned.Returned.{Returned}
 use Rattle.uda_c.specs.declared.returned.Returned.TheVariants.{Done, Took, NoSuchUnit, UnitTaken, UnitEmpty}
 use Rattle.uda_c.specs.declared.returned.Returned.TheVariants.{BadLength, TooLong}
 use Rattle.uda_c.specs.declared.controller.Controller.{Controller}
-use Rattle.uda_c.specs.LentImage.{lent_state}
+use Rattle.uda_c.specs.LentImage.{lent_state, failing_from_now}
 
 -- a call on a handle that holds no controller does this, and the handle holds none afterwards; one on a
 -- handle that holds a controller does that to it
@@ -62,7 +63,8 @@ pub record Lending : Type 0 where
 
 -- they as a unit's drive
 abbrev pub lent_drive : Lending → DriveState
-lent_drive lending = record { store = lent_state lending.bytes; hard = lending.hard }
+lent_drive lending =
+    record { store = lent_state (record { bytes = lending.bytes; left = None }); hard = lending.hard }
 
 -- the controller with this drive as that unit, or with none there
 abbrev pub controller_with : Controller → ℕ → Option DriveState → Controller
@@ -78,6 +80,30 @@ pub record Attaches (old : Controller) (unit : ℕ) (lending : Lending) (answer 
 pub record Detaches (old : Controller) (unit : ℕ) (answer : Returned) (new : Controller) : Type 0 where
   pub answer_is : answer ≡ detach_answer old unit
   pub detached : answer ≡ Done → new ≡ controller_with old unit None
+  pub refused : answer ≢ Done → new ≡ old
+
+-- a drive whose store fails at a call, counted from now on
+abbrev pub drive_failing : ℕ → DriveState → DriveState
+drive_failing call drive = record drive { store = failing_from_now call drive.store }
+
+-- so does a unit's, which stays as it is else
+abbrev pub unit_failing : ℕ → UnitState → UnitState
+unit_failing call unit = record unit { store = failing_from_now call unit.store }
+
+-- the controller with unit u so
+abbrev pub controller_failing : Controller → ℕ → ℕ → Controller
+controller_failing c u call = record c {
+  port = record c.port {
+    exec = record c.port.exec {
+      units = set c.port.exec.units u
+          (option_map (unit_failing call) (unwrap_or (slice_get c.port.exec.units u) None));
+    };
+  };
+}
+
+pub record FailsAt (old : Controller) (unit call : ℕ) (answer : Returned) (new : Controller) : Type 0 where
+  pub answer_is : answer ≡ detach_answer old unit
+  pub fails : answer ≡ Done → new ≡ controller_failing old unit call
   pub refused : answer ≢ Done → new ≡ old
 
 -- the guest writes SA

@@ -4,7 +4,9 @@ ghost use Rattle.std.specs.Prelude.{IfNone};
 ghost use Rattle.uda_mem.specs.Slices.{IsMemory};
 ghost use Rattle.uda_c.specs.declared.returned.Returned.TheVariants.{Took, Done};
 ghost use Rattle.uda_c.specs.Controllers.{controller_at_start, Attaches, Detaches, TurnsWhereMemory};
-ghost use Rattle.uda_c.specs.Controllers.{TakesTurn, memory_refusal};
+ghost use Rattle.uda_c.specs.Controllers.{FailsAt, drive_failing, TakesTurn, memory_refusal};
+ghost use Rattle.uda_c.specs.LentImage.{lent_state};
+ghost use Rattle.uda_exec.specs.Drives.{drive_state};
 ghost use Rattle.uda_c.specs.Runs.{Runs, RunsWhereMemory, does_nothing};
 
 use crate::lent::Lent;
@@ -79,6 +81,24 @@ impl Controller {
         Returned::Done
     }
 
+    /// Has the image of a unit fail at a call, counted from now on.
+    pub fn fail_at(&mut self, unit: u32, call: u32) -> Returned
+        ensures fails { FailsAt self.old unit call result self.new }
+    {
+        let unit = unit as usize;
+        if unit > 3 {
+            return Returned::NoSuchUnit;
+        }
+        let Some(look) = self.port.unit(unit) else {
+            return Returned::UnitEmpty;
+        };
+        if let Some(drive) = self.port.set_drive(unit, None) {
+            self.port.set_drive(unit, Some(failing(drive, call)));
+            self.port.restore_mode(unit, look.mode);
+        }
+        Returned::Done
+    }
+
     /// One turn of the port in the guest's memory.
     pub fn turn(&mut self, memory: &mut [u8]) -> Returned
         ensures goes { TurnsWhereMemory self.old memory.old result self.new memory.new }
@@ -124,6 +144,16 @@ impl Controller {
         self.last = Some(trace);
         trace.turn()
     }
+}
+
+// A drive whose store fails at a call, counted from now on.
+fn failing(drive: Drive<LentImage>, call: u32) -> Drive<LentImage>
+    ensures store { drive_state lent_state result ≡ drive_failing call (drive_state lent_state drive) }
+{
+    let Drive { store, hard } = drive;
+    let mut store = store;
+    store.fail_at(call);
+    Drive { store, hard }
 }
 
 // Whether a turn is one of a port that is idle or dead.

@@ -7,7 +7,7 @@ ghost use Rattle.uda_c.specs.Returned.{returned_code};
 ghost use Rattle.uda_c.specs.declared.returned.Returned.{Returned};
 ghost use Rattle.uda_c.specs.declared.returned.Returned.TheVariants.{Done, NoController, NoMemory};
 ghost use Rattle.uda_c.specs.Controllers.{OnHandle, controller_at_start, Attaches, Detaches, WritesSa};
-ghost use Rattle.uda_c.specs.Controllers.{TurnsWhereMemory, TakesInterrupt};
+ghost use Rattle.uda_c.specs.Controllers.{FailsAt, TurnsWhereMemory, TakesInterrupt};
 ghost use Rattle.uda_c.specs.Runs.{RunsWhereMemory};
 ghost use Rattle.uda_c.specs.Shown.{shown_port};
 ghost use Rattle.uda_c.specs.Last.{told_turn, TellsLine};
@@ -72,6 +72,18 @@ pub extern "C" fn uda_detach(handle: &mut Handle, unit: u32) -> u32
 {
     match handle.get() {
         Some(controller) => controller.detach(unit).code(),
+        None => Returned::NoController.code(),
+    }
+}
+
+/// Has the image of a unit fail at a call, counted from now on.
+#[unsafe(no_mangle)]
+pub extern "C" fn uda_fail_at(handle: &mut Handle, unit: u32, call: u32) -> u32
+    ensures fails { OnHandle handle.old.value handle.new.value (result ≡ returned_code NoController)
+        (λ old new. (answer : Returned) × (result ≡ returned_code answer) × FailsAt old unit call answer new) }
+{
+    match handle.get() {
+        Some(controller) => controller.fail_at(unit, call).code(),
         None => Returned::NoController.code(),
     }
 }

@@ -1,9 +1,12 @@
 //! Images in memory that a C program lends, as a file that it has mapped.
-ghost use Rattle.std.specs.Prelude.{length, ◌≡◌, ◌<◌};
-ghost use Rattle.uda_image.specs.Image.{block_count_of, block_of, with_block};
+ghost use Rattle.std.specs.Prelude.{length, ◌≡◌, ◌+◌, ◌*◌, ◌-◌, ◌<◌, ◌≤◌, ◌↔◌, true, false, None, Some};
+ghost use Rattle.std.specs.Prelude.{is_ok, is_none, option_map, IsErr, IsOk, IfErr, if◌then◌else◌};
+ghost use Rattle.uda_mem.specs.Put.{part, put};
+ghost use Rattle.uda_image.specs.AtOnce.{ReadsAtOnce, WritesAtOnce};
+ghost use Rattle.uda_image.specs.Image.{block_count_of, block_of, with_block, half_written};
 ghost use Rattle.uda_image.specs.Store.{Reads, Writes, KeepsNature};
 ghost use Rattle.uda_image.specs.StoreLaws.{block_count-le, IsImage-blocks_of};
-ghost use Rattle.uda_c.specs.LentImage.{lent_state};
+ghost use Rattle.uda_c.specs.LentImage.{lent_state, failing_from_now};
 
 use crate::lent::Lent;
 use std::marker::Model;
@@ -11,41 +14,99 @@ use uda_image::{BlockStore, StoreError, blocks};
 
 /// An image in memory that C has lent: block after block.
 ///
-/// It is faithful, and none of its calls fails.
+/// It is faithful, and none of its calls fails until it is told which is to.
 #[derive(Drop)]
 pub struct LentImage {
     bytes: Lent,
     size: u32,
+    // How many calls are left up to the one that fails, that one counted, 0 after it; None where it was never
+    // told of one.
+    left: Option<u32>,
 }
 
 impl Model for LentImage {
-    ghost use Rattle.std.specs.Prelude.{List, ℕ, ◌≡◌, length};
+    ghost use Rattle.std.specs.Prelude.{◌≡◌};
     ghost use Rattle.uda_image.specs.Image.{block_count_of};
+    ghost use Rattle.uda_c.specs.LentImage.{LentBlocks};
 
-    ghost Value = { List ℕ };
+    ghost Value = { LentBlocks };
 
-    ghost view = { λ image. image.bytes.held };
+    ghost view = { λ image. record { bytes = image.bytes.held; left = image.left } };
 
     ghost invariant = { λ image. image.size ≡ block_count_of image.bytes.held };
 }
 
 impl LentImage {
-    /// An image of the bytes that are lent.
+    /// An image of the bytes that are lent, of which no call fails.
     pub fn new(lent: Lent) -> LentImage
-        ensures bytes { result ≡ lent.held }
+        ensures image { result ≡ record { bytes = lent.held; left = None } }
     {
         let mut bytes = lent;
         let size = blocks::count(bytes.bytes_mut());
-        LentImage { bytes, size }
+        LentImage {
+            bytes,
+            size,
+            left: None,
+        }
     }
+
+    /// Has the image's call number `call` from now on fail, and no other: reads and writes of blocks are counted
+    /// together, from 1; where `call` is 0 none fails.
+    pub fn fail_at(&mut self, call: u32)
+        ensures left { self.new ≡ record self.old { left = Some call } }
+        ensures state { lent_state self.new ≡ failing_from_now call (lent_state self.old) }
+    {
+        self.left = Some(call);
+    }
+
+    // Counts one call, and says whether it is the one that fails.
+    #[tactic(auto, using(crate::proofs::Images::failures_stay))]
+    fn fails_now(&mut self) -> bool
+        ensures value { (result ≡ true) ↔ (self.old.left ≡ Some 1) }
+        ensures left { self.new ≡ record self.old { left = option_map (λ l. l - 1) self.old.left } }
+        ensures passes { result ≡ false → lent_state self.new ≡ lent_state self.old }
+        ensures fails { result ≡ true → lent_state self.new
+            ≡ record (lent_state self.old) { failures = (lent_state self.old).failures + 1 } }
+        ensures sure { is_none self.old.left ≡ true → result ≡ false }
+    {
+        match self.left {
+            None => false,
+            Some(left) => {
+                self.left = Some(left.saturating_sub(1));
+                left == 1
+            }
+        }
+    }
+
+    // Writes the first half of block `n` alone.
+    #[tactic(auto, using(crate::proofs::Images::image_laws))]
+    fn write_half(&mut self, n: u32, from: &[u8; 512])
+        requires { n < block_count_of self.old.bytes }
+        ensures half { self.new ≡ record self.old {
+          bytes = with_block self.old.bytes n (half_written (block_of self.old.bytes n) from.now);
+        } }
+    {
+        let mut block = [0; 512];
+        blocks::read(self.bytes.bytes_mut(), n, &mut block);
+        put_first_half(&mut block, from);
+        blocks::write(self.bytes.bytes_mut(), n, &block);
+    }
+}
+
+// Writes the first half of `from` over that of a block.
+#[tactic(auto, unfolding(uda_image::specs::Image::half_written))]
+fn put_first_half(block: &mut [u8; 512], from: &[u8; 512])
+    ensures half { block.new ≡ half_written block.old from.now }
+{
+    block[..256].copy_from_slice(&from[..256]);
 }
 
 impl BlockStore for LentImage {
     ghost state = { lent_state };
 
-    ghost within_limit = { block_count-le };
+    ghost within_limit = { λ image. block_count-le image.bytes };
 
-    ghost is_image = { λ image _. IsImage-blocks_of image };
+    ghost is_image = { λ image _. IsImage-blocks_of image.bytes };
 
     #[tactic(auto, using(crate::proofs::Images::within_limit))]
     fn size(&self) -> u32 {
@@ -54,26 +115,95 @@ impl BlockStore for LentImage {
 
     #[tactic(auto, using(crate::proofs::Images::image_laws))]
     fn read(&mut self, n: u32, to: &mut [u8; 512]) -> Result<(), StoreError>
-        requires { n < block_count_of self.old }
-        ensures succeeds { result ≡ Ok tt }
-        ensures unchanged { self.new ≡ self.old }
-        ensures value { to.new ≡ block_of self.old n }
+        requires { n < block_count_of self.old.bytes }
+        ensures fails { IsErr result ↔ (self.old.left ≡ Some 1) }
+        ensures left { self.new ≡ record self.old { left = option_map (λ l. l - 1) self.old.left } }
+        ensures to { to.new ≡ (if is_ok result then block_of self.old.bytes n else to.old) }
+        ensures nature { KeepsNature (lent_state self.old) (lent_state self.new) }
+        ensures error { IfErr result (λ e. e ≡ StoreError.Read) }
+        ensures sure { (lent_state self.old).never_fails ≡ true → IsOk result }
         ensures reads { Reads (lent_state self.old) n (lent_state self.new) to.new result }
         ensures long { length to.new ≡ 512 }
     {
+        if self.fails_now() {
+            return Err(StoreError::Read);
+        }
         blocks::read(self.bytes.bytes_mut(), n, to);
         Ok(())
     }
 
     #[tactic(auto, using(crate::proofs::Images::image_laws))]
     fn write(&mut self, n: u32, from: &[u8; 512]) -> Result<(), StoreError>
-        requires { n < block_count_of self.old }
-        ensures succeeds { result ≡ Ok tt }
-        ensures value { self.new ≡ with_block self.old n from.now }
+        requires { n < block_count_of self.old.bytes }
+        ensures fails { IsErr result ↔ (self.old.left ≡ Some 1) }
+        ensures written { self.new ≡ record {
+          bytes = with_block self.old.bytes n
+              (if is_ok result then from.now else half_written (block_of self.old.bytes n) from.now);
+          left = option_map (λ l. l - 1) self.old.left;
+        } }
         ensures nature { KeepsNature (lent_state self.old) (lent_state self.new) }
+        ensures error { IfErr result (λ e. e ≡ StoreError.Write) }
+        ensures sure { (lent_state self.old).never_fails ≡ true → IsOk result }
         ensures writes { Writes (lent_state self.old) n (lent_state self.new) from.now result }
     {
+        if self.fails_now() {
+            self.write_half(n, from);
+            return Err(StoreError::Write);
+        }
         blocks::write(self.bytes.bytes_mut(), n, from);
         Ok(())
     }
+
+    #[tactic(auto, using(crate::proofs::Images::at_once_laws))]
+    fn read_at_once(&mut self, n: u32, count: u32, to: &mut [u8]) -> bool
+        requires on_unit { n + count ≤ block_count_of self.old.bytes }
+        requires long { length to.old ≡ 512 * count }
+        ensures done { result ≡ is_none self.old.left }
+        ensures nature { KeepsNature (lent_state self.old) (lent_state self.new) }
+        ensures long { length to.new ≡ length to.old }
+        ensures reads { ReadsAtOnce (lent_state self.old) n count (lent_state self.new) to.old to.new result }
+    {
+        if self.left.is_some() {
+            return false;
+        }
+        read_blocks(self.bytes.bytes_mut(), n, count, to);
+        true
+    }
+
+    #[tactic(auto, using(crate::proofs::Images::at_once_laws))]
+    fn write_at_once(&mut self, n: u32, count: u32, from: &[u8]) -> bool
+        requires on_unit { n + count ≤ block_count_of self.old.bytes }
+        requires long { length from.now ≡ 512 * count }
+        ensures done { result ≡ is_none self.old.left }
+        ensures nature { KeepsNature (lent_state self.old) (lent_state self.new) }
+        ensures writes { WritesAtOnce (lent_state self.old) n count (lent_state self.new) from.now result }
+    {
+        if self.left.is_some() {
+            return false;
+        }
+        write_blocks(self.bytes.bytes_mut(), n, count, from);
+        true
+    }
+}
+
+// The bytes of blocks from block `n` on, as many as `to` has.
+#[tactic(auto, unfolding(uda_image::specs::Image::block_count_of, uda_mem::specs::Put::part))]
+fn read_blocks(bytes: &[u8], n: u32, count: u32, to: &mut [u8])
+    requires on_unit { n + count ≤ block_count_of bytes.now }
+    requires long { length to.old ≡ 512 * count }
+    ensures value { to.new ≡ part bytes.now (512 * n) (512 * count) }
+{
+    let start = 512 * n as usize;
+    to.copy_from_slice(&bytes[start..start + 512 * count as usize]);
+}
+
+// Writes blocks from block `n` on.
+#[tactic(auto, unfolding(uda_image::specs::Image::block_count_of, uda_mem::specs::Put::put))]
+fn write_blocks(bytes: &mut [u8], n: u32, count: u32, from: &[u8])
+    requires on_unit { n + count ≤ block_count_of bytes.old }
+    requires long { length from.now ≡ 512 * count }
+    ensures value { bytes.new ≡ put bytes.old (512 * n) from.now }
+{
+    let start = 512 * n as usize;
+    bytes[start..start + 512 * count as usize].copy_from_slice(from);
 }

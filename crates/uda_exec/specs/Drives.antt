@@ -3,6 +3,7 @@ use Rattle.std.specs.Prelude.{ℕ, Bool, false, List, Option, Some, None, map, o
 use Rattle.std.specs.Prelude.{slice_get, unwrap_or}
 use Rattle.uda_image.specs.declared.store.Drive.{Drive}
 use Rattle.uda_image.specs.Store.{StoreState}
+use Rattle.uda_disk.specs.declared.mode.Mode.{Mode}
 use Rattle.uda_disk.specs.Units.{UnitState}
 use Rattle.uda_exec.specs.Disks.{ExecState}
 use Rattle.uda_exec.specs.declared.drive_unit.UnitLook.{UnitLook}
@@ -54,3 +55,12 @@ look_of unit = record { mode = unit.mode; size = unit.store.size }
 abbrev pub look_at : Option (Option UnitState) → Option UnitLook
 look_at (Some (Some unit)) = Some (look_of unit)
 look_at _ = None
+
+-- a unit in this mode; its store stays
+abbrev pub in_mode : Mode → Option UnitState → Option UnitState
+in_mode m unit = option_map (λ u. record { store = u.store; mode = m }) unit
+
+-- the executor with unit u in this mode; where it has no drive, or there is no unit u, all stays as it is
+abbrev pub with_mode : ExecState → ℕ → Mode → ExecState
+with_mode exec u m =
+    record exec { units = set exec.units u (in_mode m (unwrap_or (slice_get exec.units u) None)) }

@@ -88,6 +88,13 @@ impl<S: BlockStore> DriveUnit<S> {
         self.mode = self.mode.available();
     }
 
+    /// Puts the unit into a mode.
+    pub fn restore(&mut self, mode: Mode)
+        ensures unit { self.new ≡ record self.old { mode = mode } }
+    {
+        self.mode = mode;
+    }
+
     // Access, Erase, Read or Write: all checks, and then the blocks.
     fn transfer(&mut self, command: Command, t: Transfer, memory: &mut [u8]) -> End
         requires memory { IsMemory memory.old }

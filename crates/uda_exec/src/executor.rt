@@ -2,13 +2,14 @@
 //!
 //! MSCP Basic Disk Functions Manual: unit states, command ordering.
 ghost use Rattle.std.specs.Prelude.{◌≡◌, ℕ, ◌+◌, ◌-◌, ◌<◌, ◌≤◌, [], ◌∷◌, ◌++◌, length, map, option_map, IsNone};
-ghost use Rattle.std.specs.Prelude.{IfNone, IfSome, Some, ◌↔◌, set, slice_get};
+ghost use Rattle.std.specs.Prelude.{IfNone, IfSome, Some, None, ◌↔◌, set, slice_get, unwrap_or};
 ghost use Rattle.uda_mem.specs.Slices.{IsMemory};
 ghost use Rattle.uda_disk.specs.Units.{HoldsImage, AreImages, is_faithful, is_sure};
 ghost use Rattle.uda_exec.specs.Disks.{PENDING_LIMIT};
 ghost use Rattle.uda_exec.specs.Commands.{is_controller};
 ghost use Rattle.uda_exec.specs.Drives.{drive_state, drive_states, drive_in, fresh_unit, fresh_units};
 ghost use Rattle.uda_exec.specs.Drives.{drives_in, handed_back, reset_unit, with_drive, look_at};
+ghost use Rattle.uda_exec.specs.Drives.{in_mode, with_mode};
 ghost use Rattle.uda_exec.specs.Execution.{Executes, ExecutesAt};
 
 use crate::choice::{Position, next_place};
@@ -16,7 +17,7 @@ use crate::drive_unit::{DriveUnit, UnitLook};
 use crate::reply::{plain_body, refuse, reply};
 use arrayvec::ArrayVec;
 use std::marker::Model;
-use uda_disk::Refusal;
+use uda_disk::{Mode, Refusal};
 use uda_image::{BlockStore, Drive};
 use uda_mem::HostMemory;
 use uda_packet::{Command, End, Op, status};
@@ -236,6 +237,19 @@ impl<S: BlockStore> Exec<S> {
         exchange(&mut self.units, unit, drive)
     }
 
+    /// Puts a unit into a mode, for whoever has taken its drive out, has done something to its store and put it
+    /// back, and means the unit to be as it was. Its store, the other units and the pending commands stay as they
+    /// are. Where the unit has no drive, or `unit` is above 3, nothing changes.
+    ///
+    /// MSCP Basic Disk Functions Manual: unit states.
+    pub fn restore_mode(&mut self, unit: usize, mode: Mode)
+        ensures mode { self.new ≡ with_mode self.old unit mode }
+        ensures four { length self.new.units ≡ 4 }
+        ensures images { AreImages self.new.units }
+    {
+        restore_at(&mut self.units, unit, mode);
+    }
+
     /// The drives, taken out: drive `u` is that of unit `u`, None where that has none. Each has its blocks
     /// as the commands left them and its hardware protection. Pending commands are forgotten.
     pub fn into_stores(self) -> [Option<Drive<S>>; 4]
@@ -279,6 +293,27 @@ fn exchange<S: BlockStore>(
     }
     let old = std::mem::replace(&mut units[unit], unit_from(drive));
     drive_of(old)
+}
+
+// Puts one of the units into a mode.
+fn restore_at<S: BlockStore>(units: &mut [Option<DriveUnit<S>>], unit: usize, mode: Mode)
+    requires images { AreImages units.old }
+    ensures mode { units.new
+        ≡ set units.old unit (in_mode mode (unwrap_or (slice_get units.old unit) None)) }
+    ensures images { AreImages units.new }
+{
+    if unit < units.len() {
+        restore_unit(&mut units[unit], mode);
+    }
+}
+
+fn restore_unit<S: BlockStore>(unit: &mut Option<DriveUnit<S>>, mode: Mode)
+    ensures unit { unit.new ≡ in_mode mode unit.old }
+    ensures image { HoldsImage unit.old → HoldsImage unit.new }
+{
+    if let Some(unit) = unit {
+        unit.restore(mode);
+    }
 }
 
 fn reset_unit<S: BlockStore>(unit: &mut Option<DriveUnit<S>>)

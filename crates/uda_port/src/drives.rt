@@ -3,10 +3,11 @@
 //! MSCP Basic Disk Functions Manual: unit states.
 ghost use Rattle.std.specs.Prelude.{◌≡◌, length, option_map};
 ghost use Rattle.uda_disk.specs.Units.{AreImages};
-ghost use Rattle.uda_exec.specs.Drives.{drive_state, handed_back, with_drive};
+ghost use Rattle.uda_exec.specs.Drives.{drive_state, handed_back, with_drive, with_mode};
 ghost use Rattle.uda_port.specs.Port.{CreditsAgree};
 
 use crate::port::Port;
+use uda_disk::Mode;
 use uda_image::{BlockStore, Drive};
 
 impl<S: BlockStore> Port<S> {
@@ -33,5 +34,20 @@ impl<S: BlockStore> Port<S> {
         let old = self.exec.set_drive(unit, drive);
         self.keep();
         old
+    }
+
+    /// Puts a unit into a mode, for whoever has taken its drive out by [`set_drive`](Port::set_drive), has done
+    /// something to its store and put it back, and means the unit to be as it was. Nothing else of the port
+    /// changes; where the unit has no drive, or `unit` is above 3, nothing does.
+    ///
+    /// MSCP Basic Disk Functions Manual: unit states.
+    pub fn restore_mode(&mut self, unit: usize, mode: Mode)
+        ensures mode { self.new ≡ record self.old { exec = with_mode self.old.exec unit mode } }
+        ensures credits { CreditsAgree self.new }
+        ensures four { length self.new.exec.units ≡ 4 }
+        ensures images { AreImages self.new.exec.units }
+    {
+        self.exec.restore_mode(unit, mode);
+        self.keep();
     }
 }

@@ -105,3 +105,19 @@ fn new_drive_is_protected(rt: HostRuntime) -> Result<(), Fail> {
     assert_eq!(rt; machine.end(&rt, 1), refusal(0x2006));
     Ok(())
 }
+
+#[test]
+fn drive_put_back(rt: HostRuntime) -> Result<(), Fail> {
+    let mut machine = Machine::running(rt.alloc())?;
+    machine.put_online(&rt);
+    let online = machine.look();
+    let drive = machine.set_drive(None);
+    machine.restore_mode(0, online);
+    assert_eq!(rt; machine.look(), None);
+    machine.set_drive(drive);
+    machine.restore_mode(4, online);
+    assert!(rt; machine.look() != online);
+    machine.restore_mode(0, online);
+    assert_eq!(rt; machine.look(), online);
+    Ok(())
+}

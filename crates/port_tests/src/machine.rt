@@ -7,7 +7,7 @@ use super::memory::{bytes, poke, put};
 use std::alloc::Global;
 use std::process::Abort;
 use std::test::Fail;
-use uda_exec::Exec;
+use uda_exec::{Exec, UnitLook};
 use uda_image::{Drive, MemImage};
 use uda_mem::HostMemory;
 use uda_packet::{Command, End, Op, decode_end, encode_command};
@@ -213,6 +213,18 @@ impl Machine {
     /// Exchanges the drive of unit 0 for another, and answers the old one.
     pub(crate) fn set_drive(&mut self, drive: Option<Drive<MemImage>>) -> Option<Drive<MemImage>> {
         self.port.set_drive(0, drive)
+    }
+
+    /// What is to be seen of unit 0.
+    pub(crate) fn look(&self) -> Option<UnitLook> {
+        self.port.unit(0)
+    }
+
+    /// Puts a unit into the mode that was seen of one.
+    pub(crate) fn restore_mode(&mut self, unit: usize, look: Option<UnitLook>) {
+        if let Some(look) = look {
+            self.port.restore_mode(unit, look.mode);
+        }
     }
 
     /// One turn of the port, as a trace tells it.

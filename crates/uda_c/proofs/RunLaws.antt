@@ -4,12 +4,12 @@ use Rattle.uda_port.specs.declared.turn.Turn.{Turn}
 use Rattle.uda_c.specs.declared.returned.Returned.{Returned}
 use Rattle.uda_c.specs.declared.returned.Returned.TheVariants.{Took}
 use Rattle.uda_c.specs.Controllers.{TakesTurn}
-use Rattle.uda_c.specs.Runs.{Machine, Runs, does_nothing, AfterTurn}
+use Rattle.uda_c.specs.Runs.{Machine, TakesTurns, does_nothing, AfterTurn}
 
 -- a turn, and then the rest of the run
 pub run_on : (limit k : ℕ) (before : Returned) (old : Machine) (turn : Turn) (next : Machine) (answer : Returned) (new : Machine)
     → k < limit → does_nothing turn ≡ false → TakesTurn old.0 old.1 (Took turn) next.0 next.1
-    → Runs (limit - (k + 1)) (Took turn) next answer new → Runs (limit - k) before old answer new
+    → TakesTurns (limit - (k + 1)) (Took turn) next answer new → TakesTurns (limit - k) before old answer new
 run_on limit k before old turn next answer new h goes takes rest =
     let left : limit - k ≡ suc (limit - (k + 1)) = omega (arith, h) in
     rw left (turn, next, takes, rw goes rest)
@@ -17,7 +17,7 @@ run_on limit k before old turn next answer new h goes takes rest =
 -- a turn that does nothing, and the run is over
 pub run_over : (limit k : ℕ) (before : Returned) (old : Machine) (turn : Turn) (next : Machine)
     → k < limit → does_nothing turn ≡ true → TakesTurn old.0 old.1 (Took turn) next.0 next.1
-    → Runs (limit - k) before old (Took turn) next
+    → TakesTurns (limit - k) before old (Took turn) next
 run_over limit k before old turn next h over takes =
     let left : limit - k ≡ suc (limit - (k + 1)) = omega (arith, h) in
     rw left (turn, next, takes, rw over (refl, refl))

@@ -25,13 +25,13 @@ AfterTurn false over rest = rest
 
 -- no more than so many turns, one after another; the last is answered, and where there is none what was
 -- answered before
-abbrev pub Runs : ℕ → Returned → Machine → Returned → Machine → Type 0
-Runs zero before old answer new = (answer ≡ before) × (new ≡ old)
-Runs (suc limit) before old answer new =
+abbrev pub TakesTurns : ℕ → Returned → Machine → Returned → Machine → Type 0
+TakesTurns zero before old answer new = (answer ≡ before) × (new ≡ old)
+TakesTurns (suc limit) before old answer new =
     (turn : Turn) × (next : Machine) × TakesTurn old.0 old.1 (Took turn) next.0 next.1
-    × AfterTurn (does_nothing turn) ((answer ≡ Took turn) × (new ≡ next)) (Runs limit (Took turn) next answer new)
+    × AfterTurn (does_nothing turn) ((answer ≡ Took turn) × (new ≡ next)) (TakesTurns limit (Took turn) next answer new)
 
 -- in memory that a port works in, and other memory is refused
 pub record RunsWhereMemory (limit : ℕ) (old : Machine) (answer : Returned) (new : Machine) : Type 0 where
-  pub runs : IsMemory old.1 → Runs limit Done old answer new
+  pub runs : IsMemory old.1 → TakesTurns limit Done old answer new
   pub refuses : (IsMemory old.1 → ⊥) → RefusesMemory old.0 old.1 answer new.0 new.1

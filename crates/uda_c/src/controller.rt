@@ -7,7 +7,7 @@ ghost use Rattle.uda_c.specs.Controllers.{controller_at_start, Attaches, Detache
 ghost use Rattle.uda_c.specs.Controllers.{FailsAt, drive_failing, TakesTurn, memory_refusal};
 ghost use Rattle.uda_c.specs.LentImage.{lent_state};
 ghost use Rattle.uda_exec.specs.Drives.{drive_state};
-ghost use Rattle.uda_c.specs.Runs.{Runs, RunsWhereMemory, does_nothing};
+ghost use Rattle.uda_c.specs.Runs.{TakesTurns, RunsWhereMemory, does_nothing};
 
 use crate::lent::Lent;
 use crate::lent_image::LentImage;
@@ -122,7 +122,7 @@ impl Controller {
     // The same in memory that a port works in.
     fn run_in(&mut self, limit: u32, memory: &mut [u8]) -> Returned
         requires memory { IsMemory memory.old }
-        ensures { Runs limit Done (self.old, memory.old) result (self.new, memory.new) }
+        ensures { TakesTurns limit Done (self.old, memory.old) result (self.new, memory.new) }
     {
         let mut answer = Returned::Done;
         for _ in 0..limit {

@@ -14,7 +14,7 @@ ghost use Rattle.uda_c.specs.Last.{told_turn, TellsLine};
 
 use crate::controller::Controller;
 use crate::handle::Handle;
-use crate::last::{LastTurn, put_line};
+use crate::last::{LastTurn, put_last_line};
 use crate::lent::Lent;
 use crate::returned::Returned;
 use crate::shown::ShownPort;
@@ -223,7 +223,7 @@ pub extern "C" fn uda_last_text(alloc: Global, handle: &mut Handle, buffer: &mut
         × TellsLine old.last buffer.old answer buffer.new) }
 {
     match handle.get() {
-        Some(controller) => put_line(alloc, controller.last, buffer).code(),
+        Some(controller) => put_last_line(alloc, controller.last, buffer).code(),
         None => Returned::NoController.code(),
     }
 }

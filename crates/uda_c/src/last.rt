@@ -3,7 +3,7 @@ ghost use Rattle.std.specs.Prelude.{◌≡◌};
 ghost use Rattle.uda_c.specs.Last.{told_number, told_command, told_end, told_turn, TellsLine};
 
 use crate::returned::Returned;
-use crate::text::put_text;
+use crate::text::put_c_string;
 use std::alloc::Global;
 use uda_packet::{Command, End, EndBody};
 use uda_port::Trace;
@@ -99,16 +99,16 @@ impl LastTurn {
 }
 
 /// Puts the line of a turn into a buffer, as a text of C.
-pub fn put_line(alloc: Global, last: Option<Trace>, buffer: &mut [u8]) -> Returned
+pub fn put_last_line(alloc: Global, last: Option<Trace>, buffer: &mut [u8]) -> Returned
     ensures tells { TellsLine last buffer.old result buffer.new }
 {
     let Some(trace) = last else {
-        put_text(buffer, "");
+        put_c_string(buffer, "");
         return Returned::Done;
     };
     match trace.to_string(alloc) {
         Ok(line) => {
-            put_text(buffer, &line);
+            put_c_string(buffer, &line);
             Returned::Done
         }
         Err(_) => Returned::NoMemory,

@@ -3,7 +3,7 @@ ghost use Rattle.std.specs.Prelude.{◌≡◌};
 ghost use Rattle.uda_c.specs.Last.{text_in};
 
 /// Puts a text into a buffer, as much of it as leaves room for the 0 that ends it.
-pub fn put_text(buffer: &mut [u8], text: &str)
+pub fn put_c_string(buffer: &mut [u8], text: &str)
     ensures text { buffer.new ≡ text_in text.now buffer.old }
 {
     if buffer.is_empty() {

@@ -1,5 +1,5 @@
 -- A unit whose image is told of a call that is to fail: its drive is taken out, and put back as it was else.
-use Rattle.std.proofs.Common.{◌≡◌, ℕ, ◌<◌, Bool, true, false, List, length, set, Option, Some, None, refl, sym, ap, ap₂, ◌∙◌}
+use Rattle.std.proofs.Common.{◌≡◌, ℕ, false, List, set, Option, Some, None, refl, sym, ap, ap₂, ◌∙◌}
 use Rattle.std.specs.Prelude.{option_map, slice_get, unwrap_or, nat_lt, is_some, if◌then◌else◌}
 use Rattle.std.proofs.lemmas.List.{set-set}
 use Rattle.std.proofs.lemmas.Option.{slice_get_within, slice_get-map}
@@ -7,9 +7,8 @@ use Rattle.uda_disk.proofs.Slots.{slice_get-set_same}
 use Rattle.uda_disk.specs.declared.mode.Mode.{Mode}
 use Rattle.uda_disk.specs.Units.{UnitState}
 use Rattle.uda_exec.specs.declared.drive_unit.UnitLook.{UnitLook}
-use Rattle.uda_exec.specs.Drives.{DriveState, drive_in, drives_in, fresh_unit, handed_back, look_of, look_at, in_mode, with_drive, with_mode}
+use Rattle.uda_exec.specs.Drives.{DriveState, drive_in, fresh_unit, handed_back, look_of, look_at, in_mode, with_drive, with_mode}
 use Rattle.uda_port.specs.Port.{PortState}
-use Rattle.uda_c.specs.declared.returned.Returned.{Returned}
 use Rattle.uda_c.specs.declared.returned.Returned.TheVariants.{Done, NoSuchUnit, UnitEmpty}
 use Rattle.uda_c.specs.declared.controller.Controller.{Controller}
 use Rattle.uda_c.specs.LentImage.{failing_from_now}

@@ -1,10 +1,10 @@
 -- Turns one after another.
-use Rattle.std.proofs.Common.{◌≡◌, ◌<◌, ◌-◌, ◌+◌, ℕ, suc, true, false, refl, arith, List}
+use Rattle.std.proofs.Common.{◌≡◌, ◌<◌, ◌-◌, ◌+◌, ℕ, suc, true, false, refl, arith}
 use Rattle.uda_port.specs.declared.turn.Turn.{Turn}
 use Rattle.uda_c.specs.declared.returned.Returned.{Returned}
 use Rattle.uda_c.specs.declared.returned.Returned.TheVariants.{Took}
 use Rattle.uda_c.specs.Controllers.{TakesTurn}
-use Rattle.uda_c.specs.Runs.{Machine, TakesTurns, does_nothing, AfterTurn}
+use Rattle.uda_c.specs.Runs.{Machine, TakesTurns, does_nothing}
 
 -- a turn, and then the rest of the run
 pub run_on : (limit k : ℕ) (before : Returned) (old : Machine) (turn : Turn) (next : Machine) (answer : Returned) (new : Machine)

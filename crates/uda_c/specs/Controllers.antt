@@ -8,7 +8,7 @@ use Rattle.uda_exec.specs.Drives.{DriveState, with_drive, look_at}
 use Rattle.uda_port.specs.declared.profile.Profile.{Profile}
 use Rattle.uda_port.specs.declared.profile.Profile.TheVariants.{Strict, ForGuests}
 use Rattle.uda_port.specs.declared.trace.Trace.{Trace}
-use Rattle.uda_port.specs.Port.{PortState, port_at_start}
+use Rattle.uda_port.specs.Port.{port_at_start}
 use Rattle.uda_port.specs.Interrupt.{vector_of, served}
 use Rattle.uda_port.specs.Startup.{by_word}
 use Rattle.uda_port.specs.Turn.{TurnGoes}

@@ -1,5 +1,5 @@
 -- Images in memory that a C program lends, as stores of blocks.
-use Rattle.std.specs.Prelude.{◌≡◌, ℕ, ◌-◌, Bool, true, false, List, Option, Some, None, is_none, option_map}
+use Rattle.std.specs.Prelude.{ℕ, true, false, List, Option, Some, None, is_none}
 use Rattle.uda_image.specs.Store.{StoreState}
 use Rattle.uda_image.specs.Image.{block_count_of, blocks_of, failures_by}
 

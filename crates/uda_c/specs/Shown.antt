@@ -1,5 +1,5 @@
 -- What C is shown of a port.
-use Rattle.std.specs.Prelude.{ℕ, Bool, length, if◌then◌else◌}
+use Rattle.std.specs.Prelude.{ℕ, length, if◌then◌else◌}
 use Rattle.uda_port.specs.declared.phase.Phase.{Phase}
 use Rattle.uda_port.specs.declared.phase.Phase.TheVariants.{Step1, Step2, Step3, Purge, Poll, Step4}
 use Rattle.uda_port.specs.declared.phase.Phase.TheVariants.{Running, Dead}

@@ -1,4 +1,4 @@
-use Rattle.std.proofs.Common.{ℕ, ◌-◌, List}
+use Rattle.std.proofs.Common.{◌-◌}
 use Rattle.uda_c.specs.declared.returned.Returned.{Returned}
 use Rattle.uda_c.specs.declared.returned.Returned.TheVariants.{Done}
 use Rattle.uda_c.specs.Runs.{Machine, TakesTurns}

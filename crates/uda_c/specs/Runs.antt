@@ -29,7 +29,8 @@ abbrev pub TakesTurns : ℕ → Returned → Machine → Returned → Machine �
 TakesTurns zero before old answer new = (answer ≡ before) × (new ≡ old)
 TakesTurns (suc limit) before old answer new =
     (turn : Turn) × (next : Machine) × TakesTurn old.0 old.1 (Took turn) next.0 next.1
-    × AfterTurn (does_nothing turn) ((answer ≡ Took turn) × (new ≡ next)) (TakesTurns limit (Took turn) next answer new)
+    × AfterTurn (does_nothing turn) ((answer ≡ Took turn) × (new ≡ next))
+    (TakesTurns limit (Took turn) next answer new)
 
 -- in memory that a port works in, and other memory is refused
 pub record RunsWhereMemory (limit : ℕ) (old : Machine) (answer : Returned) (new : Machine) : Type 0 where

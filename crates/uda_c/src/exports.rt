@@ -80,7 +80,8 @@ pub extern "C" fn uda_detach(handle: &mut Handle, unit: u32) -> u32
 #[unsafe(no_mangle)]
 pub extern "C" fn uda_fail_at(handle: &mut Handle, unit: u32, call: u32) -> u32
     ensures fails { OnHandle handle.old.value handle.new.value (result ≡ returned_code NoController)
-        (λ old new. (answer : Returned) × (result ≡ returned_code answer) × FailsAt old unit call answer new) }
+        (λ old new. (answer : Returned) × (result ≡ returned_code answer)
+        × FailsAt old unit call answer new) }
 {
     match handle.get() {
         Some(controller) => controller.fail_at(unit, call).code(),

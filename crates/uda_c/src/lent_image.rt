@@ -50,8 +50,8 @@ impl LentImage {
         }
     }
 
-    /// Has the image's call number `call` from now on fail, and no other: reads and writes of blocks are counted
-    /// together, from 1; where `call` is 0 none fails.
+    /// Has the image's call number `call` from now on fail, and no other: reads and writes of blocks are
+    /// counted together, from 1; where `call` is 0 none fails.
     pub fn fail_at(&mut self, call: u32)
         ensures left { self.new ≡ record self.old { left = Some call } }
         ensures state { lent_state self.new ≡ failing_from_now call (lent_state self.old) }

@@ -237,9 +237,9 @@ impl<S: BlockStore> Exec<S> {
         exchange(&mut self.units, unit, drive)
     }
 
-    /// Puts a unit into a mode, for whoever has taken its drive out, has done something to its store and put it
-    /// back, and means the unit to be as it was. Its store, the other units and the pending commands stay as they
-    /// are. Where the unit has no drive, or `unit` is above 3, nothing changes.
+    /// Puts a unit into a mode, for whoever has taken its drive out, has done something to its store and put
+    /// it back, and means the unit to be as it was. Its store, the other units and the pending commands stay
+    /// as they are. Where the unit has no drive, or `unit` is above 3, nothing changes.
     ///
     /// MSCP Basic Disk Functions Manual: unit states.
     pub fn restore_mode(&mut self, unit: usize, mode: Mode)

@@ -36,9 +36,9 @@ impl<S: BlockStore> Port<S> {
         old
     }
 
-    /// Puts a unit into a mode, for whoever has taken its drive out by [`set_drive`](Port::set_drive), has done
-    /// something to its store and put it back, and means the unit to be as it was. Nothing else of the port
-    /// changes; where the unit has no drive, or `unit` is above 3, nothing does.
+    /// Puts a unit into a mode, for whoever has taken its drive out by [`set_drive`](Port::set_drive), has
+    /// done something to its store and put it back, and means the unit to be as it was. Nothing else of the
+    /// port changes; where the unit has no drive, or `unit` is above 3, nothing does.
     ///
     /// MSCP Basic Disk Functions Manual: unit states.
     pub fn restore_mode(&mut self, unit: usize, mode: Mode)

@@ -7,9 +7,9 @@
 //! go through the rings of a port in a slice, beside a port over a host memory.
 //!
 //! Otherwise the words are a store, `memory` (an image of 1,000 blocks) or the path of an image file of
-//! 131,072 blocks; a work, `read` or `write`; the blocks of each transfer, `32` or `1`; and how many rounds. The
-//! bare loop moves one block a call, and with a last word `32` over a file the 32 of a transfer.
-//! Each round prints a line: the nanoseconds of processor time of the executor, and those of the bare loop.
+//! 131,072 blocks; a work, `read` or `write`; the blocks of each transfer, `32` or `1`; and how many rounds.
+//! The bare loop moves one block a call, and with a last word `32` over a file the 32 of a transfer. Each
+//! round prints a line: the nanoseconds of processor time of the executor, and those of the bare loop.
 #![tactic(auto)]
 
 mod bare;

@@ -105,8 +105,8 @@ pub fn execute_all<S: BlockStore>(
     Ok(())
 }
 
-// Executes one command of unit 0, which must succeed: else the answer is its end, if it has one. It has no room
-// for an error's text, which would be filled with zeros for each command.
+// Executes one command of unit 0, which must succeed: else the answer is its end, if it has one. It has no
+// room for an error's text, which would be filled with zeros for each command.
 fn execute<S: BlockStore>(
     exec: &mut Exec<S>,
     memory: &mut HostMemory,

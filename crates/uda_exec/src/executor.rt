@@ -1,8 +1,8 @@
 //! The executor: four units, and the commands that it has accepted.
 //!
 //! MSCP Basic Disk Functions Manual: unit states, command ordering.
-ghost use Rattle.std.specs.Prelude.{◌≡◌, ℕ, ◌+◌, ◌-◌, ◌<◌, ◌≤◌, [], ◌∷◌, ◌++◌, length, map, option_map, IsNone};
-ghost use Rattle.std.specs.Prelude.{IfNone, IfSome, Some, None, ◌↔◌, set, slice_get, unwrap_or};
+ghost use Rattle.std.specs.Prelude.{◌≡◌, ℕ, ◌+◌, ◌-◌, ◌<◌, ◌≤◌, [], ◌∷◌, ◌++◌, length, map, option_map};
+ghost use Rattle.std.specs.Prelude.{IsNone, IfNone, IfSome, Some, None, ◌↔◌, set, slice_get, unwrap_or};
 ghost use Rattle.uda_mem.specs.Slices.{IsMemory};
 ghost use Rattle.uda_disk.specs.Units.{HoldsImage, AreImages, is_faithful, is_sure};
 ghost use Rattle.uda_exec.specs.Disks.{PENDING_LIMIT};
@@ -223,8 +223,8 @@ impl<S: BlockStore> Exec<S> {
     ///
     /// The unit is then available, without software protection, as [`new`](Exec::new) would have made it. The
     /// other units and the pending commands stay as they are: a command that waits for this unit meets the
-    /// drive that it has when it goes. No store is called. Where `unit` is above 3 nothing changes, and the drive
-    /// that is given is handed back.
+    /// drive that it has when it goes. No store is called. Where `unit` is above 3 nothing changes, and the
+    /// drive that is given is handed back.
     ///
     /// MSCP Basic Disk Functions Manual: unit states.
     pub fn set_drive(&mut self, unit: usize, drive: Option<Drive<S>>) -> Option<Drive<S>>

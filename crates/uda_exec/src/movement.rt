@@ -135,8 +135,8 @@ fn move_block<S: BlockStore>(
     }
 }
 
-// Reads blocks from block `n` on into bytes of its own, a piece at a time, up to the first piece that the store
-// declines, and answers how many it read.
+// Reads blocks from block `n` on into bytes of its own, a piece at a time, up to the first piece that the
+// store declines, and answers how many it read.
 #[inline(never)]
 fn access_at_once<S: BlockStore>(store: &mut S, n: u32, count: u32) -> u32
     requires on_unit { n + count ≤ (S.state store.old).size }

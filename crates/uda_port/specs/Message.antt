@@ -1,7 +1,8 @@
 -- What a command packet says.
 -- UDA50 Programmer's Documentation Kit: message envelopes; MSCP Basic Disk Functions Manual: invalid
 -- commands.
-use Rattle.std.specs.Prelude.{◌≡◌, ℕ, ◌-◌, ◌==◌, nat_le, nat_lt, Bool, List, replicate, Result, Ok, Err, if◌then◌else◌}
+use Rattle.std.specs.Prelude.{◌≡◌, ℕ, ◌-◌, ◌==◌, nat_le, nat_lt, Bool, List, replicate, Result, Ok, Err}
+use Rattle.std.specs.Prelude.{if◌then◌else◌}
 use Rattle.uda_mem.specs.Put.{put}
 use Rattle.uda_packet.specs.declared.bad.Bad.{Bad}
 use Rattle.uda_packet.specs.declared.command.Command.{Command}
@@ -33,8 +34,8 @@ abbrev pub text_read : Profile → Fetched → List ℕ
 text_read Strict p = p.text
 text_read ForGuests p = text_by_length p
 
--- Whether a command may have so many bytes: strictly each has 48; a guest's has 12 or more, which is as far as
--- its opcode and modifiers go.
+-- Whether a command may have so many bytes: strictly each has 48; a guest's has 12 or more, which is as far
+-- as its opcode and modifiers go.
 abbrev pub is_length : Profile → ℕ → Bool
 is_length Strict n = n == 48
 is_length ForGuests n = nat_le 12 n

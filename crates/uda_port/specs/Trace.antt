@@ -26,8 +26,8 @@ turn_of Idle = turn.Idle
 turn_of (Dead cause) = turn.Dead
 
 -- what is told is what was done: a command that was fetched is pending, last; the end of what was none, and
--- that of a command that was executed, waits, last; an end that was delivered was the first that waited; and a
--- dead port is dead of this cause
+-- that of a command that was executed, waits, last; an end that was delivered was the first that waited; and
+-- a dead port is dead of this cause
 abbrev pub Traces : Trace → PortState → PortState → Type 0
 Traces (Fetched command) old new = new.exec.pending ≡ old.exec.pending ++ command ∷ []
 Traces (Refused end) old new = new.waiting ≡ old.waiting ++ end ∷ []

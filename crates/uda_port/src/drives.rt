@@ -17,8 +17,8 @@ impl<S: BlockStore> Port<S> {
     /// The unit is then available, without software protection. Nothing else of the port changes: the other
     /// units, the rings, the commands that are pending and the ends that wait stay as they are, and a command
     /// that is pending for this unit meets the drive that is there when it goes. It may be called between any
-    /// two turns, in every phase; no message tells the host of it. Where `unit` is above 3 nothing changes, and
-    /// the drive that is given is handed back.
+    /// two turns, in every phase; no message tells the host of it. Where `unit` is above 3 nothing changes,
+    /// and the drive that is given is handed back.
     ///
     /// MSCP Basic Disk Functions Manual: unit states.
     pub fn set_drive(&mut self, unit: usize, drive: Option<Drive<S>>) -> Option<Drive<S>>

@@ -52,8 +52,8 @@ impl Trace {
 }
 
 /// A line of a trace: `fetched 3 Read unit 0 lbn 9 bytes 512`,
-/// `executed 3 Read unit 0 status 0x0000 bytes 512`, `delivered 4 Online unit 0 status 0x0000`, `refused 0 invalid command unit 0 status 0x0001`, `idle` or
-/// `dead of code 10`.
+/// `executed 3 Read unit 0 status 0x0000 bytes 512`, `delivered 4 Online unit 0 status 0x0000`,
+/// `refused 0 invalid command unit 0 status 0x0001`, `idle` or `dead of code 10`.
 impl fmt::Display for Trace {
     ghost output = { λ trace. Some (trace_display trace) };
 

@@ -9,8 +9,8 @@ use uda_grammar::{Script, parse};
 use uda_image::{Drive, FileImage};
 use uda_script_run::run_script;
 
-/// How many bytes are gathered before they are written. What is as long or longer goes past the gatherer, in a
-/// write of its own.
+/// How many bytes are gathered before they are written. What is as long or longer goes past the gatherer, in
+/// a write of its own.
 const GATHERED: usize = 4_096;
 
 /// Where a run's data come from, and where its texts go.

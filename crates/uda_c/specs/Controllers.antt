@@ -3,7 +3,7 @@ use Rattle.std.specs.Prelude.{◌≡◌, ◌≢◌, ℕ, ◌/◌, ◌%◌, ◌==
 use Rattle.std.specs.Prelude.{false, List, [], ◌∷◌, Option, Some, None, slice_get}
 use Rattle.std.specs.Prelude.{nat_lt, length, is_some, option_map, set, unwrap_or, if◌then◌else◌}
 use Rattle.uda_mem.specs.Slices.{IsMemory}
-use Rattle.uda_image.specs.declared.store.TheConstants.{BLOCK_LIMIT}
+use Rattle.uda_image.specs.Limits.{block_limit}
 use Rattle.uda_disk.specs.Units.{UnitState}
 use Rattle.uda_exec.specs.Drives.{DriveState, with_drive, look_at}
 use Rattle.uda_port.specs.declared.profile.Profile.{Profile}
@@ -48,7 +48,7 @@ abbrev pub attach_answer : Controller → ℕ → ℕ → Returned
 attach_answer c unit bytes =
     if nat_lt 3 unit then NoSuchUnit
     else if has_image c unit then UnitTaken
-    else if bytes % 512 == 0 then (if nat_lt BLOCK_LIMIT (bytes / 512) then TooLong else Done)
+    else if bytes % 512 == 0 then (if nat_lt block_limit (bytes / 512) then TooLong else Done)
     else BadLength
 
 abbrev pub detach_answer : Controller → ℕ → Returned

@@ -38,7 +38,7 @@ pub const ODD_ADDRESS: u16 = 0x0029;
 /// The byte count is odd.
 pub const ODD_COUNT: u16 = 0x0049;
 
-/// The byte count is no multiple of a block, or the range passes the unit's end.
+/// The range passes the unit's end.
 pub const INVALID_COUNT: u16 = 0x0C01;
 
 /// The first block isn't on the unit.

@@ -3,12 +3,12 @@ use Rattle.std.specs.Prelude.{ℕ, zero, suc, ◌+◌, ◌*◌, ◌/◌, min, Bo
 use Rattle.std.specs.Prelude.{length}
 use Rattle.std.specs.List.{splice}
 use Rattle.std.specs.Simd.{first_chunks}
-use Rattle.uda_image.specs.declared.store.TheConstants.{BLOCK_LIMIT}
+use Rattle.uda_image.specs.Limits.{block_limit}
 use Rattle.uda_image.specs.Store.{StoreState}
 
 -- how many blocks the bytes of an image make: the whole ones, and no more than an image has
 unfoldable pub block_count_of : List ℕ → ℕ
-block_count_of bytes = min (length bytes / 512) BLOCK_LIMIT
+block_count_of bytes = min (length bytes / 512) block_limit
 
 -- the blocks that the bytes of an image make
 unfoldable pub blocks_of : List ℕ → List (List ℕ)
@@ -69,7 +69,7 @@ pub record OpenImage : Type 0 where
 abbrev pub file_state : OpenImage → StoreState
 file_state image = record {
   blocks = [];
-  size = min image.size BLOCK_LIMIT;
+  size = min image.size block_limit;
   faithful = false;
   never_fails = false;
   failures = 0;

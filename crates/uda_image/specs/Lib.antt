@@ -1,4 +1,5 @@
 pub mod Store
+pub mod Limits
 pub mod Image
 pub mod AtOnce
 pub mod StoreLaws

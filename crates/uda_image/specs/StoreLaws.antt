@@ -5,19 +5,19 @@ use Rattle.std.specs.List.{All}
 use Rattle.std.specs.Simd.{first_chunks}
 use Rattle.std.proofs.lemmas.List.{length-take-le}
 use Rattle.std.proofs.lemmas.List.Elements.{All-nil, All-cons}
-use Rattle.uda_image.specs.declared.store.TheConstants.{BLOCK_LIMIT}
+use Rattle.uda_image.specs.Limits.{block_limit}
 use Rattle.uda_image.specs.Store.{IsImage}
 use Rattle.uda_image.specs.Image.{block_count_of, blocks_of}
 
 -- a size that is cut off at the limit is within it
-pub min-le : (size : ℕ) → min size BLOCK_LIMIT ≤ BLOCK_LIMIT
+pub min-le : (size : ℕ) → min size block_limit ≤ block_limit
 min-le size = omega arith
 
 -- nothing is said of a store that isn't faithful
 pub no_image : {size : ℕ} {blocks : List (List ℕ)} → false ≡ true → IsImage size blocks
 no_image h = absurd (cc)
 
-pub block_count-le : (bytes : List ℕ) → block_count_of bytes ≤ BLOCK_LIMIT
+pub block_count-le : (bytes : List ℕ) → block_count_of bytes ≤ block_limit
 unfolding block_count_of
 block_count-le bytes = min-le (length bytes / 512)
 

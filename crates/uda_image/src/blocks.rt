@@ -3,7 +3,7 @@
 //! MSCP Basic Disk Functions Manual: logical blocks.
 ghost use Rattle.std.specs.Prelude.{◌≡◌, ◌<◌, ◌≤◌, length};
 ghost use Rattle.uda_image.specs.Image.{block_count_of, block_of, with_block};
-ghost use Rattle.uda_image.specs.declared.store.TheConstants.{BLOCK_LIMIT};
+ghost use Rattle.uda_image.specs.Limits.{block_limit};
 
 use crate::store::BLOCK_LIMIT;
 
@@ -11,7 +11,7 @@ use crate::store::BLOCK_LIMIT;
 #[tactic(auto, unfolding(crate::specs::Image::block_count_of))]
 pub fn count(bytes: &[u8]) -> u32
     ensures count { result ≡ block_count_of bytes.now }
-    ensures within { result ≤ BLOCK_LIMIT }
+    ensures within { result ≤ block_limit }
 {
     (bytes.len() / 512).min(BLOCK_LIMIT as usize) as u32
 }

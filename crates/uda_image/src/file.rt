@@ -1,6 +1,6 @@
 //! Images in files.
 ghost use Rattle.std.specs.Prelude.{length, ◌≡◌, ◌≢◌, ◌≤◌, true, false, IsOk, OnOk, OnErr, IfOk, IfErr};
-ghost use Rattle.uda_image.specs.declared.store.TheConstants.{BLOCK_LIMIT};
+ghost use Rattle.uda_image.specs.Limits.{block_limit};
 ghost use Rattle.uda_image.specs.Image.{file_state};
 ghost use Rattle.uda_image.specs.StoreLaws.{min-le, no_image};
 
@@ -33,7 +33,7 @@ pub struct FileImage {
 
 impl Model for FileImage {
     ghost use Rattle.std.specs.Prelude.{◌≤◌};
-    ghost use Rattle.uda_image.specs.declared.store.TheConstants.{BLOCK_LIMIT};
+    ghost use Rattle.uda_image.specs.Limits.{block_limit};
     ghost use Rattle.uda_image.specs.Image.{OpenImage};
 
     ghost Value = { OpenImage };
@@ -44,7 +44,7 @@ impl Model for FileImage {
       written = image.written;
     } };
 
-    ghost invariant = { λ image. image.size ≤ BLOCK_LIMIT };
+    ghost invariant = { λ image. image.size ≤ block_limit };
 }
 
 // Whether a plain file stands at `path`. To open a pipe could wait for its other end, and to open
@@ -75,7 +75,7 @@ impl FileImage {
     pub fn open(rt: &HostRuntime, path: &str, writable: bool) -> Result<FileImage, ImageError>
         ensures writable { IfOk result (λ image. image.writable ≡ writable) }
         ensures written { IfOk result (λ image. image.written ≡ false) }
-        ensures within_limit { IfOk result (λ image. image.size ≤ BLOCK_LIMIT) }
+        ensures within_limit { IfOk result (λ image. image.size ≤ block_limit) }
         ensures errors { result ≢ Err ImageError.NoMemory }
     {
         if !is_plain_file(rt, path) {

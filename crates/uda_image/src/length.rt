@@ -1,5 +1,6 @@
 //! Lengths in bytes as counts of blocks.
 ghost use Rattle.std.specs.Prelude.{◌≡◌, ◌≢◌, ◌*◌, ◌/◌, ◌%◌, ◌<◌, ◌≤◌, ◌⊎◌, ◌↔◌, IfOk, IfErr};
+ghost use Rattle.uda_image.specs.Limits.{block_limit};
 
 use crate::error::ImageError;
 use crate::store::BLOCK_LIMIT;
@@ -8,10 +9,10 @@ use crate::store::BLOCK_LIMIT;
 // before one that is too large.
 pub(crate) fn count_blocks(bytes: u64) -> Result<u32, ImageError>
     ensures whole { IfOk result (λ count. 512 * count ≡ bytes) }
-    ensures within_limit { IfOk result (λ count. count ≤ BLOCK_LIMIT) }
+    ensures within_limit { IfOk result (λ count. count ≤ block_limit) }
     ensures length { (result ≡ Err ImageError.Length) ↔ (bytes % 512 ≢ 0) }
     ensures too_large { (result ≡ Err ImageError.TooLarge)
-        ↔ ((bytes % 512 ≡ 0) × (BLOCK_LIMIT < bytes / 512)) }
+        ↔ ((bytes % 512 ≡ 0) × (block_limit < bytes / 512)) }
     ensures errors { IfErr result (λ e. (e ≡ ImageError.Length) ⊎ (e ≡ ImageError.TooLarge)) }
 {
     if bytes % 512 != 0 {

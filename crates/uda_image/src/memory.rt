@@ -8,6 +8,7 @@ ghost use Rattle.uda_image.specs.Store.{Reads, Writes, KeepsNature};
 ghost use Rattle.uda_image.specs.AtOnce.{ReadsAtOnce, WritesAtOnce};
 ghost use Rattle.uda_image.specs.Image.{block_count_of, blocks_of, block_of, with_block, image_state};
 ghost use Rattle.uda_image.specs.StoreLaws.{block_count-le, IsImage-blocks_of};
+ghost use Rattle.uda_image.specs.Limits.{block_limit};
 
 use crate::error::ImageError;
 use crate::length::count_blocks;
@@ -25,14 +26,14 @@ pub struct MemImage {
 
 impl Model for MemImage {
     ghost use Rattle.std.specs.Prelude.{List, ℕ, ◌≡◌, ◌≤◌, ◌%◌, ◌/◌, vec_len};
-    ghost use Rattle.uda_image.specs.declared.store.TheConstants.{BLOCK_LIMIT};
+    ghost use Rattle.uda_image.specs.Limits.{block_limit};
 
     ghost Value = { List ℕ };
 
     ghost view = { λ image. image.bytes.items };
 
     ghost invariant = { λ image. (vec_len image.bytes % 512 ≡ 0)
-        × (vec_len image.bytes / 512 ≤ BLOCK_LIMIT) };
+        × (vec_len image.bytes / 512 ≤ block_limit) };
 }
 
 impl MemImage {
@@ -45,7 +46,7 @@ impl MemImage {
         ensures size { IfOk result (λ image. block_count_of image ≡ blocks) }
         ensures blocks { IfOk result (λ image.
             blocks_of image ≡ replicate blocks (replicate 512 0)) }
-        ensures too_large { (result ≡ Err ImageError.TooLarge) ↔ (BLOCK_LIMIT < blocks) }
+        ensures too_large { (result ≡ Err ImageError.TooLarge) ↔ (block_limit < blocks) }
         ensures errors { IfErr result (λ e. (e ≡ ImageError.NoMemory) ⊎ (e ≡ ImageError.TooLarge)) }
     {
         if blocks > BLOCK_LIMIT {
@@ -68,7 +69,7 @@ impl MemImage {
             blocks_of image ≡ first_chunks 512 (length bytes.now / 512) bytes.now) }
         ensures length { (result ≡ Err ImageError.Length) ↔ (length bytes.now % 512 ≢ 0) }
         ensures too_large { (result ≡ Err ImageError.TooLarge)
-            ↔ ((length bytes.now % 512 ≡ 0) × (BLOCK_LIMIT < length bytes.now / 512)) }
+            ↔ ((length bytes.now % 512 ≡ 0) × (block_limit < length bytes.now / 512)) }
         ensures errors { result ≢ Err ImageError.Open }
     {
         count_blocks(bytes.len() as u64)?;
@@ -83,7 +84,7 @@ impl MemImage {
         ensures value { result.now ≡ self.now }
         ensures blocks { concat (blocks_of self.now) ≡ result.now }
         ensures whole { length result.now % 512 ≡ 0 }
-        ensures within_limit { length result.now / 512 ≤ BLOCK_LIMIT }
+        ensures within_limit { length result.now / 512 ≤ block_limit }
     {
         self.bytes.as_slice()
     }

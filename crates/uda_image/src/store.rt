@@ -2,7 +2,7 @@
 ghost use Rattle.std.specs.Prelude.{length, ◌≡◌, ◌+◌, ◌*◌, ◌<◌, ◌≤◌, true, IfErr, IsOk};
 ghost use Rattle.uda_image.specs.Store.{StoreState, IsImage, KeepsNature, Reads, Writes};
 ghost use Rattle.uda_image.specs.AtOnce.{ReadsAtOnce, WritesAtOnce};
-ghost use Rattle.uda_image.specs.declared.store.TheConstants.{BLOCK_LIMIT};
+ghost use Rattle.uda_image.specs.Limits.{block_limit};
 
 use std::error::Error;
 use std::fmt;
@@ -52,7 +52,7 @@ pub trait BlockStore {
     /// The number of blocks, at most [`BLOCK_LIMIT`], which no call changes.
     fn size(&self) -> u32
         ensures value { result ≡ (state self.now).size }
-        ensures within_limit { result ≤ BLOCK_LIMIT };
+        ensures within_limit { result ≤ block_limit };
 
     /// Reads block `n`, which is below the size, into `to`. Errs with Read, and `to` may then hold
     /// any bytes.
@@ -104,7 +104,7 @@ pub trait BlockStore {
         false
     }
 
-    ghost within_limit: { (store : Self) → (state store).size ≤ BLOCK_LIMIT };
+    ghost within_limit: { (store : Self) → (state store).size ≤ block_limit };
 
     ghost is_image: { (store : Self) → (state store).faithful ≡ true
         → IsImage (state store).size (state store).blocks };

@@ -1,3 +1,4 @@
+pub mod Limits
 pub mod Put
 pub mod Words
 pub mod Slices

@@ -4,6 +4,7 @@ ghost use Rattle.std.specs.Prelude.{replicate, if◌then◌else◌};
 ghost use Rattle.uda_mem.specs.Put.{put, part};
 ghost use Rattle.uda_mem.specs.Words.{HasWord, word_at, word_bytes};
 ghost use Rattle.uda_mem.specs.Slices.{IsMemory};
+ghost use Rattle.uda_mem.specs.Limits.{memory_limit};
 
 use crate::block::as_block;
 use crate::slice;
@@ -49,13 +50,13 @@ pub struct HostMemory {
 
 impl Model for HostMemory {
     ghost use Rattle.std.specs.Prelude.{List, ℕ, ◌≡◌, ◌≤◌, ◌%◌, vec_len};
-    ghost use Rattle.uda_mem.specs.declared.memory.TheConstants.{MEMORY_LIMIT};
+    ghost use Rattle.uda_mem.specs.Limits.{memory_limit};
 
     ghost Value = { List ℕ };
 
     ghost view = { λ m. m.bytes.items };
 
-    ghost invariant = { λ m. (vec_len m.bytes % 2 ≡ 0) × (vec_len m.bytes ≤ MEMORY_LIMIT) };
+    ghost invariant = { λ m. (vec_len m.bytes % 2 ≡ 0) × (vec_len m.bytes ≤ memory_limit) };
 }
 
 impl HostMemory {
@@ -65,7 +66,7 @@ impl HostMemory {
     /// is [`NoMemory`].
     pub fn new(alloc: Global, len: u32) -> Result<HostMemory, NoMemory>
         requires even { len % 2 ≡ 0 }
-        requires within { len ≤ MEMORY_LIMIT }
+        requires within { len ≤ memory_limit }
         ensures zeros { IfOk result (λ m. m ≡ replicate len 0) }
     {
         Ok(HostMemory {
@@ -85,7 +86,7 @@ impl HostMemory {
     pub fn len(&self) -> u32
         ensures len { result ≡ length self.now }
         ensures even { result % 2 ≡ 0 }
-        ensures within { result ≤ MEMORY_LIMIT }
+        ensures within { result ≤ memory_limit }
     {
         self.bytes.len() as u32
     }

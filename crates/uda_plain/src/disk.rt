@@ -3,7 +3,7 @@ ghost use Rattle.std.specs.Prelude.{◌≡◌, ℕ, Some, ◌≤◌, ◌<◌, �
 ghost use Rattle.std.specs.Prelude.{IfSome, IsNone};
 ghost use Rattle.std.specs.List.{concat};
 ghost use Rattle.uda_mem.specs.Put.{put};
-ghost use Rattle.uda_image.specs.declared.store.TheConstants.{BLOCK_LIMIT};
+ghost use Rattle.uda_image.specs.Limits.{block_limit};
 ghost use Rattle.uda_disk.specs.Status.{SUCCESS};
 ghost use Rattle.uda_disk.specs.Request as ask;
 ghost use Rattle.uda_disk.specs.Request.{blocks_for, in_blocks};
@@ -28,14 +28,14 @@ pub struct PlainDisk {
 
 impl Model for PlainDisk {
     ghost use Rattle.std.specs.Prelude.{length, ◌≤◌};
-    ghost use Rattle.uda_image.specs.declared.store.TheConstants.{BLOCK_LIMIT};
+    ghost use Rattle.uda_image.specs.Limits.{block_limit};
     ghost use Rattle.uda_disk.specs.Disk.{Disk};
 
     ghost Value = { Disk };
 
     ghost view = { λ d. record { blocks = d.blocks.items; size = length d.blocks.items; mode = d.mode } };
 
-    ghost invariant = { λ d. length d.blocks.items ≤ BLOCK_LIMIT };
+    ghost invariant = { λ d. length d.blocks.items ≤ block_limit };
 }
 
 /// The bytes of blocks, joined.
@@ -81,7 +81,7 @@ impl PlainDisk {
     /// A unit of these blocks, available, with this hardware protection. `None` where there are more than
     /// [`BLOCK_LIMIT`].
     pub fn new(blocks: Vec<[u8; 512]>, hard: bool) -> Option<PlainDisk>
-        ensures none { IsNone result ↔ (BLOCK_LIMIT < length blocks.items) }
+        ensures none { IsNone result ↔ (block_limit < length blocks.items) }
         ensures disk { IfSome result (λ disk. disk ≡ record {
           blocks = blocks.items;
           size = length blocks.items;
@@ -115,7 +115,7 @@ impl PlainDisk {
 
     fn size(&self) -> u32
         ensures size { result ≡ self.now.size }
-        ensures within { result ≤ BLOCK_LIMIT }
+        ensures within { result ≤ block_limit }
     {
         self.blocks.len() as u32
     }

@@ -33,12 +33,12 @@ impl Counter {
 
 impl BlockStore for Counter {
     ghost use Rattle.std.specs.Prelude.{[], false, min};
-    ghost use Rattle.uda_image.specs.declared.store.TheConstants.{BLOCK_LIMIT};
+    ghost use Rattle.uda_image.specs.Limits.{block_limit};
     ghost use Rattle.uda_image.specs.StoreLaws.{min-le, no_image};
 
     ghost state = { λ _. record {
       blocks = [];
-      size = min 100 BLOCK_LIMIT;
+      size = min 100 block_limit;
       faithful = false;
       never_fails = false;
       failures = 0;

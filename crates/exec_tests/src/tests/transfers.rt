@@ -211,12 +211,12 @@ impl Recorder {
 
 impl BlockStore for Recorder {
     ghost use Rattle.std.specs.Prelude.{[], false, min};
-    ghost use Rattle.uda_image.specs.declared.store.TheConstants.{BLOCK_LIMIT};
+    ghost use Rattle.uda_image.specs.Limits.{block_limit};
     ghost use Rattle.uda_image.specs.StoreLaws.{min-le, no_image};
 
     ghost state = { λ _. record {
       blocks = [];
-      size = min 8 BLOCK_LIMIT;
+      size = min 8 block_limit;
       faithful = false;
       never_fails = false;
       failures = 0;
@@ -352,12 +352,12 @@ struct DirtyReader {
 
 impl BlockStore for DirtyReader {
     ghost use Rattle.std.specs.Prelude.{[], false, min};
-    ghost use Rattle.uda_image.specs.declared.store.TheConstants.{BLOCK_LIMIT};
+    ghost use Rattle.uda_image.specs.Limits.{block_limit};
     ghost use Rattle.uda_image.specs.StoreLaws.{min-le, no_image};
 
     ghost state = { λ _. record {
       blocks = [];
-      size = min 8 BLOCK_LIMIT;
+      size = min 8 block_limit;
       faithful = false;
       never_fails = false;
       failures = 0;

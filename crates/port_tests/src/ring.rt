@@ -4,13 +4,13 @@ use super::memory::{bytes, poke, put};
 use std::process::Abort;
 use std::test::Fail;
 use uda_mem::HostMemory;
-use uda_port::{CommandRing, Descriptor, Fetched, RING_BASE_LIMIT, RingFault};
+use uda_port::{Descriptor, Fetched, RING_BASE_LIMIT, Ring, RingFault};
 
 /// A command ring, and the memory that it is in. What it does has no contract, so that a test's proof
 /// carries none of the ring's.
 #[derive(Drop)]
 struct Commands {
-    ring: CommandRing,
+    ring: Ring,
     memory: HostMemory,
 }
 
@@ -65,15 +65,15 @@ impl Commands {
         assert_eq!(rt; self.bytes(), bytes);
     }
 
-    fn assert_ring(&self, rt: &impl Abort, ring: CommandRing) {
+    fn assert_ring(&self, rt: &impl Abort, ring: Ring) {
         assert_eq!(rt; self.ring, ring);
     }
 }
 
 /// A ring of two descriptors.
-fn ring_of_two(rt: &impl Abort, base: u32) -> CommandRing {
-    assert!(rt; CommandRing::is_base(base));
-    CommandRing::new(base, 2)
+fn ring_of_two(rt: &impl Abort, base: u32) -> Ring {
+    assert!(rt; Ring::is_base(base));
+    Ring::new(base, 2)
 }
 
 /// The command reference of a packet: the first four bytes of its text.
@@ -83,7 +83,7 @@ fn reference(p: Fetched) -> u32 {
 
 #[test]
 fn ring_wraps(rt: HostRuntime) -> Result<(), Fail> {
-    let ring = CommandRing::new(8, 2);
+    let ring = Ring::new(8, 2);
     let memory = HostMemory::new(rt.alloc(), 256)?;
     let mut commands = Commands { ring, memory };
     commands.poke(&rt, &[(0x40, 1), (0x80, 2)]);
@@ -105,7 +105,7 @@ fn ring_wraps(rt: HostRuntime) -> Result<(), Fail> {
 
 #[test]
 fn hole_in_ring(rt: HostRuntime) -> Result<(), Fail> {
-    let ring = CommandRing::new(8, 2);
+    let ring = Ring::new(8, 2);
     let memory = HostMemory::new(rt.alloc(), 256)?;
     let mut commands = Commands { ring, memory };
     commands.poke(&rt, &[(0x40, 1), (0x80, 2)]);
@@ -113,13 +113,13 @@ fn hole_in_ring(rt: HostRuntime) -> Result<(), Fail> {
     let before = commands.bytes().to_vec(rt.alloc())?;
     commands.assert_fetch(&rt, Ok(None));
     commands.assert_bytes(&rt, &before);
-    commands.assert_ring(&rt, CommandRing::new(8, 2));
+    commands.assert_ring(&rt, Ring::new(8, 2));
     Ok(())
 }
 
 #[test]
 fn rings_of_one_and_of_128(rt: HostRuntime) -> Result<(), Fail> {
-    let ring = CommandRing::new(0x3c, 1);
+    let ring = Ring::new(0x3c, 1);
     let memory = HostMemory::new(rt.alloc(), 8_192)?;
     let mut commands = Commands { ring, memory };
     for turn in 1..4 {
@@ -127,7 +127,7 @@ fn rings_of_one_and_of_128(rt: HostRuntime) -> Result<(), Fail> {
         commands.assert_next(&rt, Some(u32::from(turn)));
         commands.assert_next(&rt, None);
     }
-    commands.ring = CommandRing::new(0, 128);
+    commands.ring = Ring::new(0, 128);
     for i in 0..128 {
         let at = 4 * u32::from(i);
         let text = 516 + 52 * i;
@@ -136,7 +136,7 @@ fn rings_of_one_and_of_128(rt: HostRuntime) -> Result<(), Fail> {
     for i in 0..128 {
         commands.assert_next(&rt, Some(i));
     }
-    commands.assert_ring(&rt, CommandRing::new(0, 128));
+    commands.assert_ring(&rt, Ring::new(0, 128));
     commands.assert_next(&rt, None);
     Ok(())
 }
@@ -168,7 +168,7 @@ fn a_packet_is_an_envelope_and_a_text(rt: HostRuntime) -> Result<(), Fail> {
 
 #[test]
 fn a_packet_is_read_before_its_descriptor_is_given_back(rt: HostRuntime) -> Result<(), Fail> {
-    let ring = CommandRing::new(2, 1);
+    let ring = Ring::new(2, 1);
     let memory = HostMemory::new(rt.alloc(), 52)?;
     let mut commands = Commands { ring, memory };
     // the descriptor's words are the envelope's second and the text's first
@@ -182,7 +182,7 @@ fn a_packet_is_read_before_its_descriptor_is_given_back(rt: HostRuntime) -> Resu
 
 #[test]
 fn an_unreadable_packet_is_a_packet_fault(rt: HostRuntime) -> Result<(), Fail> {
-    let ring = CommandRing::new(8, 2);
+    let ring = Ring::new(8, 2);
     let memory = HostMemory::new(rt.alloc(), 256)?;
     let mut commands = Commands { ring, memory };
     for (low, high) in [
@@ -199,12 +199,12 @@ fn an_unreadable_packet_is_a_packet_fault(rt: HostRuntime) -> Result<(), Fail> {
         (0x0040, 0xa000),
         (0xffff, 0xffff),
     ] {
-        commands.ring = CommandRing::new(8, 2);
+        commands.ring = Ring::new(8, 2);
         commands.poke(&rt, &[(8, low), (10, high), (12, 0x0040), (14, 0x8000)]);
         let before = commands.bytes().to_vec(rt.alloc())?;
         commands.assert_fetch(&rt, Err(RingFault::Packet));
         commands.assert_bytes(&rt, &before);
-        commands.assert_ring(&rt, CommandRing::new(8, 2));
+        commands.assert_ring(&rt, Ring::new(8, 2));
         // owned by bit 15 alone
         commands.poke(&rt, &[(10, high & 0x7fff)]);
         commands.assert_fetch(&rt, Ok(None));
@@ -214,7 +214,7 @@ fn an_unreadable_packet_is_a_packet_fault(rt: HostRuntime) -> Result<(), Fail> {
 
 #[test]
 fn a_descriptor_outside_memory_is_a_ring_fault(rt: HostRuntime) -> Result<(), Fail> {
-    let ring = CommandRing::new(252, 2);
+    let ring = Ring::new(252, 2);
     let memory = HostMemory::new(rt.alloc(), 256)?;
     let mut commands = Commands { ring, memory };
     commands.poke(&rt, &[(0x40, 1), (252, 0x0040), (254, 0x8000)]);

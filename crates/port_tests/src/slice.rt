@@ -8,7 +8,7 @@ use std::test::Fail;
 use uda_image::MemImage;
 use uda_mem::{SLICE_LIMIT, is_memory};
 use uda_packet::{Command, End, EndBody, Kind, Op, decode_end, encode_command};
-use uda_port::{CommandRing, Descriptor, Fetched, HostEvent, Phase, Port, RingFault, Turn};
+use uda_port::{Descriptor, Fetched, HostEvent, Phase, Port, Ring, RingFault, Turn};
 
 /// A guest's memory: its bytes, the base of two rings of 8 descriptors, and where the packets begin, those of
 /// responses and then those of commands.
@@ -371,7 +371,7 @@ fn an_area_at_the_end_of_memory(rt: HostRuntime) -> Result<(), Fail> {
 /// A command ring, and the bytes that it is in.
 #[derive(Drop)]
 struct Commands {
-    ring: CommandRing,
+    ring: Ring,
     bytes: Vec<u8>,
 }
 
@@ -410,7 +410,7 @@ fn a_ring_in_a_slice(rt: HostRuntime) -> Result<(), Fail> {
     for (addr, word) in [(8, 0x0004), (10, 0x8004), (0x4_0000, 48), (0x4_0004, 7)] {
         assert!(rt; uda_mem::write_word(&mut bytes, addr, word));
     }
-    let ring = CommandRing::new(8, 2);
+    let ring = Ring::new(8, 2);
     let mut commands = Commands { ring, bytes };
     let descriptor = commands.descriptor(&rt, 8);
     assert_eq!(rt; descriptor.map(|d| d.address()), Some(0x4_0004));

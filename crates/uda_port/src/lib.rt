@@ -25,6 +25,6 @@ pub use phase::{Fatal, Phase};
 pub use play::HostEvent;
 pub use port::Port;
 pub use profile::Profile;
-pub use ring::{RING_BASE_LIMIT, Ring, Ring as CommandRing, RingFault};
+pub use ring::{RING_BASE_LIMIT, Ring, RingFault};
 pub use trace::Trace;
 pub use turn::Turn;

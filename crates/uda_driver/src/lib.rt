@@ -1,4 +1,6 @@
 //! The class driver: a list of requests done by commands of which up to fifteen are out at once.
+//!
+//! Its tests are in the crate `driver_tests`.
 #![tactic(auto)]
 
 mod answers;

@@ -1,4 +1,6 @@
 //! Scripts of block requests: their lines, and what each asks for.
+//!
+//! Its tests are in the crate `script_tests`.
 #![tactic(auto)]
 
 mod cut;

@@ -1,4 +1,6 @@
 //! Stores of the blocks of a disk unit: images in memory, images that fail once, and files.
+//!
+//! Its tests are in the crate `mem_packet_image_tests`.
 #![tactic(auto)]
 
 pub mod blocks;

@@ -1,6 +1,8 @@
 //! Host memory as a UDA50 sees it over the UNIBUS: an even number of bytes, read and written in
 //! words of 16 bits, low byte first, in windows of bytes and in blocks of 512. They are the bytes of
 //! a slice that is somebody else's, or of a [`HostMemory`], which owns them.
+//!
+//! Its tests are in the crate `mem_packet_image_tests`.
 #![tactic(auto)]
 
 mod block;

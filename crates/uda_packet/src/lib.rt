@@ -7,6 +7,8 @@
 //!
 //! MSCP Basic Disk Functions Manual: command and end messages. UDA50 Programmer's Documentation
 //! Kit: message envelopes.
+//!
+//! Its tests are in the crate `mem_packet_image_tests`.
 
 #![tactic(auto)]
 

@@ -1,4 +1,6 @@
 //! The port of a UDA50 disk controller.
+//!
+//! Its tests are in the crate `port_tests`.
 #![tactic(auto)]
 
 mod area;

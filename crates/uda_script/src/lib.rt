@@ -1,4 +1,6 @@
 //! The program `uda`: scripts of block requests over disk images, and a probe of the controller.
+//!
+//! Its tests are in the crate `script_tests`.
 #![tactic(auto)]
 
 mod entry;

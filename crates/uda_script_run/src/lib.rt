@@ -1,4 +1,6 @@
 //! Scripts of block requests, run by a driver.
+//!
+//! Its tests are in the crate `script_tests`.
 #![tactic(auto)]
 
 mod growth;

@@ -14,7 +14,8 @@ abbrev pub failures_of : Option ℕ → ℕ
 failures_of None = 0
 failures_of (Some left) = failures_by left
 
--- such an image as a store: faithful, and it never fails where it was never told of a call that is to
+-- such an image as a store: faithful, and it never fails where it was never told of a call that is to, and
+-- else at that one alone
 abbrev pub lent_state : LentBlocks → StoreState
 lent_state image = record {
   blocks = blocks_of image.bytes;
@@ -22,8 +23,10 @@ lent_state image = record {
   faithful = true;
   never_fails = is_none image.left;
   failures = failures_of image.left;
+  fails_in = image.left;
 }
 
 -- the store with its call of this number from now on failing, and no other
 abbrev pub failing_from_now : ℕ → StoreState → StoreState
-failing_from_now call store = record store { never_fails = false; failures = failures_by call }
+failing_from_now call store =
+    record store { never_fails = false; failures = failures_by call; fails_in = Some call }

@@ -64,9 +64,13 @@ impl LentImage {
     fn fails_now(&mut self) -> bool
         ensures value { (result ≡ true) ↔ (self.old.left ≡ Some 1) }
         ensures left { self.new ≡ record self.old { left = option_map (λ l. l - 1) self.old.left } }
-        ensures passes { result ≡ false → lent_state self.new ≡ lent_state self.old }
+        ensures passes { result ≡ false → lent_state self.new
+            ≡ record (lent_state self.old) { fails_in = self.new.left } }
         ensures fails { result ≡ true → lent_state self.new
-            ≡ record (lent_state self.old) { failures = (lent_state self.old).failures + 1 } }
+            ≡ record (lent_state self.old) {
+              failures = (lent_state self.old).failures + 1;
+              fails_in = self.new.left;
+            } }
         ensures sure { is_none self.old.left ≡ true → result ≡ false }
     {
         match self.left {

@@ -38,6 +38,11 @@ abbrev pub failures_at : Option (Option UnitState) → ℕ
 failures_at (Some (Some unit)) = unit.store.failures
 failures_at _ = 0
 
+-- in how many calls the store of this unit is to fail, where that is known
+abbrev pub fails_in_at : Option (Option UnitState) → Option ℕ
+fails_in_at (Some (Some unit)) = unit.store.fails_in
+fails_in_at _ = None
+
 -- a unit whose store is faithful has as many blocks as its size says, each of 512 bytes
 abbrev pub HoldsImage : Option UnitState → Type 0
 HoldsImage None = Unit {0}

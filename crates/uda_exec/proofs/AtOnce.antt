@@ -1,5 +1,5 @@
 -- Several blocks of a transfer moved at once, for each kind of transfer.
-use Rattle.std.proofs.Common.{◌≡◌, ℕ, ◌+◌, ◌*◌, ◌<◌, ◌≤◌, List, ◌++◌, length, take, drop, replicate, sym, ap, ◌∙◌, arith}
+use Rattle.std.proofs.Common.{◌≡◌, ℕ, ◌+◌, ◌*◌, ◌<◌, ◌≤◌, List, ◌++◌, length, take, drop, replicate, refl, sym, ap, ◌∙◌, arith}
 use Rattle.std.specs.Prelude.{true}
 use Rattle.std.specs.List.{concat}
 use Rattle.std.specs.Simd.{first_chunks}
@@ -10,8 +10,9 @@ use Rattle.uda_image.specs.AtOnce.{ReadsBlocks, WritesBlocks}
 use Rattle.uda_image.specs.StoreLaws.{length-first_chunks}
 use Rattle.uda_image.proofs.AtOnceLaws.{take-chunks, get_or-chunks}
 use Rattle.uda_image.proofs.Chunk.{first_chunks-replicate}
-use Rattle.uda_exec.specs.Transfers.{Erased}
+use Rattle.uda_exec.specs.Transfers.{Accessed, Erased}
 use Rattle.uda_exec.proofs.Words.{put, part, Transfer, StoreState, KeepsNature, IsImage, blocks_for, block_count, in_blocks, bytes_at, ChangesAt, Progress}
+use Rattle.uda_exec.proofs.Calls.{go_none, go_more}
 use Rattle.uda_exec.proofs.Changes.{changes_by_put}
 use Rattle.uda_exec.proofs.Steps.{progress_none}
 use Rattle.uda_exec.proofs.Blocks.{AreBlocks-part, length-concat_blocks, part-part, bytes_at-within}
@@ -59,6 +60,7 @@ module _ (t : Transfer) (count : ℕ) (old : StoreState) (memory : List ℕ) (wh
           in_store = rw is (ap (λ (s : StoreState). s.blocks) r.state_stays ∙ sym (put-nil old.blocks t.lbn));
         };
         failures_stay = ap (λ (s : StoreState). s.failures) r.state_stays;
+        calls = r.calls;
       }
 
   pub writes_ahead : t.buffer + t.bytes ≤ length memory → t.kind ≡ Write → (new : StoreState) → WritesBlocks old t.lbn count new (part memory t.buffer (512 * count))
@@ -78,15 +80,17 @@ module _ (t : Transfer) (count : ℕ) (old : StoreState) (memory : List ℕ) (wh
           in_store = rw is (ap (λ (s : StoreState). s.blocks) w.written ∙ ap (λ (bs : List (List ℕ)). put old.blocks t.lbn bs) (sym due));
         };
         failures_stay = ap (λ (s : StoreState). s.failures) w.written;
+        calls = w.calls;
       }
 
-  pub accesses_ahead : t.kind ≡ Access → (new : StoreState) → new ≡ old → Progress t count old memory new memory
-  accesses_ahead is new same = record {
+  pub accesses_ahead : t.kind ≡ Access → (new : StoreState) → Accessed old count new → Progress t count old memory new memory
+  accesses_ahead is new a = record {
     stand = record {
       in_memory = rw is (sym (put-nil memory t.buffer));
-      in_store = rw is (ap (λ (s : StoreState). s.blocks) same ∙ sym (put-nil old.blocks t.lbn));
+      in_store = rw is (ap (λ (s : StoreState). s.blocks) a.state_stays ∙ sym (put-nil old.blocks t.lbn));
     };
-    failures_stay = ap (λ (s : StoreState). s.failures) same;
+    failures_stay = ap (λ (s : StoreState). s.failures) a.state_stays;
+    calls = a.calls;
   }
 
   pub erases_ahead : t.kind ≡ Erase → (new : StoreState) → Erased old t.lbn count new → Progress t count old memory new memory
@@ -95,16 +99,17 @@ module _ (t : Transfer) (count : ℕ) (old : StoreState) (memory : List ℕ) (wh
       record {
         stand = record {
           in_memory = rw is (sym (put-nil memory t.buffer));
-          in_store = rw is (ap (λ (s : StoreState). s.blocks) e ∙ ap (λ (bs : List (List ℕ)). put old.blocks t.lbn bs) (sym due));
+          in_store = rw is (ap (λ (s : StoreState). s.blocks) e.written ∙ ap (λ (bs : List (List ℕ)). put old.blocks t.lbn bs) (sym due));
         };
-        failures_stay = ap (λ (s : StoreState). s.failures) e;
+        failures_stay = ap (λ (s : StoreState). s.failures) e.written;
+        calls = e.calls;
       }
 
 -- what holds while blocks are read in pieces, of which nothing is kept
 pub record Accessing (count done : ℕ) (old now : StoreState) : Type 0 where
   pub nature : KeepsNature old now
   pub within : done ≤ count
-  pub same : old.faithful ≡ true → now ≡ old
+  pub accessed : old.faithful ≡ true → Accessed old done now
 
 -- and while they are erased
 pub record Erasing (n count done : ℕ) (old now : StoreState) : Type 0 where
@@ -113,7 +118,19 @@ pub record Erasing (n count done : ℕ) (old now : StoreState) : Type 0 where
   pub erased : old.faithful ≡ true → Erased old n done now
 
 pub erased_none : (old : StoreState) (n : ℕ) → Erased old n 0 old
-erased_none old n = ap (λ (b : List (List ℕ)). record old { blocks = b }) (sym (put-nil old.blocks n))
+erased_none old n = record {
+  written = ap (λ (b : List (List ℕ)). record old { blocks = b }) (sym (put-nil old.blocks n));
+  calls = go_none old.fails_in;
+}
+
+pub accessed_none : (old : StoreState) → Accessed old 0 old
+accessed_none old = record { state_stays = refl; calls = go_none old.fails_in }
+
+pub accessed_more : (old now new : StoreState) (n done piece : ℕ) (to : List ℕ) → Accessed old done now → ReadsBlocks now n piece new to → Accessed old (done + piece) new
+accessed_more old now new n done piece to before r = record {
+  state_stays = r.state_stays ∙ ap (λ (s : StoreState). record s { fails_in = new.fails_in }) before.state_stays;
+  calls = go_more done piece old.fails_in now.fails_in new.fails_in before.calls r.calls;
+}
 
 -- zeros in so many chunks
 chunks-zeros : (count : ℕ) (from : List ℕ) → from ≡ replicate (512 * count) 0 → first_chunks 512 count from ≡ replicate count (replicate 512 0)
@@ -128,4 +145,8 @@ erased_more old now new n done piece from zeros before w =
     put-put_next old.blocks n (replicate done block) more (n + done) (ap (λ i. n + i) (sym (length-replicate done block)))
     ∙ ap (λ (b : List (List ℕ)). put old.blocks n (replicate done block ++ b)) (chunks-zeros piece from zeros)
     ∙ ap (λ (b : List (List ℕ)). put old.blocks n b) (replicate-append-replicate done piece block) in
-    w.written ∙ ap (λ (s : StoreState). record s { blocks = put s.blocks (n + done) more }) before ∙ ap (λ (b : List (List ℕ)). record old { blocks = b }) both
+    record {
+      written = w.written ∙ ap (λ (s : StoreState). record s { blocks = put s.blocks (n + done) more; fails_in = new.fails_in }) before.written
+          ∙ ap (λ (b : List (List ℕ)). record old { blocks = b; fails_in = new.fails_in }) both;
+      calls = go_more done piece old.fails_in now.fails_in new.fails_in before.calls w.calls;
+    }

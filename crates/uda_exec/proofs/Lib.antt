@@ -1,4 +1,5 @@
 pub mod Words
+pub mod Calls
 pub mod Changes
 pub mod AtOnce
 pub mod Blocks

@@ -30,12 +30,14 @@ module _ (t : Transfer) (k : ℕ) (old : StoreState) (memory : List ℕ) (new : 
       in_store = rw keeps (ap (λ (s : StoreState). s.blocks) h.state_stays ∙ sym (put-nil old.blocks (t.lbn + k)));
     };
     failures_stay = ap (λ (s : StoreState). s.failures) h.state_stays;
+    calls = h.calls;
   }
   reads_block keeps to memory_after (Err f) whole due e h = record {
     left = to;
     whole = whole;
     stands = record { in_memory = e; in_store = rw keeps (ap (λ (s : StoreState). s.blocks) h.counted ∙ sym (put-nil old.blocks (t.lbn + k))) };
     counted = ap (λ (s : StoreState). s.failures) h.counted;
+    calls = h.calls;
   }
 
   pub writes_block : changes_blocks t.kind ≡ true → changes_memory t.kind ≡ false → (from : List ℕ) (result : Result Unit StoreError)
@@ -46,12 +48,14 @@ module _ (t : Transfer) (k : ℕ) (old : StoreState) (memory : List ℕ) (new : 
       in_store = rw (due, changes) (ap (λ (s : StoreState). s.blocks) h.written ∙ set-put old.blocks (t.lbn + k) from);
     };
     failures_stay = ap (λ (s : StoreState). s.failures) h.written;
+    calls = h.calls;
   }
   writes_block changes keeps from (Err e) due h = record {
     left = h.left;
     whole = h.whole;
     stands = record { in_memory = rw keeps (sym (put-nil memory (t.buffer + 512 * k))); in_store = rw changes (ap (λ (s : StoreState). s.blocks) h.written ∙ set-put old.blocks (t.lbn + k) h.left) };
     counted = ap (λ (s : StoreState). s.failures) h.written;
+    calls = h.calls;
   }
 
 -- the block that a Write's buffer fills at place k

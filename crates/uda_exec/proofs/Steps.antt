@@ -10,6 +10,7 @@ use Rattle.uda_mem.proofs.PutLaws.{put-nil, put-put_next, length-part, length-pa
 use Rattle.uda_packet.specs.declared.end.Kind.TheVariants.{Access, Erase, Read, Write}
 use Rattle.uda_image.specs.StoreLaws.{length-first_chunks}
 use Rattle.uda_exec.proofs.Words.{put, part, Kind, Transfer, changes_blocks, StoreState, KeepsNature, IsImage, blocks_for, bytes_at, block_count, room_in, changes_memory, ChangesAt, due_by, blocks_due, bytes_landing, bytes_landing_of, blocks_stored, Stands, MovesBlock, LosesBlock, Progress, StopsAt}
+use Rattle.uda_exec.proofs.Calls.{go_none, go_next, fails_then}
 use Rattle.uda_exec.proofs.Blocks.{AreBlocks, AreBlocks-part, AreBlocks-take, AreBlocks-in_blocks, length-bytes_at, length-concat_blocks}
 
 module _ (t : Transfer) (blocks : List (List ℕ)) (memory : List ℕ) where
@@ -95,7 +96,7 @@ module _ (t : Transfer) (k : ℕ) (old : StoreState) (memory : List ℕ) (now : 
       let both = joins piece new memory_after stands in
       let below : k < length (blocks_due t old.blocks memory) = omega (arith, all_due) in
       let more : take (suc k) (blocks_due t old.blocks memory) ≡ front ++ piece ∷ [] = rw (← add-one) (take_more (blocks_due t old.blocks memory) k [] below) in
-      record { stand = rw more (record { in_memory = both.0; in_store = both.1 }); failures_stay = m.failures_stay ∙ h.failures_stay }
+      record { stand = rw more (record { in_memory = both.0; in_store = both.1 }); failures_stay = m.failures_stay ∙ h.failures_stay; calls = go_next k _ _ _ h.calls m.calls }
 
   pub progress_stops : (new : StoreState) (memory_after : List ℕ) → LosesBlock t k now memory_now new memory_after → StopsAt t k old memory new memory_after
   progress_stops new memory_after m =
@@ -105,6 +106,7 @@ module _ (t : Transfer) (k : ℕ) (old : StoreState) (memory : List ℕ) (now : 
         whole = m.whole;
         stand = record { in_memory = both.0; in_store = both.1 };
         counted = m.counted ∙ ap (λ f. f + 1) h.failures_stay;
+        calls = fails_then k _ _ _ h.calls m.calls;
       }
 
 nothing_put : {A : Type 0} (b : Bool) (xs : List A) (at : ℕ) → xs ≡ put xs at (if b then [] else [])
@@ -119,6 +121,7 @@ pub progress_none : (t : Transfer) (old : StoreState) (memory : List ℕ) → Pr
 progress_none t old memory = record {
   stand = record { in_memory = nothing_landed (changes_memory t.kind) memory t.buffer t.bytes; in_store = nothing_put (changes_blocks t.kind) old.blocks t.lbn };
   failures_stay = refl;
+  calls = go_none old.fails_in;
 }
 
 -- what holds on the way, before block k

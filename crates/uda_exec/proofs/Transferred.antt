@@ -15,6 +15,8 @@ use Rattle.uda_disk.specs.Request as ask
 use Rattle.uda_disk.specs.Status.{SUCCESS, DRIVE_ERROR}
 use Rattle.uda_disk.specs.Answer.{status_of}
 use Rattle.uda_exec.proofs.Words.{put, Command, Op, Kind, End, EndBody, Transfer, transfer_of, changes_blocks, StoreState, KeepsNature, IsImage, Mode, Refusal, Disk, Act, blocks_for, extent_of, lbn_of, UnitState, disk_of, blank_answer, block_count, room_in, room_of, blocks_asked, buffer_start, bytes_asked, changes_memory, refusal_status, extent_refusal, Bar, Barred, Free, bar_by, refusal_on, with_buffer, bar_with, extent_in, is_odd, is_missing, transfer_refusal, ChangesAt, asks_by, act_of, blocks_due, bytes_landing, blocks_stored, Progress, StopsAt, Outcome, Done, Lost, FitsCount, blocks_moved, due, stored, brought, mode_after, bytes_on, answer_on, reply, plain_body, with_bytes_moved, body_for, end_for, is_free, transfer_status, transfer_bytes, is_lost, bytes_of, IsBodyOf, Answers, bar_on, EndsTransfer, TakesEffectOn, ServesUnit}
+use Rattle.uda_exec.specs.Execution.{CallsStore}
+use Rattle.uda_exec.proofs.Calls.{go_none}
 use Rattle.uda_exec.proofs.Changes.{changes_nothing}
 use Rattle.uda_exec.proofs.Requests.{asks}
 use Rattle.uda_exec.proofs.Blocks.{AreBlocks, length-bytes_at, length-concat_blocks}
@@ -122,6 +124,7 @@ serves_mode c act unit memory none is =
         memory_is = sym (ap (put memory (buffer_start c.op)) (s.brings unit.store.blocks) ∙ put-nil memory (buffer_start c.op));
         disk_is = ap (λ (b : List (List ℕ)). record { blocks = b; size = unit.store.size; mode = mode_after act unit.mode }) (sym (ap (put unit.store.blocks (lbn_of act)) (s.stores unit.store.blocks) ∙ put-nil unit.store.blocks (lbn_of act)));
         failures_are = sym (add-zero unit.store.failures);
+        calls = rw none (go_none unit.store.fails_in);
         sure = λ never. refl;
       });
     }
@@ -256,6 +259,7 @@ module _ (c : Command) (t : Transfer) (unit : UnitState) (memory : List ℕ) (is
           memory_is = refl;
           disk_is = refl;
           failures_are = sym (add-zero unit.store.failures);
+          calls = go_none unit.store.fails_in;
           sure = λ never. refl;
         });
       })
@@ -310,9 +314,10 @@ module _ (c : Command) (t : Transfer) (unit : UnitState) (memory : List ℕ) (is
           → memory_left ≡ put memory t.buffer (bytes_landing t front)
           → new.blocks ≡ put unit.store.blocks t.lbn (blocks_stored t front)
           → new.failures ≡ unit.store.failures + (if is_lost o then 1 else 0)
+          → CallsStore o (block_count t) unit.store.fails_in new.fails_in
           → (unit.store.never_fails ≡ true → o ≡ Done)
           → TakesEffectOn c act (Free (disk_of unit)) unit memory (reply c (transfer_status o) (plain_body c.op (transfer_bytes o t.bytes))) (record { store = new; mode = unit.mode }) memory_left
-      takes o front all fits in_memory in_store failed sure =
+      takes o front all fits in_memory in_store failed calls sure =
           let make : List (List ℕ) → ℕ → Mode → Disk = λ b n m. record { blocks = b; size = n; mode = m } in
           let first : lbn_of act ≡ t.lbn = rw extent refl in
           let bytes : bytes_on o act (disk_of unit) ≡ bytes_landing t front = brought-asks t memory t.kind (blocks_moved o due_now) ∙ ap (bytes_landing t) all in
@@ -324,6 +329,7 @@ module _ (c : Command) (t : Transfer) (unit : UnitState) (memory : List ℕ) (is
             memory_is = in_memory ∙ rw (is, bytes) refl;
             disk_is = rw (first, blocks, mode-asks t memory t.kind unit.mode) (ap₂ (λ b n. make b n unit.mode) in_store nature.size_stays);
             failures_are = failed;
+            calls = rw is calls;
             sure = sure;
           }
 
@@ -332,10 +338,10 @@ module _ (c : Command) (t : Transfer) (unit : UnitState) (memory : List ℕ) (is
       takes_done h =
           let all : take (block_count t) due_now ≡ due_now = take_all _ _ (omega (arith, whole)) in
           let stand = rw all at h.stand in
-          takes Done due_now refl tt stand.in_memory stand.in_store (h.failures_stay ∙ sym (add-zero unit.store.failures)) (λ never. refl)
+          takes Done due_now refl tt stand.in_memory stand.in_store (h.failures_stay ∙ sym (add-zero unit.store.failures)) h.calls (λ never. refl)
 
       pub takes_lost : (k : ℕ) → k < block_count t → (unit.store.never_fails ≡ true → ⊥) → StopsAt t k unit.store memory new memory_left
           → TakesEffectOn c act (Free (disk_of unit)) unit memory (reply c DRIVE_ERROR (plain_body c.op (512 * k))) (record { store = new; mode = unit.mode }) memory_left
       takes_lost k inside unsure h =
           takes (Lost k h.left) (take k due_now ++ h.left ∷ []) (moved-lost k h.left due_now (omega (arith, whole)))
-          (inside, h.whole) h.stand.in_memory h.stand.in_store h.counted (λ never. absurd (unsure never))
+          (inside, h.whole) h.stand.in_memory h.stand.in_store h.counted h.calls (λ never. absurd (unsure never))

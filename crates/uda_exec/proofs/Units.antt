@@ -8,6 +8,9 @@ use Rattle.uda_packet.specs.declared.command.Op.TheVariants.{Controller}
 use Rattle.uda_disk.specs.Status.{SUCCESS}
 use Rattle.uda_disk.proofs.Slots.{slice_get-set_same, slice_get-set_other, set-itself}
 use Rattle.uda_exec.proofs.Words.{Command, Op, End, Disk, Disks, Act, Refusal, refusal_status, Bar, Barred, Free, bar_at, bar_with, UnitState, disk_of, disks_of, HoldsImage, AreImages, reset_unit, is_controller, blocks_asked, act_of, World, Outcome, Done, disks_by, bar_in, bar_of, is_free, acts_by, acts, does, effect_by, effect, reply, plain_body, LossFits, Answers, Nature, nature_of, natures_of, is_faithful, is_sure, world_of, bar_on, ServesUnit, Executes, disk_by}
+use Rattle.uda_disk.specs.Units.{fails_in_at}
+use Rattle.uda_exec.specs.Execution.{CallsStore, blocks_called}
+use Rattle.uda_exec.proofs.Calls.{go_none}
 use Rattle.uda_exec.proofs.Changes.{changes_nothing, ChangesAt-none}
 use Rattle.uda_exec.proofs.Transferred.{end_of-blank}
 
@@ -81,6 +84,7 @@ executes_idle c units memory e h answers = record {
     fits = record { acting = λ lost. absurd (cc); count = tt };
     effect_is = sym h.stays;
     failures_are = sym (add-zero _);
+    calls = rw h.idle (go_none _);
     sure = λ never. refl;
   };
 }
@@ -132,6 +136,9 @@ module _ (c : Command) (act : Act) (units : List (Option UnitState)) (memory : L
           fits = subst (LossFits t.outcome (blocks_asked c.op)) (sym acting) t.fits;
           effect_is = ap₂ make_pair t.end_is (ap₂ make_world t.memory_is disks_are) ∙ sym (effected t.outcome);
           failures_are = rw (there, here) t.failures_are;
+          calls =
+              let asked : CallsStore t.outcome (blocks_called c (is_free b)) (fails_in_at (slice_get units c.unit)) (fails_in_at (slice_get (set units c.unit (Some unit_after)) c.unit)) = rw (there, here) t.calls in
+              subst (λ (a : Bool). CallsStore t.outcome (blocks_called c a) (fails_in_at (slice_get units c.unit)) (fails_in_at (slice_get (set units c.unit (Some unit_after)) c.unit))) (sym acting) asked;
           sure = λ never. let promised = rw here at never in t.sure promised;
         };
   }

@@ -1,7 +1,8 @@
 -- What one execution does: a pending command that may go is taken out and done.
 -- MSCP Basic Disk Functions Manual: command ordering, end messages.
-use Rattle.std.specs.Prelude.{◌≡◌, ◌≢◌, ℕ, ◌+◌, ◌≤◌, Bool, true, false, ◌&&◌, List, length, Some, slice_get}
-use Rattle.std.specs.Prelude.{nat_lt, remove, if◌then◌else◌}
+use Rattle.std.specs.Prelude.{◌≡◌, ◌≢◌, ℕ, ◌+◌, ◌≤◌, Bool, true, false, ◌&&◌, List, length, Option, Some}
+use Rattle.std.specs.Prelude.{slice_get, nat_lt, remove, if◌then◌else◌}
+use Rattle.uda_image.specs.Store.{GoWell, FailsAfter}
 use Rattle.uda_packet.specs.declared.command.Command.{Command}
 use Rattle.uda_packet.specs.declared.command.Op.{Op}
 use Rattle.uda_packet.specs.declared.end.End.{End}
@@ -9,9 +10,10 @@ use Rattle.uda_packet.specs.declared.end.EndBody.{EndBody}
 use Rattle.uda_packet.specs.declared.end.EndBody.TheVariants.{Moved}
 use Rattle.uda_packet.specs.Opcode.{opcode_of, answered_opcode}
 use Rattle.uda_disk.specs.Request.{Act}
-use Rattle.uda_disk.specs.Plain.{Bar, Outcome, Done, is_lost, answer_by, is_free, disk_by, FitsCount}
+use Rattle.uda_disk.specs.Plain.{Bar, Outcome, Done, Lost, is_lost, answer_by, is_free, disk_by, FitsCount}
 use Rattle.uda_disk.specs.Plain.{transfer_status, transfer_bytes}
 use Rattle.uda_disk.specs.Units.{UnitState, Units, disk_of, disks_of, is_faithful, is_sure, failures_at}
+use Rattle.uda_disk.specs.Units.{fails_in_at}
 use Rattle.uda_disk.specs.Units.{nature_of, natures_of, modes_of}
 use Rattle.uda_exec.specs.Disks.{ExecState}
 use Rattle.uda_exec.specs.Commands.{is_transfer, blocks_asked, bytes_asked, buffer_start, landing_of}
@@ -45,6 +47,16 @@ pub record Answers (c : Command) (e : End) : Type 0 where
 abbrev pub world_of : Units → List ℕ → World
 world_of units memory = record { memory = memory; disks = disks_of units }
 
+-- the calls of a store for so many blocks, by the outcome: where the call that is to fail is known, the loss
+-- is at that one
+abbrev pub CallsStore : Outcome → ℕ → Option ℕ → Option ℕ → Type 0
+CallsStore Done blocks old new = GoWell blocks old new
+CallsStore (Lost k left) blocks old new = FailsAfter k old new
+
+-- the blocks for which a command calls its unit's store
+abbrev pub blocks_called : Command → Bool → ℕ
+blocks_called c acting = if acting then blocks_asked c.op else 0
+
 -- a command is carried out or lost, and the store of its unit failed once more exactly where it is lost,
 -- which it is never where that store never fails
 pub record TakesEffect (c : Command) (units : Units) (memory : List ℕ) (e : End) (units_after : Units)
@@ -54,6 +66,8 @@ pub record TakesEffect (c : Command) (units : Units) (memory : List ℕ) (e : En
   pub effect_is : (e, world_of units_after memory_left) ≡ effect outcome c (world_of units memory)
   pub failures_are : failures_at (slice_get units_after c.unit)
       ≡ failures_at (slice_get units c.unit) + (if is_lost outcome then 1 else 0)
+  pub calls : CallsStore outcome (blocks_called c (acts c (world_of units memory)))
+      (fails_in_at (slice_get units c.unit)) (fails_in_at (slice_get units_after c.unit))
   pub sure : is_sure (slice_get units c.unit) ≡ true → outcome ≡ Done
 
 -- where a command calls a store, which a transfer of some blocks does that acts, that is faithful
@@ -105,6 +119,8 @@ pub record TakesEffectOn (c : Command) (act : Act) (b : Bar) (unit : UnitState) 
   pub memory_is : memory_left ≡ memory_by outcome c.op act b memory
   pub disk_is : disk_of unit_after ≡ disk_by outcome act b (disk_of unit)
   pub failures_are : unit_after.store.failures ≡ unit.store.failures + (if is_lost outcome then 1 else 0)
+  pub calls :
+      CallsStore outcome (blocks_called c (is_free b)) unit.store.fails_in unit_after.store.fails_in
   pub sure : unit.store.never_fails ≡ true → outcome ≡ Done
 
 -- what bars a command of this act on the unit that it speaks of

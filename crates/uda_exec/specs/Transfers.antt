@@ -5,7 +5,7 @@ use Rattle.std.specs.Prelude.{slice_index_or, replicate, if◌then◌else◌}
 use Rattle.std.specs.List.{concat}
 use Rattle.uda_mem.specs.Put.{put, part}
 use Rattle.uda_image.specs.declared.store.StoreError.{StoreError}
-use Rattle.uda_image.specs.Store.{StoreState, Reads}
+use Rattle.uda_image.specs.Store.{StoreState, GoWell, FailsAfter, Reads}
 use Rattle.uda_packet.specs.declared.end.Kind.{Kind}
 use Rattle.uda_packet.specs.declared.transfer.Transfer.{Transfer}
 use Rattle.uda_packet.specs.Transfer.{changes_blocks}
@@ -54,6 +54,7 @@ pub record MovesBlock (t : Transfer) (k : ℕ) (old : StoreState) (memory : List
     (memory_after : List ℕ) : Type 0 where
   pub stands : Stands t k (slice_index_or (blocks_due t old.blocks memory) k []) old memory new memory_after
   pub failures_stay : new.failures ≡ old.failures
+  pub calls : GoWell 1 old.fails_in new.fails_in
 
 -- the store failed there, which left 512 bytes
 pub record LosesBlock (t : Transfer) (k : ℕ) (old : StoreState) (memory : List ℕ) (new : StoreState)
@@ -62,6 +63,7 @@ pub record LosesBlock (t : Transfer) (k : ℕ) (old : StoreState) (memory : List
   pub whole : length left ≡ 512
   pub stands : Stands t k left old memory new memory_after
   pub counted : new.failures ≡ old.failures + 1
+  pub calls : FailsAfter 0 old.fails_in new.fails_in
 
 -- these blocks stand at the start of the transfer now
 pub record Stand (t : Transfer) (blocks : List (List ℕ)) (old : StoreState) (memory : List ℕ)
@@ -74,6 +76,7 @@ pub record Progress (t : Transfer) (k : ℕ) (old : StoreState) (memory : List �
     (memory_after : List ℕ) : Type 0 where
   pub stand : Stand t (take k (blocks_due t old.blocks memory)) old memory new memory_after
   pub failures_stay : new.failures ≡ old.failures
+  pub calls : GoWell k old.fails_in new.fails_in
 
 -- the first k blocks are moved, and then the store failed, which left 512 bytes at block k
 pub record StopsAt (t : Transfer) (k : ℕ) (old : StoreState) (memory : List ℕ) (new : StoreState)
@@ -82,7 +85,17 @@ pub record StopsAt (t : Transfer) (k : ℕ) (old : StoreState) (memory : List �
   pub whole : length left ≡ 512
   pub stand : Stand t (take k (blocks_due t old.blocks memory) ++ left ∷ []) old memory new memory_after
   pub counted : new.failures ≡ old.failures + 1
+  pub calls : FailsAfter k old.fails_in new.fails_in
+
+-- so many blocks were read, of which nothing is kept
+pub record Accessed (old : StoreState) (count : ℕ) (new : StoreState) : Type 0 where
+  pub state_stays : new ≡ record old { fails_in = new.fails_in }
+  pub calls : GoWell count old.fails_in new.fails_in
 
 -- so many blocks from block n on are zeros, and nothing else changed
-abbrev pub Erased : StoreState → ℕ → ℕ → StoreState → Type 0
-Erased old n count new = new ≡ record old { blocks = put old.blocks n (replicate count (replicate 512 0)) }
+pub record Erased (old : StoreState) (n count : ℕ) (new : StoreState) : Type 0 where
+  pub written : new ≡ record old {
+    blocks = put old.blocks n (replicate count (replicate 512 0));
+    fails_in = new.fails_in;
+  }
+  pub calls : GoWell count old.fails_in new.fails_in

@@ -6,8 +6,8 @@ ghost use Rattle.std.specs.Prelude.{if◌then◌else◌};
 ghost use Rattle.uda_mem.specs.Put.{part};
 ghost use Rattle.uda_image.specs.Store.{KeepsNature, Reads, Writes};
 ghost use Rattle.uda_exec.specs.Commands.{block_count, room_in, changes_memory};
-ghost use Rattle.uda_exec.specs.Transfers.{ChangesAt, ReadsInto, MovesBlock, LosesBlock, Erased};
-ghost use Rattle.uda_exec.specs.Transfers.{Progress, StopsAt};
+ghost use Rattle.uda_exec.specs.Transfers.{ChangesAt, ReadsInto, MovesBlock, LosesBlock};
+ghost use Rattle.uda_exec.specs.Transfers.{Accessed, Erased, Progress, StopsAt};
 ghost use Rattle.uda_disk.specs.Request.{first_block};
 
 use uda_disk::first_block;
@@ -142,8 +142,8 @@ fn access_at_once<S: BlockStore>(store: &mut S, n: u32, count: u32) -> u32
     requires on_unit { n + count ≤ (S.state store.old).size }
     ensures nature { KeepsNature (S.state store.old) (S.state store.new) }
     ensures within { result ≤ count }
-    ensures unchanged { (S.state store.old).faithful ≡ true
-        → S.state store.new ≡ S.state store.old }
+    ensures accessed { (S.state store.old).faithful ≡ true
+        → Accessed (S.state store.old) result (S.state store.new) }
 {
     let mut bytes = [0; PIECE_BYTES];
     let mut done = 0;

@@ -1,6 +1,6 @@
 -- Images in memory: the bytes of all blocks, one block after another.
 use Rattle.std.specs.Prelude.{ℕ, zero, suc, ◌+◌, ◌*◌, ◌/◌, min, Bool, true, false, List, [], ◌++◌, take, drop}
-use Rattle.std.specs.Prelude.{length}
+use Rattle.std.specs.Prelude.{length, Some, None}
 use Rattle.std.specs.List.{splice}
 use Rattle.std.specs.Simd.{first_chunks}
 use Rattle.uda_image.specs.Limits.{block_limit}
@@ -30,6 +30,7 @@ image_state bytes = record {
   faithful = true;
   never_fails = true;
   failures = 0;
+  fails_in = None;
 }
 
 -- a block whose writing stopped in the middle: its first 256 bytes are new, and its last 256 old
@@ -48,7 +49,7 @@ abbrev pub failures_by : ℕ → ℕ
 failures_by zero = 1
 failures_by (suc left) = 0
 
--- such an image as a store: it is faithful, and may fail
+-- such an image as a store: it is faithful, and fails at that call and no other
 abbrev pub failing_state : Failing → StoreState
 failing_state image = record {
   blocks = blocks_of image.bytes;
@@ -56,6 +57,7 @@ failing_state image = record {
   faithful = true;
   never_fails = false;
   failures = failures_by image.left;
+  fails_in = Some image.left;
 }
 
 -- a file that is open as an image: how many blocks it had when it was opened, whether it was opened
@@ -73,4 +75,5 @@ file_state image = record {
   faithful = false;
   never_fails = false;
   failures = 0;
+  fails_in = None;
 }

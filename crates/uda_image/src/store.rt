@@ -42,8 +42,9 @@ impl Error for StoreError {}
 /// store has a way to.
 ///
 /// Contracts see a store as one value, its `state`: its blocks, how many there are, whether it is
-/// faithful, whether it never fails, and how many of its calls have failed. A faithful store gives
-/// back what was written, and an error of it changes no block but the one that was being written.
+/// faithful, whether it never fails, how many of its calls have failed, and, where that is known, in
+/// how many calls one will, and no other. A faithful store gives back what was written, and an error of
+/// it changes no block but the one that was being written.
 /// Of a store that isn't faithful, as a file that other programs may change, only the number of
 /// blocks is known. A store that never fails answers every call with `Ok`.
 pub trait BlockStore {

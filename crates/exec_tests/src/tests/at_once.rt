@@ -32,7 +32,7 @@ impl Counter {
 }
 
 impl BlockStore for Counter {
-    ghost use Rattle.std.specs.Prelude.{[], false, min};
+    ghost use Rattle.std.specs.Prelude.{[], false, min, None};
     ghost use Rattle.uda_image.specs.Limits.{block_limit};
     ghost use Rattle.uda_image.specs.StoreLaws.{min-le, no_image};
 
@@ -42,6 +42,7 @@ impl BlockStore for Counter {
       faithful = false;
       never_fails = false;
       failures = 0;
+      fails_in = None;
     } };
 
     ghost within_limit = { λ _. min-le 100 };

@@ -210,7 +210,7 @@ impl Recorder {
 }
 
 impl BlockStore for Recorder {
-    ghost use Rattle.std.specs.Prelude.{[], false, min};
+    ghost use Rattle.std.specs.Prelude.{[], false, min, None};
     ghost use Rattle.uda_image.specs.Limits.{block_limit};
     ghost use Rattle.uda_image.specs.StoreLaws.{min-le, no_image};
 
@@ -220,6 +220,7 @@ impl BlockStore for Recorder {
       faithful = false;
       never_fails = false;
       failures = 0;
+      fails_in = None;
     } };
 
     ghost within_limit = { λ _. min-le 8 };
@@ -351,7 +352,7 @@ struct DirtyReader {
 }
 
 impl BlockStore for DirtyReader {
-    ghost use Rattle.std.specs.Prelude.{[], false, min};
+    ghost use Rattle.std.specs.Prelude.{[], false, min, None};
     ghost use Rattle.uda_image.specs.Limits.{block_limit};
     ghost use Rattle.uda_image.specs.StoreLaws.{min-le, no_image};
 
@@ -361,6 +362,7 @@ impl BlockStore for DirtyReader {
       faithful = false;
       never_fails = false;
       failures = 0;
+      fails_in = None;
     } };
 
     ghost within_limit = { λ _. min-le 8 };

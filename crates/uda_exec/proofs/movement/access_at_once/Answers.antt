@@ -1,5 +1,13 @@
-use Rattle.std.proofs.Common.{◌∙◌, arith}
+use Rattle.std.proofs.Common.{◌∙◌, refl, arith}
+use Rattle.uda_exec.proofs.AtOnce.{accessed_none, accessed_more}
 use Rattle.uda_exec.proofs.movement.access_at_once.Goals as goal
+
+pub loop-done-init : goal.loop-done-init
+loop-done-init g c = record {
+  nature = record { size_stays = refl; faithful_stays = refl; never_fails_stays = refl };
+  within = omega arith;
+  accessed = λ faithful. accessed_none _;
+}
 
 pub loop-done-preserved : goal.loop-done-preserved
 loop-done-preserved g c =
@@ -7,7 +15,7 @@ loop-done-preserved g c =
     record {
       nature = record { size_stays = is.size_stays ∙ was.size_stays; faithful_stays = is.faithful_stays ∙ was.faithful_stays; never_fails_stays = is.never_fails_stays ∙ was.never_fails_stays };
       within = omega arith;
-      same = λ faithful.
+      accessed = λ faithful.
           let read = rw c.if-not-read_at_once.false at (c.read_at_once.ensures.reads (was.faithful_stays ∙ faithful)) in
-          read.state_stays ∙ c.loop-done.invariant.same faithful;
+          accessed_more _ _ _ _ _ _ _ (c.loop-done.invariant.accessed faithful) read;
     }

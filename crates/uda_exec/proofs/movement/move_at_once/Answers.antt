@@ -10,7 +10,7 @@ returns-then-count-lt2-clause-moves g c called = none_ahead _ _ _ _ _ refl refl
 pub returns-in-Access-clause-moves : goal.returns-in-Access-clause-moves
 returns-in-Access-clause-moves g c called =
     let faithful = called (omega arith) in
-    accesses_ahead _ _ _ _ (omega arith) c.in-Access.is _ (c.access_at_once.ensures.unchanged faithful)
+    accesses_ahead _ _ _ _ (omega arith) c.in-Access.is _ (c.access_at_once.ensures.accessed faithful)
 
 pub returns-in-Erase-clause-moves : goal.returns-in-Erase-clause-moves
 returns-in-Erase-clause-moves g c called =

@@ -16,6 +16,10 @@ use crate::store::{BLOCK_LIMIT, BlockStore, StoreError};
 use std::alloc::Global;
 use std::marker::Model;
 
+// How many bytes are written by one copy at most: a longer one goes another way in the C library, slow where
+// the image isn't in the processor's cache.
+const PIECE: usize = 4096;
+
 /// An image in memory: the logical blocks of a unit (MSCP Basic Disk Functions Manual: logical
 /// blocks), block after block. It is faithful, none of its calls fails, and it takes memory only
 /// when it is made. Contracts see it as the list of its bytes.
@@ -120,9 +124,21 @@ impl MemImage {
         ensures { self.new ≡ put self.old (512 * n) from.now }
     {
         let start = 512 * n as usize;
-        self.bytes
-            .slice_mut(start..start + 512 * count as usize)
-            .copy_from_slice(from);
+        let end = start + 512 * count as usize;
+        copy_by_pieces(self.bytes.slice_mut(start..end), from);
+    }
+}
+
+// Copies bytes over as many others, a piece at a time.
+fn copy_by_pieces(to: &mut [u8], from: &[u8])
+    requires { length to.old ≡ length from.now }
+    ensures { to.new ≡ from.now }
+{
+    let mut done = 0;
+    while done < from.len() {
+        let end = done + PIECE.min(from.len() - done);
+        to[done..end].copy_from_slice(&from[done..end]);
+        done = end;
     }
 }
 

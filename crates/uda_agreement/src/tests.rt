@@ -14,8 +14,11 @@ use uda_image::{Drive, MemImage};
 use uda_plain::{PlainDisk, PlainUnits};
 use uda_script_run::run_script;
 
-/// How many lists are compared.
-const LISTS: u64 = 300;
+/// How many pairs are compared.
+const PAIRS: u64 = 60;
+
+/// How many times each pair has its lists, or its script: most of the time would else go to making drivers.
+const ROUNDS: u32 = 5;
 
 /// The same blocks for both: a drive of the driver's, and a disk of the plain program's.
 #[derive(Drop)]
@@ -114,14 +117,16 @@ fn holds(image: &MemImage, disk: &PlainDisk) -> bool {
         .eq(disk.blocks().iter().map(|block| block.as_slice()))
 }
 
-/// A list drawn from this seed has the same answers from both, and leaves the same blocks.
+/// Lists drawn from this seed have the same answers from both, and leave the same blocks.
 fn agree_on(alloc: Global, seed: u64) -> Result<bool, Fail> {
     let mut draw = Draw::new(seed);
     let mut pair = Pair::new(alloc, &mut draw)?;
-    for count in [20, 60] {
-        let requests = draw.requests(alloc, count)?;
-        if !pair.answers_alike(alloc, &requests)? {
-            return Ok(false);
+    for _ in 0..ROUNDS {
+        for count in [20, 60] {
+            let requests = draw.requests(alloc, count)?;
+            if !pair.answers_alike(alloc, &requests)? {
+                return Ok(false);
+            }
         }
     }
     Ok(pair.leaves_alike())
@@ -129,9 +134,9 @@ fn agree_on(alloc: Global, seed: u64) -> Result<bool, Fail> {
 
 #[test]
 fn driver_and_plain_program_agree(rt: HostRuntime) -> Result<(), Fail> {
-    for seed in 0..LISTS {
+    for seed in 0..PAIRS {
         let is_alike = agree_on(rt.alloc(), seed)?;
-        assert!(rt; is_alike, "list {seed}");
+        assert!(rt; is_alike, "lists {seed}");
     }
     Ok(())
 }
@@ -176,19 +181,24 @@ impl Pair {
     }
 }
 
-/// A script drawn from this seed prints what the plain program answers its requests.
+/// Scripts drawn from this seed print what the plain program answers their requests.
 fn prints_alike(alloc: Global, seed: u64) -> Result<bool, Fail> {
     let mut draw = Draw::new(seed);
     let mut pair = Pair::new(alloc, &mut draw)?;
-    let requests = draw.script(alloc, 40)?;
-    pair.prints_alike(alloc, &requests)
+    for _ in 0..ROUNDS {
+        let requests = draw.script(alloc, 40)?;
+        if !pair.prints_alike(alloc, &requests)? {
+            return Ok(false);
+        }
+    }
+    Ok(true)
 }
 
 #[test]
 fn scripts_and_plain_program_agree(rt: HostRuntime) -> Result<(), Fail> {
-    for seed in 0..LISTS {
+    for seed in 0..PAIRS {
         let is_alike = prints_alike(rt.alloc(), seed)?;
-        assert!(rt; is_alike, "script {seed}");
+        assert!(rt; is_alike, "scripts {seed}");
     }
     Ok(())
 }

@@ -114,15 +114,13 @@ impl Draw {
     // So many bytes, those of a block of one byte.
     fn payload(&mut self, alloc: Global, count: u64) -> Result<Vec<u8>, NoMemory> {
         let mut payload = Vec::new(alloc);
-        let mut byte = 0;
-        for n in 0..count {
-            if n % 512 == 0 {
-                [byte, ..] = self.rng.next_u32().to_le_bytes();
-            }
-            let Ok(()) = payload.push(byte) else {
+        for _ in 0..count.div_ceil(512) {
+            let [byte, ..] = self.rng.next_u32().to_le_bytes();
+            let Ok(()) = payload.extend_from_slice(&[byte; 512]) else {
                 return Err(NoMemory);
             };
         }
+        payload.truncate(count as usize);
         Ok(payload)
     }
 

@@ -16,6 +16,7 @@ use crate::choice::{Position, next_place};
 use crate::drive_unit::{DriveUnit, UnitLook};
 use crate::reply::{plain_body, refuse, reply};
 use arrayvec::ArrayVec;
+use std::fmt;
 use std::marker::Model;
 use uda_disk::{Mode, Refusal};
 use uda_image::{BlockStore, Drive};
@@ -256,6 +257,16 @@ impl<S: BlockStore> Exec<S> {
         ensures drives { drive_states S.state result ≡ drives_in self.units }
     {
         drives_of(self.units)
+    }
+}
+
+impl<S: BlockStore> fmt::Debug for Exec<S> {
+    fn fmt<W: fmt::Write>(&self, f: &mut fmt::Formatter<W>) -> fmt::Result {
+        let looks = [self.unit(0), self.unit(1), self.unit(2), self.unit(3)];
+        f.debug_struct("Exec")
+            .field("units", &looks)
+            .field("pending", &self.pending)
+            .finish_non_exhaustive()
     }
 }
 

@@ -1,5 +1,6 @@
 //! Unit states, and drives handed over and back.
 use super::*;
+use uda_exec::Exec;
 use uda_packet::Kind;
 
 #[test]
@@ -241,5 +242,22 @@ fn drive_taken_out_and_put_in(rt: HostRuntime) -> Result<(), Fail> {
         (1, Op::Status, 0x0004, EndBody::Status { flags: 0x2000 }),
     ];
     bench.assert_ends(&rt, &there);
+    Ok(())
+}
+
+#[test]
+fn what_an_executor_shows(rt: HostRuntime) -> Result<(), Fail> {
+    let drive = Drive {
+        store: MemImage::new(rt.alloc(), 3)?,
+        hard: true,
+    };
+    let mut exec = Exec::new([None, Some(drive), None, None]);
+    exec.accept(command(1, Op::Status));
+    let shown = format!(in rt.alloc(); "{exec:?}")?;
+    let units =
+        "[None, Some(UnitLook { mode: Mode { online: false, hard: true, soft: false }, size: 3 }), None, None]";
+    let pending = "[Command { reference: 16909060, unit: 1, op: Status }]";
+    let wanted = format!(in rt.alloc(); "Exec {{ units: {units}, pending: {pending}, .. }}")?;
+    assert_eq!(rt; shown, wanted);
     Ok(())
 }

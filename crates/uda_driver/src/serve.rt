@@ -19,6 +19,7 @@ use uda_exec::PENDING;
 use uda_host::{Host, buffer_address};
 use uda_image::BlockStore;
 use uda_packet::End;
+use uda_port::CREDITS;
 use uda_posting::{bytes_brought, command_of};
 
 /// Has the requests done, and tells their answers in place of the blanks. Nothing is taken from memory
@@ -50,7 +51,7 @@ pub(crate) fn drive<S: BlockStore>(
             post(host, &mut out, one);
         }
     }
-    while host.credits() < PENDING as u32 {
+    while host.credits() < u32::from(CREDITS) {
         step(host, &mut out, &mut answers);
     }
     answers

@@ -29,4 +29,4 @@ pub use port::Port;
 pub use profile::Profile;
 pub use ring::{RING_BASE_LIMIT, Ring, RingFault};
 pub use trace::Trace;
-pub use turn::Turn;
+pub use turn::{CREDITS, Turn};

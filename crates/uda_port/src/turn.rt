@@ -27,6 +27,12 @@ use uda_image::BlockStore;
 use uda_mem::HostMemory;
 use uda_packet::{End, encode_end};
 
+/// The credits that a host has once the first end since start-up is delivered: as many commands as it may
+/// then have out, and as many as may be pending.
+///
+/// UDA50 Programmer's Documentation Kit: credits.
+pub const CREDITS: u8 = PENDING as u8;
+
 /// What a turn did.
 #[derive(Clone, Copy, Debug, PartialEq, Eq)]
 pub enum Turn {
@@ -54,7 +60,7 @@ impl<S: BlockStore> Port<S> {
     /// 2. The port stops looking. A command is pending: one that may go is executed, and its end waits
     ///    last.
     /// 3. An end waits: where the next response descriptor is the port's, the text, then the envelope
-    ///    with its credits (15 with the first end since start-up, then 1), then the descriptor's second
+    ///    with its credits ([`CREDITS`] with the first end since start-up, then 1), then the descriptor's second
     ///    word are written. The port dies where descriptor or buffer can't be used.
     /// 4. [`Turn::Idle`].
     ///
@@ -282,7 +288,7 @@ impl<S: BlockStore> Port<S> {
         ensures few { result ≤ PENDING_LIMIT }
         ensures room { self.now.credits + result ≤ PENDING_LIMIT + 1 }
     {
-        if self.begun { 1 } else { PENDING as u8 }
+        if self.begun { 1 } else { CREDITS }
     }
 }
 

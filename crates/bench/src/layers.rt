@@ -255,9 +255,7 @@ fn memory(alloc: Global) -> Result<HostMemory> {
 }
 
 fn port(alloc: Global, memory: &mut HostMemory) -> Result<Port<MemImage>> {
-    let Ok(mut port) = Port::new(alloc, Exec::new(drives(alloc)?)) else {
-        bail!("no memory");
-    };
+    let mut port = Port::new(alloc, Exec::new(drives(alloc)?))?;
     start_up(&mut port, memory);
     let online = Command {
         reference: 1,

@@ -57,9 +57,7 @@ impl Contest for ThroughSlice {
 }
 
 fn port(alloc: Global, memory: &mut [u8]) -> Result<Port<MemImage>> {
-    let Ok(mut port) = Port::new(alloc, Exec::new(drives(alloc)?)) else {
-        bail!("no memory");
-    };
+    let mut port = Port::new(alloc, Exec::new(drives(alloc)?))?;
     start_up(&mut port, memory);
     let online = Command {
         reference: 1,

@@ -15,10 +15,7 @@ fn main(rt: HostRuntime) -> Result<()> {
     let drive = Drive { store, hard: true };
     let mut memory = HostMemory::new(rt.alloc(), 4096)?;
     let exec = Exec::new([Some(drive), None, None, None]);
-    let mut port = match Port::for_guests(rt.alloc(), exec) {
-        Ok(port) => port,
-        Err((error, _)) => return Err(error.into()),
-    };
+    let mut port = Port::for_guests(rt.alloc(), exec)?;
 
     // the guest writes four words to SA, and reads it after each: interrupts by the vector at 108, and
     // rings of one descriptor from 8 on

@@ -45,10 +45,7 @@ fn port_over(alloc: Global, image: MemImage) -> Result<Port<MemImage>, Fail> {
         store: image,
         hard: false,
     };
-    match Port::new(alloc, Exec::new([Some(drive), None, None, None])) {
-        Ok(port) => Ok(port),
-        Err((error, _)) => Err(error.into()),
-    }
+    Ok(Port::new(alloc, Exec::new([Some(drive), None, None, None]))?)
 }
 
 /// The same of the profile for guests.
@@ -57,10 +54,7 @@ fn guest_port_over(alloc: Global, image: MemImage) -> Result<Port<MemImage>, Fai
         store: image,
         hard: false,
     };
-    match Port::for_guests(alloc, Exec::new([Some(drive), None, None, None])) {
-        Ok(port) => Ok(port),
-        Err((error, _)) => Err(error.into()),
-    }
+    Ok(Port::for_guests(alloc, Exec::new([Some(drive), None, None, None]))?)
 }
 
 /// A port over a unit 0 of 8 blocks, block k all bytes k.

@@ -5,9 +5,8 @@ use std::alloc::Global;
 use std::test::Fail;
 use uda_exec::Exec;
 use uda_image::{BlockStore, Drive, MemImage};
-use uda_mem::NoMemory;
 use uda_packet::{End, EndBody, Kind, Op};
-use uda_port::{Fatal, Phase, Port, Turn};
+use uda_port::{Fatal, NoPort, Phase, Port, Turn};
 
 // The texts are functions, so that a test's proof doesn't carry their bytes.
 
@@ -233,7 +232,7 @@ fn each_cause_has_its_text(rt: HostRuntime) -> Result<(), Fail> {
 fn port_over<S: BlockStore>(
     alloc: Global,
     drives: [Option<Drive<S>>; 4],
-) -> Result<Port<S>, (NoMemory, Exec<S>)> {
+) -> Result<Port<S>, NoPort<S>> {
     Port::new(alloc, Exec::new(drives))
 }
 
@@ -247,14 +246,26 @@ fn a_port_over_any_stores(rt: HostRuntime) -> Result<(), Fail> {
         store: MemImage::new(rt.alloc(), 3)?,
         hard: true,
     };
-    let Ok(port) = port_over(rt.alloc(), [None, Some(drive), None, None]) else {
-        return Err(NoMemory.into());
-    };
+    let port = port_over(rt.alloc(), [None, Some(drive), None, None])?;
     assert_eq!(rt; port.phase(), Phase::Step1);
     for drive in stores_of(port) {
         if let Some(drive) = drive {
             assert!(rt; drive.hard && drive.store.size() == 3);
         }
     }
+    Ok(())
+}
+
+#[test]
+fn a_port_that_was_not_made_has_its_text(rt: HostRuntime) -> Result<(), Fail> {
+    let drive = Drive {
+        store: MemImage::new(rt.alloc(), 3)?,
+        hard: true,
+    };
+    let refusal = NoPort {
+        exec: Exec::new([Some(drive), None, None, None]),
+    };
+    let told = format!(in rt.alloc(); "{refusal}")?;
+    assert_eq!(rt; told.as_str(), "out of memory");
     Ok(())
 }

@@ -16,7 +16,8 @@ pub fn port(rt: &HostRuntime) -> Result<()> {
     tell(rt, "ended port")?;
     match made {
         Ok(port) => tell_drives(rt, &port.into_exec().into_stores()),
-        Err((_, exec)) => {
+        Err(refusal) => {
+            let exec = refusal.exec;
             tell(rt, "refused")?;
             tell_drives(rt, &exec.into_stores())
         }

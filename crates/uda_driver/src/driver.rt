@@ -70,8 +70,8 @@ impl<S: BlockStore> Driver<S> {
             drive_states S.state refusal.drives ≡ drive_states S.state drives) }
     {
         match Host::start(alloc, Exec::new(drives)) {
-            Err((_, exec)) => Err(StartError {
-                drives: exec.into_stores(),
+            Err(refusal) => Err(StartError {
+                drives: refusal.exec.into_stores(),
             }),
             Ok(host) => Ok(Driver { alloc, host }),
         }

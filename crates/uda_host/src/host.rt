@@ -15,9 +15,9 @@ use std::alloc::Global;
 use std::marker::Model;
 use uda_exec::Exec;
 use uda_image::BlockStore;
-use uda_mem::{HostMemory, NoMemory};
+use uda_mem::HostMemory;
 use uda_packet::{Command, End, Op};
-use uda_port::{Port, Turn};
+use uda_port::{NoPort, Port, Turn};
 
 /// A host with its port: it posts commands, gives the port its turns, and takes the ends.
 ///
@@ -49,18 +49,18 @@ impl<S: BlockStore> Host<S> {
     /// A host over the units of `exec`, which is reset: it makes memory and port, starts the port up,
     /// and has one Set Controller Characteristics done, by whose end it gets all its credits.
     ///
-    /// Where `alloc` has no memory the answer is [`NoMemory`] with `exec` as it was.
+    /// Where `alloc` has no memory the answer is a [`NoPort`] that has `exec` as it was.
     ///
     /// UDA50 Programmer's Documentation Kit: initialisation, credits.
     #[tactic(auto, using(uda_port::proofs::Length::lengths))]
-    pub fn start(alloc: Global, exec: Exec<S>) -> Result<Host<S>, (NoMemory, Exec<S>)>
+    pub fn start(alloc: Global, exec: Exec<S>) -> Result<Host<S>, NoPort<S>>
         ensures started { IfOk result (λ host. IsStarted (map reset_unit exec.units) host) }
         ensures images { IfOk result (λ host. AreImages host.units) }
         ensures adds_up { IfOk result (λ host. AddsUp host) }
-        ensures refused { IfErr result (λ refusal. refusal.1 ≡ exec) }
+        ensures refused { IfErr result (λ refusal. refusal.exec ≡ exec) }
     {
         let Ok(mut memory) = host_memory(alloc) else {
-            return Err((NoMemory, exec));
+            return Err(NoPort { exec });
         };
         match Port::new(alloc, exec) {
             Err(refusal) => Err(refusal),

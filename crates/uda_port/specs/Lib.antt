@@ -11,3 +11,4 @@ pub mod Startup
 pub mod Trace
 pub mod Turn
 pub mod Play
+pub mod Display

@@ -9,6 +9,7 @@ mod drives;
 mod interrupt;
 mod look;
 mod message;
+mod no_port;
 mod packet;
 mod phase;
 mod play;
@@ -22,6 +23,7 @@ mod turn;
 
 pub use descriptor::Descriptor;
 pub use interrupt::Interrupts;
+pub use no_port::NoPort;
 pub use packet::Fetched;
 pub use phase::{Fatal, Phase};
 pub use play::HostEvent;

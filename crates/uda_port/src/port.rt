@@ -7,6 +7,7 @@ ghost use Rattle.uda_port.specs.Interrupt.{vector_of, served};
 ghost use Rattle.uda_port.specs.declared.profile.Profile.TheVariants.{Strict, ForGuests};
 
 use crate::interrupt::Interrupts;
+use crate::no_port::NoPort;
 use crate::phase::Phase;
 use crate::profile::Profile;
 use crate::ring::Ring;
@@ -17,7 +18,6 @@ use std::fmt;
 use std::marker::Model;
 use uda_exec::{Exec, PENDING};
 use uda_image::BlockStore;
-use uda_mem::NoMemory;
 use uda_packet::End;
 
 /// The port of a controller: it stands between a host, which writes its registers and its rings in
@@ -87,31 +87,31 @@ impl<S: BlockStore> Port<S> {
     /// [`write_ip`](Port::write_ip).
     ///
     /// Takes memory for the ends that wait, and no later call does. Where `alloc` has none the answer
-    /// is [`NoMemory`] with `exec` as it was.
+    /// is a [`NoPort`] that has `exec` as it was.
     ///
     /// UDA50 Programmer's Documentation Kit: initialisation.
-    pub fn new(alloc: Global, exec: Exec<S>) -> Result<Port<S>, (NoMemory, Exec<S>)>
+    pub fn new(alloc: Global, exec: Exec<S>) -> Result<Port<S>, NoPort<S>>
         ensures ok { IfOk result (λ port. port ≡ port_at_start Strict exec) }
-        ensures err { IfErr result (λ refusal. refusal.1 ≡ exec) }
+        ensures err { IfErr result (λ refusal. refusal.exec ≡ exec) }
     {
         Port::over(alloc, Profile::Strict, exec)
     }
 
     /// The same of the profile for guests: [`new`](Port::new) for hosts as they were shipped.
-    pub fn for_guests(alloc: Global, exec: Exec<S>) -> Result<Port<S>, (NoMemory, Exec<S>)>
+    pub fn for_guests(alloc: Global, exec: Exec<S>) -> Result<Port<S>, NoPort<S>>
         ensures ok { IfOk result (λ port. port ≡ port_at_start ForGuests exec) }
-        ensures err { IfErr result (λ refusal. refusal.1 ≡ exec) }
+        ensures err { IfErr result (λ refusal. refusal.exec ≡ exec) }
     {
         Port::over(alloc, Profile::ForGuests, exec)
     }
 
     // A port of either profile.
-    fn over(alloc: Global, profile: Profile, exec: Exec<S>) -> Result<Port<S>, (NoMemory, Exec<S>)>
+    fn over(alloc: Global, profile: Profile, exec: Exec<S>) -> Result<Port<S>, NoPort<S>>
         ensures ok { IfOk result (λ port. port ≡ port_at_start profile exec) }
-        ensures err { IfErr result (λ refusal. refusal.1 ≡ exec) }
+        ensures err { IfErr result (λ refusal. refusal.exec ≡ exec) }
     {
         match HeapCircularBuffer::with_capacity(alloc, PENDING) {
-            Err(_) => Err((NoMemory, exec)),
+            Err(_) => Err(NoPort { exec }),
             Ok(waiting) => {
                 let mut exec = exec;
                 exec.reset();

@@ -60,8 +60,8 @@ impl<S: BlockStore> Port<S> {
     /// 2. The port stops looking. A command is pending: one that may go is executed, and its end waits
     ///    last.
     /// 3. An end waits: where the next response descriptor is the port's, the text, then the envelope
-    ///    with its credits ([`CREDITS`] with the first end since start-up, then 1), then the descriptor's second
-    ///    word are written. The port dies where descriptor or buffer can't be used.
+    ///    with its credits ([`CREDITS`] with the first end since start-up, then 1), then the descriptor's
+    ///    second word are written. The port dies where descriptor or buffer can't be used.
     /// 4. [`Turn::Idle`].
     ///
     /// That is the strict profile. A port for guests reads a text by its length: of one that is shorter than

@@ -51,7 +51,7 @@ pub(crate) fn drive<S: BlockStore>(
             post(host, &mut out, one);
         }
     }
-    while host.credits() < u32::from(CREDITS) {
+    while host.credits() < CREDITS as u32 {
         step(host, &mut out, &mut answers);
     }
     answers

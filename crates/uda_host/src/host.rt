@@ -53,7 +53,7 @@ impl<S: BlockStore> Host<S> {
     ///
     /// UDA50 Programmer's Documentation Kit: initialisation, credits.
     #[tactic(auto, using(uda_port::proofs::Length::lengths))]
-    pub fn start(alloc: Global, exec: Exec<S>) -> Result<Host<S>, NoPort<S>>
+    pub fn start(alloc: Global, exec: Exec<S>) -> Result<Host<S>, NoPort<Exec<S>>>
         ensures started { IfOk result (λ host. IsStarted (map reset_unit exec.units) host) }
         ensures images { IfOk result (λ host. AreImages host.units) }
         ensures adds_up { IfOk result (λ host. AddsUp host) }

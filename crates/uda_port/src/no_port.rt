@@ -4,23 +4,16 @@ ghost use Rattle.uda_port.specs.Display.{no_port_display};
 
 use std::error::Error;
 use std::fmt;
-use uda_exec::Exec;
-use uda_image::BlockStore;
 
-/// No memory was left for a port. It has the executor that was given, as it was.
-#[derive(Drop)]
-pub struct NoPort<S: BlockStore> {
+/// No memory was left for a port. It has what the port was to be made of, as it was: `E` is the
+/// [`Exec`](uda_exec::Exec) that was given.
+#[derive(Debug, Drop)]
+pub struct NoPort<E> {
     /// The executor.
-    pub exec: Exec<S>,
+    pub exec: E,
 }
 
-impl<S: BlockStore> fmt::Debug for NoPort<S> {
-    fn fmt<W: fmt::Write>(&self, f: &mut fmt::Formatter<W>) -> fmt::Result {
-        f.debug_struct("NoPort").field("exec", &self.exec).finish()
-    }
-}
-
-impl<S: BlockStore> fmt::Display for NoPort<S> {
+impl<E> fmt::Display for NoPort<E> {
     ghost output = { λ _. Some no_port_display };
 
     fn fmt<W: fmt::Write>(&self, f: &mut fmt::Formatter<W>) -> fmt::Result {
@@ -28,4 +21,4 @@ impl<S: BlockStore> fmt::Display for NoPort<S> {
     }
 }
 
-impl<S: BlockStore + Drop> Error for NoPort<S> {}
+impl<E: fmt::Debug + Drop> Error for NoPort<E> {}

@@ -90,7 +90,7 @@ impl<S: BlockStore> Port<S> {
     /// is a [`NoPort`] that has `exec` as it was.
     ///
     /// UDA50 Programmer's Documentation Kit: initialisation.
-    pub fn new(alloc: Global, exec: Exec<S>) -> Result<Port<S>, NoPort<S>>
+    pub fn new(alloc: Global, exec: Exec<S>) -> Result<Port<S>, NoPort<Exec<S>>>
         ensures ok { IfOk result (λ port. port ≡ port_at_start Strict exec) }
         ensures err { IfErr result (λ refusal. refusal.exec ≡ exec) }
     {
@@ -98,7 +98,7 @@ impl<S: BlockStore> Port<S> {
     }
 
     /// The same of the profile for guests: [`new`](Port::new) for hosts as they were shipped.
-    pub fn for_guests(alloc: Global, exec: Exec<S>) -> Result<Port<S>, NoPort<S>>
+    pub fn for_guests(alloc: Global, exec: Exec<S>) -> Result<Port<S>, NoPort<Exec<S>>>
         ensures ok { IfOk result (λ port. port ≡ port_at_start ForGuests exec) }
         ensures err { IfErr result (λ refusal. refusal.exec ≡ exec) }
     {
@@ -106,7 +106,7 @@ impl<S: BlockStore> Port<S> {
     }
 
     // A port of either profile.
-    fn over(alloc: Global, profile: Profile, exec: Exec<S>) -> Result<Port<S>, NoPort<S>>
+    fn over(alloc: Global, profile: Profile, exec: Exec<S>) -> Result<Port<S>, NoPort<Exec<S>>>
         ensures ok { IfOk result (λ port. port ≡ port_at_start profile exec) }
         ensures err { IfErr result (λ refusal. refusal.exec ≡ exec) }
     {

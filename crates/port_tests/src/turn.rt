@@ -232,7 +232,7 @@ fn each_cause_has_its_text(rt: HostRuntime) -> Result<(), Fail> {
 fn port_over<S: BlockStore>(
     alloc: Global,
     drives: [Option<Drive<S>>; 4],
-) -> Result<Port<S>, NoPort<S>> {
+) -> Result<Port<S>, NoPort<Exec<S>>> {
     Port::new(alloc, Exec::new(drives))
 }
 

@@ -1,18 +1,21 @@
 //! How the driver is called: two disks in memory, of which one is copied to the other over two runs, then
-//! requests for both, and what each was answered.
+//! requests for both, and what each was answered; a unit that no controller has, asked for; and a run whose
+//! stores never fail.
 #![tactic(auto)]
 
-ghost use Rattle.std.specs.Prelude.{◌≡◌, ◌*◌, length, IfOk};
-ghost use Rattle.uda_disk.specs.Units.{AllFaithful};
+ghost use Rattle.std.specs.Prelude.{◌≡◌, ℕ, ◌*◌, true, length, slice_get, IfOk};
+ghost use Rattle.uda_disk.specs.Units.{AllFaithful, is_sure};
 ghost use Rattle.uda_driver.specs.Run.{units_of};
 ghost use Rattle.driver_example.specs.Copy.{CanCopy};
 
 mod copy;
+mod promised;
 
 use anyhow::{Result, bail};
 use copy::copy;
+use promised::{ask_unit_seven, run_surely};
 use std::alloc::Global;
-use uda_driver::{Driver, Request};
+use uda_driver::{Answer, Driver, Request};
 use uda_image::{Drive, MemImage};
 
 /// How many blocks each disk has.
@@ -33,7 +36,16 @@ fn main(rt: HostRuntime) -> Result<()> {
         protect(1),
         write(alloc, 1, 0, 512)?,
     ])?;
-    for answer in &answers {
+    print(&rt, &answers)?;
+    print(&rt, &ask_unit_seven(&mut driver)?)?;
+    let mut other = start(alloc)?;
+    let surely = run_surely(&mut other, &[protect(0), read(0, 9, 512)])?;
+    print(&rt, &surely)
+}
+
+// Each answer on a line.
+fn print(rt: &HostRuntime, answers: &[Answer]) -> Result<()> {
+    for answer in answers {
         println!(rt; "{answer}")?;
     }
     Ok(())
@@ -42,6 +54,8 @@ fn main(rt: HostRuntime) -> Result<()> {
 // A driver over two disks, one of bytes 0x55 and one of zeros.
 fn start(alloc: Global) -> Result<Driver<MemImage>>
     ensures faithful { IfOk result (λ driver. AllFaithful (units_of driver)) }
+    ensures sure { IfOk result (λ driver.
+        (u : ℕ) → is_sure (slice_get (units_of driver) u) ≡ true) }
     ensures able { IfOk result (λ driver. CanCopy (units_of driver) 10) }
 {
     let bytes = Vec::from_elem(alloc, 0x55, 5120)?;

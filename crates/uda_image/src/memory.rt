@@ -18,7 +18,7 @@ use std::marker::Model;
 
 // How many bytes are written by one copy at most: a longer one goes another way in the C library, slow where
 // the image isn't in the processor's cache.
-const PIECE: usize = 4096;
+const LONGEST_COPY: usize = 4096;
 
 /// An image in memory: the logical blocks of a unit (MSCP Basic Disk Functions Manual: logical
 /// blocks), block after block. It is faithful, none of its calls fails, and it takes memory only
@@ -136,7 +136,7 @@ fn copy_by_pieces(to: &mut [u8], from: &[u8])
 {
     let mut done = 0;
     while done < from.len() {
-        let end = done + PIECE.min(from.len() - done);
+        let end = done + LONGEST_COPY.min(from.len() - done);
         to[done..end].copy_from_slice(&from[done..end]);
         done = end;
     }

@@ -46,11 +46,11 @@ enum {
 
 /* What a turn did, as uda_turn answers it. */
 enum {
-    UDA_IDLE = 0,      /* nothing: the port is in start-up, or has nothing to do */
+    UDA_IDLE = 0,      /* nothing: the port is in start-up, has nothing to do, or no descriptor for an end */
     UDA_FETCHED = 1,   /* a packet was fetched from the command ring */
     UDA_EXECUTED = 2,  /* a command was executed, and its end waits */
     UDA_DELIVERED = 3, /* an end was put into the response ring */
-    UDA_DEAD = 4       /* nothing: the port is dead, and SA shows of what */
+    UDA_DEAD = 4       /* the port is dead, it may be of this turn, and SA shows of what */
 };
 
 /* What uda_last tells of a turn beside these. */
@@ -116,9 +116,10 @@ uint32_t uda_turn(uda50 *handle, uint8_t *memory, size_t length);
    caused, and after each turn. */
 bool uda_take_interrupt(uda50 *handle, uint16_t *vector);
 
-/* Turns, one after another, until one does nothing, and no more than `turns`. What the last of them did is
-   answered: so UDA_IDLE and UDA_DEAD say that nothing is left to do, and any other that the turns were used up.
-   With 0 turns UDA_IDLE; else as uda_turn. */
+/* Turns, one after another, until one answers UDA_IDLE or UDA_DEAD, and no more than `turns`. What the last of
+   them did is answered: so these two say that no turn does more now, and any other that the turns were used up.
+   Where ends wait after UDA_IDLE (`waiting` of uda_show) look again now and then, since a guest may give a
+   response descriptor by a write to memory alone. With 0 turns UDA_IDLE; else as uda_turn. */
 uint32_t uda_run(uda50 *handle, uint32_t turns, uint8_t *memory, size_t length);
 
 /* A ring: the address of its first descriptor, how many it has, and the place of the next. */

@@ -1,2 +1,3 @@
 mod Copies
+mod FirstBlock
 mod Unknown

@@ -9,7 +9,7 @@ use Rattle.uda_disk.specs.Answer.{Answer, Status}
 use Rattle.uda_disk.specs.Plain.{bar_at, Done, serve_by}
 use Rattle.uda_disk.specs.PlainRun.{plain}
 use Rattle.uda_disk.specs.Units.{Units, disks_of}
-use Rattle.uda_posting.specs.Seeming.{GoesAs, AsPlain, ReadToo, ReadLost, MoveLost, SeemsPlain}
+use Rattle.uda_posting.specs.Seeming.{SeemsPlain}
 
 abbrev seven : Request
 seven = record { unit = 7; act = ask.Status }
@@ -28,12 +28,6 @@ none_there (a ∷ b ∷ c ∷ d ∷ e ∷ more) four = absurd (omega (arith, fou
 plainly : (disks : Disks) → slice_get disks 7 ≡ None → (plain disks (seven ∷ [])).0 ≡ unknown ∷ []
 plainly disks none = ap (λ (slot : Option (Option Disk)). (serve_by Done seven (bar_at ask.Status slot) disks).0 ∷ []) none
 
-as_plain : (told : Answer) → GoesAs unknown told → told ≡ unknown
-as_plain told (AsPlain is) = is
-as_plain told (ReadToo bytes read is is_told) = absurd (cc)
-as_plain told (ReadLost bytes read is is_told) = absurd (cc)
-as_plain told (MoveLost bytes moved is is_told) = absurd (cc)
-
 only_one : (told : List Answer) → length told ≡ 1 → ((now : Answer) → slice_get told 0 ≡ Some now → now ≡ unknown) → told ≡ unknown ∷ []
 only_one (x ∷ []) one is = ap (λ (y : Answer). y ∷ []) (is x refl)
 only_one [] one is = absurd (omega (arith, one))
@@ -42,4 +36,4 @@ only_one (x ∷ y ∷ more) one is = absurd (omega (arith, one))
 pub told_unknown : (units units_after : Units) (told : List Answer) → length units ≡ 4 → length told ≡ 1
     → SeemsPlain units (seven ∷ []) told units_after → told ≡ unknown ∷ []
 told_unknown units units_after told four one seems =
-    only_one told one (λ now here. as_plain now (seems.answered 0 unknown now (ap (λ (xs : List Answer). slice_get xs 0) (plainly (disks_of units) (none_there units four))) here))
+    only_one told one (λ now here. (seems.answered 0 seven unknown now refl (ap (λ (xs : List Answer). slice_get xs 0) (plainly (disks_of units) (none_there units four))) here).same refl)

@@ -1,6 +1,6 @@
 //! How the driver is called: two disks in memory, of which one is copied to the other over two runs, then
-//! requests for both, and what each was answered; a unit that no controller has, asked for; and a run whose
-//! stores never fail.
+//! requests for both, and what each was answered; a unit that no controller has, asked for; a run whose
+//! stores never fail; and a block that is read whole.
 #![tactic(auto)]
 
 ghost use Rattle.std.specs.Prelude.{◌≡◌, ℕ, ◌*◌, true, length, slice_get, IfOk};
@@ -13,7 +13,7 @@ mod promised;
 
 use anyhow::{Result, bail};
 use copy::copy;
-use promised::{ask_unit_seven, run_surely};
+use promised::{ask_unit_seven, first_block, run_surely};
 use std::alloc::Global;
 use uda_driver::{Answer, Driver, Request};
 use uda_image::{Drive, MemImage};
@@ -22,11 +22,22 @@ use uda_image::{Drive, MemImage};
 const BLOCKS: u32 = 10;
 
 fn main(rt: HostRuntime) -> Result<()> {
-    let alloc = rt.alloc();
-    let mut driver = start(alloc)?;
+    copied(&rt)?;
+    surely(&rt)
+}
+
+// One disk copied to the other, and what comes of requests for both then.
+fn copied(rt: &HostRuntime) -> Result<()> {
+    let mut driver = start(rt.alloc())?;
     if !copy(&mut driver, BLOCKS)? {
         bail!("not copied");
     }
+    asked(rt, &mut driver)
+}
+
+// Requests for both disks, and for a unit that isn't there.
+fn asked(rt: &HostRuntime, driver: &mut Driver<MemImage>) -> Result<()> {
+    let alloc = rt.alloc();
     let answers = driver.run(&[
         read(1, 9, 512),
         write(alloc, 0, 8, 1024)?,
@@ -36,11 +47,25 @@ fn main(rt: HostRuntime) -> Result<()> {
         protect(1),
         write(alloc, 1, 0, 512)?,
     ])?;
-    print(&rt, &answers)?;
-    print(&rt, &ask_unit_seven(&mut driver)?)?;
-    let mut other = start(alloc)?;
-    let surely = run_surely(&mut other, &[protect(0), read(0, 9, 512)])?;
-    print(&rt, &surely)
+    print(rt, &answers)?;
+    print(rt, &ask_unit_seven(driver)?)
+}
+
+// A run whose stores never fail.
+fn surely(rt: &HostRuntime) -> Result<()> {
+    let mut driver = start(rt.alloc())?;
+    let answers = run_surely(&mut driver, &[protect(0), read(0, 9, 512)])?;
+    print(rt, &answers)?;
+    whole(rt, &mut driver)
+}
+
+// A block that is read whole.
+fn whole(rt: &HostRuntime, driver: &mut Driver<MemImage>) -> Result<()> {
+    let Some(block) = first_block(driver)? else {
+        bail!("not read");
+    };
+    println!(rt; "{} .. {}", block[0], block[511])?;
+    Ok(())
 }
 
 // Each answer on a line.

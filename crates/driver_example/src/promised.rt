@@ -1,6 +1,6 @@
 //! What a caller has of a run whose answers it doesn't search for losses: over stores that never fail, and over
 //! whatever stores.
-ghost use Rattle.std.specs.Prelude.{◌≡◌, ℕ, true, [], ◌∷◌, slice_get, IfOk};
+ghost use Rattle.std.specs.Prelude.{◌≡◌, ℕ, true, [], ◌∷◌, length, slice_get, IfOk, IfSome};
 ghost use Rattle.uda_disk.specs.Answer.{Status};
 ghost use Rattle.uda_disk.specs.Status.{UNIT_UNKNOWN};
 ghost use Rattle.uda_disk.specs.Units.{AllFaithful, is_sure};
@@ -32,4 +32,19 @@ pub fn ask_unit_seven<S: BlockStore>(driver: &mut Driver<S>) -> Result<Vec<Answe
 {
     let answers = driver.run(&[Request::Status { unit: 7 }])?;
     Ok(answers)
+}
+
+/// The first block of unit 0, where a Read of it succeeds: whatever the stores, that is one whole block.
+pub fn first_block<S: BlockStore>(driver: &mut Driver<S>) -> Result<Option<Vec<u8>>, RunError>
+    ensures whole { IfOk result (λ found. IfSome found (λ block. length block.items ≡ 512)) }
+{
+    let mut answers = driver.run(&[Request::Read {
+        unit: 0,
+        lbn: 0,
+        bytes: 512,
+    }])?;
+    match answers.pop() {
+        Some(Answer::Data { status: 0, bytes }) => Ok(Some(bytes)),
+        _ => Ok(None),
+    }
 }

@@ -227,8 +227,8 @@ fn each_cause_has_its_text(rt: HostRuntime) -> Result<(), Fail> {
     Ok(())
 }
 
-// Callers for any store: free functions, which have the types of what they move in their signatures.
-// A method of another generic type doesn't know how large these are, and gets no proof.
+// Callers for any store: free functions, which have the types of what they move in their signatures. A method
+// does as well whose type has the port as its last field, as `uda_host`'s `Host` has.
 fn port_over<S: BlockStore>(
     alloc: Global,
     drives: [Option<Drive<S>>; 4],

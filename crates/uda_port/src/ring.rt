@@ -12,7 +12,7 @@ use std::fmt;
 use std::marker::Model;
 use uda_mem::HostMemory;
 
-/// The highest base that a host can give a ring: the last even address of 18 bits.
+/// The highest base that [`Ring::new`] takes: the last even address of 18 bits, which a strict ring base has.
 ///
 /// UDA50 Programmer's Documentation Kit: communication area.
 pub const RING_BASE_LIMIT: u32 = 262_142;
@@ -109,7 +109,7 @@ impl Ring {
         }
     }
 
-    /// Whether a ring may begin at the address `base`: it is even and at most [`RING_BASE_LIMIT`].
+    /// Whether [`Ring::new`] takes the address `base`: it is even and at most [`RING_BASE_LIMIT`].
     pub fn is_base(base: u32) -> bool
         ensures base { IsTrue result ↔ IsRingBase base }
     {

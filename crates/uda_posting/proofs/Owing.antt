@@ -33,9 +33,9 @@ use Rattle.uda_model.specs.Ledger.{Due, requests_due, Ledger}
 use Rattle.uda_posting.specs.Keeping.{Misses, Beside, IsReadyIn, StandsIn, IsUntold, IsBefore, IsEarlier, IsNotAt, IsNotDue, Sound, Owes}
 use Rattle.uda_disk.proofs.Lists.{map-remove, put_back, All-insert, All-remove, All-at, All-front, pairs_others, slice_get-append, slice_get-last, slice_get-before}
 use Rattle.uda_posting.proofs.Dues.{dues_below, dues_rising, dues_ask}
-use Rattle.uda_posting.specs.Seeming.{bares, GoesAs, AsPlain, ReadToo, ReadLost, MoveLost, AllGoAs, SeemsPlain, Seems}
+use Rattle.uda_posting.specs.Seeming.{bares, is_done, GoesAs, AllGoAs, SeemsPlain, Seems}
 use Rattle.uda_posting.proofs.Serving.{acts-own, serves}
-use Rattle.uda_posting.proofs.Seemings.{step_seems}
+use Rattle.uda_posting.proofs.Seemings.{has_form, as_plain, step_seems}
 use Rattle.uda_posting.proofs.Posts.{names_same, beside_others, goes-request}
 use Rattle.uda_model.proofs.LedgerSteps.{ledger_opens, ledger_skips, ledger_takes_in, ledger_carries_out, ledger_closes}
 use Rattle.uda_disk.proofs.Errors.{is_error, losses_told, errors-set, errors-push}
@@ -55,14 +55,23 @@ owes_start units memory = record {
   formed = λ k r answer stands. absurd (cc);
   natures = refl;
   sound = λ faithful images. record { ledger = ledger_opens (disks_of units); errors = λ u. omega arith; sure = λ u never. refl };
-  seems = record { disks = disks_of units; shown = []; ledger = ledger_opens (disks_of units); errors = λ u. omega arith; alike = refl; counted = refl; go_as = λ k done now here there. absurd (cc) };
+  seems = record { disks = disks_of units; shown = []; ledger = ledger_opens (disks_of units); errors = λ u. omega arith; alike = refl; counted = refl; go_as = λ k r done now asked here there. absurd (cc) };
 }
 
 -- ---- forms
 
-has_form : (act : Act) (e : End) (buffer : List ℕ) → SameForm (blank_answer act 0) (answer_of act e buffer)
-has_form (Online protect) e buffer = tt
-has_form _ e buffer = tt
+-- no act's answer is TooLong
+not_long : (act : Act) → SameForm (blank_answer act 0) TooLong → ⊥
+not_long (Online protect) form = form
+not_long _ form = form
+
+-- so where that stands, the plain run's is still to come
+goes_untold : (act : Act) (plain : Answer) → GoesAs act plain TooLong → TooLong ≡ plain
+goes_untold act plain goes = by (is_done plain) refl
+  where
+    by : (b : Bool) → is_done plain ≡ b → TooLong ≡ plain
+    by true done = absurd (not_long act (goes.ends done).form)
+    by false done = goes.same done
 
 -- what is said of the request and the answer at a place is said of any that stand there
 formed_there : {q r : Request} {a b : Answer} (requests : List Request) (told : List Answer) (k : ℕ) → slice_get requests k ≡ Some q → slice_get told k ≡ Some a → IsAnswerOf q a
@@ -151,14 +160,15 @@ module _ {start : Units} {requests : List Request} {due : List Posted} {told : L
         errors = λ u. errors-push u requests s.shown r s.counted ∙ s.errors u;
         alike = s.alike;
         counted = omega (arith, s.counted, length-append requests (r ∷ []), length-append s.shown (TooLong ∷ []));
-        go_as = λ k done now here there. elim (cases_eq k (length requests)) [
+        go_as = λ k q done now asked here there. elim (cases_eq k (length requests)) [
           | inl last ↦
               let one : Some done ≡ Some TooLong = sym here ∙ slice_get-last s.shown k TooLong (last ∙ sym s.counted) in
               let two : Some now ≡ Some TooLong = sym there ∙ slice_get-last told k TooLong (last ∙ sym owes.counted) in
-              AsPlain (cc)
+              let first : TooLong ≡ done = cc in let second : TooLong ≡ now = cc in
+              subst₂ (GoesAs q.act) first second (as_plain q.act TooLong TooLong refl refl)
           | inr other ↦
               let low : k < length requests = omega (arith, slice_get_within (s.shown ++ TooLong ∷ []) k done here, s.counted, length-append s.shown (TooLong ∷ [])) in
-              s.go_as k done now (sym (slice_get-before s.shown TooLong k (omega (arith, low, s.counted))) ∙ here) (sym (slice_get-before told TooLong k (omega (arith, low, owes.counted))) ∙ there)
+              s.go_as k q done now (sym (slice_get-before requests r k low) ∙ asked) (sym (slice_get-before s.shown TooLong k (omega (arith, low, s.counted))) ∙ here) (sym (slice_get-before told TooLong k (omega (arith, low, owes.counted))) ∙ there)
         ];
       }
 
@@ -276,12 +286,8 @@ module _ {start : Units} {requests : List Request} {due : List Posted} {told : L
         let s = owes.seems in
         let low : p.place < length s.shown = omega (arith, slice_get_within told p.place TooLong own_blank, owes.counted, s.counted) in
         let here = slice_get-get_or s.shown p.place TooLong low in
-        elim (s.go_as p.place (get_or s.shown p.place TooLong) TooLong here own_blank) [
-          | AsPlain is ↦ here ∙ ap (λ (a : Answer). Some a) (sym is)
-          | ReadToo bytes read plain is ↦ absurd (cc)
-          | ReadLost bytes read plain is ↦ absurd (cc)
-          | MoveLost bytes moved plain is ↦ absurd (cc)
-        ]
+        let goes = s.go_as p.place p.request (get_or s.shown p.place TooLong) TooLong own_request here own_blank in
+        here ∙ ap (λ (a : Answer). Some a) (sym (goes_untold p.request.act (get_or s.shown p.place TooLong) goes))
 
     seems_done : Seems start requests (remove due j) (slice_set told p.place (answer_of p.request.act e (buffer_of p left))) after
     seems_done =
@@ -297,15 +303,17 @@ module _ {start : Units} {requests : List Request} {due : List Posted} {told : L
           errors = λ u. omega (arith, s.errors u, errors-set u requests s.shown p.place r now.0 own_request own_unshown, tells_none u r now.0 clean);
           alike = step.alike;
           counted = length-set s.shown p.place now.0 ∙ s.counted;
-          go_as = λ k done told_now here there. elim (cases_eq k p.place) [
+          go_as = λ k q done told_now asked here there. elim (cases_eq k p.place) [
             | inl own ↦
                 let mine = slice_get-set_same s.shown p.place now.0 (slice_get_within s.shown p.place TooLong own_unshown) in
                 let his = slice_get-set_same told p.place a (slice_get_within told p.place TooLong own_blank) in
                 let one : Some now.0 ≡ Some done = sym mine ∙ ap (slice_get (slice_set s.shown p.place now.0)) (sym own) ∙ here in
                 let two : Some a ≡ Some told_now = sym his ∙ ap (slice_get (slice_set told p.place a)) (sym own) ∙ there in
                 let first : now.0 ≡ done = cc in let second : a ≡ told_now = cc in
-                subst₂ GoesAs first second step.goes
-            | inr other ↦ s.go_as k done told_now (sym (slice_get-set_other s.shown p.place k now.0 other) ∙ here) (sym (slice_get-set_other told p.place k a other) ∙ there)
+                let third : Some r ≡ Some q = sym own_request ∙ ap (slice_get requests) (sym own) ∙ asked in
+                let fourth : r ≡ q = cc in
+                subst (λ (x : Request). GoesAs x.act done told_now) fourth (subst₂ (GoesAs r.act) first second step.goes)
+            | inr other ↦ s.go_as k q done told_now asked (sym (slice_get-set_other s.shown p.place k now.0 other) ∙ here) (sym (slice_get-set_other told p.place k a other) ∙ there)
           ];
         }
 
@@ -396,5 +404,5 @@ owes_seems {start} {requests} {told} {units} owes =
     losses_told (disks_of start) requests s.shown s.disks (ledger_closes (disks_of start) requests s.shown s.disks s.ledger) s.errors in
     record {
       left = sym s.alike ∙ ap (λ (x : List Answer × Disks). bares x.1) is;
-      answered = subst (λ (x : List Answer × Disks). AllGoAs x.0 told) is s.go_as;
+      answered = subst (λ (x : List Answer × Disks). AllGoAs requests x.0 told) is s.go_as;
     }

@@ -85,8 +85,8 @@ impl<S: BlockStore> Driver<S> {
     /// (`headline_untold`, which [`tells_drive_error`](crate::tells_drive_error) tests); where stores fail,
     /// those of such a run with transfers lost, each loss told once (`losses`). A store that never fails has
     /// not failed (`sure`). Whatever the stores, each request has an answer of its own form (`shape`), modes
-    /// and refusals are the plain run's, and a transfer that is done there is done here or told as lost
-    /// (`seems`); and the port's turns are counted (`counts`).
+    /// and refusals are the plain run's, and a transfer that is done there is done here or told as lost, with
+    /// as many bytes as were moved (`seems`); and the port's turns are counted (`counts`).
     ///
     /// More than 4096 requests are `TooMany`, and where no memory is left for the answers the error is
     /// `NoMemory`: then nothing was done. All memory is taken before the first command.

@@ -47,7 +47,7 @@ pub record TellsTransfer (act : Act) (told : Answer) : Type 0 where
   pub bytes : bytes_told told ≡ transfer_bytes outcome (bytes_named act)
 
 -- an answer goes as the plain run's: it is that one; but a transfer that is done there was done or lost here,
--- and what a Read brings is the store's
+-- and of what a Read brings then nothing is said but how many bytes
 pub record GoesAs (act : Act) (plain told : Answer) : Type 0 where
   pub same : is_done plain ≡ false → told ≡ plain
   pub ends : is_done plain ≡ true → TellsTransfer act told

@@ -100,11 +100,11 @@ fn write_block(block: &[u8], came: &mut String) -> Result<(), Fault> {
         };
         let count = rest.iter().take_while(|other| **other == byte).count();
         if count == block.len() {
-            write!(came, "{byte:02x}")?;
+            write!(came, "{byte:x}")?;
             return Ok(());
         }
         let joint = if rest.len() == block.len() { "" } else { "/" };
-        write!(came, "{joint}{byte:02x}*{count}")?;
+        write!(came, "{joint}{byte:x}*{count}")?;
         rest = rest.get(count..).unwrap_or(&[]);
     }
     Ok(came.push_str("..")?)

@@ -69,7 +69,8 @@ impl Machine {
         let start = words.address()? as usize;
         let end = start.saturating_add(words.number()? as usize);
         let bytes = self.memory.bytes();
-        let other = bytes.last().copied().unwrap_or(0);
+        let outside = if start > 0 { 0 } else { end };
+        let other = bytes.get(outside).copied().unwrap_or(0);
         write!(came, "{other:02x}")?;
         for (at, byte) in bytes.iter().enumerate() {
             let inside = start <= at && at < end;

@@ -2,7 +2,7 @@
 use crate::fault::Fault;
 use crate::machine::Machine;
 use crate::verb::Verb;
-use crate::words::{Words, alike, split};
+use crate::words::{Words, are_alike, split};
 use std::alloc::Global;
 use std::fmt::Write;
 
@@ -23,7 +23,10 @@ pub fn carry_out(alloc: Global, name: &str, case: &str) -> Result<(String, bool)
     let mut report = Report::new(alloc, name)?;
     let mut machine = Machine::new(alloc)?;
     for (line, number) in case.lines().zip(1u32..) {
-        let bare = line.split_once('#').map_or(line, |(head, _)| head);
+        let bare = match line.split_once('#') {
+            Some((head, _)) => head,
+            None => line,
+        };
         report.step(&mut machine, number, bare)?;
     }
     report.close()?;
@@ -179,11 +182,4 @@ fn look(
         Verb::Open(hold) => machine.open(hold, words, came),
         _ => Err(Fault::Wanted("a line without `=`")),
     }
-}
-
-// Whether two texts have the same words, but for zeros at their heads.
-fn are_alike(one: &str, other: &str) -> bool {
-    let (one, other) = (split(one), split(other));
-    let (one, other) = (one.as_slice(), other.as_slice());
-    one.len() == other.len() && one.iter().zip(other).all(|(a, b)| alike(a, b))
 }

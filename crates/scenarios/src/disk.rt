@@ -9,7 +9,7 @@ use uda_image::{BlockStore, MemImage, StoreError};
 const CALLS: usize = 64;
 
 /// A call of a store.
-#[derive(Clone, Copy, Debug, PartialEq, Eq, Default)]
+#[derive(Clone, Copy, Default)]
 pub struct Call {
     writes: bool,
     first: u32,
@@ -37,7 +37,7 @@ impl fmt::Display for Call {
 }
 
 /// How a store fails and what it declines.
-#[derive(Clone, Copy, Debug, PartialEq, Eq)]
+#[derive(Clone, Copy)]
 pub struct Plan {
     /// Which call for one block fails, counted from 1; 0 where none does.
     pub fails: u32,
@@ -50,7 +50,7 @@ pub struct Plan {
 }
 
 /// What a store keeps of its calls, and what is left of its plan.
-#[derive(Debug, Drop)]
+#[derive(Drop)]
 pub struct Book {
     plan: Plan,
     calls: ArrayVec<Call, CALLS>,
@@ -89,7 +89,7 @@ impl Book {
 }
 
 /// An image in memory with a plan of its own, that keeps which calls it got.
-#[derive(Debug, Drop)]
+#[derive(Drop)]
 pub struct Disk {
     image: MemImage,
     book: Book,

@@ -54,6 +54,11 @@ impl Machine {
             hard: flags & 0x2000 != 0,
             soft: flags & 0x1000 != 0,
         };
+        self.restore_mode(unit, mode)
+    }
+
+    /// Puts a unit into a mode.
+    pub fn restore_mode(&mut self, unit: usize, mode: Mode) -> Result<(), Fault> {
         match &mut self.subject {
             Subject::Port(port) => port.restore_mode(unit, mode),
             Subject::Executor(exec) => exec.restore_mode(unit, mode),

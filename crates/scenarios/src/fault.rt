@@ -1,12 +1,11 @@
 //! Why a line of a case can't be carried out.
 use std::alloc::{AllocError, AllocFailed};
-use std::error::Error;
 use std::fmt;
 use uda_image::ImageError;
 use uda_mem::NoMemory;
 
 /// Why a line of a case can't be carried out.
-#[derive(Clone, Copy, Debug, PartialEq, Eq)]
+#[derive(Clone, Copy)]
 pub enum Fault {
     /// The line wants a word of this kind, which isn't there.
     Wanted(&'static str),
@@ -34,8 +33,6 @@ impl fmt::Display for Fault {
         }
     }
 }
-
-impl Error for Fault {}
 
 impl From<AllocError> for Fault {
     fn from(_: AllocError) -> Self {

@@ -1,7 +1,8 @@
 //! What is to be seen of drives.
 use crate::disk::Disk;
 use crate::fault::Fault;
-use crate::machine::{Machine, Subject};
+use crate::machine::Machine;
+use crate::place::run_of;
 use crate::verb::Hold;
 use crate::words::Words;
 use std::fmt::Write;
@@ -45,28 +46,26 @@ impl Machine {
     // The drive of a unit or its calls: it is taken out, looked at, and put back as it was.
     fn opened(&mut self, unit: usize, calls: bool, came: &mut String) -> Result<(), Fault> {
         let look = self.look(unit);
-        let mut drive = self.exchange(unit, None)?;
-        if calls {
-            write_calls(&mut drive, came)?;
+        let drive = self.exchange(unit, None)?;
+        let drive = if calls {
+            with_calls(drive, came)?
         } else {
             write_drive(&drive, came)?;
-        }
+            drive
+        };
         self.exchange(unit, drive)?;
-        if let Some(look) = look {
-            match &mut self.subject {
-                Subject::Port(port) => port.restore_mode(unit, look.mode),
-                Subject::Executor(exec) => exec.restore_mode(unit, look.mode),
-                _ => {}
-            }
+        match look {
+            Some(look) => self.restore_mode(unit, look.mode),
+            None => Ok(()),
         }
-        Ok(())
     }
 }
 
-// The calls that a store got since they were looked at last.
-fn write_calls(drive: &mut Option<Drive<Disk>>, came: &mut String) -> Result<(), Fault> {
-    let Some(drive) = drive else {
-        return Ok(came.push_str("no drive")?);
+// Writes the calls that a store got since they were looked at last, and forgets them.
+fn with_calls(drive: Option<Drive<Disk>>, came: &mut String) -> Result<Option<Drive<Disk>>, Fault> {
+    let Some(mut drive) = drive else {
+        came.push_str("no drive")?;
+        return Ok(None);
     };
     if drive.store.calls().is_empty() {
         came.push_str("none")?;
@@ -75,7 +74,7 @@ fn write_calls(drive: &mut Option<Drive<Disk>>, came: &mut String) -> Result<(),
         write!(came, "{call} ")?;
     }
     drive.store.forget();
-    Ok(())
+    Ok(Some(drive))
 }
 
 // The hardware protection of a drive, and its blocks.
@@ -98,7 +97,7 @@ fn write_block(block: &[u8], came: &mut String) -> Result<(), Fault> {
         let Some(&byte) = rest.first() else {
             return Ok(());
         };
-        let count = rest.iter().take_while(|other| **other == byte).count();
+        let count = run_of(rest, byte);
         if count == block.len() {
             write!(came, "{byte:x}")?;
             return Ok(());

@@ -23,7 +23,7 @@ pub enum Subject {
 
 /// Where the rings of a host and their packets are: response descriptors from `base` on and behind them as
 /// many command descriptors, and the packets from `packets` on in the same order, 64 bytes each.
-#[derive(Clone, Copy, Debug, PartialEq, Eq)]
+#[derive(Clone, Copy)]
 pub struct Layout {
     /// How many descriptors each ring has.
     pub count: u16,
@@ -134,20 +134,7 @@ impl Machine {
 
     // Begins anew, with memory and layout as at first.
     fn begin(&mut self, words: &mut Words<'_>) -> Result<(), Fault> {
-        let kind = "strict, guests, executor or ring";
-        self.subject = match words.word(kind)? {
-            "strict" => Subject::Port(Port::new(self.alloc, no_drives()).map_err(
-                |_| Fault::NoMemory,
-            )?),
-            "guests" => {
-                Subject::Port(Port::for_guests(self.alloc, no_drives()).map_err(
-                    |_| Fault::NoMemory,
-                )?)
-            }
-            "executor" => Subject::Executor(no_drives()),
-            "ring" => Subject::Ring(ring(words)?),
-            _ => return Err(Fault::Wanted(kind)),
-        };
+        self.subject = subject_of(self.alloc, words)?;
         self.memory = Memory::host(self.alloc, MEMORY, 0)?;
         self.layout = LAYOUT;
         self.shelf = None;
@@ -198,6 +185,35 @@ impl Subject {
     }
 }
 
+// What the words name: a port without drives, an executor without drives, or a ring.
+fn subject_of(alloc: Global, words: &mut Words<'_>) -> Result<Subject, Fault> {
+    let kind = "strict, guests, executor or ring";
+    let name = words.word(kind)?;
+    match name {
+        "strict" => strict(alloc),
+        "guests" => guests(alloc),
+        "executor" => Ok(Subject::Executor(no_drives())),
+        "ring" => ring(words),
+        _ => Err(Fault::Wanted(kind)),
+    }
+}
+
+// A port of the strict profile.
+fn strict(alloc: Global) -> Result<Subject, Fault> {
+    match Port::new(alloc, no_drives()) {
+        Ok(port) => Ok(Subject::Port(port)),
+        Err(_) => Err(Fault::NoMemory),
+    }
+}
+
+// A port of the profile for guests.
+fn guests(alloc: Global) -> Result<Subject, Fault> {
+    match Port::for_guests(alloc, no_drives()) {
+        Ok(port) => Ok(Subject::Port(port)),
+        Err(_) => Err(Fault::NoMemory),
+    }
+}
+
 fn no_drives() -> Exec<Disk> {
     Exec::new([None, None, None, None])
 }
@@ -217,14 +233,14 @@ fn layout_of(words: &mut Words<'_>) -> Result<Layout, Fault> {
     })
 }
 
-fn ring(words: &mut Words<'_>) -> Result<Ring, Fault> {
+fn ring(words: &mut Words<'_>) -> Result<Subject, Fault> {
     let base = words.address()?;
     let count = words.small()?;
     if !Ring::is_base(base) {
         return Err(Fault::Wanted("a ring's base"));
     }
     match count {
-        1 | 2 | 4 | 8 | 16 | 32 | 64 | 128 => Ok(Ring::new(base, count)),
+        1 | 2 | 4 | 8 | 16 | 32 | 64 | 128 => Ok(Subject::Ring(Ring::new(base, count))),
         _ => Err(Fault::Wanted("a ring's length")),
     }
 }

@@ -5,7 +5,7 @@ use std::fmt;
 use uda_packet::{Command, End, EndBody, Kind, Op};
 
 // What a command is asked for by.
-#[derive(Clone, Copy, PartialEq, Eq)]
+#[derive(Clone, Copy)]
 enum Name {
     Status,
     Controller,

@@ -57,8 +57,13 @@ impl Machine {
             return Err(Fault::Wanted("one byte or more"));
         };
         write!(came, "{byte:02x}")?;
-        if let Some(at) = bytes.iter().position(|other| *other != byte) {
-            write!(came, ", another at {:x}", at.saturating_add(first as usize))?;
+        let run = run_of(bytes, byte);
+        if run < bytes.len() {
+            write!(
+                came,
+                ", another at {:x}",
+                run.saturating_add(first as usize)
+            )?;
         }
         Ok(())
     }
@@ -88,11 +93,13 @@ impl Machine {
         if bytes.len() != self.kept.len() {
             return Ok(came.push_str("no: another length")?);
         }
-        let differs = |(one, other): (&u8, &u8)| *one != *other;
-        match bytes.iter().zip(self.kept.iter()).position(differs) {
-            Some(at) => write!(came, "no: another byte at {at:x}")?,
-            None => came.push_str("yes")?,
+        for (at, (one, other)) in bytes.iter().zip(self.kept.iter()).enumerate() {
+            if *one != *other {
+                write!(came, "no: another byte at {at:x}")?;
+                return Ok(());
+            }
         }
+        came.push_str("yes")?;
         Ok(())
     }
 
@@ -131,4 +138,14 @@ impl Machine {
         )?;
         Ok(())
     }
+}
+
+/// How many bytes from the first on are this one.
+pub fn run_of(bytes: &[u8], byte: u8) -> usize {
+    for (place, other) in bytes.iter().enumerate() {
+        if *other != byte {
+            return place;
+        }
+    }
+    bytes.len()
 }

@@ -6,7 +6,7 @@ use crate::verb::Work;
 use crate::words::Words;
 use std::fmt::Write;
 use uda_exec::PENDING;
-use uda_port::{Fetched, RingFault, Turn};
+use uda_port::{Fetched, Turn};
 
 impl Machine {
     /// Lets the port, the executor or the ring work, and writes what came of it.
@@ -83,8 +83,7 @@ impl Machine {
         match self.memory.fetch(ring)? {
             Ok(Some(packet)) => write_packet(&packet, came),
             Ok(None) => Ok(came.push_str("none")?),
-            Err(RingFault::Ring) => Ok(came.push_str("ring fault")?),
-            Err(RingFault::Packet) => Ok(came.push_str("packet fault")?),
+            Err(fault) => Ok(write!(came, "{fault}")?),
         }
     }
 }
@@ -103,11 +102,13 @@ fn name_of(turn: Turn) -> &'static str {
 fn write_packet(packet: &Fetched, came: &mut String) -> Result<(), Fault> {
     let (length, second) = packet.words;
     write!(came, "{length:04x} {second:04x}")?;
-    let count = packet.text.iter().rposition(|byte| *byte != 0);
-    let Some(last) = count else {
-        return Ok(());
-    };
-    for byte in packet.text.iter().take(last.saturating_add(1)) {
+    let mut count = 0;
+    for (place, byte) in packet.text.iter().enumerate() {
+        if *byte != 0 {
+            count = place.saturating_add(1);
+        }
+    }
+    for byte in packet.text.iter().take(count) {
         write!(came, " {byte:02x}")?;
     }
     Ok(())

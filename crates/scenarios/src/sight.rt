@@ -23,6 +23,7 @@ impl Machine {
         match sight {
             Sight::Sa => write!(came, "{:04x}", port.read_sa())?,
             Sight::Phase => write_phase(port.phase(), came)?,
+            Sight::Cause => write_cause(port.phase(), came)?,
             Sight::Looking => came.push_str(if port.is_looking() { "yes" } else { "no" })?,
             Sight::Credits => write!(came, "{}", port.credits())?,
             Sight::Profile => came.push_str(match port.profile() {
@@ -90,6 +91,15 @@ pub fn write_phase(phase: Phase, came: &mut String) -> Result<(), Fault> {
     })?;
     if let Phase::Dead { cause } = phase {
         write!(came, " {}", cause.code())?;
+    }
+    Ok(())
+}
+
+// Why a port is dead.
+fn write_cause(phase: Phase, came: &mut String) -> Result<(), Fault> {
+    match phase {
+        Phase::Dead { cause } => write!(came, "{cause}")?,
+        _ => came.push_str("none")?,
     }
     Ok(())
 }

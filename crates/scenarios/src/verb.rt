@@ -1,7 +1,7 @@
 //! The steps of a case, each named by the first word of its line.
 
 /// What a line does. A line that looks has the values that it expects behind `=`.
-#[derive(Clone, Copy, PartialEq, Eq)]
+#[derive(Clone, Copy)]
 pub enum Verb {
     /// It prepares a machine.
     Set(Setting),
@@ -20,7 +20,7 @@ pub enum Verb {
 }
 
 /// What a machine is made of.
-#[derive(Clone, Copy, PartialEq, Eq)]
+#[derive(Clone, Copy)]
 pub enum Setting {
     New,
     Memory,
@@ -30,7 +30,7 @@ pub enum Setting {
 }
 
 /// What a host does.
-#[derive(Clone, Copy, PartialEq, Eq)]
+#[derive(Clone, Copy)]
 pub enum Deed {
     Start,
     Write,
@@ -44,7 +44,7 @@ pub enum Deed {
 }
 
 /// How drives and an executor are changed.
-#[derive(Clone, Copy, PartialEq, Eq)]
+#[derive(Clone, Copy)]
 pub enum Change {
     Unit,
     Remove,
@@ -55,7 +55,7 @@ pub enum Change {
 }
 
 /// How a port or an executor is let work.
-#[derive(Clone, Copy, PartialEq, Eq)]
+#[derive(Clone, Copy)]
 pub enum Work {
     Ip,
     Turn,
@@ -68,11 +68,12 @@ pub enum Work {
 }
 
 /// What is to be seen of a port or an executor.
-#[derive(Clone, Copy, PartialEq, Eq)]
+#[derive(Clone, Copy)]
 pub enum Sight {
     Sa,
     Interrupt,
     Phase,
+    Cause,
     Looking,
     Load,
     Credits,
@@ -83,7 +84,7 @@ pub enum Sight {
 }
 
 /// What is to be seen in memory.
-#[derive(Clone, Copy, PartialEq, Eq)]
+#[derive(Clone, Copy)]
 pub enum Place {
     Words,
     Bytes,
@@ -95,7 +96,7 @@ pub enum Place {
 }
 
 /// What is to be seen of drives.
-#[derive(Clone, Copy, PartialEq, Eq)]
+#[derive(Clone, Copy)]
 pub enum Hold {
     Mode,
     Drive,
@@ -103,7 +104,7 @@ pub enum Hold {
     Calls,
 }
 
-const VERBS: [(&str, Verb); 49] = [
+const VERBS: [(&str, Verb); 50] = [
     ("new", Verb::Set(Setting::New)),
     ("memory", Verb::Set(Setting::Memory)),
     ("slice", Verb::Set(Setting::Slice)),
@@ -135,6 +136,7 @@ const VERBS: [(&str, Verb); 49] = [
     ("sa", Verb::Show(Sight::Sa)),
     ("interrupt", Verb::Show(Sight::Interrupt)),
     ("phase", Verb::Show(Sight::Phase)),
+    ("cause", Verb::Show(Sight::Cause)),
     ("looking", Verb::Show(Sight::Looking)),
     ("load", Verb::Show(Sight::Load)),
     ("credits", Verb::Show(Sight::Credits)),
@@ -164,10 +166,5 @@ impl Verb {
             }
         }
         None
-    }
-
-    /// Whether the step looks, and has the values that it expects behind `=`.
-    pub fn looks(self) -> bool {
-        !matches!(self, Verb::Set(_) | Verb::Do(_) | Verb::Move(_))
     }
 }

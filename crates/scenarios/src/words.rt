@@ -18,43 +18,39 @@ pub fn split(text: &str) -> Split<'_> {
 }
 
 /// The words of a line that have not been taken yet.
-#[derive(Clone, Copy)]
+#[derive(Drop)]
 pub struct Words<'a> {
-    rest: &'a [&'a str],
+    all: &'a [&'a str],
+    taken: usize,
 }
 
 impl<'a> Words<'a> {
     /// All of these words.
-    pub fn new(rest: &'a [&'a str]) -> Words<'a> {
-        Words { rest }
+    pub fn new(all: &'a [&'a str]) -> Words<'a> {
+        Words { all, taken: 0 }
     }
 
     /// How many words are left.
     pub fn count(&self) -> usize {
-        self.rest.len()
-    }
-
-    /// The words that are left.
-    pub fn rest(&self) -> &'a [&'a str] {
-        self.rest
+        self.all.len().saturating_sub(self.taken)
     }
 
     /// Takes the next word, if there is one.
     pub fn next(&mut self) -> Option<&'a str> {
-        let (first, rest) = self.rest.split_first()?;
-        self.rest = rest;
-        Some(first)
+        let word = self.all.get(self.taken).copied()?;
+        self.taken = self.taken.saturating_add(1);
+        Some(word)
     }
 
     /// Takes the next word, where it is this one, and answers whether it was.
     pub fn takes(&mut self, word: &str) -> bool {
-        if let Some(first) = self.rest.first()
-            && *first == word
-        {
-            self.next();
-            return true;
+        match self.all.get(self.taken) {
+            Some(next) if *next == word => {
+                self.taken = self.taken.saturating_add(1);
+                true
+            }
+            _ => false,
         }
-        false
     }
 
     /// Takes the next word, which is of this kind.
@@ -64,47 +60,54 @@ impl<'a> Words<'a> {
 
     /// Takes a hexadecimal number of at most 32 bits.
     pub fn address(&mut self) -> Result<u32, Fault> {
-        let kind = "a hexadecimal address";
+        let kind = "a hexadecimal number";
         hexadecimal(self.word(kind)?).ok_or(Fault::Wanted(kind))
     }
 
     /// Takes a hexadecimal number of at most 16 bits.
     pub fn hex(&mut self) -> Result<u16, Fault> {
-        let kind = "a hexadecimal word";
-        let value = hexadecimal(self.word(kind)?).ok_or(Fault::Wanted(kind))?;
-        u16::try_from(value).map_err(|_| Fault::Wanted(kind))
+        match u16::try_from(self.address()?) {
+            Ok(value) => Ok(value),
+            Err(_) => Err(Fault::Wanted("a hexadecimal word")),
+        }
     }
 
     /// Takes a hexadecimal number of at most 8 bits.
     pub fn byte(&mut self) -> Result<u8, Fault> {
-        let kind = "a hexadecimal byte";
-        let value = hexadecimal(self.word(kind)?).ok_or(Fault::Wanted(kind))?;
-        u8::try_from(value).map_err(|_| Fault::Wanted(kind))
-    }
-
-    /// Takes a decimal number of at most 32 bits.
-    pub fn number(&mut self) -> Result<u32, Fault> {
-        let kind = "a decimal number";
-        let word = self.word(kind)?;
-        word.parse::<u32>().map_err(|_| Fault::Wanted(kind))
-    }
-
-    /// Takes a decimal number of at most 16 bits.
-    pub fn small(&mut self) -> Result<u16, Fault> {
-        let value = self.number()?;
-        u16::try_from(value).map_err(|_| Fault::Wanted("a decimal number up to 65535"))
+        match u8::try_from(self.address()?) {
+            Ok(value) => Ok(value),
+            Err(_) => Err(Fault::Wanted("a hexadecimal byte")),
+        }
     }
 
     /// Takes the number of a place among the units.
     pub fn unit(&mut self) -> Result<usize, Fault> {
-        let kind = "a unit's number";
-        let word = self.word(kind)?;
-        word.parse::<usize>().map_err(|_| Fault::Wanted(kind))
+        let kind = "a decimal number";
+        match self.word(kind)?.parse::<usize>() {
+            Ok(value) => Ok(value),
+            Err(_) => Err(Fault::Wanted(kind)),
+        }
+    }
+
+    /// Takes a decimal number of at most 32 bits.
+    pub fn number(&mut self) -> Result<u32, Fault> {
+        match u32::try_from(self.unit()?) {
+            Ok(value) => Ok(value),
+            Err(_) => Err(Fault::Wanted("a decimal number of 32 bits")),
+        }
+    }
+
+    /// Takes a decimal number of at most 16 bits.
+    pub fn small(&mut self) -> Result<u16, Fault> {
+        match u16::try_from(self.unit()?) {
+            Ok(value) => Ok(value),
+            Err(_) => Err(Fault::Wanted("a decimal number of 16 bits")),
+        }
     }
 
     /// Tests that no word is left.
     pub fn end(&self) -> Result<(), Fault> {
-        if self.rest.is_empty() {
+        if self.count() == 0 {
             Ok(())
         } else {
             Err(Fault::MoreWords)
@@ -133,12 +136,16 @@ fn hexadecimal(word: &str) -> Option<u32> {
     Some(value)
 }
 
-/// Whether two words are alike: they differ in zeros at their heads at most.
-pub fn alike(one: &str, other: &str) -> bool {
-    bare(one) == bare(other)
-}
-
-// A word without the zeros at its head.
-fn bare(word: &str) -> &str {
-    word.trim_start_matches('0')
+/// Whether two texts have the same words, but for zeros at their heads.
+pub fn are_alike(one: &str, other: &str) -> bool {
+    let (one, other) = (split(one), split(other));
+    if one.len() != other.len() {
+        return false;
+    }
+    for (a, b) in one.as_slice().iter().zip(other.as_slice()) {
+        if a.trim_start_matches('0') != b.trim_start_matches('0') {
+            return false;
+        }
+    }
+    true
 }

@@ -129,6 +129,11 @@ fn spoil(block: &mut [u8; 512])
     half.fill(0xee);
 }
 
+// Writes the first half of a block over that of another.
+fn copy_half(block: &mut [u8; 512], from: &[u8; 512]) {
+    block[..256].copy_from_slice(&from[..256]);
+}
+
 impl BlockStore for Disk {
     ghost use Rattle.std.specs.Prelude.{[], false, None};
     ghost use Rattle.uda_image.specs.Image.{block_count_of};
@@ -165,7 +170,7 @@ impl BlockStore for Disk {
         if self.book.fails(true, n) {
             let mut block = [0; 512];
             let _ = self.image.read(n, &mut block);
-            block[..256].copy_from_slice(&from[..256]);
+            copy_half(&mut block, from);
             let _ = self.image.write(n, &block);
             return Err(StoreError::Write);
         }

@@ -1,5 +1,6 @@
-//! The tests of the executor, by its public calls.
+//! The tests of the executor that are no scenarios: those over files. All others are cases of the crate
+//! `scenarios`.
 #![tactic(auto)]
 
 #[cfg(test)]
-mod tests;
+mod files;

@@ -1,0 +1,51 @@
+//! Ports for any store.
+
+use std::alloc::Global;
+use std::test::Fail;
+use uda_exec::Exec;
+use uda_image::{BlockStore, Drive, MemImage};
+use uda_port::{NoPort, Phase, Port};
+
+// Callers for any store: free functions, which have the types of what they move in their signatures. A method
+// does as well whose type has the port as its last field, as `uda_host`'s `Host` has.
+fn port_over<S: BlockStore>(
+    alloc: Global,
+    drives: [Option<Drive<S>>; 4],
+) -> Result<Port<S>, NoPort<Exec<S>>> {
+    Port::new(alloc, Exec::new(drives))
+}
+
+fn stores_of<S: BlockStore>(port: Port<S>) -> [Option<Drive<S>>; 4] {
+    port.into_exec().into_stores()
+}
+
+/// A drive of three blocks, with hardware protection.
+fn drive(alloc: Global) -> Result<Drive<MemImage>, Fail> {
+    Ok(Drive {
+        store: MemImage::new(alloc, 3)?,
+        hard: true,
+    })
+}
+
+#[test]
+fn a_port_over_any_stores(rt: HostRuntime) -> Result<(), Fail> {
+    let second = Some(drive(rt.alloc())?);
+    let port = port_over(rt.alloc(), [None, second, None, None])?;
+    assert_eq!(rt; port.phase(), Phase::Step1);
+    let [first, second, third, fourth] = stores_of(port);
+    assert!(rt; first.is_none() && third.is_none() && fourth.is_none());
+    let second = second.ok_or("no drive")?;
+    assert!(rt; second.hard && second.store.size() == 3);
+    Ok(())
+}
+
+#[test]
+fn a_port_that_was_not_made_has_its_text(rt: HostRuntime) -> Result<(), Fail> {
+    let second = Some(drive(rt.alloc())?);
+    let refusal = NoPort {
+        exec: Exec::new([None, second, None, None]),
+    };
+    let told = format!(in rt.alloc(); "{refusal}")?;
+    assert_eq!(rt; told.as_str(), "out of memory");
+    Ok(())
+}

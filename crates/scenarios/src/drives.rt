@@ -1,0 +1,134 @@
+//! Drives that are put in and taken out, and commands for an executor.
+use crate::disk::{Disk, Plan};
+use crate::fault::Fault;
+use crate::machine::{Machine, NO_UNITS, Subject};
+use crate::op::command;
+use crate::verb::Change;
+use crate::words::Words;
+use std::alloc::Global;
+use uda_disk::Mode;
+use uda_exec::PENDING;
+use uda_image::{BLOCK_LIMIT, Drive, MemImage};
+
+impl Machine {
+    /// Changes which drives and commands there are.
+    pub fn change(&mut self, change: Change, words: &mut Words<'_>) -> Result<(), Fault> {
+        match change {
+            Change::Unit => self.new_drive(words),
+            Change::Remove => {
+                self.shelf = self.exchange(words.unit()?, None)?;
+                Ok(())
+            }
+            Change::Insert => {
+                let drive = self.shelf.take();
+                self.shelf = self.exchange(words.unit()?, drive)?;
+                Ok(())
+            }
+            Change::Restore => self.restore(words),
+            Change::Accept => self.accept(words),
+            Change::Reset => {
+                self.subject.executor()?.reset();
+                Ok(())
+            }
+        }
+    }
+
+    // Puts a new drive in, and the old one on the shelf.
+    fn new_drive(&mut self, words: &mut Words<'_>) -> Result<(), Fault> {
+        let unit = words.unit()?;
+        let drive = drive(self.alloc, words)?;
+        self.shelf = self.exchange(unit, Some(drive))?;
+        Ok(())
+    }
+
+    // Puts a unit into a mode: online or available, with these flags.
+    fn restore(&mut self, words: &mut Words<'_>) -> Result<(), Fault> {
+        let unit = words.unit()?;
+        let online = words.takes("online");
+        if !online && !words.takes("available") {
+            return Err(Fault::Wanted("online or available"));
+        }
+        let flags = words.hex()?;
+        let mode = Mode {
+            online,
+            hard: flags & 0x2000 != 0,
+            soft: flags & 0x1000 != 0,
+        };
+        self.restore_mode(unit, mode)
+    }
+
+    /// Puts a unit into a mode.
+    pub fn restore_mode(&mut self, unit: usize, mode: Mode) -> Result<(), Fault> {
+        match &mut self.subject {
+            Subject::Port(port) => port.restore_mode(unit, mode),
+            Subject::Executor(exec) => exec.restore_mode(unit, mode),
+            _ => return Err(NO_UNITS),
+        }
+        Ok(())
+    }
+
+    // Has the executor take a command in.
+    fn accept(&mut self, words: &mut Words<'_>) -> Result<(), Fault> {
+        let reference = words.number()?;
+        let command = command(words, reference)?;
+        let exec = self.subject.executor()?;
+        if exec.pending() >= PENDING {
+            return Err(Fault::Full);
+        }
+        exec.accept(command);
+        Ok(())
+    }
+}
+
+// A drive of so many blocks, block k of bytes k unless something else is said.
+fn drive(alloc: Global, words: &mut Words<'_>) -> Result<Drive<Disk>, Fault> {
+    let count = words.number()?;
+    if count > BLOCK_LIMIT {
+        return Err(Fault::Wanted("fewer blocks"));
+    }
+    let mut bytes = vec![in alloc; 0u8; 512 * count as usize]?;
+    let hard = words.takes("protected");
+    if words.takes("of") {
+        bytes.fill(words.byte()?);
+    } else {
+        let first = if words.takes("from") {
+            words.byte()?
+        } else {
+            0
+        };
+        number_blocks(&mut bytes, first);
+    }
+    let store = Disk::new(MemImage::from_bytes(alloc, &bytes)?, plan(words)?);
+    Ok(Drive { store, hard })
+}
+
+// Fills each block with a byte: the first one with this.
+fn number_blocks(bytes: &mut [u8], first: u8) {
+    let mut byte = first;
+    for block in bytes.chunks_mut(512) {
+        block.fill(byte);
+        byte = byte.wrapping_add(1);
+    }
+}
+
+// How a store fails.
+fn plan(words: &mut Words<'_>) -> Result<Plan, Fault> {
+    Ok(Plan {
+        fails: if words.takes("fails") {
+            words.number()?
+        } else {
+            0
+        },
+        bad: if words.takes("bad") {
+            Some(words.number()?)
+        } else {
+            None
+        },
+        at_once: if words.takes("at-once") {
+            words.number()?
+        } else {
+            u32::MAX
+        },
+        spoils: words.takes("spoils"),
+    })
+}

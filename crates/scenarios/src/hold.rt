@@ -1,0 +1,110 @@
+//! What is to be seen of drives.
+use crate::disk::Disk;
+use crate::fault::Fault;
+use crate::machine::Machine;
+use crate::place::run_of;
+use crate::verb::Hold;
+use crate::words::Words;
+use std::fmt::Write;
+use uda_image::Drive;
+
+/// How many runs of bytes of a block are written at most.
+const RUNS: usize = 6;
+
+impl Machine {
+    /// Writes what is to be seen of drives.
+    pub fn open(
+        &mut self,
+        hold: Hold,
+        words: &mut Words<'_>,
+        came: &mut String,
+    ) -> Result<(), Fault> {
+        match hold {
+            Hold::Mode => self.mode(words.unit()?, came),
+            Hold::Shelf => write_drive(&self.shelf, came),
+            Hold::Drive => self.opened(words.unit()?, false, came),
+            Hold::Calls => self.opened(words.unit()?, true, came),
+        }
+    }
+
+    // Whether a unit is online, its flags, and its size.
+    fn mode(&self, unit: usize, came: &mut String) -> Result<(), Fault> {
+        match self.look(unit) {
+            Some(look) => {
+                let state = if look.mode.online {
+                    "online"
+                } else {
+                    "available"
+                };
+                write!(came, "{state} {:04x} {}", look.mode.flags(), look.size)?;
+            }
+            None => came.push_str("none")?,
+        }
+        Ok(())
+    }
+
+    // The drive of a unit or its calls: it is taken out, looked at, and put back as it was.
+    fn opened(&mut self, unit: usize, calls: bool, came: &mut String) -> Result<(), Fault> {
+        let look = self.look(unit);
+        let drive = self.exchange(unit, None)?;
+        let drive = if calls {
+            with_calls(drive, came)?
+        } else {
+            write_drive(&drive, came)?;
+            drive
+        };
+        self.exchange(unit, drive)?;
+        match look {
+            Some(look) => self.restore_mode(unit, look.mode),
+            None => Ok(()),
+        }
+    }
+}
+
+// Writes the calls that a store got since they were looked at last, and forgets them.
+fn with_calls(drive: Option<Drive<Disk>>, came: &mut String) -> Result<Option<Drive<Disk>>, Fault> {
+    let Some(mut drive) = drive else {
+        came.push_str("no drive")?;
+        return Ok(None);
+    };
+    if drive.store.calls().is_empty() {
+        came.push_str("none")?;
+    }
+    for call in drive.store.calls() {
+        write!(came, "{call} ")?;
+    }
+    drive.store.forget();
+    Ok(Some(drive))
+}
+
+// The hardware protection of a drive, and its blocks.
+fn write_drive(drive: &Option<Drive<Disk>>, came: &mut String) -> Result<(), Fault> {
+    let Some(drive) = drive else {
+        return Ok(came.push_str("none")?);
+    };
+    came.push_str(if drive.hard { "protected" } else { "free" })?;
+    for block in drive.store.bytes().chunks(512) {
+        came.push(' ')?;
+        write_block(block, came)?;
+    }
+    Ok(())
+}
+
+// A block as runs of a byte: `30` where all of it is one, `66*256/32*256` where its halves differ.
+fn write_block(block: &[u8], came: &mut String) -> Result<(), Fault> {
+    let mut rest = block;
+    for _ in 0..RUNS {
+        let Some(&byte) = rest.first() else {
+            return Ok(());
+        };
+        let count = run_of(rest, byte);
+        if count == block.len() {
+            write!(came, "{byte:x}")?;
+            return Ok(());
+        }
+        let joint = if rest.len() == block.len() { "" } else { "/" };
+        write!(came, "{joint}{byte:x}*{count}")?;
+        rest = rest.get(count..).unwrap_or(&[]);
+    }
+    Ok(came.push_str("..")?)
+}

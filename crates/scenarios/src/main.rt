@@ -1,0 +1,65 @@
+//! Scenarios: cases for a port, an executor or a ring, each a file of lines that are carried out one by one.
+//!
+//! With no arguments one case is read from standard input; with arguments each names a case's file. For each
+//! line whose values differ from what it expects a line is printed, and one more at the end of each case. The
+//! exit status is 1 where any line differed or any case could not be read. docs/SCENARIOS.md has the language.
+#![tactic(auto)]
+
+mod case;
+mod disk;
+mod drives;
+mod fault;
+mod hold;
+mod host;
+mod machine;
+mod memory;
+mod op;
+mod place;
+mod random;
+mod run;
+mod sight;
+mod verb;
+mod words;
+
+use std::process::ExitCode;
+use std::{env, fs, io};
+
+fn main(rt: HostRuntime) -> ExitCode {
+    match run_all(&rt) {
+        Ok(true) => ExitCode::SUCCESS,
+        Ok(false) => ExitCode::FAILURE,
+        Err(error) => {
+            let _ = eprintln!(rt; "{error}");
+            ExitCode::FAILURE
+        }
+    }
+}
+
+// Carries out each case that the arguments name, or one from standard input, and answers whether all was as
+// expected.
+fn run_all(rt: &HostRuntime) -> io::Result<bool> {
+    let names: Vec<String> = env::args(rt)?.skip(1).collect(rt.alloc())?;
+    if names.is_empty() {
+        let case = io::read_to_string(rt.alloc(), rt.stdin())?;
+        return run_case(rt, "case", &case);
+    }
+    let mut all = true;
+    for name in &names {
+        let case = fs::read_to_string(rt, name.as_str())?;
+        all &= run_case(rt, name, &case)?;
+    }
+    Ok(all)
+}
+
+fn run_case(rt: &HostRuntime, name: &str, case: &str) -> io::Result<bool> {
+    match case::carry_out(rt.alloc(), name, case) {
+        Ok((text, as_expected)) => {
+            print!(rt; "{text}")?;
+            Ok(as_expected)
+        }
+        Err(fault) => {
+            println!(rt; "{name}: {fault}")?;
+            Ok(false)
+        }
+    }
+}

@@ -1,0 +1,191 @@
+//! The memory of a case's host: one of its own, or somebody else's in a slice, at each call another one where
+//! it wanders.
+use crate::disk::Disk;
+use crate::fault::Fault;
+use std::alloc::Global;
+use uda_exec::Exec;
+use uda_mem::{HostMemory, MEMORY_LIMIT, is_memory};
+use uda_packet::End;
+use uda_port::{Fetched, HostEvent, Port, Ring, RingFault, Trace};
+
+/// What a slice holds that its memory has left.
+const LEFT: u8 = 0xee;
+
+/// The memory of a host.
+#[derive(Drop)]
+pub enum Memory {
+    /// A host's own.
+    Host(HostMemory),
+    /// Somebody else's.
+    Slice(Slice),
+}
+
+/// Memory in a slice, with the slice that it goes to next where it wanders.
+#[derive(Drop)]
+pub struct Slice {
+    bytes: Vec<u8>,
+    spare: Option<Vec<u8>>,
+}
+
+impl Slice {
+    /// Makes a memory of so many bytes.
+    pub fn new(alloc: Global, count: u32, byte: u8) -> Result<Slice, Fault> {
+        Ok(Slice {
+            bytes: vec![in alloc; byte; count as usize]?,
+            spare: None,
+        })
+    }
+
+    // The bytes for the next call.
+    fn next(&mut self) -> Result<&mut [u8], Fault> {
+        if let Some(spare) = &mut self.spare {
+            if spare.len() != self.bytes.len() {
+                return Err(Fault::Memory);
+            }
+            spare.copy_from_slice(&self.bytes);
+            self.bytes.fill(LEFT);
+            std::mem::swap(&mut self.bytes, spare);
+        }
+        Ok(&mut self.bytes)
+    }
+}
+
+impl Memory {
+    /// Makes a host's own memory of so many bytes.
+    pub fn host(alloc: Global, count: u32, byte: u8) -> Result<Memory, Fault> {
+        if count % 2 != 0 || count > MEMORY_LIMIT {
+            return Err(Fault::Memory);
+        }
+        let mut memory = Memory::Host(HostMemory::new(alloc, count)?);
+        memory.bytes_mut().fill(byte);
+        Ok(memory)
+    }
+
+    /// Has the memory in another slice at each call.
+    pub fn wander(&mut self, alloc: Global) -> Result<(), Fault> {
+        if let Memory::Slice(slice) = self {
+            let count = slice.bytes.len();
+            slice.spare = Some(vec![in alloc; LEFT; count]?);
+        }
+        Ok(())
+    }
+
+    /// All bytes.
+    pub fn bytes(&self) -> &[u8] {
+        match self {
+            Memory::Host(memory) => memory.as_slice(),
+            Memory::Slice(slice) => &slice.bytes,
+        }
+    }
+
+    /// All bytes, to be written.
+    pub fn bytes_mut(&mut self) -> &mut [u8] {
+        match self {
+            Memory::Host(memory) => memory.as_mut_slice(),
+            Memory::Slice(slice) => &mut slice.bytes,
+        }
+    }
+
+    /// So many bytes from an address on.
+    pub fn window(&self, address: u32, count: u32) -> Result<&[u8], Fault> {
+        uda_mem::window(self.bytes(), address, count).ok_or(Fault::Address)
+    }
+
+    /// The word at an address.
+    pub fn word(&self, address: u32) -> Result<u16, Fault> {
+        uda_mem::read_word(self.bytes(), address).ok_or(Fault::Address)
+    }
+
+    /// Writes a word.
+    pub fn poke(&mut self, address: u32, word: u16) -> Result<(), Fault> {
+        if uda_mem::write_word(self.bytes_mut(), address, word) {
+            Ok(())
+        } else {
+            Err(Fault::Address)
+        }
+    }
+
+    /// Writes a byte.
+    pub fn put(&mut self, address: u32, byte: u8) -> Result<(), Fault> {
+        match self.bytes_mut().get_mut(address as usize) {
+            Some(place) => *place = byte,
+            None => return Err(Fault::Address),
+        }
+        Ok(())
+    }
+
+    /// Writes one byte to so many places from an address on.
+    pub fn fill(&mut self, address: u32, count: u32, byte: u8) -> Result<(), Fault> {
+        let start = address as usize;
+        match self.bytes_mut().get_mut(start..start + count as usize) {
+            Some(bytes) => bytes.fill(byte),
+            None => return Err(Fault::Address),
+        }
+        Ok(())
+    }
+
+    /// Writes a word to a port's SA.
+    pub fn write_sa(&mut self, port: &mut Port<Disk>, word: u16) -> Result<(), Fault> {
+        match self {
+            Memory::Host(memory) => port.write_sa(word, memory),
+            Memory::Slice(slice) => port.write_sa_in(word, slice.next()?),
+        }
+        Ok(())
+    }
+
+    /// Lets a port take a turn.
+    pub fn turn(&mut self, port: &mut Port<Disk>) -> Result<Trace, Fault> {
+        match self {
+            Memory::Host(memory) => Ok(port.turn_traced(memory)),
+            Memory::Slice(slice) => {
+                let bytes = slice.next()?;
+                if !is_memory(bytes) {
+                    return Err(Fault::Memory);
+                }
+                Ok(port.turn_traced_in(bytes))
+            }
+        }
+    }
+
+    /// Plays events to a port.
+    pub fn play(&mut self, port: &mut Port<Disk>, events: &[HostEvent]) -> Result<u16, Fault> {
+        match self {
+            Memory::Host(memory) => Ok(port.play(events, memory)),
+            Memory::Slice(slice) => {
+                let bytes = slice.next()?;
+                if !is_memory(bytes) {
+                    return Err(Fault::Memory);
+                }
+                Ok(port.play_in(events, bytes))
+            }
+        }
+    }
+
+    /// Has an executor do one of its commands.
+    pub fn execute(&mut self, exec: &mut Exec<Disk>) -> Result<Option<End>, Fault> {
+        match self {
+            Memory::Host(memory) => Ok(exec.execute_one(memory)),
+            Memory::Slice(slice) => {
+                let bytes = slice.next()?;
+                if !is_memory(bytes) {
+                    return Err(Fault::Memory);
+                }
+                Ok(exec.execute_one_in(bytes))
+            }
+        }
+    }
+
+    /// Fetches a packet from a ring.
+    pub fn fetch(&mut self, ring: &mut Ring) -> Result<Result<Option<Fetched>, RingFault>, Fault> {
+        match self {
+            Memory::Host(memory) => Ok(ring.fetch(memory)),
+            Memory::Slice(slice) => {
+                let bytes = slice.next()?;
+                if !is_memory(bytes) {
+                    return Err(Fault::Memory);
+                }
+                Ok(ring.fetch_in(bytes))
+            }
+        }
+    }
+}

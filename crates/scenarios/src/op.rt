@@ -1,0 +1,150 @@
+//! Commands and end messages, as a case writes them.
+use crate::fault::Fault;
+use crate::words::Words;
+use std::fmt;
+use uda_packet::{Command, End, EndBody, Kind, Op};
+
+// What a command is asked for by.
+#[derive(Clone, Copy)]
+enum Name {
+    Status,
+    Controller,
+    Available,
+    Online,
+    Access,
+    Erase,
+    Read,
+    Write,
+}
+
+const NAMES: [(&str, Name); 8] = [
+    ("status", Name::Status),
+    ("controller", Name::Controller),
+    ("available", Name::Available),
+    ("online", Name::Online),
+    ("access", Name::Access),
+    ("erase", Name::Erase),
+    ("read", Name::Read),
+    ("write", Name::Write),
+];
+
+fn name_of(word: &str) -> Option<Name> {
+    for &(text, name) in &NAMES {
+        if text == word {
+            return Some(name);
+        }
+    }
+    None
+}
+
+/// Takes a command: its name, its unit, and its parameters, as `read 0 5 512 1000` of block 5, 512 bytes, to
+/// the address 0x1000.
+pub fn command(words: &mut Words<'_>, reference: u32) -> Result<Command, Fault> {
+    let kind = "a command's name";
+    let name = name_of(words.word(kind)?).ok_or(Fault::Wanted(kind))?;
+    let unit = words.small()?;
+    let op = operation(words, name)?;
+    Ok(Command {
+        reference,
+        unit,
+        op,
+    })
+}
+
+fn operation(words: &mut Words<'_>, name: Name) -> Result<Op, Fault> {
+    match name {
+        Name::Status => Ok(Op::Status),
+        Name::Controller => Ok(Op::Controller),
+        Name::Available => Ok(Op::Available),
+        Name::Online => Ok(Op::Online {
+            soft: protection(words),
+        }),
+        _ => transfer(words, name),
+    }
+}
+
+// What an Online says of software protection.
+fn protection(words: &mut Words<'_>) -> Option<bool> {
+    if words.takes("protect") {
+        Some(true)
+    } else if words.takes("unprotect") {
+        Some(false)
+    } else {
+        None
+    }
+}
+
+fn transfer(words: &mut Words<'_>, name: Name) -> Result<Op, Fault> {
+    let lbn = words.number()?;
+    let bytes = words.number()?;
+    match name {
+        Name::Access => Ok(Op::Access { bytes, lbn }),
+        Name::Erase => Ok(Op::Erase { bytes, lbn }),
+        Name::Read => Ok(Op::Read {
+            bytes,
+            address: words.address()?,
+            lbn,
+        }),
+        _ => Ok(Op::Write {
+            bytes,
+            address: words.address()?,
+            lbn,
+        }),
+    }
+}
+
+/// What an end message answers: the status and its numbers, as `0000 512`.
+#[derive(Drop)]
+pub struct Outcome(pub End);
+
+impl fmt::Display for Outcome {
+    fn fmt<W: fmt::Write>(&self, f: &mut fmt::Formatter<W>) -> fmt::Result {
+        let End { status, body, .. } = self.0;
+        match body {
+            EndBody::Status { flags } => write!(f, "{status:04x} {flags:04x}"),
+            EndBody::Online { flags, size } => write!(f, "{status:04x} {flags:04x} {size}"),
+            EndBody::Moved { bytes, .. } => write!(f, "{status:04x} {bytes}"),
+            _ => write!(f, "{status:04x}"),
+        }
+    }
+}
+
+/// An end message whole: its reference, its command's name, its unit and its outcome.
+#[derive(Drop)]
+pub struct EndLine(pub End);
+
+impl fmt::Display for EndLine {
+    fn fmt<W: fmt::Write>(&self, f: &mut fmt::Formatter<W>) -> fmt::Result {
+        let End {
+            reference,
+            unit,
+            body,
+            ..
+        } = self.0;
+        let name = name_of_body(body);
+        write!(f, "{reference} {name} {unit} {}", Outcome(self.0))
+    }
+}
+
+fn name_of_body(body: EndBody) -> &'static str {
+    match body {
+        EndBody::Invalid => "invalid",
+        EndBody::Status { .. } => "status",
+        EndBody::Controller => "controller",
+        EndBody::Available => "available",
+        EndBody::Online { .. } => "online",
+        EndBody::Moved { kind, .. } => match kind {
+            Kind::Access => "access",
+            Kind::Erase => "erase",
+            Kind::Read => "read",
+            Kind::Write => "write",
+        },
+    }
+}
+
+/// Whether an end message is one of this command's: of its reference, its unit and its name.
+pub fn is_of(end: &End, command: &Command) -> bool {
+    end.reference == command.reference
+        && end.unit == command.unit
+        && end.body.code() == command.op.opcode() | 0x80
+}

@@ -1,0 +1,151 @@
+//! What is to be seen in memory.
+use crate::fault::Fault;
+use crate::machine::Machine;
+use crate::op::EndLine;
+use crate::verb::Place;
+use crate::words::Words;
+use std::fmt::Write;
+use uda_mem::is_memory;
+use uda_packet::decode_end;
+use uda_port::Descriptor;
+
+impl Machine {
+    /// Writes what is to be seen in memory.
+    pub fn find(
+        &self,
+        place: Place,
+        words: &mut Words<'_>,
+        wanted: usize,
+        came: &mut String,
+    ) -> Result<(), Fault> {
+        match place {
+            Place::Words => self.words(words.address()?, wanted, came),
+            Place::Bytes => self.bytes(words.address()?, wanted, came),
+            Place::Filled => self.filled(words, came),
+            Place::Cleared => self.cleared(words, came),
+            Place::Kept => self.same(came),
+            Place::End => self.end(words, came),
+            Place::Descriptor => self.descriptor(words.address()?, came),
+        }
+    }
+
+    // As many words as are wanted, from an address on.
+    fn words(&self, first: u32, wanted: usize, came: &mut String) -> Result<(), Fault> {
+        let mut address = first;
+        for _ in 0..wanted {
+            write!(came, "{:04x} ", self.memory.word(address)?)?;
+            address = address.saturating_add(2);
+        }
+        Ok(())
+    }
+
+    // As many bytes as are wanted, from an address on.
+    fn bytes(&self, first: u32, wanted: usize, came: &mut String) -> Result<(), Fault> {
+        let bytes = self.memory.bytes();
+        for byte in bytes.iter().skip(first as usize).take(wanted) {
+            write!(came, "{byte:02x} ")?;
+        }
+        Ok(())
+    }
+
+    // The byte that so many bytes from an address on are, and the first that is another.
+    fn filled(&self, words: &mut Words<'_>, came: &mut String) -> Result<(), Fault> {
+        let first = words.address()?;
+        let count = words.number()?;
+        let bytes = self.memory.window(first, count)?;
+        let Some(&byte) = bytes.first() else {
+            return Err(Fault::Wanted("one byte or more"));
+        };
+        write!(came, "{byte:02x}")?;
+        let run = run_of(bytes, byte);
+        if run < bytes.len() {
+            write!(
+                came,
+                ", another at {:x}",
+                run.saturating_add(first as usize)
+            )?;
+        }
+        Ok(())
+    }
+
+    // The byte that all others are beside so many zeros from an address on, and the first place where it
+    // isn't so.
+    fn cleared(&self, words: &mut Words<'_>, came: &mut String) -> Result<(), Fault> {
+        let start = words.address()? as usize;
+        let end = start.saturating_add(words.number()? as usize);
+        let bytes = self.memory.bytes();
+        let outside = if start > 0 { 0 } else { end };
+        let other = bytes.get(outside).copied().unwrap_or(0);
+        write!(came, "{other:02x}")?;
+        for (at, byte) in bytes.iter().enumerate() {
+            let inside = start <= at && at < end;
+            if *byte != (if inside { 0 } else { other }) {
+                write!(came, ", {byte:02x} at {at:x}")?;
+                return Ok(());
+            }
+        }
+        Ok(())
+    }
+
+    // Whether memory is as it was kept.
+    fn same(&self, came: &mut String) -> Result<(), Fault> {
+        let bytes = self.memory.bytes();
+        if bytes.len() != self.kept.len() {
+            return Ok(came.push_str("no: another length")?);
+        }
+        for (at, (one, other)) in bytes.iter().zip(self.kept.iter()).enumerate() {
+            if *one != *other {
+                write!(came, "no: another byte at {at:x}")?;
+                return Ok(());
+            }
+        }
+        came.push_str("yes")?;
+        Ok(())
+    }
+
+    // The end message of response i.
+    fn end(&self, words: &mut Words<'_>, came: &mut String) -> Result<(), Fault> {
+        let packet = self.layout.packet(words.small()?);
+        let bytes = self.memory.window(packet.saturating_add(4), 48)?;
+        let mut text = [0; 48];
+        for (place, byte) in text.iter_mut().zip(bytes) {
+            *place = *byte;
+        }
+        match decode_end(&text) {
+            Some(end) => write!(came, "{}", EndLine(end))?,
+            None => came.push_str("none")?,
+        }
+        Ok(())
+    }
+
+    // The descriptor at an even address: its words, its owner, its address, and its second word given back.
+    fn descriptor(&self, at: u32, came: &mut String) -> Result<(), Fault> {
+        let bytes = self.memory.bytes();
+        if at % 2 != 0 || !is_memory(bytes) {
+            return Err(Fault::Address);
+        }
+        let Some(d) = Descriptor::read_in(bytes, at) else {
+            return Ok(came.push_str("none")?);
+        };
+        let owner = if d.is_owned() { "port" } else { "host" };
+        write!(
+            came,
+            "{:04x} {:04x} {owner} {:x} {:04x}",
+            d.low,
+            d.high,
+            d.address(),
+            d.given_back()
+        )?;
+        Ok(())
+    }
+}
+
+/// How many bytes from the first on are this one.
+pub fn run_of(bytes: &[u8], byte: u8) -> usize {
+    for (place, other) in bytes.iter().enumerate() {
+        if *other != byte {
+            return place;
+        }
+    }
+    bytes.len()
+}

@@ -1,0 +1,115 @@
+//! Work: what a port, an executor or a ring does when it is let.
+use crate::fault::Fault;
+use crate::machine::{Machine, Subject};
+use crate::op::{EndLine, Outcome, command, is_of};
+use crate::verb::Work;
+use crate::words::Words;
+use std::fmt::Write;
+use uda_exec::PENDING;
+use uda_port::{Fetched, Turn};
+
+impl Machine {
+    /// Lets the port, the executor or the ring work, and writes what came of it.
+    pub fn run(
+        &mut self,
+        work: Work,
+        words: &mut Words<'_>,
+        wanted: usize,
+        came: &mut String,
+    ) -> Result<(), Fault> {
+        match work {
+            Work::Ip => {
+                let value = self.subject.port()?.read_ip();
+                write!(came, "{value:04x}")?;
+                Ok(())
+            }
+            Work::Turn => self.turn(came),
+            Work::Turns => self.turns(wanted, came),
+            Work::Execute => self.execute(words, came),
+            Work::Next => self.next(came),
+            Work::Fetch => self.fetch(came),
+            Work::Random => self.random(words, came),
+            Work::Replay => self.replay(words, came),
+        }
+    }
+
+    // One turn, with the command or the end message that it was about.
+    fn turn(&mut self, came: &mut String) -> Result<(), Fault> {
+        let trace = self.memory.turn(self.subject.port()?)?;
+        write!(came, "{trace}")?;
+        Ok(())
+    }
+
+    // So many turns, by their kinds.
+    fn turns(&mut self, wanted: usize, came: &mut String) -> Result<(), Fault> {
+        for _ in 0..wanted {
+            let trace = self.memory.turn(self.subject.port()?)?;
+            write!(came, "{} ", name_of(trace.turn()))?;
+            writeln!(self.turns, "    {trace}")?;
+        }
+        Ok(())
+    }
+
+    // A command that the executor takes in and does at once.
+    fn execute(&mut self, words: &mut Words<'_>, came: &mut String) -> Result<(), Fault> {
+        let command = command(words, 1)?;
+        let exec = self.subject.executor()?;
+        if exec.pending() >= PENDING {
+            return Err(Fault::Full);
+        }
+        exec.accept(command);
+        match self.memory.execute(exec)? {
+            Some(end) if is_of(&end, &command) => write!(came, "{}", Outcome(end))?,
+            Some(end) => write!(came, "{}", EndLine(end))?,
+            None => came.push_str("none")?,
+        }
+        Ok(())
+    }
+
+    // A command that the executor chooses.
+    fn next(&mut self, came: &mut String) -> Result<(), Fault> {
+        match self.memory.execute(self.subject.executor()?)? {
+            Some(end) => write!(came, "{} {:04x}", end.reference, end.status)?,
+            None => came.push_str("none")?,
+        }
+        Ok(())
+    }
+
+    // A packet from the ring.
+    fn fetch(&mut self, came: &mut String) -> Result<(), Fault> {
+        let Subject::Ring(ring) = &mut self.subject else {
+            return Err(Fault::Wanted("a ring before this line"));
+        };
+        match self.memory.fetch(ring)? {
+            Ok(Some(packet)) => write_packet(&packet, came),
+            Ok(None) => Ok(came.push_str("none")?),
+            Err(fault) => Ok(write!(came, "{fault}")?),
+        }
+    }
+}
+
+fn name_of(turn: Turn) -> &'static str {
+    match turn {
+        Turn::Fetched => "fetched",
+        Turn::Executed => "executed",
+        Turn::Delivered => "delivered",
+        Turn::Idle => "idle",
+        Turn::Dead => "dead",
+    }
+}
+
+// A packet: both words of its envelope, and the bytes of its text up to the last that isn't 0.
+fn write_packet(packet: &Fetched, came: &mut String) -> Result<(), Fault> {
+    let (length, second) = packet.words;
+    write!(came, "{length:04x} {second:04x}")?;
+    let mut count = 0;
+    for (place, byte) in packet.text.iter().enumerate() {
+        if *byte != 0 {
+            count = place.saturating_add(1);
+        }
+    }
+    for byte in packet.text.iter().take(count) {
+        write!(came, " {byte:02x}")?;
+    }
+    Ok(())
+}

@@ -1,0 +1,151 @@
+//! The words of a line.
+use crate::fault::Fault;
+use arrayvec::ArrayVec;
+
+/// How many words a line has at most; those behind them are not read.
+pub const LINE_WORDS: usize = 96;
+
+/// The words of a text, as far as they are read.
+pub type Split<'a> = ArrayVec<&'a str, LINE_WORDS>;
+
+/// Splits a text into its words.
+pub fn split(text: &str) -> Split<'_> {
+    let mut words = ArrayVec::new();
+    for word in text.split_whitespace() {
+        let _ = words.try_push(word);
+    }
+    words
+}
+
+/// The words of a line that have not been taken yet.
+#[derive(Drop)]
+pub struct Words<'a> {
+    all: &'a [&'a str],
+    taken: usize,
+}
+
+impl<'a> Words<'a> {
+    /// All of these words.
+    pub fn new(all: &'a [&'a str]) -> Words<'a> {
+        Words { all, taken: 0 }
+    }
+
+    /// How many words are left.
+    pub fn count(&self) -> usize {
+        self.all.len().saturating_sub(self.taken)
+    }
+
+    /// Takes the next word, if there is one.
+    pub fn next(&mut self) -> Option<&'a str> {
+        let word = self.all.get(self.taken).copied()?;
+        self.taken = self.taken.saturating_add(1);
+        Some(word)
+    }
+
+    /// Takes the next word, where it is this one, and answers whether it was.
+    pub fn takes(&mut self, word: &str) -> bool {
+        match self.all.get(self.taken) {
+            Some(next) if *next == word => {
+                self.taken = self.taken.saturating_add(1);
+                true
+            }
+            _ => false,
+        }
+    }
+
+    /// Takes the next word, which is of this kind.
+    pub fn word(&mut self, kind: &'static str) -> Result<&'a str, Fault> {
+        self.next().ok_or(Fault::Wanted(kind))
+    }
+
+    /// Takes a hexadecimal number of at most 32 bits.
+    pub fn address(&mut self) -> Result<u32, Fault> {
+        let kind = "a hexadecimal number";
+        hexadecimal(self.word(kind)?).ok_or(Fault::Wanted(kind))
+    }
+
+    /// Takes a hexadecimal number of at most 16 bits.
+    pub fn hex(&mut self) -> Result<u16, Fault> {
+        match u16::try_from(self.address()?) {
+            Ok(value) => Ok(value),
+            Err(_) => Err(Fault::Wanted("a hexadecimal word")),
+        }
+    }
+
+    /// Takes a hexadecimal number of at most 8 bits.
+    pub fn byte(&mut self) -> Result<u8, Fault> {
+        match u8::try_from(self.address()?) {
+            Ok(value) => Ok(value),
+            Err(_) => Err(Fault::Wanted("a hexadecimal byte")),
+        }
+    }
+
+    /// Takes the number of a place among the units.
+    pub fn unit(&mut self) -> Result<usize, Fault> {
+        let kind = "a decimal number";
+        match self.word(kind)?.parse::<usize>() {
+            Ok(value) => Ok(value),
+            Err(_) => Err(Fault::Wanted(kind)),
+        }
+    }
+
+    /// Takes a decimal number of at most 32 bits.
+    pub fn number(&mut self) -> Result<u32, Fault> {
+        match u32::try_from(self.unit()?) {
+            Ok(value) => Ok(value),
+            Err(_) => Err(Fault::Wanted("a decimal number of 32 bits")),
+        }
+    }
+
+    /// Takes a decimal number of at most 16 bits.
+    pub fn small(&mut self) -> Result<u16, Fault> {
+        match u16::try_from(self.unit()?) {
+            Ok(value) => Ok(value),
+            Err(_) => Err(Fault::Wanted("a decimal number of 16 bits")),
+        }
+    }
+
+    /// Tests that no word is left.
+    pub fn end(&self) -> Result<(), Fault> {
+        if self.count() == 0 {
+            Ok(())
+        } else {
+            Err(Fault::MoreWords)
+        }
+    }
+}
+
+// The value of a hexadecimal digit.
+fn nibble(digit: u8) -> Option<u32> {
+    match digit {
+        b'0'..=b'9' => Some(u32::from(digit - b'0')),
+        b'a'..=b'f' => Some(u32::from(digit - b'a') + 10),
+        _ => None,
+    }
+}
+
+// The number of at most 32 bits that a word is in hexadecimal.
+fn hexadecimal(word: &str) -> Option<u32> {
+    if word.is_empty() {
+        return None;
+    }
+    let mut value = 0u32;
+    for digit in word.bytes() {
+        value = value.checked_mul(16)?.checked_add(nibble(digit)?)?;
+    }
+    Some(value)
+}
+
+/// Whether two texts have the same words, but for zeros at their heads.
+pub fn are_alike(one: &str, other: &str) -> bool {
+    let (one, other) = (split(one), split(other));
+    if one.len() != other.len() {
+        return false;
+    }
+    for (a, b) in one.as_slice().iter().zip(other.as_slice()) {
+        if a.trim_start_matches('0') != b.trim_start_matches('0') {
+            return false;
+        }
+    }
+    true
+}

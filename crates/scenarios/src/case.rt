@@ -152,7 +152,7 @@ impl Report {
         Ok(())
     }
 
-    // The last line.
+    // Writes the last line. A case that expects nothing would pass whatever came, so it counts as one that differs.
     fn close(&mut self) -> Result<(), Fault> {
         let Report {
             text,
@@ -161,7 +161,10 @@ impl Report {
             differ,
             ..
         } = self;
-        if *differ == 0 {
+        if *looks == 0 {
+            *differ = 1;
+            writeln!(text, "{name}: no line expects anything")?;
+        } else if *differ == 0 {
             writeln!(text, "{name}: {looks} lines as expected")?;
         } else {
             writeln!(text, "{name}: {looks} lines, {differ} differ")?;

@@ -137,7 +137,7 @@ const VERBS: [(&str, Verb); 50] = [
     ("interrupt", Verb::Show(Sight::Interrupt)),
     ("phase", Verb::Show(Sight::Phase)),
     ("cause", Verb::Show(Sight::Cause)),
-    ("looking", Verb::Show(Sight::Looking)),
+    ("polling", Verb::Show(Sight::Looking)),
     ("load", Verb::Show(Sight::Load)),
     ("credits", Verb::Show(Sight::Credits)),
     ("responses", Verb::Show(Sight::Responses)),

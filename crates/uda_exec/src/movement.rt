@@ -214,7 +214,7 @@ fn move_at_once<S: BlockStore>(t: Transfer, store: &mut S, memory: &mut [u8]) ->
             if store.write_at_once(t.lbn, count, bytes) {
                 count
             } else {
-                0
+                0 // The store declined, and nothing was written.
             }
         }
     }

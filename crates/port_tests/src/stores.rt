@@ -27,15 +27,22 @@ fn drive(alloc: Global) -> Result<Drive<MemImage>, Fail> {
     })
 }
 
+/// The hardware protection of a drive, and its size.
+fn seen_of(drive: &Option<Drive<MemImage>>) -> Option<(bool, u32)> {
+    let drive = drive.as_ref()?;
+    Some((drive.hard, drive.store.size()))
+}
+
 #[test]
 fn a_port_over_any_stores(rt: HostRuntime) -> Result<(), Fail> {
     let second = Some(drive(rt.alloc())?);
     let port = port_over(rt.alloc(), [None, second, None, None])?;
     assert_eq!(rt; port.phase(), Phase::Step1);
-    let [first, second, third, fourth] = stores_of(port);
-    assert!(rt; first.is_none() && third.is_none() && fourth.is_none());
-    let second = second.ok_or("no drive")?;
-    assert!(rt; second.hard && second.store.size() == 3);
+    let [first, second, third, fourth] = &stores_of(port);
+    assert_eq!(rt; seen_of(second), Some((true, 3)));
+    assert_eq!(rt; seen_of(first), None);
+    assert_eq!(rt; seen_of(third), None);
+    assert_eq!(rt; seen_of(fourth), None);
     Ok(())
 }
 

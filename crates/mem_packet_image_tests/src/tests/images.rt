@@ -94,8 +94,7 @@ impl Call {
             }
             Call::ReadTwo(n, wanted, blocks) if n < size && size - n >= 2 => {
                 let mut two = [0x77; 1024];
-                store.read_at_once(n, 2, &mut two) == wanted
-                    && blocks.is_none_or(|blocks| are_two(&two, blocks))
+                store.read_at_once(n, 2, &mut two) == wanted && are_two(&two, blocks)
             }
             Call::WriteThree(n, byte, wanted) if n < size && size - n >= 3 => {
                 store.write_at_once(n, 3, &[byte; 1536]) == wanted
@@ -105,15 +104,23 @@ impl Call {
     }
 }
 
-// Whether these are two blocks.
-fn are_two(bytes: &[u8; 1024], blocks: (u16, u16)) -> bool {
+// Whether these are two blocks, where they are known.
+fn are_two(bytes: &[u8; 1024], blocks: Option<(u16, u16)>) -> bool {
+    let Some((one, other)) = blocks else {
+        return true;
+    };
     let (first, last) = bytes.split_at(512);
-    first == block_of(blocks.0).as_slice() && last == block_of(blocks.1).as_slice()
+    first == block_of(one).as_slice() && last == block_of(other).as_slice()
 }
 
 // Makes calls of a store; where the first that isn't answered so stands among them.
 fn first_wrong<S: BlockStore>(store: &mut S, calls: &[Call]) -> Option<usize> {
-    calls.iter().position(|call| !call.is_answered(store))
+    for (n, call) in calls.iter().enumerate() {
+        if !call.is_answered(store) {
+            return Some(n);
+        }
+    }
+    None
 }
 
 /// What an image is made of, and which of its calls fails.
@@ -293,37 +300,27 @@ const CASES: [Case; 14] = [
     },
 ];
 
-// What comes of a case's calls: where the first that isn't answered so stands among them, and the bytes that are left.
-#[derive(Drop)]
-struct Outcome {
-    wrong: Option<usize>,
-    left: Vec<u8>,
-}
-
 impl Case {
-    fn run(&self, rt: &HostRuntime) -> Result<Outcome, Fail> {
+    /// Makes the calls. The answer is the number of the first that isn't answered so, or their count where the blocks
+    /// afterwards are others.
+    fn first_wrong(&self, rt: &HostRuntime) -> Result<Option<usize>, Fail> {
         let blocks = bytes_of(rt.alloc(), self.blocks)?;
         match self.over {
-            Over::Memory => self.over_memory(rt.alloc(), &blocks),
-            Over::Failing(at) => self.over_failing(rt.alloc(), &blocks, at),
+            Over::Memory => {
+                let mut image = MemImage::from_bytes(rt.alloc(), &blocks)?;
+                let wrong = first_wrong(&mut image, self.calls);
+                self.judge(rt.alloc(), wrong, image.bytes())
+            }
+            Over::Failing(at) => {
+                let image = MemImage::from_bytes(rt.alloc(), &blocks)?;
+                let mut failing = FailingImage::new(image, at);
+                let wrong = first_wrong(&mut failing, self.calls);
+                self.judge(rt.alloc(), wrong, failing.into_inner().bytes())
+            }
             Over::File => self.over_file(rt, &blocks, true, blocks.len()),
             Over::LockedFile => self.over_file(rt, &blocks, false, blocks.len()),
             Over::ShortenedFile => self.over_file(rt, &blocks, true, 2048),
         }
-    }
-
-    fn over_memory(&self, alloc: Global, blocks: &[u8]) -> Result<Outcome, Fail> {
-        let mut image = MemImage::from_bytes(alloc, blocks)?;
-        let wrong = first_wrong(&mut image, self.calls);
-        let left = Vec::from_slice(alloc, image.bytes())?;
-        Ok(Outcome { wrong, left })
-    }
-
-    fn over_failing(&self, alloc: Global, blocks: &[u8], at: u32) -> Result<Outcome, Fail> {
-        let mut image = FailingImage::new(MemImage::from_bytes(alloc, blocks)?, at);
-        let wrong = first_wrong(&mut image, self.calls);
-        let left = Vec::from_slice(alloc, image.into_inner().bytes())?;
-        Ok(Outcome { wrong, left })
     }
 
     // Over a file that has this length once it is open.
@@ -333,24 +330,37 @@ impl Case {
         blocks: &[u8],
         writable: bool,
         len: usize,
-    ) -> Result<Outcome, Fail> {
+    ) -> Result<Option<usize>, Fail> {
         let path = file_of(rt, "image", blocks)?;
         let mut image = FileImage::open(rt, path.as_str(), writable)?;
         set_len(rt, &path, len as u64)?;
         let wrong = first_wrong(&mut image, self.calls);
         image.sync()?;
         let left = take_file(rt, &path)?;
-        Ok(Outcome { wrong, left })
+        self.judge(rt.alloc(), wrong, &left)
+    }
+
+    // What was found wrong, and else whether these are the bytes afterwards.
+    fn judge(
+        &self,
+        alloc: Global,
+        wrong: Option<usize>,
+        bytes: &[u8],
+    ) -> Result<Option<usize>, Fail> {
+        let left = bytes_of(alloc, self.left)?;
+        let is_left = bytes == left.as_slice();
+        Ok(match wrong {
+            None if !is_left => Some(self.calls.len()),
+            wrong => wrong,
+        })
     }
 }
 
 #[test]
 fn images(rt: HostRuntime) -> Result<(), Fail> {
     for case in CASES {
-        let outcome = case.run(&rt)?;
-        let name = case.name;
-        assert_eq!(rt; outcome.wrong, None, "{name}");
-        assert!(rt; outcome.left == bytes_of(rt.alloc(), case.left)?, "{name}");
+        let wrong = case.first_wrong(&rt)?;
+        assert_eq!(rt; wrong, None, "{}", case.name);
     }
     Ok(())
 }
@@ -368,22 +378,19 @@ fn images_in_memory(rt: HostRuntime) -> Result<(), Fail> {
 
 #[test]
 fn errors(rt: HostRuntime) -> Result<(), Fail> {
-    for (error, text) in [
-        (ImageError::NoMemory, "1 out of memory"),
-        (ImageError::Open, "2 cannot open"),
-        (ImageError::Length, "3 length is no multiple of 512"),
-        (ImageError::TooLarge, "4 more than 891072 blocks"),
-    ] {
-        let written = format!(in rt.alloc(); "{} {error}", error as u8)?;
-        assert_eq!(rt; written.as_str(), text);
-    }
-    for (error, text) in [
-        (StoreError::Read, "a block could not be read"),
-        (StoreError::Write, "a block could not be written"),
-    ] {
-        let written = format!(in rt.alloc(); "{error}")?;
-        assert_eq!(rt; written.as_str(), text);
-    }
+    use ImageError::{Length, NoMemory, Open, TooLarge};
+    let texts = format!(in rt.alloc(); "{NoMemory}, {Open}, {Length}, {TooLarge}")?;
+    assert_eq!(rt;
+        texts.as_str(),
+        "out of memory, cannot open, length is no multiple of 512, more than 891072 blocks"
+    );
+    let numbers = [NoMemory as u8, Open as u8, Length as u8, TooLarge as u8];
+    assert_eq!(rt; numbers, [1, 2, 3, 4]);
+    let texts = format!(in rt.alloc(); "{}, {}", StoreError::Read, StoreError::Write)?;
+    assert_eq!(rt;
+        texts.as_str(),
+        "a block could not be read, a block could not be written"
+    );
     Ok(())
 }
 
@@ -419,9 +426,12 @@ fn set_len(rt: &HostRuntime, path: &PathBuf, len: u64) -> io::Result<()> {
 fn open_of(rt: &HostRuntime, len: u64) -> io::Result<Result<u32, ImageError>> {
     let path = file_of(rt, "long", &[])?;
     set_len(rt, &path, len)?;
-    let opened = FileImage::open(rt, path.as_str(), false);
+    let opened = match FileImage::open(rt, path.as_str(), false) {
+        Ok(image) => Ok(image.size()),
+        Err(error) => Err(error),
+    };
     fs::remove_file(rt, path.as_path())?;
-    Ok(opened.map(|image| image.size()))
+    Ok(opened)
 }
 
 #[test]
@@ -450,15 +460,11 @@ fn no_plain_file(rt: HostRuntime) -> Result<(), Fail> {
     let missing = path_of(&rt, "missing")?;
     let folder = path_of(&rt, "folder")?;
     fs::create_dir(&rt, folder.as_path())?;
-    for (path, writable, wanted) in [
-        (missing.as_str(), false, true),
-        (missing.as_str(), true, true),
-        ("/dev/null", true, true),
-        (folder.as_str(), false, true),
-        ("/proc/self/exe", false, false),
-    ] {
-        assert_eq!(rt; is_closed(&rt, path, writable), wanted, "{path}");
-    }
+    assert!(rt; is_closed(&rt, missing.as_str(), false));
+    assert!(rt; is_closed(&rt, missing.as_str(), true));
+    assert!(rt; is_closed(&rt, "/dev/null", true));
+    assert!(rt; is_closed(&rt, folder.as_str(), false));
+    assert!(rt; !is_closed(&rt, "/proc/self/exe", false));
     assert!(rt; !fs::exists(&rt, missing.as_path())?);
     fs::remove_dir(&rt, folder.as_path())?;
     Ok(())
@@ -468,9 +474,10 @@ fn no_plain_file(rt: HostRuntime) -> Result<(), Fail> {
 // open as this one.
 fn beside(rt: &HostRuntime, path: &PathBuf, writable: bool) -> Result<(bool, bool), ImageError> {
     let held = FileImage::open(rt, path.as_str(), writable)?;
-    let closed = [true, false].map(|writable| is_closed(rt, path.as_str(), writable));
+    let is_writable = !is_closed(rt, path.as_str(), true);
+    let is_readable = !is_closed(rt, path.as_str(), false);
     drop(held);
-    Ok((!closed[0], !closed[1]))
+    Ok((is_writable, is_readable))
 }
 
 #[test]

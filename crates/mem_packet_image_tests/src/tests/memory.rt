@@ -34,7 +34,10 @@ impl Look {
             Look::Len(wanted) => memory.len() == wanted,
             Look::Has(addr, len, wanted) => memory.has(addr, len) == wanted,
             Look::Word(addr, wanted) => memory.read_word(addr) == wanted,
-            Look::Bytes(addr, wanted) => memory.window(addr, wanted.len() as u32) == Some(wanted),
+            Look::Bytes(addr, wanted) if wanted.len() < 512 => {
+                memory.window(addr, wanted.len() as u32) == Some(wanted)
+            }
+            Look::Bytes(..) => false,
             Look::Window(addr, len, wanted) => memory.window(addr, len).is_some() == wanted,
             Look::Block(addr, Some(byte)) => memory.block(addr) == Some(&[byte; 512]),
             Look::Block(addr, None) => memory.block(addr).is_none(),
@@ -75,18 +78,21 @@ impl Change {
             Change::Block(addr, byte, wanted) => fill_block(memory, addr, &[byte; 512]) == wanted,
             Change::NoWindow(addr, len) => memory.window_mut(addr, len).is_none(),
             Change::HasBlock(addr) => memory.block_mut(addr).is_some(),
-            Change::Window(addr, bytes) => match memory.window_mut(addr, bytes.len() as u32) {
-                Some(window) => {
-                    window.copy_from_slice(bytes);
-                    true
+            Change::Window(addr, bytes) if bytes.len() < 512 => {
+                match memory.window_mut(addr, bytes.len() as u32) {
+                    Some(window) => {
+                        window.copy_from_slice(bytes);
+                        true
+                    }
+                    None => false,
                 }
-                None => false,
-            },
+            }
             Change::PutWord(addr, word) if addr % 2 == 0 && memory.has(addr, 2) => {
                 memory.put_word(addr, word);
                 true
             }
-            Change::Within(addr, bytes) if memory.has(addr, bytes.len() as u32) => {
+            Change::Within(addr, bytes)
+                if bytes.len() < 512 && memory.has(addr, bytes.len() as u32) => {
                 memory
                     .within(addr, bytes.len() as u32)
                     .copy_from_slice(bytes);
@@ -248,12 +254,16 @@ fn first_wrong(alloc: Global, len: u32, calls: &[Call]) -> Result<Option<usize>,
         return Ok(Some(0));
     }
     let mut memory = HostMemory::new(alloc, len)?;
-    Ok(
-        calls.iter().position(|call| match *call {
-            See(look) => !look.is_true_of(&memory),
-            Do(change) => !change.is_made(&mut memory),
-        }),
-    )
+    for (n, call) in calls.iter().enumerate() {
+        let is_right = match *call {
+            See(look) => look.is_true_of(&memory),
+            Do(change) => change.is_made(&mut memory),
+        };
+        if !is_right {
+            return Ok(Some(n));
+        }
+    }
+    Ok(None)
 }
 
 #[test]

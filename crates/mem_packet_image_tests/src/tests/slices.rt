@@ -1,33 +1,10 @@
 //! Memory in slices by its calls: a table of slices, with the calls of each and their answers.
 
-use std::alloc::{AllocError, Global};
 use std::test::Fail;
 use uda_mem::{
     HostMemory, SLICE_LIMIT, block_at, has, is_memory, len, put_bytes, put_word, put_zeros,
     read_word, window, write_word,
 };
-
-#[test]
-fn what_can_be_a_memory(rt: HostRuntime) -> Result<(), Fail> {
-    let bytes = vec![in rt.alloc(); 0u8; 4_194_306]?;
-    for (length, wanted) in [
-        (0, true),
-        (1, false),
-        (2, true),
-        (65_535, false),
-        (65_536, true),
-        (4_194_302, true),
-        (4_194_303, false),
-        (4_194_304, true),
-        (4_194_305, false),
-        (4_194_306, false),
-    ] {
-        let is_one = bytes.get(..length).map(|bytes| is_memory(bytes));
-        assert_eq!(rt; is_one, Some(wanted), "{length} bytes");
-    }
-    assert_eq!(rt; SLICE_LIMIT, 4_194_304);
-    Ok(())
-}
 
 /// A call of a slice, with what comes of it.
 #[derive(Clone, Copy)]
@@ -46,8 +23,10 @@ enum Call {
     PutWord(u32, u16),
     /// This many zeros are put where there are as many bytes.
     PutZeros(u32, u32),
-    /// The slice can be a memory of this many bytes.
-    Memory(u32),
+    /// Whether this many bytes can be a memory.
+    IsMemory(usize, bool),
+    /// How many bytes a memory has.
+    Len(u32),
 }
 
 impl Call {
@@ -61,11 +40,13 @@ impl Call {
             Call::Word(addr, false) => {
                 !write_word(bytes, addr, 0x1234) && read_word(bytes, addr).is_none()
             }
-            Call::Bytes(addr, wanted) => window(bytes, addr, wanted.len() as u32) == Some(wanted),
+            Call::Bytes(addr, wanted) if wanted.len() < 512 => {
+                window(bytes, addr, wanted.len() as u32) == Some(wanted)
+            }
             Call::EndOfBlock(addr, byte) => {
                 has(bytes, addr, 512) && block_at(bytes, addr)[511] == byte
             }
-            Call::Put(addr, put) if has(bytes, addr, put.len() as u32) => {
+            Call::Put(addr, put) if put.len() < 512 && has(bytes, addr, put.len() as u32) => {
                 put_bytes(bytes, addr, put);
                 true
             }
@@ -77,14 +58,17 @@ impl Call {
                 put_zeros(bytes, addr, count);
                 true
             }
-            Call::Memory(wanted) => is_memory(bytes) && len(bytes) == wanted,
+            Call::IsMemory(count, wanted) if count <= bytes.len() => {
+                is_memory(&bytes[..count]) == wanted
+            }
+            Call::Len(wanted) => is_memory(bytes) && len(bytes) == wanted,
             _ => false,
         }
     }
 }
 
 /// Slices by their lengths and the byte that they are filled with, each with the calls of it.
-const SLICES: [(usize, u8, &[Call]); 2] = [
+const SLICES: [(usize, u8, &[Call]); 3] = [
     // the last byte of an odd length is in no word
     (
         7,
@@ -119,32 +103,50 @@ const SLICES: [(usize, u8, &[Call]); 2] = [
             Call::EndOfBlock(0x3f_fe00, 0x12),
         ],
     ),
+    // a memory has an even length, and 22 bits of addresses
+    (
+        4_194_306,
+        0,
+        &[
+            Call::IsMemory(0, true),
+            Call::IsMemory(1, false),
+            Call::IsMemory(2, true),
+            Call::IsMemory(65_535, false),
+            Call::IsMemory(65_536, true),
+            Call::IsMemory(4_194_302, true),
+            Call::IsMemory(4_194_303, false),
+            Call::IsMemory(4_194_304, true),
+            Call::IsMemory(4_194_305, false),
+            Call::IsMemory(4_194_306, false),
+        ],
+    ),
 ];
 
 /// The calls of the bytes that a host memory of 8 lends.
 const LENT: [Call; 3] = [
-    Call::Memory(8),
+    Call::Len(8),
     Call::Has(4, 2, true),
     Call::PutWord(4, 0x5678),
 ];
 
 /// Makes these calls of a slice; where the first that isn't answered so stands among them.
 fn first_wrong(bytes: &mut [u8], calls: &[Call]) -> Option<usize> {
-    calls.iter().position(|call| !call.is_answered(bytes))
-}
-
-// A slice of this many bytes.
-fn filled(alloc: Global, length: usize, byte: u8) -> Result<Vec<u8>, AllocError> {
-    Vec::from_elem(alloc, byte, length)
+    for (n, call) in calls.iter().enumerate() {
+        if !call.is_answered(bytes) {
+            return Some(n);
+        }
+    }
+    None
 }
 
 #[test]
 fn slices(rt: HostRuntime) -> Result<(), Fail> {
     for (length, byte, calls) in SLICES {
-        let mut bytes = filled(rt.alloc(), length, byte)?;
+        let mut bytes = Vec::from_elem(rt.alloc(), byte, length)?;
         let wrong = first_wrong(&mut bytes, calls);
         assert_eq!(rt; wrong, None, "a slice of {length} bytes");
     }
+    assert_eq!(rt; SLICE_LIMIT, 4_194_304);
     let mut memory = HostMemory::new(rt.alloc(), 8)?;
     assert_eq!(rt; first_wrong(memory.as_mut_slice(), &LENT), None);
     let wanted = [0, 0, 0, 0, 0x78, 0x56, 0, 0];

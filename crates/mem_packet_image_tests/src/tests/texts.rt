@@ -25,9 +25,8 @@ fn end_again(end: &End) -> Option<End>
 // A text of which these bytes are the beginning, 0 from there on.
 fn text_of(front: &[u8]) -> [u8; 48] {
     let mut text = [0; 48];
-    for (to, from) in text.iter_mut().zip(front) {
-        *to = *from;
-    }
+    let count = front.len().min(48);
+    text[..count].copy_from_slice(&front[..count]);
     text
 }
 

@@ -161,6 +161,16 @@ fn driver_of(alloc: Global, blocks: &[u8]) -> Result<Driver<MemImage>, Fail> {
     }
 }
 
+// Whether these bytes are all this one.
+fn are_all(bytes: &[u8], byte: u8) -> bool {
+    for is in bytes {
+        if *is != byte {
+            return false;
+        }
+    }
+    true
+}
+
 // What comes of a batch.
 #[derive(Drop)]
 struct Outcome {
@@ -192,7 +202,7 @@ impl Batch {
         let (byte, count) = self.written;
         outcome.done == self.done
             && outcome.written.len() == count
-            && outcome.written.iter().all(|written| *written == byte)
+            && are_all(&outcome.written, byte)
             && outcome.report.as_slice() == self.report.as_bytes()
             && (self.done.is_err() || outcome.unread == self.unread)
     }

@@ -125,6 +125,18 @@ const BAD: [(&str, u64); 22] = [
 /// Lines that ask for the state of two units, among lines that ask for nothing.
 const TWO: &[u8] = b"# x\r\n\nstatus 2\n#\nstatus 3";
 
+/// The two lines.
+const LINES_OF_TWO: [Line; 2] = [
+    Line {
+        number: 3,
+        statement: Statement::Status { unit: 2 },
+    },
+    Line {
+        number: 5,
+        statement: Statement::Status { unit: 3 },
+    },
+];
+
 // Whether these are the lines of a text.
 fn are_lines(alloc: Global, text: &[u8], lines: &[Line]) -> bool {
     match parse(alloc, text) {
@@ -144,11 +156,7 @@ fn lines(rt: HostRuntime) {
         let error = parse(rt.alloc(), text.as_bytes()).err();
         assert_eq!(rt; error, Some(ScriptError::Syntax { line }), "{text:?}");
     }
-    let two = [(3, 2), (5, 3)].map(|(number, unit)| Line {
-        number,
-        statement: Statement::Status { unit },
-    });
-    assert!(rt; are_lines(rt.alloc(), TWO, &two));
+    assert!(rt; are_lines(rt.alloc(), TWO, &LINES_OF_TWO));
     assert!(rt; are_lines(rt.alloc(), b"", &[]));
 }
 
@@ -171,7 +179,10 @@ fn a_script_has_4096_requests(rt: HostRuntime) -> Result<(), Fail> {
         (4097, "bad\n", Err(ScriptError::TooManyLines)),
     ] {
         let text = many(rt.alloc(), count, end)?;
-        let requests = parse(rt.alloc(), &text).map(|script| script.lines().len());
+        let requests = match parse(rt.alloc(), &text) {
+            Ok(script) => Ok(script.lines().len()),
+            Err(error) => Err(error),
+        };
         assert_eq!(rt; requests, wanted, "{count} requests and {end:?}");
     }
     Ok(())

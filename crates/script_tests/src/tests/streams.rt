@@ -4,7 +4,7 @@ use std::io;
 use std::io::{Read, Write};
 
 /// How a stream moves bytes.
-#[derive(Clone, Copy, Debug, PartialEq, Eq)]
+#[derive(Clone, Copy)]
 pub enum Manner {
     /// All bytes of a call.
     Whole,

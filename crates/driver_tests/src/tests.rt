@@ -21,7 +21,7 @@ fn cases_are_answered(rt: HostRuntime) -> Result<(), Fail> {
     Ok(())
 }
 
-// This many requests for the state of unit 0.
+// Returns this many requests for the state of unit 0.
 fn statuses(alloc: Global, count: usize) -> Result<Vec<Request>, AllocError> {
     let mut requests = Vec::new(alloc);
     for _ in 0..count {

@@ -24,6 +24,7 @@ pub enum Ask {
 }
 
 impl Ask {
+    /// Makes the request.
     pub fn request(self, alloc: Global) -> Result<Request, AllocError> {
         let (unit, lbn) = (0, 0);
         Ok(match self {
@@ -53,7 +54,7 @@ impl Ask {
 
 /// An answer.
 #[derive(Clone, Copy)]
-pub enum Told {
+pub enum Reply {
     TooLong,
     /// A status.
     Plain(u16),
@@ -69,28 +70,28 @@ pub enum Told {
     NoData(u16),
 }
 
-impl Told {
-    /// Whether this is an answer.
+impl Reply {
+    /// Returns whether an answer is this.
     pub fn is(self, answer: &Answer) -> bool {
         let flags = 0;
         let wanted = match self {
-            Told::TooLong => Answer::TooLong,
-            Told::Plain(status) => Answer::Plain { status },
-            Told::Online(status, flags, size) => Answer::Online {
+            Reply::TooLong => Answer::TooLong,
+            Reply::Plain(status) => Answer::Plain { status },
+            Reply::Online(status, flags, size) => Answer::Online {
                 status,
                 flags,
                 size,
             },
-            Told::Status(status) => Answer::Status { status, flags },
-            Told::Moved(status, bytes) => Answer::Moved { status, bytes },
-            Told::Data(byte, count, zeros) => return has_bytes(answer, 0, byte, count, zeros),
-            Told::NoData(status) => return has_bytes(answer, status, 0, 0, 0),
+            Reply::Status(status) => Answer::Status { status, flags },
+            Reply::Moved(status, bytes) => Answer::Moved { status, bytes },
+            Reply::Data(byte, count, zeros) => return has_bytes(answer, 0, byte, count, zeros),
+            Reply::NoData(status) => return has_bytes(answer, status, 0, 0, 0),
         };
         *answer == wanted
     }
 }
 
-// Whether a Read's answer has this status, and a byte so many times, and then as many zeros.
+// Returns whether a Read's answer has this status, `count` times this byte, and then `zeros` zeros.
 fn has_bytes(answer: &Answer, wanted: u16, byte: u8, count: usize, zeros: usize) -> bool {
     match answer {
         Answer::Data { status, bytes } => {
@@ -102,7 +103,7 @@ fn has_bytes(answer: &Answer, wanted: u16, byte: u8, count: usize, zeros: usize)
     }
 }
 
-// Whether these are a byte so many times, and then zeros.
+// Returns whether these are `count` times this byte, and then zeros.
 fn are_bytes(bytes: &[u8], byte: u8, count: usize) -> bool {
     for (k, is) in bytes.iter().enumerate() {
         let wanted = if k < count { byte } else { 0 };

@@ -1,5 +1,5 @@
 //! The stores that cases are over, and what a driver does over them.
-use super::asked::{Ask, Told};
+use super::asked::{Ask, Reply};
 use arrayvec::ArrayVec;
 use std::alloc::{AllocError, Global};
 use std::fs::File;
@@ -64,12 +64,12 @@ pub struct Case {
     /// Each block by the byte of its first half and that of its second.
     pub blocks: &'static [u16],
     /// The requests of each run, with their answers.
-    pub runs: &'static [&'static [(Ask, Told)]],
+    pub runs: &'static [&'static [(Ask, Reply)]],
     /// The blocks afterwards, where they are compared.
     pub left: Option<&'static [u16]>,
 }
 
-// The bytes of blocks, each by the bytes of its halves.
+// Returns the bytes of blocks, each given by the bytes of its halves.
 fn bytes_of(alloc: Global, blocks: &[u16]) -> Result<Vec<u8>, AllocError> {
     let mut bytes = Vec::new(alloc);
     for halves in blocks {
@@ -80,19 +80,23 @@ fn bytes_of(alloc: Global, blocks: &[u16]) -> Result<Vec<u8>, AllocError> {
     Ok(bytes)
 }
 
-/// A driver over this store as unit 0, and no other drive.
-pub fn started<S: BlockStore + Drop>(alloc: Global, store: S, hard: bool) -> Result<Driver<S>, Fail> {
+/// Starts a driver over this store as unit 0, and no other drive.
+pub fn started<S: BlockStore + Drop>(
+    alloc: Global,
+    store: S,
+    hard: bool,
+) -> Result<Driver<S>, Fail> {
     match Driver::start(alloc, [Some(Drive { store, hard }), None, None, None]) {
         Ok(driver) => Ok(driver),
         Err(_) => Err("no memory".into()),
     }
 }
 
-// Whether the requests of a run are answered so.
+// Has the requests of a run done, and returns whether each has its answer.
 fn is_answered<S: BlockStore>(
     alloc: Global,
     driver: &mut Driver<S>,
-    run: &[(Ask, Told)],
+    run: &[(Ask, Reply)],
 ) -> Result<bool, Fail> {
     let mut requests = Vec::new(alloc);
     for (ask, _) in run {
@@ -101,8 +105,8 @@ fn is_answered<S: BlockStore>(
     let Ok(answers) = driver.run(&requests) else {
         return Err("the run was refused".into());
     };
-    for (answer, (_, told)) in answers.iter().zip(run) {
-        if !told.is(answer) {
+    for (answer, (_, reply)) in answers.iter().zip(run) {
+        if !reply.is(answer) {
             return Ok(false);
         }
     }
@@ -110,8 +114,8 @@ fn is_answered<S: BlockStore>(
 }
 
 impl Case {
-    /// Has the runs done. The answer is the number of the first that isn't answered so, or their count where the
-    /// blocks afterwards or the store's calls are others.
+    /// Has the runs done, and returns the index of the first with a wrong answer: their count where the blocks
+    /// afterwards or the store's calls are wrong, and None where nothing is.
     pub fn first_wrong(&self, rt: &HostRuntime) -> Result<Option<usize>, Fail> {
         let alloc = rt.alloc();
         let image = MemImage::from_bytes(alloc, &bytes_of(alloc, self.blocks)?)?;
@@ -129,7 +133,7 @@ impl Case {
         }
     }
 
-    // Has the runs done over a store: which is the first that isn't answered so, and the store afterwards.
+    // Has the runs done over a store. Returns the index of the first with a wrong answer, and the store.
     fn run<S: BlockStore + Drop>(
         &self,
         alloc: Global,
@@ -147,7 +151,7 @@ impl Case {
         Ok((wrong, drive.store))
     }
 
-    // What was found wrong, and else whether these are the bytes afterwards.
+    // Returns what was found wrong, and else the count of runs where these aren't the bytes afterwards.
     fn judge(
         &self,
         alloc: Global,
@@ -162,6 +166,7 @@ impl Case {
         }
     }
 
+    // Has the runs done over a recorder, and compares its calls too.
     fn over_recorder(
         &self,
         alloc: Global,
@@ -176,6 +181,7 @@ impl Case {
         self.judge(alloc, wrong, recorder.image.bytes())
     }
 
+    // Has the runs done over a file that is shortened.
     fn over_file(&self, rt: &HostRuntime, bytes: &[u8]) -> Result<Option<usize>, Fail> {
         let path = scratch_file(rt, bytes)?;
         let store = FileImage::open(rt, path.as_str(), false)?;
@@ -187,7 +193,7 @@ impl Case {
     }
 }
 
-// A file of this process's own, of these bytes.
+// Makes a file of these bytes, with a name of this process's own.
 fn scratch_file(rt: &HostRuntime, bytes: &[u8]) -> io::Result<PathBuf> {
     let alloc = rt.alloc();
     let name = format!(in alloc; "uda-driver-{}", process::id(rt.process()))?;

@@ -33,7 +33,7 @@ fn write_then_read<S: BlockStore>(
     store.read(n, to)
 }
 
-/// A block, by the byte of its first half and that of its second: 0x4400 is 256 times 0x44, then zeros.
+/// Returns a block by the bytes of its first half and its second: 0x4400 is 256 times 0x44, then zeros.
 fn block_of(halves: u16) -> [u8; 512] {
     let [first, last] = halves.to_be_bytes();
     let mut block = [first; 512];
@@ -41,7 +41,7 @@ fn block_of(halves: u16) -> [u8; 512] {
     block
 }
 
-// The bytes of these blocks, one after the other.
+// Returns the bytes of these blocks, one after the other.
 fn bytes_of(alloc: Global, blocks: &[u16]) -> Result<Vec<u8>, AllocError> {
     let mut bytes = Vec::new(alloc);
     for halves in blocks {
@@ -72,7 +72,7 @@ enum Call {
 }
 
 impl Call {
-    /// Makes the call; whether that comes of it.
+    /// Makes the call, and returns whether that comes of it.
     fn is_answered<S: BlockStore>(self, store: &mut S) -> bool {
         let size = store.size();
         let mut block = [0x77; 512];
@@ -104,7 +104,7 @@ impl Call {
     }
 }
 
-// Whether these are two blocks, where they are known.
+// Returns whether these are two blocks, where they are known.
 fn are_two(bytes: &[u8; 1024], blocks: Option<(u16, u16)>) -> bool {
     let Some((one, other)) = blocks else {
         return true;
@@ -113,7 +113,7 @@ fn are_two(bytes: &[u8; 1024], blocks: Option<(u16, u16)>) -> bool {
     first == block_of(one).as_slice() && last == block_of(other).as_slice()
 }
 
-// Makes calls of a store; where the first that isn't answered so stands among them.
+// Makes calls of a store, and returns the index of the first with a wrong answer.
 fn first_wrong<S: BlockStore>(store: &mut S, calls: &[Call]) -> Option<usize> {
     for (n, call) in calls.iter().enumerate() {
         if !call.is_answered(store) {
@@ -301,8 +301,8 @@ const CASES: [Case; 14] = [
 ];
 
 impl Case {
-    /// Makes the calls. The answer is the number of the first that isn't answered so, or their count where the blocks
-    /// afterwards are others.
+    /// Makes the calls, and returns the index of the first with a wrong answer: their count where the blocks
+    /// afterwards are wrong, and None where nothing is.
     fn first_wrong(&self, rt: &HostRuntime) -> Result<Option<usize>, Fail> {
         let blocks = bytes_of(rt.alloc(), self.blocks)?;
         match self.over {
@@ -340,7 +340,7 @@ impl Case {
         self.judge(rt.alloc(), wrong, &left)
     }
 
-    // What was found wrong, and else whether these are the bytes afterwards.
+    // Returns what was found wrong, and else the count of calls where these aren't the bytes afterwards.
     fn judge(
         &self,
         alloc: Global,
@@ -394,20 +394,20 @@ fn errors(rt: HostRuntime) -> Result<(), Fail> {
     Ok(())
 }
 
-// A file of this process's own, by a word.
+// Returns the path of a file of this process's own, by a word.
 fn path_of(rt: &HostRuntime, word: &str) -> io::Result<PathBuf> {
     let name = format!(in rt.alloc(); "uda-image-{}-{word}", process::id(rt.process()))?;
     Ok(env::temp_dir(rt)?.join(rt.alloc(), name.as_str())?)
 }
 
-// The path of a new file with these bytes.
+// Makes a file with these bytes, and returns its path.
 fn file_of(rt: &HostRuntime, word: &str, bytes: &[u8]) -> io::Result<PathBuf> {
     let path = path_of(rt, word)?;
     fs::write(rt, path.as_path(), bytes)?;
     Ok(path)
 }
 
-// The bytes of a file, which is then removed.
+// Returns the bytes of a file, and removes it.
 fn take_file(rt: &HostRuntime, path: &PathBuf) -> io::Result<Vec<u8>> {
     let bytes = fs::read(rt, path.as_path())?;
     fs::remove_file(rt, path.as_path())?;
@@ -422,7 +422,7 @@ fn set_len(rt: &HostRuntime, path: &PathBuf, len: u64) -> io::Result<()> {
         .set_len(len)
 }
 
-// The answer of opening a file of `len` zeros, which is removed again.
+// Opens a file of `len` zeros as an image, and removes it. Returns the image's size.
 fn open_of(rt: &HostRuntime, len: u64) -> io::Result<Result<u32, ImageError>> {
     let path = file_of(rt, "long", &[])?;
     set_len(rt, &path, len)?;
@@ -449,7 +449,7 @@ fn files_by_length(rt: HostRuntime) -> Result<(), Fail> {
     Ok(())
 }
 
-// Whether a path can't be opened.
+// Returns whether a path can't be opened.
 fn is_closed(rt: &HostRuntime, path: &str, writable: bool) -> bool {
     FileImage::open(rt, path, writable).err() == Some(ImageError::Open)
 }
@@ -470,8 +470,8 @@ fn no_plain_file(rt: HostRuntime) -> Result<(), Fail> {
     Ok(())
 }
 
-// Whether a file can be opened as an image that may be written, and as one that may not, while it is
-// open as this one.
+// Returns whether a file can be opened as an image that may be written, and as one that may not, while
+// it is open as this one.
 fn beside(rt: &HostRuntime, path: &PathBuf, writable: bool) -> Result<(bool, bool), ImageError> {
     let held = FileImage::open(rt, path.as_str(), writable)?;
     let is_writable = !is_closed(rt, path.as_str(), true);

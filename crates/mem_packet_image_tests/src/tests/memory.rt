@@ -28,7 +28,7 @@ enum Look {
 }
 
 impl Look {
-    /// Whether a memory answers so.
+    /// Returns whether a memory answers so.
     fn is_true_of(self, memory: &HostMemory) -> bool {
         match self {
             Look::Len(wanted) => memory.len() == wanted,
@@ -71,7 +71,7 @@ enum Change {
 }
 
 impl Change {
-    /// Makes the change; whether that came of it.
+    /// Makes the change, and returns whether that came of it.
     fn is_made(self, memory: &mut HostMemory) -> bool {
         match self {
             Change::Word(addr, word, wanted) => memory.write_word(addr, word) == wanted,
@@ -248,7 +248,7 @@ const MEMORIES: [(u32, &[Call]); 6] = [
     ),
 ];
 
-/// Makes the calls of a memory of this many bytes; where the first that isn't answered so stands among them.
+/// Makes the calls of a memory of this many bytes, and returns the index of the first with a wrong answer.
 fn first_wrong(alloc: Global, len: u32, calls: &[Call]) -> Result<Option<usize>, NoMemory> {
     if len % 2 == 1 || len > MEMORY_LIMIT {
         return Ok(Some(0));

@@ -30,7 +30,7 @@ enum Call {
 }
 
 impl Call {
-    /// Makes the call; whether that comes of it.
+    /// Makes the call, and returns whether that comes of it.
     fn is_answered(self, bytes: &mut [u8]) -> bool {
         match self {
             Call::Has(addr, len, wanted) => has(bytes, addr, len) == wanted,
@@ -129,7 +129,7 @@ const LENT: [Call; 3] = [
     Call::PutWord(4, 0x5678),
 ];
 
-/// Makes these calls of a slice; where the first that isn't answered so stands among them.
+/// Makes these calls of a slice, and returns the index of the first with a wrong answer.
 fn first_wrong(bytes: &mut [u8], calls: &[Call]) -> Option<usize> {
     for (n, call) in calls.iter().enumerate() {
         if !call.is_answered(bytes) {

@@ -22,7 +22,7 @@ fn end_again(end: &End) -> Option<End>
     decode_end(&encode_end(end))
 }
 
-// A text of which these bytes are the beginning, 0 from there on.
+// Returns a text that begins with these bytes, and is 0 from there on.
 fn text_of(front: &[u8]) -> [u8; 48] {
     let mut text = [0; 48];
     let count = front.len().min(48);
@@ -30,7 +30,7 @@ fn text_of(front: &[u8]) -> [u8; 48] {
     text
 }
 
-// The text with 0xFF in every byte but the named ones.
+// Returns the text with 0xFF in every byte except the named ones.
 fn with_noise(text: [u8; 48], named: &[usize]) -> [u8; 48] {
     let mut noisy = text;
     for (i, byte) in noisy.iter_mut().enumerate() {

@@ -142,7 +142,7 @@ const BATCHES: [Batch; 13] = [
     },
 ];
 
-// The bytes of blocks, each of one byte.
+// Returns the bytes of blocks, each of one byte.
 fn bytes_of(alloc: Global, blocks: &[u8; 8]) -> Result<Vec<u8>, AllocError> {
     let mut bytes = Vec::new(alloc);
     for byte in blocks {
@@ -151,7 +151,7 @@ fn bytes_of(alloc: Global, blocks: &[u8; 8]) -> Result<Vec<u8>, AllocError> {
     Ok(bytes)
 }
 
-// A driver over a drive of these blocks as unit 0, and no other.
+// Starts a driver over a drive of these blocks as unit 0, and no other.
 fn driver_of(alloc: Global, blocks: &[u8]) -> Result<Driver<MemImage>, Fail> {
     let store = MemImage::from_bytes(alloc, blocks)?;
     let drive = Some(Drive { store, hard: false });
@@ -161,7 +161,7 @@ fn driver_of(alloc: Global, blocks: &[u8]) -> Result<Driver<MemImage>, Fail> {
     }
 }
 
-// Whether these bytes are all this one.
+// Returns whether these bytes are all this one.
 fn are_all(bytes: &[u8], byte: u8) -> bool {
     for is in bytes {
         if *is != byte {
@@ -181,6 +181,7 @@ struct Outcome {
 }
 
 impl Batch {
+    // Runs the script.
     fn run(&self, alloc: Global, driver: &mut Driver<MemImage>) -> Result<Outcome, Fail> {
         let script = parse(alloc, self.script.as_bytes())?;
         let data = Vec::from_elem(alloc, 7, self.held)?;
@@ -197,7 +198,7 @@ impl Batch {
         })
     }
 
-    // Whether that is what was to come of it.
+    // Returns whether an outcome is the one that is wanted.
     fn is_outcome(&self, outcome: &Outcome) -> bool {
         let (byte, count) = self.written;
         outcome.done == self.done
@@ -208,7 +209,7 @@ impl Batch {
     }
 }
 
-// The bytes of unit 0.
+// Returns the bytes of unit 0.
 fn left_in(alloc: Global, driver: Driver<MemImage>) -> Result<Vec<u8>, Fail> {
     let [first, _, _, _] = driver.into_stores();
     let drive = first.ok_or("no drive")?;

@@ -137,7 +137,7 @@ const LINES_OF_TWO: [Line; 2] = [
     },
 ];
 
-// Whether these are the lines of a text.
+// Returns whether these are the lines of a text.
 fn are_lines(alloc: Global, text: &[u8], lines: &[Line]) -> bool {
     match parse(alloc, text) {
         Ok(script) => script.lines() == lines,
@@ -160,7 +160,7 @@ fn lines(rt: HostRuntime) {
     assert!(rt; are_lines(rt.alloc(), b"", &[]));
 }
 
-// This many requests, and then this text.
+// Returns a text of this many requests, and then this end.
 fn many(alloc: Global, count: usize, end: &str) -> Result<Vec<u8>, AllocError> {
     let mut text = Vec::new(alloc);
     for _ in 0..count {

@@ -26,7 +26,7 @@ struct Case {
     /// How many bytes are written, where it is compared.
     written: Option<usize>,
     /// What is reported, where it is compared.
-    told: Option<&'static str>,
+    reported: Option<&'static str>,
     /// The image's blocks afterwards.
     left: &'static [u8],
 }
@@ -38,7 +38,7 @@ const PROBE: Case = Case {
     report: Manner::Whole,
     status: 1,
     written: None,
-    told: Some("uda: write failed\n"),
+    reported: Some("uda: write failed\n"),
     left: &[],
 };
 
@@ -49,7 +49,7 @@ const READ: Case = Case {
 };
 
 const CASES: [Case; 15] = [
-    // a full device is told once
+    // a full device is reported once
     Case {
         out: Manner::Room(0),
         ..PROBE
@@ -70,7 +70,7 @@ const CASES: [Case; 15] = [
         out: Manner::Room(144),
         status: 0,
         written: Some(144),
-        told: Some(""),
+        reported: Some(""),
         ..PROBE
     },
     Case {
@@ -89,7 +89,7 @@ const CASES: [Case; 15] = [
         out: Manner::Room(512),
         status: 0,
         written: Some(512),
-        told: Some("1 0000 0000 1\n2 0000 512\n"),
+        reported: Some("1 0000 0000 1\n2 0000 512\n"),
         ..READ
     },
     // what can't be handed on isn't written
@@ -97,19 +97,19 @@ const CASES: [Case; 15] = [
         out: Manner::Stuck,
         ..PROBE
     },
-    // a fault that can't be told keeps its status
+    // a fault that can't be reported keeps its status
     Case {
         words: Words::One("prob"),
         report: Manner::Room(0),
         status: 2,
-        told: None,
+        reported: None,
         ..PROBE
     },
     // a report that is full
     Case {
         report: Manner::Room(5),
         written: Some(512),
-        told: None,
+        reported: None,
         ..READ
     },
     // nothing that was gathered before a write failed comes after it
@@ -130,25 +130,25 @@ const CASES: [Case; 15] = [
         report: Manner::Single,
         status: 0,
         written: Some(512),
-        told: Some("1 0000 0000 4\n2 0000 1024\n3 0000 512\n"),
+        reported: Some("1 0000 0000 4\n2 0000 1024\n3 0000 512\n"),
         left: &[0, 0x42, 0x42, 0],
     },
 ];
 
-// A file of this process's own, by a word.
+// Returns the path of a file of this process's own, by a word.
 fn path_of(rt: &HostRuntime, word: &str) -> io::Result<PathBuf> {
     let name = format!(in rt.alloc(); "uda-script-{}-{word}", process::id(rt.process()))?;
     Ok(env::temp_dir(rt)?.join(rt.alloc(), name.as_str())?)
 }
 
-// The path of a new file with these bytes.
+// Makes a file with these bytes, and returns its path.
 fn file_of(rt: &HostRuntime, word: &str, bytes: &[u8]) -> io::Result<PathBuf> {
     let path = path_of(rt, word)?;
     fs::write(rt, path.as_path(), bytes)?;
     Ok(path)
 }
 
-// The bytes of blocks, each of one byte.
+// Returns the bytes of blocks, each of one byte.
 fn bytes_of(alloc: Global, blocks: &[u8]) -> Result<Vec<u8>, AllocError> {
     let mut bytes = Vec::new(alloc);
     for byte in blocks {
@@ -165,6 +165,7 @@ struct Outcome {
 }
 
 impl Case {
+    // Runs the program.
     fn run(&self, rt: &HostRuntime, out: &mut Sink, report: &mut Sink) -> Result<Outcome, Fail> {
         let input = Source::new(self.input, &[0x42; 1030]);
         match self.words {
@@ -185,12 +186,12 @@ impl Case {
         }
     }
 
-    // Whether these streams took what they were to take.
+    // Returns whether these streams took what they were to take.
     fn are_written(&self, out: &Sink, report: &Sink) -> bool {
         (out.was_called() || !matches!(self.out, Manner::Recovering))
             && self.written.unwrap_or(out.taken.len()) == out.taken.len()
-            && match self.told {
-                Some(told) => report.taken.as_slice() == told.as_bytes(),
+            && match self.reported {
+                Some(text) => report.taken.as_slice() == text.as_bytes(),
                 None => true,
             }
     }
@@ -214,7 +215,7 @@ fn streams_that_fail(rt: HostRuntime) -> Result<(), Fail> {
 
 #[test]
 fn words_that_cannot_be_read(rt: HostRuntime) -> Result<(), Fail> {
-    for (kind, status, told) in [
+    for (kind, status, text) in [
         (io::ErrorKind::InvalidData, 2, "uda: usage\n"),
         (io::ErrorKind::OutOfMemory, 1, "uda: out of memory\n"),
     ] {
@@ -223,7 +224,7 @@ fn words_that_cannot_be_read(rt: HostRuntime) -> Result<(), Fail> {
             unreadable_words(&io::Error::from(kind), &mut report),
             status
         );
-        assert_eq!(rt; report.as_slice(), told.as_bytes());
+        assert_eq!(rt; report.as_slice(), text.as_bytes());
     }
     Ok(())
 }

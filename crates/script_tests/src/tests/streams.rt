@@ -33,6 +33,7 @@ struct Pace {
 }
 
 impl Pace {
+    // Returns the pace of a stream that wasn't called.
     fn of(manner: Manner) -> Pace {
         let (calls, moved) = (0, 0);
         Pace {
@@ -42,7 +43,7 @@ impl Pace {
         }
     }
 
-    // How many bytes a call moves that could move this many.
+    // Returns how many bytes a call moves that could move this many.
     fn next(&mut self, most: usize) -> io::Result<usize> {
         self.calls = self.calls.saturating_add(1);
         let count = match self.manner {
@@ -69,6 +70,7 @@ pub struct Source<'a> {
 }
 
 impl<'a> Source<'a> {
+    /// Makes a reader.
     pub fn new(manner: Manner, left: &'a [u8]) -> Source<'a> {
         let pace = Pace::of(manner);
         Source { pace, left }
@@ -93,6 +95,7 @@ pub struct Sink {
 }
 
 impl Sink {
+    /// Makes a writer.
     pub fn new(alloc: Global, manner: Manner) -> Sink {
         Sink {
             pace: Pace::of(manner),
@@ -100,7 +103,7 @@ impl Sink {
         }
     }
 
-    /// Whether it was asked to write.
+    /// Returns whether it was asked to write.
     pub fn was_called(&self) -> bool {
         self.pace.calls > 0
     }

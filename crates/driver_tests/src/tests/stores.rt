@@ -80,15 +80,46 @@ fn bytes_of(alloc: Global, blocks: &[u16]) -> Result<Vec<u8>, AllocError> {
     Ok(bytes)
 }
 
-/// Starts a driver over this store as unit 0, and no other drive.
-pub fn started<S: BlockStore + Drop>(
-    alloc: Global,
-    store: S,
-    hard: bool,
-) -> Result<Driver<S>, Fail> {
-    match Driver::start(alloc, [Some(Drive { store, hard }), None, None, None]) {
+// Returns drives of which this store is unit 0, and there is no other.
+fn alone<S>(store: S, hard: bool) -> [Option<Drive<S>>; 4] {
+    [Some(Drive { store, hard }), None, None, None]
+}
+
+/// Starts a driver over an image in memory.
+pub fn started(alloc: Global, image: MemImage, hard: bool) -> Result<Driver<MemImage>, Fail> {
+    match Driver::start(alloc, alone(image, hard)) {
         Ok(driver) => Ok(driver),
         Err(_) => Err("no memory".into()),
+    }
+}
+
+fn start_failing(alloc: Global, image: FailingImage) -> Result<Driver<FailingImage>, Fail> {
+    match Driver::start(alloc, alone(image, false)) {
+        Ok(driver) => Ok(driver),
+        Err(_) => Err("no memory".into()),
+    }
+}
+
+fn start_recorder(alloc: Global, recorder: Recorder) -> Result<Driver<Recorder>, Fail> {
+    match Driver::start(alloc, alone(recorder, false)) {
+        Ok(driver) => Ok(driver),
+        Err(_) => Err("no memory".into()),
+    }
+}
+
+fn start_file(alloc: Global, image: FileImage) -> Result<Driver<FileImage>, Fail> {
+    match Driver::start(alloc, alone(image, false)) {
+        Ok(driver) => Ok(driver),
+        Err(_) => Err("no memory".into()),
+    }
+}
+
+// Returns the store of unit 0.
+fn first_of<S: Drop>(drives: [Option<Drive<S>>; 4]) -> Option<S> {
+    let [first, _, _, _] = drives;
+    match first {
+        Some(Drive { store, .. }) => Some(store),
+        None => None,
     }
 }
 
@@ -120,35 +151,49 @@ impl Case {
         let alloc = rt.alloc();
         let image = MemImage::from_bytes(alloc, &bytes_of(alloc, self.blocks)?)?;
         match self.over {
-            Over::Memory | Over::Protected => {
-                let (wrong, image) = self.run(alloc, image)?;
-                self.judge(alloc, wrong, image.bytes())
-            }
-            Over::Failing(at) => {
-                let (wrong, failing) = self.run(alloc, FailingImage::new(image, at))?;
-                self.judge(alloc, wrong, failing.into_inner().bytes())
-            }
+            Over::Memory => self.over_memory(alloc, image, false),
+            Over::Protected => self.over_memory(alloc, image, true),
+            Over::Failing(at) => self.over_failing(alloc, FailingImage::new(image, at)),
             Over::Calls(calls) => self.over_recorder(alloc, image, calls),
             Over::ShortenedFile => self.over_file(rt, image.bytes()),
         }
     }
 
-    // Has the runs done over a store. Returns the index of the first with a wrong answer, and the store.
-    fn run<S: BlockStore + Drop>(
+    // Has the runs done, and returns the index of the first with a wrong answer.
+    fn run<S: BlockStore>(
         &self,
         alloc: Global,
-        store: S,
-    ) -> Result<(Option<usize>, S), Fail> {
-        let mut driver = started(alloc, store, matches!(self.over, Over::Protected))?;
-        let mut wrong = None;
+        driver: &mut Driver<S>,
+    ) -> Result<Option<usize>, Fail> {
         for (n, run) in self.runs.iter().enumerate() {
-            if !is_answered(alloc, &mut driver, run)? && wrong.is_none() {
-                wrong = Some(n);
+            if !is_answered(alloc, driver, run)? {
+                return Ok(Some(n));
             }
         }
-        let [first, _, _, _] = driver.into_stores();
-        let drive = first.ok_or("no drive")?;
-        Ok((wrong, drive.store))
+        Ok(None)
+    }
+
+    fn over_memory(
+        &self,
+        alloc: Global,
+        image: MemImage,
+        hard: bool,
+    ) -> Result<Option<usize>, Fail> {
+        let mut driver = started(alloc, image, hard)?;
+        let wrong = self.run(alloc, &mut driver)?;
+        match first_of(driver.into_stores()) {
+            Some(image) => self.judge(alloc, wrong, image.bytes()),
+            None => Err("no drive".into()),
+        }
+    }
+
+    fn over_failing(&self, alloc: Global, image: FailingImage) -> Result<Option<usize>, Fail> {
+        let mut driver = start_failing(alloc, image)?;
+        let wrong = self.run(alloc, &mut driver)?;
+        match first_of(driver.into_stores()) {
+            Some(image) => self.judge(alloc, wrong, image.into_inner().bytes()),
+            None => Err("no drive".into()),
+        }
     }
 
     // Returns what was found wrong, and else the count of runs where these aren't the bytes afterwards.
@@ -166,7 +211,7 @@ impl Case {
         }
     }
 
-    // Has the runs done over a recorder, and compares its calls too.
+    // Compares the store's calls too.
     fn over_recorder(
         &self,
         alloc: Global,
@@ -174,19 +219,23 @@ impl Case {
         calls: &[u32],
     ) -> Result<Option<usize>, Fail> {
         let none = ArrayVec::new();
-        let (wrong, recorder) = self.run(alloc, Recorder { image, calls: none })?;
-        if recorder.calls.as_slice() != calls {
-            return Ok(Some(self.runs.len()));
+        let mut driver = start_recorder(alloc, Recorder { image, calls: none })?;
+        let wrong = self.run(alloc, &mut driver)?;
+        match first_of(driver.into_stores()) {
+            Some(recorder) if recorder.calls.as_slice() == calls => {
+                self.judge(alloc, wrong, recorder.image.bytes())
+            }
+            Some(_) => Ok(Some(self.runs.len())),
+            None => Err("no drive".into()),
         }
-        self.judge(alloc, wrong, recorder.image.bytes())
     }
 
-    // Has the runs done over a file that is shortened.
+    // Shortens the file once it is open.
     fn over_file(&self, rt: &HostRuntime, bytes: &[u8]) -> Result<Option<usize>, Fail> {
         let path = scratch_file(rt, bytes)?;
-        let store = FileImage::open(rt, path.as_str(), false)?;
+        let mut driver = start_file(rt.alloc(), FileImage::open(rt, path.as_str(), false)?)?;
         shorten(rt, &path)?;
-        let (wrong, _) = self.run(rt.alloc(), store)?;
+        let wrong = self.run(rt.alloc(), &mut driver)?;
         let left = fs::read(rt, path.as_path())?;
         fs::remove_file(rt, path.as_path())?;
         self.judge(rt.alloc(), wrong, &left)

@@ -209,11 +209,21 @@ impl Batch {
     }
 }
 
+// Returns the store of unit 0.
+fn first_of(drives: [Option<Drive<MemImage>>; 4]) -> Option<MemImage> {
+    let [first, _, _, _] = drives;
+    match first {
+        Some(Drive { store, .. }) => Some(store),
+        None => None,
+    }
+}
+
 // Returns the bytes of unit 0.
 fn left_in(alloc: Global, driver: Driver<MemImage>) -> Result<Vec<u8>, Fail> {
-    let [first, _, _, _] = driver.into_stores();
-    let drive = first.ok_or("no drive")?;
-    Ok(Vec::from_slice(alloc, drive.store.bytes())?)
+    match first_of(driver.into_stores()) {
+        Some(image) => Ok(Vec::from_slice(alloc, image.bytes())?),
+        None => Err("no drive".into()),
+    }
 }
 
 #[test]

@@ -64,11 +64,13 @@ impl Bench {
     fn assert_moved(&mut self, rt: &impl Abort, transfers: &[(Op, u16, u32)]) {
         for (op, status, count) in transfers {
             let moved = match self.execute(*op) {
-                Some(End {
-                    status,
-                    body: EndBody::Moved { bytes, .. },
-                    ..
-                }) => Some((status, bytes)),
+                Some(
+                    End {
+                        status,
+                        body: EndBody::Moved { bytes, .. },
+                        ..
+                    },
+                ) => Some((status, bytes)),
                 _ => None,
             };
             assert_eq!(rt; moved, Some((*status, *count)), "at {op:?}");

@@ -51,7 +51,10 @@ impl Report {
             Some((head, tail)) => (head, Some(tail)),
             None => (line, None),
         };
-        let words = split(head);
+        let words = match split(head) {
+            Ok(words) => words,
+            Err(fault) => return self.fault(number, fault),
+        };
         let mut words = Words::new(words.as_slice());
         let Some(first) = words.next() else {
             return Ok(());
@@ -80,7 +83,7 @@ impl Report {
         let Some(tail) = tail else {
             return self.deed(machine, number, (verb, head), words);
         };
-        let wanted = split(tail);
+        let wanted = split(tail)?;
         let wanted = wanted.as_slice();
         let mut came = String::new(machine.alloc);
         look(machine, verb, words, wanted.len(), &mut came)?;
@@ -119,7 +122,7 @@ impl Report {
     ) -> Result<(), Fault> {
         self.looks = self.looks.saturating_add(1);
         let name = &self.name;
-        if !are_alike(tail, came) {
+        if !are_alike(tail, came)? {
             self.differ = self.differ.saturating_add(1);
             let (wanted, came) = (tail.trim(), came.trim());
             writeln!(

@@ -45,8 +45,13 @@ fn run_all(rt: &HostRuntime) -> io::Result<bool> {
     }
     let mut all = true;
     for name in &names {
-        let case = fs::read_to_string(rt, name.as_str())?;
-        all &= run_case(rt, name, &case)?;
+        match fs::read_to_string(rt, name.as_str()) {
+            Ok(case) => all &= run_case(rt, name, &case)?,
+            Err(error) => {
+                println!(rt; "{name}: {error}")?;
+                all = false;
+            }
+        }
     }
     Ok(all)
 }

@@ -4,7 +4,7 @@ use crate::disk::Disk;
 use crate::fault::Fault;
 use std::alloc::Global;
 use uda_exec::Exec;
-use uda_mem::{HostMemory, MEMORY_LIMIT, is_memory};
+use uda_mem::{HostMemory, MEMORY_LIMIT, SLICE_LIMIT, is_memory};
 use uda_packet::End;
 use uda_port::{Fetched, HostEvent, Port, Ring, RingFault, Trace};
 
@@ -30,6 +30,9 @@ pub struct Slice {
 impl Slice {
     /// Makes a memory of so many bytes.
     pub fn new(alloc: Global, count: u32, byte: u8) -> Result<Slice, Fault> {
+        if count > SLICE_LIMIT {
+            return Err(Fault::Memory);
+        }
         Ok(Slice {
             bytes: vec![in alloc; byte; count as usize]?,
             spare: None,

@@ -2,19 +2,21 @@
 use crate::fault::Fault;
 use arrayvec::ArrayVec;
 
-/// How many words a line has at most; those behind them are not read.
+/// How many words each side of `=` has at most.
 pub const LINE_WORDS: usize = 96;
 
-/// The words of a text, as far as they are read.
+/// The words of a text.
 pub type Split<'a> = ArrayVec<&'a str, LINE_WORDS>;
 
 /// Splits a text into its words.
-pub fn split(text: &str) -> Split<'_> {
+pub fn split(text: &str) -> Result<Split<'_>, Fault> {
     let mut words = ArrayVec::new();
     for word in text.split_whitespace() {
-        let _ = words.try_push(word);
+        if words.try_push(word).is_err() {
+            return Err(Fault::MoreWords);
+        }
     }
-    words
+    Ok(words)
 }
 
 /// The words of a line that have not been taken yet.
@@ -137,15 +139,16 @@ fn hexadecimal(word: &str) -> Option<u32> {
 }
 
 /// Whether two texts have the same words, but for zeros at their heads.
-pub fn are_alike(one: &str, other: &str) -> bool {
-    let (one, other) = (split(one), split(other));
+pub fn are_alike(one: &str, other: &str) -> Result<bool, Fault> {
+    let one = split(one)?;
+    let other = split(other)?;
     if one.len() != other.len() {
-        return false;
+        return Ok(false);
     }
     for (a, b) in one.as_slice().iter().zip(other.as_slice()) {
         if a.trim_start_matches('0') != b.trim_start_matches('0') {
-            return false;
+            return Ok(false);
         }
     }
-    true
+    Ok(true)
 }

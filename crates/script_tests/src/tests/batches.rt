@@ -210,7 +210,7 @@ impl Batch {
 }
 
 // Returns the store of unit 0.
-fn first_of(drives: [Option<Drive<MemImage>>; 4]) -> Option<MemImage> {
+fn first_of<S: Drop>(drives: [Option<Drive<S>>; 4]) -> Option<S> {
     let [first, _, _, _] = drives;
     match first {
         Some(Drive { store, .. }) => Some(store),

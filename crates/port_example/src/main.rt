@@ -4,29 +4,48 @@
 #![tactic(auto)]
 
 use anyhow::Result;
+use std::alloc::Global;
 use uda_exec::Exec;
 use uda_image::{Drive, MemImage};
 use uda_mem::HostMemory;
-use uda_packet::{Command, Op, decode_end, encode_command};
+use uda_packet::{Command, End, Op, decode_end, encode_command};
 use uda_port::Port;
 
 fn main(rt: HostRuntime) -> Result<()> {
-    let store = MemImage::new(rt.alloc(), 8)?;
-    let drive = Drive { store, hard: true };
+    let mut port = port_of_a_guest(rt.alloc())?;
     let mut memory = HostMemory::new(rt.alloc(), 4096)?;
-    let exec = Exec::new([Some(drive), None, None, None]);
-    let mut port = Port::for_guests(rt.alloc(), exec)?;
+    start_up(&rt, &mut port, &mut memory)?;
+    post(&mut memory);
+    serve(&rt, &mut port, &mut memory)?;
+    if let Some(end) = end_message(&memory) {
+        println!(rt; "{end}")?;
+    }
+    println!(rt; "{port:?}")?;
+    Ok(())
+}
 
-    // the guest writes four words to SA, and reads it after each: interrupts by the vector at 108, and
-    // rings of one descriptor from 8 on
+// The emulator makes a port with one drive, which is protected.
+fn port_of_a_guest(alloc: Global) -> Result<Port<MemImage>> {
+    let store = MemImage::new(alloc, 8)?;
+    let drive = Drive { store, hard: true };
+    let exec = Exec::new([Some(drive), None, None, None]);
+    Ok(Port::for_guests(alloc, exec)?)
+}
+
+// The guest writes four words to SA, and reads it after each: interrupts by the vector at 108, and
+// rings of one descriptor from 8 on.
+fn start_up(rt: &HostRuntime, port: &mut Port<MemImage>, memory: &mut HostMemory) -> Result<()> {
     for word in [0x809b, 0x0008, 0x0000, 0x0001] {
-        port.write_sa(word, &mut memory);
+        port.write_sa(word, memory);
         let request = port.take_interrupt();
         println!(rt; "SA {:#06x}, interrupt {request:?}", port.read_sa())?;
     }
+    Ok(())
+}
 
-    // it hands the port a buffer and a command: a text and its length, and both descriptors, owned and
-    // with the flag
+// It hands the port a buffer and a command: a text and its length, and both descriptors, owned and
+// with the flag.
+fn post(memory: &mut HostMemory) {
     let command = Command {
         reference: 1,
         unit: 0,
@@ -45,20 +64,20 @@ fn main(rt: HostRuntime) -> Result<()> {
     for (address, word) in words {
         memory.write_word(address, word);
     }
+}
 
-    // it reads IP, and the emulator lets the port take its turns
+// It reads IP, and the emulator lets the port take its turns.
+fn serve(rt: &HostRuntime, port: &mut Port<MemImage>, memory: &mut HostMemory) -> Result<()> {
     port.read_ip();
     for _ in 0..4 {
-        let turn = port.turn(&mut memory);
+        let turn = port.turn(memory);
         let request = port.take_interrupt();
         println!(rt; "{turn:?}, interrupt {request:?}")?;
     }
-    if let Some(end) = memory
-        .window(0x100, 48)
-        .and_then(|text| decode_end(text.as_array()?))
-    {
-        println!(rt; "{end}")?;
-    }
-    println!(rt; "{port:?}")?;
     Ok(())
+}
+
+// The guest finds the end message where its buffer is.
+fn end_message(memory: &HostMemory) -> Option<End> {
+    decode_end(memory.window(0x100, 48)?.as_array()?)
 }

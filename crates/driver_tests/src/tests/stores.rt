@@ -1,157 +1,260 @@
-//! Stores that fail, and stores that keep the order of their calls.
-use super::*;
+//! The stores that cases are over, and what a driver does over them.
+use super::asked::{Ask, Reply};
+use arrayvec::ArrayVec;
+use std::alloc::{AllocError, Global};
 use std::fs::File;
 use std::path::PathBuf;
-use std::{env, fs, process};
-use uda_image::{FailingImage, FileImage};
+use std::test::Fail;
+use std::{env, fs, io, process};
+use uda_driver::Driver;
+use uda_image::{BlockStore, Drive, FailingImage, FileImage, MemImage, StoreError};
 
-/// What is in a block after three blocks of 0x44 were written over zeros.
-#[derive(Clone, Copy)]
-enum Block {
-    /// All of 0x44.
-    Whole,
-    /// The first half of 0x44.
-    Half,
-    /// Zeros.
-    Zero,
-}
-
-impl Block {
-    fn bytes(self) -> [u8; 512] {
-        let mut bytes = [0; 512];
-        match self {
-            Block::Whole => bytes.fill(0x44),
-            Block::Half => bytes[..256].fill(0x44),
-            Block::Zero => {}
-        }
-        bytes
-    }
-}
-
-/// What a driver answers over a store of which the call of this number fails, and the image afterwards.
-fn serve_failing(
-    alloc: Global,
+/// A store over an image, faithful as that is, that keeps the first block of each call.
+#[derive(Drop)]
+struct Recorder {
     image: MemImage,
-    at: u32,
-    requests: &[Request],
-) -> Result<(Vec<Answer>, MemImage), Fail> {
-    let store = FailingImage::new(image, at);
-    let mut driver = Driver::start(alloc, alone(store, false)).map_err(|_| "no memory")?;
-    let answers = run(&mut driver, requests)?;
-    let store = first_of(driver.into_stores()).ok_or("no drive")?;
-    Ok((answers, store.into_inner()))
+    calls: ArrayVec<u32, 16>,
 }
 
-/// An image of eight blocks that begins with these.
-fn beginning_with(alloc: Global, blocks: [Block; 3]) -> Result<MemImage, Fail> {
-    let mut image = MemImage::new(alloc, 8)?;
-    for (k, block) in (0..3).zip(blocks) {
-        if k < image.size() {
-            let _ = image.write(k, &block.bytes());
-        }
+impl BlockStore for Recorder {
+    ghost use Rattle.uda_image.specs.Image.{image_state};
+    ghost use Rattle.uda_image.specs.StoreLaws.{block_count-le, IsImage-blocks_of};
+
+    ghost state = { λ recorder. image_state recorder.image };
+
+    ghost within_limit = { λ recorder. block_count-le recorder.image };
+
+    ghost is_image = { λ recorder _. IsImage-blocks_of recorder.image };
+
+    fn size(&self) -> u32 {
+        self.image.size()
     }
-    Ok(image)
-}
 
-/// The answer of a Read of one block, or of a lost one.
-fn read_answer(alloc: Global, block: Option<Block>) -> Result<Answer, Fail> {
-    Ok(match block {
-        Some(block) => Answer::Data {
-            status: 0,
-            bytes: Vec::from_slice(alloc, &block.bytes())?,
-        },
-        None => no_data(alloc, 0x000b),
-    })
-}
-
-/// Three blocks are written and the first is read, while the store call of this number fails.
-fn assert_failure(
-    rt: &impl Abort,
-    alloc: Global,
-    at: u32,
-    written: Answer,
-    told: Option<Block>,
-    blocks: [Block; 3],
-) -> Result<(), Fail> {
-    let requests = [ONLINE, write(alloc, 0, 0x44, 1536)?, read(0, 1)];
-    let zeros = MemImage::new(alloc, 8)?;
-    let (answers, image) = serve_failing(alloc, zeros, at, &requests)?;
-    let read = read_answer(alloc, told)?;
-    let told = [online(8), written, read];
-    assert_answers(rt, &answers, &told);
-    let left = beginning_with(alloc, blocks)?;
-    assert_bytes(rt, &image, left.bytes());
-    Ok(())
-}
-
-#[test]
-fn each_store_call_fails(rt: HostRuntime) -> Result<(), Fail> {
-    use Block::{Half, Whole, Zero};
-    for (at, written, told, blocks) in [
-        (1, moved(0x000b, 0), Some(Half), [Half, Zero, Zero]),
-        (2, moved(0x000b, 512), Some(Whole), [Whole, Half, Zero]),
-        (3, moved(0x000b, 1024), Some(Whole), [Whole, Whole, Half]),
-        (4, moved(0, 1536), None, [Whole, Whole, Whole]),
-        (5, moved(0, 1536), Some(Whole), [Whole, Whole, Whole]),
-        (0, moved(0, 1536), Some(Whole), [Whole, Whole, Whole]),
-    ] {
-        assert_failure(&rt, rt.alloc(), at, written, told, blocks)?;
+    fn read(&mut self, n: u32, to: &mut [u8; 512]) -> Result<(), StoreError> {
+        let _ = self.calls.try_push(n);
+        self.image.read(n, to)
     }
-    Ok(())
+
+    fn write(&mut self, n: u32, from: &[u8; 512]) -> Result<(), StoreError> {
+        let _ = self.calls.try_push(n);
+        self.image.write(n, from)
+    }
 }
 
-#[test]
-fn a_failing_access(rt: HostRuntime) -> Result<(), Fail> {
-    let alloc = rt.alloc();
-    let access = Request::Access {
-        unit: 0,
-        lbn: 0,
-        bytes: 1536,
-    };
-    let image = image_of(alloc, &[7; 8])?;
-    let (answers, image) = serve_failing(alloc, image, 2, &[ONLINE, access])?;
-    let told = [online(8), moved(0x000b, 512)];
-    assert_answers(&rt, &answers, &told);
-    assert_bytes(&rt, &image, &[7; 4096]);
-    Ok(())
+/// What the image of unit 0 is; there is no other unit.
+#[derive(Clone, Copy)]
+pub enum Over {
+    /// Memory.
+    Memory,
+    /// Memory with hardware protection.
+    Protected,
+    /// Memory, of which the call of this number fails.
+    Failing(u32),
+    /// Memory, called at these blocks in this order.
+    Calls(&'static [u32]),
+    /// A file that has four blocks left, since it was opened.
+    ShortenedFile,
 }
 
-/// A file of this test's own, of eight blocks of 7.
-fn scratch_file(rt: &HostRuntime) -> Result<PathBuf, Fail> {
-    let alloc = rt.alloc();
-    let name = format!(in alloc; "uda-driver-{}", process::id(rt.process()))?;
-    let path = env::temp_dir(rt)?.join(alloc, name.as_str())?;
-    fs::write(rt, path.as_path(), &[7; 4096])?;
-    Ok(path)
+/// An image with its blocks, the runs of a driver over it, and its blocks afterwards.
+#[derive(Clone, Copy)]
+pub struct Case {
+    pub name: &'static str,
+    pub over: Over,
+    /// Each block by the byte of its first half and that of its second.
+    pub blocks: &'static [u16],
+    /// The requests of each run, with their answers.
+    pub runs: &'static [&'static [(Ask, Reply)]],
+    /// The blocks afterwards, where they are compared.
+    pub left: Option<&'static [u16]>,
 }
 
-fn over_file(rt: &HostRuntime, path: &str) -> Result<Driver<FileImage>, Fail> {
-    let store = FileImage::open(rt, path, false)?;
-    match Driver::start(rt.alloc(), alone(store, false)) {
+// Returns the bytes of blocks, each given by the bytes of its halves.
+fn bytes_of(alloc: Global, blocks: &[u16]) -> Result<Vec<u8>, AllocError> {
+    let mut bytes = Vec::new(alloc);
+    for halves in blocks {
+        let [first, last] = halves.to_be_bytes();
+        bytes.extend_from_slice(&[first; 256])?;
+        bytes.extend_from_slice(&[last; 256])?;
+    }
+    Ok(bytes)
+}
+
+// Returns drives of which this store is unit 0, and there is no other.
+fn alone<S>(store: S, hard: bool) -> [Option<Drive<S>>; 4] {
+    [Some(Drive { store, hard }), None, None, None]
+}
+
+/// Starts a driver over an image in memory.
+pub fn started(alloc: Global, image: MemImage, hard: bool) -> Result<Driver<MemImage>, Fail> {
+    match Driver::start(alloc, alone(image, hard)) {
         Ok(driver) => Ok(driver),
         Err(_) => Err("no memory".into()),
     }
 }
 
-/// Leaves the first four blocks.
-fn shorten(rt: &HostRuntime, path: &str) -> Result<(), Fail> {
-    let mut file = File::options().write(true).open(rt, path)?;
-    file.set_len(2048)?;
-    Ok(())
+fn start_failing(alloc: Global, image: FailingImage) -> Result<Driver<FailingImage>, Fail> {
+    match Driver::start(alloc, alone(image, false)) {
+        Ok(driver) => Ok(driver),
+        Err(_) => Err("no memory".into()),
+    }
 }
 
-#[test]
-fn a_shortened_file(rt: HostRuntime) -> Result<(), Fail> {
-    let path = scratch_file(&rt)?;
-    let mut driver = over_file(&rt, path.as_str())?;
-    shorten(&rt, path.as_str())?;
-    let answers = run(&mut driver, &[ONLINE, read(3, 1), read(6, 1)])?;
-    fs::remove_file(&rt, path.as_path())?;
-    let told = [
-        online(8),
-        data(rt.alloc(), 7, 512)?,
-        no_data(rt.alloc(), 0x000b),
-    ];
-    assert_answers(&rt, &answers, &told);
-    Ok(())
+fn start_recorder(alloc: Global, recorder: Recorder) -> Result<Driver<Recorder>, Fail> {
+    match Driver::start(alloc, alone(recorder, false)) {
+        Ok(driver) => Ok(driver),
+        Err(_) => Err("no memory".into()),
+    }
+}
+
+fn start_file(alloc: Global, image: FileImage) -> Result<Driver<FileImage>, Fail> {
+    match Driver::start(alloc, alone(image, false)) {
+        Ok(driver) => Ok(driver),
+        Err(_) => Err("no memory".into()),
+    }
+}
+
+// Returns the store of unit 0.
+fn first_of<S: Drop>(drives: [Option<Drive<S>>; 4]) -> Option<S> {
+    let [first, _, _, _] = drives;
+    match first {
+        Some(Drive { store, .. }) => Some(store),
+        None => None,
+    }
+}
+
+// Has the requests of a run done, and returns whether each has its answer.
+fn is_answered<S: BlockStore>(
+    alloc: Global,
+    driver: &mut Driver<S>,
+    run: &[(Ask, Reply)],
+) -> Result<bool, Fail> {
+    let mut requests = Vec::new(alloc);
+    for (ask, _) in run {
+        requests.push(ask.request(alloc)?)?;
+    }
+    let Ok(answers) = driver.run(&requests) else {
+        return Err("the run was refused".into());
+    };
+    for (answer, (_, reply)) in answers.iter().zip(run) {
+        if !reply.is(answer) {
+            return Ok(false);
+        }
+    }
+    Ok(answers.len() == run.len())
+}
+
+impl Case {
+    /// Has the runs done, and returns the index of the first with a wrong answer: their count where the blocks
+    /// afterwards or the store's calls are wrong, and None where nothing is.
+    pub fn first_wrong(&self, rt: &HostRuntime) -> Result<Option<usize>, Fail> {
+        let alloc = rt.alloc();
+        let image = MemImage::from_bytes(alloc, &bytes_of(alloc, self.blocks)?)?;
+        match self.over {
+            Over::Memory => self.over_memory(alloc, image, false),
+            Over::Protected => self.over_memory(alloc, image, true),
+            Over::Failing(at) => self.over_failing(alloc, FailingImage::new(image, at)),
+            Over::Calls(calls) => self.over_recorder(alloc, image, calls),
+            Over::ShortenedFile => self.over_file(rt, image.bytes()),
+        }
+    }
+
+    // Has the runs done, and returns the index of the first with a wrong answer.
+    fn run<S: BlockStore>(
+        &self,
+        alloc: Global,
+        driver: &mut Driver<S>,
+    ) -> Result<Option<usize>, Fail> {
+        for (n, run) in self.runs.iter().enumerate() {
+            if !is_answered(alloc, driver, run)? {
+                return Ok(Some(n));
+            }
+        }
+        Ok(None)
+    }
+
+    fn over_memory(
+        &self,
+        alloc: Global,
+        image: MemImage,
+        hard: bool,
+    ) -> Result<Option<usize>, Fail> {
+        let mut driver = started(alloc, image, hard)?;
+        let wrong = self.run(alloc, &mut driver)?;
+        match first_of(driver.into_stores()) {
+            Some(image) => self.judge(alloc, wrong, image.bytes()),
+            None => Err("no drive".into()),
+        }
+    }
+
+    fn over_failing(&self, alloc: Global, image: FailingImage) -> Result<Option<usize>, Fail> {
+        let mut driver = start_failing(alloc, image)?;
+        let wrong = self.run(alloc, &mut driver)?;
+        match first_of(driver.into_stores()) {
+            Some(image) => self.judge(alloc, wrong, image.into_inner().bytes()),
+            None => Err("no drive".into()),
+        }
+    }
+
+    // Returns what was found wrong, and else the count of runs where these aren't the bytes afterwards.
+    fn judge(
+        &self,
+        alloc: Global,
+        wrong: Option<usize>,
+        bytes: &[u8],
+    ) -> Result<Option<usize>, Fail> {
+        match self.left {
+            Some(blocks) if wrong.is_none() && bytes != bytes_of(alloc, blocks)?.as_slice() => {
+                Ok(Some(self.runs.len()))
+            }
+            _ => Ok(wrong),
+        }
+    }
+
+    // Compares the store's calls too.
+    fn over_recorder(
+        &self,
+        alloc: Global,
+        image: MemImage,
+        calls: &[u32],
+    ) -> Result<Option<usize>, Fail> {
+        let none = ArrayVec::new();
+        let mut driver = start_recorder(alloc, Recorder { image, calls: none })?;
+        let wrong = self.run(alloc, &mut driver)?;
+        match first_of(driver.into_stores()) {
+            Some(recorder) if recorder.calls.as_slice() == calls => {
+                self.judge(alloc, wrong, recorder.image.bytes())
+            }
+            Some(_) => Ok(Some(self.runs.len())),
+            None => Err("no drive".into()),
+        }
+    }
+
+    // Shortens the file once it is open.
+    fn over_file(&self, rt: &HostRuntime, bytes: &[u8]) -> Result<Option<usize>, Fail> {
+        let path = scratch_file(rt, bytes)?;
+        let mut driver = start_file(rt.alloc(), FileImage::open(rt, path.as_str(), false)?)?;
+        shorten(rt, &path)?;
+        let wrong = self.run(rt.alloc(), &mut driver)?;
+        let left = fs::read(rt, path.as_path())?;
+        fs::remove_file(rt, path.as_path())?;
+        self.judge(rt.alloc(), wrong, &left)
+    }
+}
+
+// Makes a file of these bytes, with a name of this process's own.
+fn scratch_file(rt: &HostRuntime, bytes: &[u8]) -> io::Result<PathBuf> {
+    let alloc = rt.alloc();
+    let name = format!(in alloc; "uda-driver-{}", process::id(rt.process()))?;
+    let path = env::temp_dir(rt)?.join(alloc, name.as_str())?;
+    fs::write(rt, path.as_path(), bytes)?;
+    Ok(path)
+}
+
+// Leaves the first four blocks.
+fn shorten(rt: &HostRuntime, path: &PathBuf) -> io::Result<()> {
+    File::options()
+        .write(true)
+        .open(rt, path.as_path())?
+        .set_len(2048)
 }

@@ -1,16 +1,13 @@
 //! What no clause says: errors' texts, files, and the images' calls at concrete values.
-ghost use Rattle.std.specs.Prelude.{◌≡◌, ◌+◌, ◌<◌, ◌≤◌, true, IfOk, IsOk, slice_set, is_ok, if◌then◌else◌};
+ghost use Rattle.std.specs.Prelude.{◌≡◌, ◌+◌, ◌<◌, true, IfOk, IsOk, slice_set, is_ok, if◌then◌else◌};
 ghost use Rattle.uda_image.specs.Store.{IsImage, KeepsNature};
 
-use std::alloc::Global;
-use std::fs::{File, OpenFile};
+use std::alloc::{AllocError, Global};
+use std::fs::File;
 use std::path::PathBuf;
-use std::process::Abort;
 use std::test::Fail;
 use std::{env, fs, io, process};
-use uda_image::{
-    BLOCK_LIMIT, BlockStore, Drive, FailingImage, FileImage, ImageError, MemImage, StoreError,
-};
+use uda_image::{BlockStore, FailingImage, FileImage, ImageError, MemImage, StoreError};
 
 // Generic code over a store has only what the trait says.
 fn write_then_read<S: BlockStore>(
@@ -36,218 +33,451 @@ fn write_then_read<S: BlockStore>(
     store.read(n, to)
 }
 
-// What is compared stands behind functions, so that a test stays small: a test's proof grows faster than
-// its length.
-
-fn assert_block(rt: &impl Abort, block: &[u8; 512], byte: u8) {
-    assert_eq!(rt; *block, [byte; 512]);
+/// Returns a block by the bytes of its first half and its second: 0x4400 is 256 times 0x44, then zeros.
+fn block_of(halves: u16) -> [u8; 512] {
+    let [first, last] = halves.to_be_bytes();
+    let mut block = [first; 512];
+    block[256..].fill(last);
+    block
 }
 
-fn assert_bytes(rt: &impl Abort, bytes: &[u8], wanted: &[u8]) {
-    assert_eq!(rt; bytes, wanted);
+// Returns the bytes of these blocks, one after the other.
+fn bytes_of(alloc: Global, blocks: &[u16]) -> Result<Vec<u8>, AllocError> {
+    let mut bytes = Vec::new(alloc);
+    for halves in blocks {
+        bytes.extend_from_slice(&block_of(*halves))?;
+    }
+    Ok(bytes)
 }
 
-fn assert_write_fails<S: BlockStore>(rt: &impl Abort, store: &mut S, n: u32)
-    requires { n < (S.state store.old).size }
-{
-    assert_eq!(rt; store.write(n, &[0x44; 512]), Err(StoreError::Write));
+/// A call of a store, with what comes of it.
+#[derive(Clone, Copy)]
+enum Call {
+    /// How many blocks there are.
+    Size(u32),
+    /// A block is read.
+    Read(u32, u16),
+    /// A block can't be read, and nothing is written where it was to go.
+    FailRead(u32),
+    /// A block is written.
+    Write(u32, u16),
+    /// A block can't be written.
+    FailWrite(u32),
+    /// A block is written and then read again.
+    WriteThenRead(u32, u16),
+    /// Two blocks are read at once, or the store declines; and what is then where they were to go, where it is known.
+    ReadTwo(u32, bool, Option<(u16, u16)>),
+    /// Three blocks of one byte are written at once, or the store declines.
+    WriteThree(u32, u8, bool),
 }
 
-fn assert_read_fails<S: BlockStore>(rt: &impl Abort, store: &mut S, n: u32, block: &mut [u8; 512])
-    requires { n < (S.state store.old).size }
-{
-    assert_eq!(rt; store.read(n, block), Err(StoreError::Read));
+impl Call {
+    /// Makes the call, and returns whether that comes of it.
+    fn is_answered<S: BlockStore>(self, store: &mut S) -> bool {
+        let size = store.size();
+        let mut block = [0x77; 512];
+        match self {
+            Call::Size(wanted) => size == wanted,
+            Call::Read(n, halves) if n < size => {
+                store.read(n, &mut block).is_ok() && block == block_of(halves)
+            }
+            Call::FailRead(n) if n < size => {
+                store.read(n, &mut block) == Err(StoreError::Read) && block == [0x77; 512]
+            }
+            Call::Write(n, halves) if n < size => store.write(n, &block_of(halves)).is_ok(),
+            Call::FailWrite(n) if n < size => {
+                store.write(n, &[0x44; 512]) == Err(StoreError::Write)
+            }
+            Call::WriteThenRead(n, halves) if n < size => {
+                let written = block_of(halves);
+                write_then_read(store, n, &written, &mut block).is_ok() && block == written
+            }
+            Call::ReadTwo(n, wanted, blocks) if n < size && size - n >= 2 => {
+                let mut two = [0x77; 1024];
+                store.read_at_once(n, 2, &mut two) == wanted && are_two(&two, blocks)
+            }
+            Call::WriteThree(n, byte, wanted) if n < size && size - n >= 3 => {
+                store.write_at_once(n, 3, &[byte; 1536]) == wanted
+            }
+            _ => false,
+        }
+    }
+}
+
+// Returns whether these are two blocks, where they are known.
+fn are_two(bytes: &[u8; 1024], blocks: Option<(u16, u16)>) -> bool {
+    let Some((one, other)) = blocks else {
+        return true;
+    };
+    let (first, last) = bytes.split_at(512);
+    first == block_of(one).as_slice() && last == block_of(other).as_slice()
+}
+
+// Makes calls of a store, and returns the index of the first with a wrong answer.
+fn first_wrong<S: BlockStore>(store: &mut S, calls: &[Call]) -> Option<usize> {
+    for (n, call) in calls.iter().enumerate() {
+        if !call.is_answered(store) {
+            return Some(n);
+        }
+    }
+    None
+}
+
+/// What an image is made of, and which of its calls fails.
+#[derive(Clone, Copy)]
+enum Over {
+    /// Memory.
+    Memory,
+    /// Memory, of which the call of this number fails.
+    Failing(u32),
+    /// A file that may be written.
+    File,
+    /// A file that may not be written.
+    LockedFile,
+    /// A file that has four blocks left, since it was opened.
+    ShortenedFile,
+}
+
+/// An image with its blocks, the calls of it, and its blocks afterwards.
+#[derive(Clone, Copy)]
+struct Case {
+    name: &'static str,
+    over: Over,
+    blocks: &'static [u16],
+    calls: &'static [Call],
+    left: &'static [u16],
+}
+
+/// Eight blocks that differ.
+const EIGHT: &[u16] = &[
+    0x3030, 0x3131, 0x3232, 0x3333, 0x3434, 0x3535, 0x3636, 0x3737,
+];
+
+/// The same after three blocks were written at once from block 5 on.
+const EIGHT_WRITTEN: &[u16] = &[
+    0x3030, 0x3131, 0x3232, 0x3333, 0x3434, 0x4444, 0x4444, 0x4444,
+];
+
+/// Two blocks of eight are read at once, and three are written.
+const AT_ONCE: &[Call] = &[
+    Call::Size(8),
+    Call::ReadTwo(2, true, Some((0x3232, 0x3333))),
+    Call::WriteThree(5, 0x44, true),
+];
+
+const CASES: [Case; 14] = [
+    Case {
+        name: "no blocks",
+        over: Over::Memory,
+        blocks: &[],
+        calls: &[Call::Size(0)],
+        left: &[],
+    },
+    Case {
+        name: "one block",
+        over: Over::Memory,
+        blocks: &[0x1111],
+        calls: &[],
+        left: &[0x1111],
+    },
+    Case {
+        name: "a written block is read",
+        over: Over::Memory,
+        blocks: &[0; 8],
+        calls: &[Call::WriteThenRead(7, 0x4444), Call::Read(6, 0)],
+        left: &[0, 0, 0, 0, 0, 0, 0, 0x4444],
+    },
+    Case {
+        name: "a failing write",
+        over: Over::Failing(2),
+        blocks: &[0; 2],
+        calls: &[
+            Call::Read(0, 0),
+            Call::FailWrite(1),
+            Call::Write(0, 0x2222),
+            Call::Read(1, 0x4400),
+        ],
+        left: &[0x2222, 0x4400],
+    },
+    Case {
+        name: "a failing read",
+        over: Over::Failing(1),
+        blocks: &[0; 2],
+        calls: &[
+            Call::FailRead(0),
+            Call::Size(2),
+            Call::WriteThenRead(0, 0x3333),
+        ],
+        left: &[0x3333, 0],
+    },
+    Case {
+        name: "no call fails",
+        over: Over::Failing(0),
+        blocks: &[0; 2],
+        calls: &[
+            Call::Read(0, 0),
+            Call::Read(1, 0),
+            Call::WriteThenRead(0, 0x3333),
+        ],
+        left: &[0x3333, 0],
+    },
+    Case {
+        name: "a file is written and read",
+        over: Over::File,
+        blocks: &[0x1111; 2],
+        calls: &[
+            Call::Size(2),
+            Call::WriteThenRead(1, 0x4444),
+            Call::Read(0, 0x1111),
+        ],
+        left: &[0x1111, 0x4444],
+    },
+    Case {
+        name: "a file opened for reading stays",
+        over: Over::LockedFile,
+        blocks: &[0x1111; 2],
+        calls: &[Call::Size(2), Call::FailWrite(0), Call::Read(0, 0x1111)],
+        left: &[0x1111; 2],
+    },
+    Case {
+        name: "a shortened file",
+        over: Over::ShortenedFile,
+        blocks: &[0x1111; 8],
+        calls: &[Call::Size(8), Call::FailRead(6), Call::Read(3, 0x1111)],
+        left: &[0x1111; 4],
+    },
+    Case {
+        name: "blocks of an image at once",
+        over: Over::Memory,
+        blocks: EIGHT,
+        calls: AT_ONCE,
+        left: EIGHT_WRITTEN,
+    },
+    Case {
+        name: "blocks of a file at once",
+        over: Over::File,
+        blocks: EIGHT,
+        calls: AT_ONCE,
+        left: EIGHT_WRITTEN,
+    },
+    Case {
+        name: "a file opened for reading declines writes",
+        over: Over::LockedFile,
+        blocks: EIGHT,
+        calls: &[
+            Call::Size(8),
+            Call::ReadTwo(2, true, Some((0x3232, 0x3333))),
+            Call::WriteThree(5, 0x44, false),
+        ],
+        left: EIGHT,
+    },
+    // four blocks are left of the eight, of which a call that goes beyond them reads too few
+    Case {
+        name: "a shortened file declines reads",
+        over: Over::ShortenedFile,
+        blocks: EIGHT,
+        calls: &[
+            Call::Size(8),
+            Call::ReadTwo(2, true, Some((0x3232, 0x3333))),
+            Call::ReadTwo(3, false, None),
+            Call::ReadTwo(6, false, None),
+        ],
+        left: &[0x3030, 0x3131, 0x3232, 0x3333],
+    },
+    // a store of single blocks declines, which is none of its calls
+    Case {
+        name: "single blocks decline",
+        over: Over::Failing(1),
+        blocks: EIGHT,
+        calls: &[
+            Call::Size(8),
+            Call::ReadTwo(2, false, Some((0x7777, 0x7777))),
+            Call::WriteThree(5, 0x44, false),
+            Call::Size(8),
+            Call::FailRead(0),
+        ],
+        left: EIGHT,
+    },
+];
+
+impl Case {
+    /// Makes the calls, and returns the index of the first with a wrong answer: their count where the blocks
+    /// afterwards are wrong, and None where nothing is.
+    fn first_wrong(&self, rt: &HostRuntime) -> Result<Option<usize>, Fail> {
+        let blocks = bytes_of(rt.alloc(), self.blocks)?;
+        match self.over {
+            Over::Memory => {
+                let mut image = MemImage::from_bytes(rt.alloc(), &blocks)?;
+                let wrong = first_wrong(&mut image, self.calls);
+                self.judge(rt.alloc(), wrong, image.bytes())
+            }
+            Over::Failing(at) => {
+                let image = MemImage::from_bytes(rt.alloc(), &blocks)?;
+                let mut failing = FailingImage::new(image, at);
+                let wrong = first_wrong(&mut failing, self.calls);
+                self.judge(rt.alloc(), wrong, failing.into_inner().bytes())
+            }
+            Over::File => self.over_file(rt, &blocks, true, blocks.len()),
+            Over::LockedFile => self.over_file(rt, &blocks, false, blocks.len()),
+            Over::ShortenedFile => self.over_file(rt, &blocks, true, 2048),
+        }
+    }
+
+    // Over a file that has this length once it is open.
+    fn over_file(
+        &self,
+        rt: &HostRuntime,
+        blocks: &[u8],
+        writable: bool,
+        len: usize,
+    ) -> Result<Option<usize>, Fail> {
+        let path = file_of(rt, "image", blocks)?;
+        let mut image = FileImage::open(rt, path.as_str(), writable)?;
+        set_len(rt, &path, len as u64)?;
+        let wrong = first_wrong(&mut image, self.calls);
+        image.sync()?;
+        let left = take_file(rt, &path)?;
+        self.judge(rt.alloc(), wrong, &left)
+    }
+
+    // Returns what was found wrong, and else the count of calls where these aren't the bytes afterwards.
+    fn judge(
+        &self,
+        alloc: Global,
+        wrong: Option<usize>,
+        bytes: &[u8],
+    ) -> Result<Option<usize>, Fail> {
+        let left = bytes_of(alloc, self.left)?;
+        let is_left = bytes == left.as_slice();
+        Ok(match wrong {
+            None if !is_left => Some(self.calls.len()),
+            wrong => wrong,
+        })
+    }
 }
 
 #[test]
-fn image_lengths(rt: HostRuntime) -> Result<(), Fail> {
-    let none = MemImage::from_bytes(rt.alloc(), &[])?;
-    assert_eq!(rt; none.size(), 0);
-    let one = MemImage::from_bytes(rt.alloc(), &[0x11; 512])?;
-    assert_bytes(&rt, one.bytes(), &[0x11; 512]);
-    let zeros = MemImage::new(rt.alloc(), 2)?;
-    assert_bytes(&rt, zeros.bytes(), &[0; 1024]);
+fn images(rt: HostRuntime) -> Result<(), Fail> {
+    for case in CASES {
+        let wrong = case.first_wrong(&rt)?;
+        assert_eq!(rt; wrong, None, "{}", case.name);
+    }
     Ok(())
 }
 
 #[test]
-fn images_that_cannot_be(rt: HostRuntime) {
+fn images_in_memory(rt: HostRuntime) -> Result<(), Fail> {
+    let zeros = MemImage::new(rt.alloc(), 2)?;
+    assert_eq!(rt; zeros.bytes(), [0; 1024].as_slice());
     let long = MemImage::from_bytes(rt.alloc(), &[0x11; 513]).err();
     assert_eq!(rt; long, Some(ImageError::Length));
     let large = MemImage::new(rt.alloc(), 891_073).err();
     assert_eq!(rt; large, Some(ImageError::TooLarge));
-}
-
-#[test]
-fn error_numbers_and_texts(rt: HostRuntime) -> Result<(), Fail> {
-    for (error, number, text) in [
-        (ImageError::NoMemory, 1, "out of memory"),
-        (ImageError::Open, 2, "cannot open"),
-        (ImageError::Length, 3, "length is no multiple of 512"),
-        (ImageError::TooLarge, 4, "more than 891072 blocks"),
-    ] {
-        let written = format!(in rt.alloc(); "{} {error}", error as u8)?;
-        let wanted = format!(in rt.alloc(); "{number} {text}")?;
-        assert_eq!(rt; written.as_str(), wanted.as_str());
-    }
     Ok(())
 }
 
 #[test]
-fn texts_of_store_errors(rt: HostRuntime) -> Result<(), Fail> {
-    for (error, text) in [
-        (StoreError::Read, "a block could not be read"),
-        (StoreError::Write, "a block could not be written"),
-    ] {
-        let written = format!(in rt.alloc(); "{error}")?;
-        assert_eq!(rt; written.as_str(), text);
-    }
+fn errors(rt: HostRuntime) -> Result<(), Fail> {
+    use ImageError::{Length, NoMemory, Open, TooLarge};
+    let texts = format!(in rt.alloc(); "{NoMemory}, {Open}, {Length}, {TooLarge}")?;
+    assert_eq!(rt;
+        texts.as_str(),
+        "out of memory, cannot open, length is no multiple of 512, more than 891072 blocks"
+    );
+    let numbers = [NoMemory as u8, Open as u8, Length as u8, TooLarge as u8];
+    assert_eq!(rt; numbers, [1, 2, 3, 4]);
+    let texts = format!(in rt.alloc(); "{}, {}", StoreError::Read, StoreError::Write)?;
+    assert_eq!(rt;
+        texts.as_str(),
+        "a block could not be read, a block could not be written"
+    );
     Ok(())
 }
 
-#[test]
-fn a_written_block_is_read(rt: HostRuntime) -> Result<(), Fail> {
-    let mut image = MemImage::new(rt.alloc(), 8)?;
-    let mut block = [0; 512];
-    write_then_read(&mut image, 7, &[0x44; 512], &mut block)?;
-    assert_block(&rt, &block, 0x44);
-    image.read(6, &mut block)?;
-    assert_block(&rt, &block, 0);
-    Ok(())
-}
-
-#[test]
-fn a_failing_write(rt: HostRuntime) -> Result<(), Fail> {
-    let mut image = FailingImage::new(MemImage::new(rt.alloc(), 2)?, 2);
-    let mut block = [0x11; 512];
-    image.read(0, &mut block)?;
-    assert_block(&rt, &block, 0);
-    assert_eq!(rt; image.write(1, &[0x44; 512]), Err(StoreError::Write));
-    image.write(0, &[0x22; 512])?;
-    image.read(1, &mut block)?;
-    let (first, last) = block.split_at(256);
-    assert_bytes(&rt, first, &[0x44; 256]);
-    assert_bytes(&rt, last, &[0; 256]);
-    let mut inner = image.into_inner();
-    assert_eq!(rt; inner.size(), 2);
-    inner.read(0, &mut block)?;
-    assert_block(&rt, &block, 0x22);
-    Ok(())
-}
-
-#[test]
-fn a_failing_read(rt: HostRuntime) -> Result<(), Fail> {
-    let mut image = FailingImage::new(MemImage::new(rt.alloc(), 2)?, 1);
-    let mut block = [0x77; 512];
-    assert_read_fails(&rt, &mut image, 0, &mut block);
-    assert_block(&rt, &block, 0x77);
-    assert_eq!(rt; image.size(), 2);
-    write_then_read(&mut image, 0, &[0x33; 512], &mut block)?;
-    assert_block(&rt, &block, 0x33);
-    Ok(())
-}
-
-#[test]
-fn no_call_fails(rt: HostRuntime) -> Result<(), Fail> {
-    let mut image = FailingImage::new(MemImage::new(rt.alloc(), 2)?, 0);
-    let mut block = [0x77; 512];
-    image.read(0, &mut block)?;
-    image.read(1, &mut block)?;
-    write_then_read(&mut image, 0, &[0x33; 512], &mut block)?;
-    assert_block(&rt, &block, 0x33);
-    Ok(())
-}
-
-// A file of this process's own, by a word.
+// Returns the path of a file of this process's own, by a word.
 fn path_of(rt: &HostRuntime, word: &str) -> io::Result<PathBuf> {
     let name = format!(in rt.alloc(); "uda-image-{}-{word}", process::id(rt.process()))?;
     Ok(env::temp_dir(rt)?.join(rt.alloc(), name.as_str())?)
 }
 
-// The path of a new file with these bytes.
+// Makes a file with these bytes, and returns its path.
 fn file_of(rt: &HostRuntime, word: &str, bytes: &[u8]) -> io::Result<PathBuf> {
     let path = path_of(rt, word)?;
     fs::write(rt, path.as_path(), bytes)?;
     Ok(path)
 }
 
-// The bytes of a file, which is then removed.
+// Returns the bytes of a file, and removes it.
 fn take_file(rt: &HostRuntime, path: &PathBuf) -> io::Result<Vec<u8>> {
     let bytes = fs::read(rt, path.as_path())?;
     fs::remove_file(rt, path.as_path())?;
     Ok(bytes)
 }
 
-// Leaves the first four blocks of a file, and removes its name.
-fn shorten(rt: &HostRuntime, path: &PathBuf) -> io::Result<()> {
-    let file = File::options().write(true).open(rt, path.as_path())?;
-    file.set_len(2048)?;
-    fs::remove_file(rt, path.as_path())
+// Gives a file this length.
+fn set_len(rt: &HostRuntime, path: &PathBuf, len: u64) -> io::Result<()> {
+    File::options()
+        .write(true)
+        .open(rt, path.as_path())?
+        .set_len(len)
 }
 
-// The answer of opening a file of `len` zeros, which is removed again.
-fn open_of(rt: &HostRuntime, word: &str, len: u64) -> io::Result<Result<u32, ImageError>> {
-    let path = path_of(rt, word)?;
-    let file = File::create(rt, path.as_path())?;
-    file.set_len(len)?;
-    let opened = FileImage::open(rt, path.as_str(), false);
+// Opens a file of `len` zeros as an image, and removes it. Returns the image's size.
+fn open_of(rt: &HostRuntime, len: u64) -> io::Result<Result<u32, ImageError>> {
+    let path = file_of(rt, "long", &[])?;
+    set_len(rt, &path, len)?;
+    let opened = match FileImage::open(rt, path.as_str(), false) {
+        Ok(image) => Ok(image.size()),
+        Err(error) => Err(error),
+    };
     fs::remove_file(rt, path.as_path())?;
-    Ok(opened.map(|image| image.size()))
+    Ok(opened)
 }
 
 #[test]
 fn files_by_length(rt: HostRuntime) -> Result<(), Fail> {
-    for (word, len, opened) in [
-        ("empty", 0, Ok(0)),
-        ("one", 512, Ok(1)),
-        ("odd", 513, Err(ImageError::Length)),
-        ("most", 891_072 * 512, Ok(891_072)),
-        ("large", 891_073 * 512, Err(ImageError::TooLarge)),
-        ("both", 891_073 * 512 + 1, Err(ImageError::Length)),
+    for (len, opened) in [
+        (0, Ok(0)),
+        (512, Ok(1)),
+        (513, Err(ImageError::Length)),
+        (891_072 * 512, Ok(891_072)),
+        (891_073 * 512, Err(ImageError::TooLarge)),
+        (891_073 * 512 + 1, Err(ImageError::Length)),
     ] {
-        assert_eq!(rt; open_of(&rt, word, len)?, opened, "{word}");
+        assert_eq!(rt; open_of(&rt, len)?, opened, "{len} bytes");
     }
     Ok(())
 }
 
-// Whether a path can't be opened.
+// Returns whether a path can't be opened.
 fn is_closed(rt: &HostRuntime, path: &str, writable: bool) -> bool {
     FileImage::open(rt, path, writable).err() == Some(ImageError::Open)
 }
 
+// To open a running program to be written fails, whoever does it: what may not be written is opened for reading alone.
 #[test]
 fn no_plain_file(rt: HostRuntime) -> Result<(), Fail> {
     let missing = path_of(&rt, "missing")?;
-    assert!(rt; is_closed(&rt, missing.as_str(), false));
-    assert!(rt; is_closed(&rt, missing.as_str(), true));
-    assert!(rt; !fs::exists(&rt, missing.as_path())?);
-    assert!(rt; is_closed(&rt, "/dev/null", true));
-    Ok(())
-}
-
-#[test]
-fn a_folder_is_no_image(rt: HostRuntime) -> Result<(), Fail> {
     let folder = path_of(&rt, "folder")?;
     fs::create_dir(&rt, folder.as_path())?;
-    let closed = is_closed(&rt, folder.as_str(), false);
+    assert!(rt; is_closed(&rt, missing.as_str(), false));
+    assert!(rt; is_closed(&rt, missing.as_str(), true));
+    assert!(rt; is_closed(&rt, "/dev/null", true));
+    assert!(rt; is_closed(&rt, folder.as_str(), false));
+    assert!(rt; !is_closed(&rt, "/proc/self/exe", false));
+    assert!(rt; !fs::exists(&rt, missing.as_path())?);
     fs::remove_dir(&rt, folder.as_path())?;
-    assert!(rt; closed);
     Ok(())
 }
 
-// To open a running program to be written fails, whoever does it.
-#[test]
-fn what_is_not_to_be_written_is_opened_for_reading_alone(rt: HostRuntime) {
-    assert!(rt; !is_closed(&rt, "/proc/self/exe", false));
-}
-
-// Whether a file can be opened as an image that may be written, and as one that may not, while it is
-// open as this one.
+// Returns whether a file can be opened as an image that may be written, and as one that may not, while
+// it is open as this one.
 fn beside(rt: &HostRuntime, path: &PathBuf, writable: bool) -> Result<(bool, bool), ImageError> {
     let held = FileImage::open(rt, path.as_str(), writable)?;
-    let closed = [true, false].map(|writable| is_closed(rt, path.as_str(), writable));
+    let is_writable = !is_closed(rt, path.as_str(), true);
+    let is_readable = !is_closed(rt, path.as_str(), false);
     drop(held);
-    Ok((!closed[0], !closed[1]))
+    Ok((is_writable, is_readable))
 }
 
 #[test]
@@ -256,155 +486,5 @@ fn an_image_to_be_written_is_open_once(rt: HostRuntime) -> Result<(), Fail> {
     assert_eq!(rt; beside(&rt, &path, true)?, (false, false));
     assert_eq!(rt; beside(&rt, &path, false)?, (false, true));
     assert_eq!(rt; take_file(&rt, &path)?.len(), 512);
-    Ok(())
-}
-
-#[test]
-fn a_file_is_written_and_read(rt: HostRuntime) -> Result<(), Fail> {
-    let path = file_of(&rt, "written", &[0x11; 1024])?;
-    let mut image = FileImage::open(&rt, path.as_str(), true)?;
-    assert_eq!(rt; image.size(), 2);
-    let mut block = [0; 512];
-    write_then_read(&mut image, 1, &[0x44; 512], &mut block)?;
-    assert_block(&rt, &block, 0x44);
-    image.read(0, &mut block)?;
-    assert_block(&rt, &block, 0x11);
-    image.sync()?;
-    assert_eq!(rt; take_file(&rt, &path)?.len(), 1024);
-    Ok(())
-}
-
-// The file's own bytes are looked at, since no clause says what a file holds.
-#[test]
-fn a_file_opened_for_reading_stays(rt: HostRuntime) -> Result<(), Fail> {
-    let path = file_of(&rt, "locked", &[0x11; 1024])?;
-    let mut locked = FileImage::open(&rt, path.as_str(), false)?;
-    assert_eq!(rt; locked.size(), 2);
-    assert_write_fails(&rt, &mut locked, 0);
-    let mut block = [0; 512];
-    locked.read(0, &mut block)?;
-    assert_block(&rt, &block, 0x11);
-    assert_bytes(&rt, &take_file(&rt, &path)?, &[0x11; 1024]);
-    Ok(())
-}
-
-#[test]
-fn a_shortened_file(rt: HostRuntime) -> Result<(), Fail> {
-    let path = file_of(&rt, "shortened", &[0x11; 4096])?;
-    let mut image = FileImage::open(&rt, path.as_str(), true)?;
-    shorten(&rt, &path)?;
-    assert_eq!(rt; image.size(), 8);
-    let mut block = [0; 512];
-    assert_read_fails(&rt, &mut image, 6, &mut block);
-    image.read(3, &mut block)?;
-    assert_block(&rt, &block, 0x11);
-    Ok(())
-}
-
-// ---- several blocks at once
-
-// Eight blocks, each of 512 times its byte.
-fn blocks_of(bytes: [u8; 8]) -> [u8; 4096] {
-    let mut blocks = [0; 4096];
-    for (block, byte) in blocks.chunks_exact_mut(512).zip(bytes) {
-        block.fill(byte);
-    }
-    blocks
-}
-
-// Those that differ.
-fn eight() -> [u8; 4096] {
-    blocks_of([0x30, 0x31, 0x32, 0x33, 0x34, 0x35, 0x36, 0x37])
-}
-
-// Asserts that these are eight blocks, each of 512 times its byte.
-fn assert_eight(rt: &impl Abort, blocks: &[u8], bytes: [u8; 8]) {
-    assert_bytes(rt, blocks, &blocks_of(bytes));
-}
-
-// Asserts that these are two blocks, each of 512 times its byte.
-fn assert_two(rt: &impl Abort, blocks: &[u8; 1024], first: u8, second: u8) {
-    let mut bytes = [first; 1024];
-    let (_, last) = bytes.split_at_mut(512);
-    last.fill(second);
-    assert_bytes(rt, blocks, &bytes);
-}
-
-// Whether two blocks from block 2 on are read at once, and three written at once from block 5 on.
-fn at_once<S: BlockStore>(store: &mut S, to: &mut [u8; 1024]) -> (bool, bool)
-    requires { 8 ≤ (S.state store.old).size }
-{
-    let read = store.read_at_once(2, 2, to);
-    (read, store.write_at_once(5, 3, &[0x44; 1536]))
-}
-
-// Whether two blocks from block n on are read at once.
-fn reads_two<S: BlockStore>(store: &mut S, n: u32) -> bool
-    requires { n + 2 ≤ (S.state store.old).size }
-    ensures nature { KeepsNature (S.state store.old) (S.state store.new) }
-{
-    store.read_at_once(n, 2, &mut [0; 1024])
-}
-
-#[test]
-fn blocks_of_an_image_at_once(rt: HostRuntime) -> Result<(), Fail> {
-    let mut image = MemImage::from_bytes(rt.alloc(), &eight())?;
-    assert_eq!(rt; image.size(), 8);
-    let mut to = [0x77; 1024];
-    assert_eq!(rt; at_once(&mut image, &mut to), (true, true));
-    assert_two(&rt, &to, 0x32, 0x33);
-    let left = [0x30, 0x31, 0x32, 0x33, 0x34, 0x44, 0x44, 0x44];
-    assert_eight(&rt, image.bytes(), left);
-    Ok(())
-}
-
-#[test]
-fn blocks_of_a_file_at_once(rt: HostRuntime) -> Result<(), Fail> {
-    let path = file_of(&rt, "at-once", &eight())?;
-    let mut image = FileImage::open(&rt, path.as_str(), true)?;
-    assert_eq!(rt; image.size(), 8);
-    let mut to = [0x77; 1024];
-    assert_eq!(rt; at_once(&mut image, &mut to), (true, true));
-    assert_two(&rt, &to, 0x32, 0x33);
-    let left = [0x30, 0x31, 0x32, 0x33, 0x34, 0x44, 0x44, 0x44];
-    assert_eight(&rt, &take_file(&rt, &path)?, left);
-    Ok(())
-}
-
-#[test]
-fn a_file_opened_for_reading_declines_writes(rt: HostRuntime) -> Result<(), Fail> {
-    let path = file_of(&rt, "read-at-once", &eight())?;
-    let mut image = FileImage::open(&rt, path.as_str(), false)?;
-    assert_eq!(rt; image.size(), 8);
-    let mut to = [0x77; 1024];
-    assert_eq!(rt; at_once(&mut image, &mut to), (true, false));
-    assert_bytes(&rt, &take_file(&rt, &path)?, &eight());
-    Ok(())
-}
-
-// Four blocks are left of the eight, of which a call that goes beyond them reads too few.
-#[test]
-fn a_shortened_file_declines_reads(rt: HostRuntime) -> Result<(), Fail> {
-    let path = file_of(&rt, "shortened-at-once", &eight())?;
-    let mut image = FileImage::open(&rt, path.as_str(), true)?;
-    shorten(&rt, &path)?;
-    assert_eq!(rt; image.size(), 8);
-    assert!(rt; reads_two(&mut image, 2));
-    assert!(rt; !reads_two(&mut image, 3));
-    assert!(rt; !reads_two(&mut image, 6));
-    Ok(())
-}
-
-// A store of single blocks declines, which is none of its calls.
-#[test]
-fn single_blocks_decline(rt: HostRuntime) -> Result<(), Fail> {
-    let mut image = FailingImage::new(MemImage::from_bytes(rt.alloc(), &eight())?, 1);
-    assert_eq!(rt; image.size(), 8);
-    let mut to = [0x77; 1024];
-    assert_eq!(rt; at_once(&mut image, &mut to), (false, false));
-    assert_two(&rt, &to, 0x77, 0x77);
-    assert_eq!(rt; image.size(), 8);
-    assert_read_fails(&rt, &mut image, 0, &mut [0; 512]);
-    assert_bytes(&rt, image.into_inner().bytes(), &eight());
     Ok(())
 }

@@ -1,90 +1,110 @@
-//! Tests of host memory.
+//! Host memory by its calls: a table of memories, with the calls of each and their answers.
 ghost use Rattle.std.specs.Prelude.{◌≡◌, if◌then◌else◌};
 ghost use Rattle.uda_mem.specs.Put.{put};
 
-use std::alloc::AllocError;
+use std::alloc::{AllocError, Global};
 use std::test::Fail;
 use uda_mem::{HostMemory, MEMORY_LIMIT, NoMemory};
 
-#[test]
-fn an_empty_memory_has_no_word(rt: HostRuntime) -> Result<(), Fail> {
-    let mut memory = HostMemory::new(rt.alloc(), 0)?;
-    assert_eq!(rt; memory.len(), 0);
-    assert!(rt; memory.has(0, 0) && !memory.has(0, 1) && !memory.has(1, 0));
-    assert_eq!(rt; memory.read_word(0), None);
-    assert!(rt; !memory.write_word(0, 0x1234));
-    assert_eq!(rt; memory.window(0, 0), Some([].as_slice()));
-    assert_eq!(rt; memory.window(0, 1), None);
-    assert!(rt; memory.window_mut(0, 1).is_none());
-    Ok(())
+/// A call that leaves a memory as it is, and its answer.
+#[derive(Clone, Copy)]
+enum Look {
+    /// How many bytes there are.
+    Len(u32),
+    /// Whether an address has this many bytes.
+    Has(u32, u32, bool),
+    /// The word at an address.
+    Word(u32, Option<u16>),
+    /// The bytes at an address.
+    Bytes(u32, &'static [u8]),
+    /// Whether an address has a window of this many bytes.
+    Window(u32, u32, bool),
+    /// The block at an address: all of a byte, or none.
+    Block(u32, Option<u8>),
+    /// The block at an address that has one: all of a byte.
+    BlockAt(u32, u8),
+    /// Whether an address has a block.
+    HasBlock(u32, bool),
 }
 
-#[test]
-fn a_word_lies_low_byte_first(rt: HostRuntime) -> Result<(), Fail> {
-    let mut memory = HostMemory::new(rt.alloc(), 2)?;
-    assert_eq!(rt; memory.len(), 2);
-    assert_eq!(rt; memory.read_word(0), Some(0));
-    assert!(rt; memory.write_word(0, 0x1234));
-    assert_eq!(rt; memory.read_word(0), Some(0x1234));
-    assert_eq!(rt; memory.window(0, 2).unwrap_or(&[]), [0x34, 0x12].as_slice());
-    for addr in [1, 2] {
-        assert_eq!(rt; memory.read_word(addr), None);
-        assert!(rt; !memory.write_word(addr, 0x5678));
+impl Look {
+    /// Returns whether a memory answers so.
+    fn is_true_of(self, memory: &HostMemory) -> bool {
+        match self {
+            Look::Len(wanted) => memory.len() == wanted,
+            Look::Has(addr, len, wanted) => memory.has(addr, len) == wanted,
+            Look::Word(addr, wanted) => memory.read_word(addr) == wanted,
+            Look::Bytes(addr, wanted) if wanted.len() < 512 => {
+                memory.window(addr, wanted.len() as u32) == Some(wanted)
+            }
+            Look::Bytes(..) => false,
+            Look::Window(addr, len, wanted) => memory.window(addr, len).is_some() == wanted,
+            Look::Block(addr, Some(byte)) => memory.block(addr) == Some(&[byte; 512]),
+            Look::Block(addr, None) => memory.block(addr).is_none(),
+            Look::BlockAt(addr, byte) => {
+                memory.has(addr, 512) && *memory.block_at(addr) == [byte; 512]
+            }
+            Look::HasBlock(addr, wanted) => memory.block(addr).is_some() == wanted,
+        }
     }
-    assert_eq!(rt; memory.window(0, 2).unwrap_or(&[]), [0x34, 0x12].as_slice());
-    Ok(())
 }
 
-#[test]
-fn the_largest_memory_ends_at_the_io_page(rt: HostRuntime) -> Result<(), Fail> {
-    let mut memory = HostMemory::new(rt.alloc(), MEMORY_LIMIT)?;
-    assert_eq!(rt; memory.len(), 253_952);
-    assert!(rt; memory.write_word(253_950, 0xabcd));
-    assert_eq!(rt; memory.read_word(253_950), Some(0xabcd));
-    assert_eq!(rt; memory.read_word(253_948), Some(0));
-    assert_eq!(rt; memory.window(253_951, 1).unwrap_or(&[]), [0xab].as_slice());
-    assert!(rt; memory.window(0, 253_952).is_some());
-    assert_eq!(rt; memory.window(1, 253_952), None);
-    // an address and a length are whole numbers: their sum never wraps
-    for (addr, len) in [
-        (u32::MAX, 0),
-        (u32::MAX, 1),
-        (u32::MAX, u32::MAX),
-        (2, u32::MAX),
-        (253_952, 1),
-    ] {
-        assert!(rt; !memory.has(addr, len));
-        assert_eq!(rt; memory.window(addr, len), None);
-        assert!(rt; memory.window_mut(addr, len).is_none());
-    }
-    for addr in [253_949, 253_951, 253_952, u32::MAX - 1, u32::MAX] {
-        assert_eq!(rt; memory.read_word(addr), None);
-        assert!(rt; !memory.write_word(addr, 0x5678));
-    }
-    assert_eq!(rt;
-        memory.window(253_948, 4).unwrap_or(&[]),
-        [0, 0, 0xcd, 0xab].as_slice()
-    );
-    Ok(())
+/// A call that lends a memory to be written, and what comes of it.
+#[derive(Clone, Copy)]
+enum Change {
+    /// A word is written, or isn't.
+    Word(u32, u16, bool),
+    /// A word is put where there is one.
+    PutWord(u32, u16),
+    /// Bytes are written through a window.
+    Window(u32, &'static [u8]),
+    /// Bytes are written through a window that is known to be there.
+    Within(u32, &'static [u8]),
+    /// No window of this many bytes is lent.
+    NoWindow(u32, u32),
+    /// A block is lent.
+    HasBlock(u32),
+    /// A block is filled with a byte, or isn't.
+    Block(u32, u8, bool),
+    /// A block that is known to be there is filled with a byte.
+    BlockWithin(u32, u8),
 }
 
-#[test]
-fn what_is_written_through_a_window_lands_in_it(rt: HostRuntime) -> Result<(), Fail> {
-    let mut memory = HostMemory::new(rt.alloc(), 8)?;
-    memory.within(3, 2).copy_from_slice(&[1, 2]);
-    assert_eq!(rt;
-        memory.window(0, 8).unwrap_or(&[]),
-        [0, 0, 0, 1, 2, 0, 0, 0].as_slice()
-    );
-    if let Some(bytes) = memory.window_mut(5, 3) {
-        bytes.copy_from_slice(&[3, 4, 5]);
+impl Change {
+    /// Makes the change, and returns whether that came of it.
+    fn is_made(self, memory: &mut HostMemory) -> bool {
+        match self {
+            Change::Word(addr, word, wanted) => memory.write_word(addr, word) == wanted,
+            Change::Block(addr, byte, wanted) => fill_block(memory, addr, &[byte; 512]) == wanted,
+            Change::NoWindow(addr, len) => memory.window_mut(addr, len).is_none(),
+            Change::HasBlock(addr) => memory.block_mut(addr).is_some(),
+            Change::Window(addr, bytes) if bytes.len() < 512 => {
+                match memory.window_mut(addr, bytes.len() as u32) {
+                    Some(window) => {
+                        window.copy_from_slice(bytes);
+                        true
+                    }
+                    None => false,
+                }
+            }
+            Change::PutWord(addr, word) if addr % 2 == 0 && memory.has(addr, 2) => {
+                memory.put_word(addr, word);
+                true
+            }
+            Change::Within(addr, bytes)
+                if bytes.len() < 512 && memory.has(addr, bytes.len() as u32) => {
+                memory
+                    .within(addr, bytes.len() as u32)
+                    .copy_from_slice(bytes);
+                true
+            }
+            Change::BlockWithin(addr, byte) if memory.has(addr, 512) => {
+                memory.block_within(addr).fill(byte);
+                true
+            }
+            _ => false,
+        }
     }
-    assert_eq!(rt;
-        memory.window(0, 8).unwrap_or(&[]),
-        [0, 0, 0, 1, 2, 3, 4, 5].as_slice()
-    );
-    assert_eq!(rt; memory.read_word(4), Some(0x0302));
-    Ok(())
 }
 
 // What `block_mut` says of its loan is enough for a caller to say what it wrote.
@@ -100,37 +120,158 @@ fn fill_block(memory: &mut HostMemory, addr: u32, block: &[u8; 512]) -> bool
     }
 }
 
-#[test]
-fn a_block_is_512_bytes_from_any_address(rt: HostRuntime) -> Result<(), Fail> {
-    let mut memory = HostMemory::new(rt.alloc(), 1026)?;
-    assert!(rt; fill_block(&mut memory, 513, &[7; 512]));
-    assert_eq!(rt; memory.read_word(512), Some(0x0700));
-    assert_eq!(rt; memory.read_word(1022), Some(0x0707));
-    assert_eq!(rt; memory.read_word(1024), Some(0x0007));
-    assert_eq!(rt; memory.block(513), Some(&[7; 512]));
-    assert_eq!(rt; memory.block_at(513), &[7; 512]);
-    assert!(rt; memory.block(514).is_some() && memory.block_mut(514).is_some());
-    for addr in [515, 1026, u32::MAX - 511, u32::MAX] {
-        assert_eq!(rt; memory.block(addr), None);
-        assert!(rt; !fill_block(&mut memory, addr, &[9; 512]));
+/// A call of a memory.
+#[derive(Clone, Copy)]
+enum Call {
+    See(Look),
+    Do(Change),
+}
+
+use Call::{Do, See};
+
+/// Memories by their lengths, each with what is seen of it and done to it.
+const MEMORIES: [(u32, &[Call]); 6] = [
+    // an empty memory has no word
+    (
+        0,
+        &[
+            See(Look::Len(0)),
+            See(Look::Has(0, 0, true)),
+            See(Look::Has(0, 1, false)),
+            See(Look::Has(1, 0, false)),
+            See(Look::Word(0, None)),
+            Do(Change::Word(0, 0x1234, false)),
+            See(Look::Bytes(0, &[])),
+            See(Look::Window(0, 1, false)),
+            Do(Change::NoWindow(0, 1)),
+        ],
+    ),
+    // a word lies low byte first
+    (
+        2,
+        &[
+            See(Look::Len(2)),
+            See(Look::Word(0, Some(0))),
+            Do(Change::Word(0, 0x1234, true)),
+            See(Look::Word(0, Some(0x1234))),
+            See(Look::Bytes(0, &[0x34, 0x12])),
+            See(Look::Word(1, None)),
+            Do(Change::Word(1, 0x5678, false)),
+            See(Look::Word(2, None)),
+            Do(Change::Word(2, 0x5678, false)),
+            See(Look::Bytes(0, &[0x34, 0x12])),
+        ],
+    ),
+    // the largest memory ends at the I/O page; an address and a length are whole numbers, whose sum never wraps
+    (
+        MEMORY_LIMIT,
+        &[
+            See(Look::Len(253_952)),
+            Do(Change::Word(253_950, 0xabcd, true)),
+            See(Look::Word(253_950, Some(0xabcd))),
+            See(Look::Word(253_948, Some(0))),
+            See(Look::Bytes(253_951, &[0xab])),
+            See(Look::Window(0, 253_952, true)),
+            See(Look::Window(1, 253_952, false)),
+            See(Look::Has(u32::MAX, 0, false)),
+            See(Look::Window(u32::MAX, 0, false)),
+            Do(Change::NoWindow(u32::MAX, 0)),
+            See(Look::Has(u32::MAX, 1, false)),
+            See(Look::Window(u32::MAX, 1, false)),
+            Do(Change::NoWindow(u32::MAX, 1)),
+            See(Look::Has(u32::MAX, u32::MAX, false)),
+            See(Look::Window(u32::MAX, u32::MAX, false)),
+            Do(Change::NoWindow(u32::MAX, u32::MAX)),
+            See(Look::Has(2, u32::MAX, false)),
+            See(Look::Window(2, u32::MAX, false)),
+            Do(Change::NoWindow(2, u32::MAX)),
+            See(Look::Has(253_952, 1, false)),
+            See(Look::Window(253_952, 1, false)),
+            Do(Change::NoWindow(253_952, 1)),
+            See(Look::Word(253_949, None)),
+            Do(Change::Word(253_949, 0x5678, false)),
+            See(Look::Word(253_951, None)),
+            Do(Change::Word(253_951, 0x5678, false)),
+            See(Look::Word(253_952, None)),
+            Do(Change::Word(253_952, 0x5678, false)),
+            See(Look::Word(4_294_967_294, None)),
+            Do(Change::Word(4_294_967_294, 0x5678, false)),
+            See(Look::Word(u32::MAX, None)),
+            Do(Change::Word(u32::MAX, 0x5678, false)),
+            See(Look::Bytes(253_948, &[0, 0, 0xcd, 0xab])),
+        ],
+    ),
+    // what is written through a window lands in it
+    (
+        8,
+        &[
+            Do(Change::Within(3, &[1, 2])),
+            See(Look::Bytes(0, &[0, 0, 0, 1, 2, 0, 0, 0])),
+            Do(Change::Window(5, &[3, 4, 5])),
+            See(Look::Bytes(0, &[0, 0, 0, 1, 2, 3, 4, 5])),
+            See(Look::Word(4, Some(0x0302))),
+        ],
+    ),
+    // a block is 512 bytes from any address
+    (
+        1026,
+        &[
+            Do(Change::Block(513, 7, true)),
+            See(Look::Word(512, Some(0x0700))),
+            See(Look::Word(1022, Some(0x0707))),
+            See(Look::Word(1024, Some(0x0007))),
+            See(Look::Block(513, Some(7))),
+            See(Look::BlockAt(513, 7)),
+            See(Look::HasBlock(514, true)),
+            Do(Change::HasBlock(514)),
+            See(Look::Block(515, None)),
+            Do(Change::Block(515, 9, false)),
+            See(Look::Block(1026, None)),
+            Do(Change::Block(1026, 9, false)),
+            See(Look::Block(4_294_966_784, None)),
+            Do(Change::Block(4_294_966_784, 9, false)),
+            See(Look::Block(u32::MAX, None)),
+            Do(Change::Block(u32::MAX, 9, false)),
+        ],
+    ),
+    // what is known to be there is written
+    (
+        514,
+        &[
+            Do(Change::PutWord(512, 0x1234)),
+            See(Look::Word(512, Some(0x1234))),
+            See(Look::Has(1, 512, true)),
+            Do(Change::BlockWithin(1, 5)),
+            See(Look::Word(0, Some(0x0500))),
+            See(Look::Word(512, Some(0x1205))),
+        ],
+    ),
+];
+
+/// Makes the calls of a memory of this many bytes, and returns the index of the first with a wrong answer.
+fn first_wrong(alloc: Global, len: u32, calls: &[Call]) -> Result<Option<usize>, NoMemory> {
+    if len % 2 == 1 || len > MEMORY_LIMIT {
+        return Ok(Some(0));
     }
-    Ok(())
+    let mut memory = HostMemory::new(alloc, len)?;
+    for (n, call) in calls.iter().enumerate() {
+        let is_right = match *call {
+            See(look) => look.is_true_of(&memory),
+            Do(change) => change.is_made(&mut memory),
+        };
+        if !is_right {
+            return Ok(Some(n));
+        }
+    }
+    Ok(None)
 }
 
 #[test]
-fn what_is_known_to_be_there_is_written(rt: HostRuntime) -> Result<(), Fail> {
-    let mut memory = HostMemory::new(rt.alloc(), 514)?;
-    memory.put_word(512, 0x1234);
-    assert_eq!(rt; memory.read_word(512), Some(0x1234));
-    assert!(rt; memory.has(1, 512));
-    memory.block_within(1).fill(5);
-    assert_eq!(rt; memory.read_word(0), Some(0x0500));
-    assert_eq!(rt; memory.read_word(512), Some(0x1205));
-    Ok(())
-}
-
-#[test]
-fn a_refused_growth_is_no_memory(rt: HostRuntime) -> Result<(), Fail> {
+fn memories(rt: HostRuntime) -> Result<(), Fail> {
+    for (len, calls) in MEMORIES {
+        let wrong = first_wrong(rt.alloc(), len, calls)?;
+        assert_eq!(rt; wrong, None, "a memory of {len} bytes");
+    }
     assert_eq!(rt; NoMemory::from(AllocError), NoMemory);
     let text = format!(in rt.alloc(); "{NoMemory}")?;
     assert_eq!(rt; text.as_str(), "out of memory");

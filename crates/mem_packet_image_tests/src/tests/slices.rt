@@ -1,98 +1,155 @@
-//! Tests of memory in slices.
+//! Memory in slices by its calls: a table of slices, with the calls of each and their answers.
 
-use std::process::Abort;
 use std::test::Fail;
 use uda_mem::{
-    HostMemory, SLICE_LIMIT, has, is_memory, put_bytes, put_word, put_zeros, read_word, write_word,
+    HostMemory, SLICE_LIMIT, block_at, has, is_memory, len, put_bytes, put_word, put_zeros,
+    read_word, window, write_word,
 };
 
-#[test]
-fn what_can_be_a_memory(rt: HostRuntime) -> Result<(), Fail> {
-    let bytes = vec![in rt.alloc(); 0u8; 4_194_306]?;
-    for (length, wanted) in [
-        (0, true),
-        (1, false),
-        (2, true),
-        (65_535, false),
-        (65_536, true),
-        (4_194_302, true),
-        (4_194_303, false),
-        (4_194_304, true),
-        (4_194_305, false),
-        (4_194_306, false),
-    ] {
-        match bytes.get(..length) {
-            Some(bytes) => assert_eq!(rt; is_memory(bytes), wanted, "{length} bytes"),
-            None => panic!(rt; "no {length} bytes"),
+/// A call of a slice, with what comes of it.
+#[derive(Clone, Copy)]
+enum Call {
+    /// Whether an address has this many bytes.
+    Has(u32, u32, bool),
+    /// 0x1234 is written to an address and read again, or there is no word.
+    Word(u32, bool),
+    /// The bytes at an address.
+    Bytes(u32, &'static [u8]),
+    /// The last byte of the block at an address.
+    EndOfBlock(u32, u8),
+    /// Bytes are put where there are as many.
+    Put(u32, &'static [u8]),
+    /// A word is put where there is one.
+    PutWord(u32, u16),
+    /// This many zeros are put where there are as many bytes.
+    PutZeros(u32, u32),
+    /// Whether this many bytes can be a memory.
+    IsMemory(usize, bool),
+    /// How many bytes a memory has.
+    Len(u32),
+}
+
+impl Call {
+    /// Makes the call, and returns whether that comes of it.
+    fn is_answered(self, bytes: &mut [u8]) -> bool {
+        match self {
+            Call::Has(addr, len, wanted) => has(bytes, addr, len) == wanted,
+            Call::Word(addr, true) => {
+                write_word(bytes, addr, 0x1234) && read_word(bytes, addr) == Some(0x1234)
+            }
+            Call::Word(addr, false) => {
+                !write_word(bytes, addr, 0x1234) && read_word(bytes, addr).is_none()
+            }
+            Call::Bytes(addr, wanted) if wanted.len() < 512 => {
+                window(bytes, addr, wanted.len() as u32) == Some(wanted)
+            }
+            Call::EndOfBlock(addr, byte) => {
+                has(bytes, addr, 512) && block_at(bytes, addr)[511] == byte
+            }
+            Call::Put(addr, put) if put.len() < 512 && has(bytes, addr, put.len() as u32) => {
+                put_bytes(bytes, addr, put);
+                true
+            }
+            Call::PutWord(addr, word) if addr % 2 == 0 && has(bytes, addr, 2) => {
+                put_word(bytes, addr, word);
+                true
+            }
+            Call::PutZeros(addr, count) if has(bytes, addr, count) => {
+                put_zeros(bytes, addr, count);
+                true
+            }
+            Call::IsMemory(count, wanted) if count <= bytes.len() => {
+                is_memory(&bytes[..count]) == wanted
+            }
+            Call::Len(wanted) => is_memory(bytes) && len(bytes) == wanted,
+            _ => false,
         }
     }
+}
+
+/// Slices by their lengths and the byte that they are filled with, each with the calls of it.
+const SLICES: [(usize, u8, &[Call]); 3] = [
+    // the last byte of an odd length is in no word
+    (
+        7,
+        0xff,
+        &[
+            Call::Word(0, true),
+            Call::Word(3, false),
+            Call::Word(4, true),
+            Call::Word(5, false),
+            Call::Word(6, false),
+            Call::Word(8, false),
+            Call::Word(u32::MAX, false),
+            Call::Bytes(0, &[0x34, 0x12, 0xff, 0xff, 0x34, 0x12, 0xff]),
+            Call::Has(6, 1, true),
+            Call::Has(6, 2, false),
+            Call::Has(7, 0, true),
+        ],
+    ),
+    // addresses have 22 bits
+    (
+        4_194_304,
+        0,
+        &[
+            Call::Word(0x4_0000, true),
+            Call::Word(0x3f_fffe, true),
+            Call::Word(0x40_0000, false),
+            Call::Bytes(0, &[0; 5]),
+            Call::Put(0x3f_fffb, &[1, 2, 3, 0x34]),
+            Call::Bytes(0x3f_fffb, &[1, 2, 3, 0x34, 0x12]),
+            Call::PutZeros(0x3f_fffc, 2),
+            Call::Bytes(0x3f_fffb, &[1, 0, 0, 0x34, 0x12]),
+            Call::EndOfBlock(0x3f_fe00, 0x12),
+        ],
+    ),
+    // a memory has an even length, and 22 bits of addresses
+    (
+        4_194_306,
+        0,
+        &[
+            Call::IsMemory(0, true),
+            Call::IsMemory(1, false),
+            Call::IsMemory(2, true),
+            Call::IsMemory(65_535, false),
+            Call::IsMemory(65_536, true),
+            Call::IsMemory(4_194_302, true),
+            Call::IsMemory(4_194_303, false),
+            Call::IsMemory(4_194_304, true),
+            Call::IsMemory(4_194_305, false),
+            Call::IsMemory(4_194_306, false),
+        ],
+    ),
+];
+
+/// The calls of the bytes that a host memory of 8 lends.
+const LENT: [Call; 3] = [
+    Call::Len(8),
+    Call::Has(4, 2, true),
+    Call::PutWord(4, 0x5678),
+];
+
+/// Makes these calls of a slice, and returns the index of the first with a wrong answer.
+fn first_wrong(bytes: &mut [u8], calls: &[Call]) -> Option<usize> {
+    for (n, call) in calls.iter().enumerate() {
+        if !call.is_answered(bytes) {
+            return Some(n);
+        }
+    }
+    None
+}
+
+#[test]
+fn slices(rt: HostRuntime) -> Result<(), Fail> {
+    for (length, byte, calls) in SLICES {
+        let mut bytes = Vec::from_elem(rt.alloc(), byte, length)?;
+        let wrong = first_wrong(&mut bytes, calls);
+        assert_eq!(rt; wrong, None, "a slice of {length} bytes");
+    }
     assert_eq!(rt; SLICE_LIMIT, 4_194_304);
-    Ok(())
-}
-
-/// Asserts which words can be written in these bytes, and that the others change nothing.
-fn assert_words(rt: &impl Abort, bytes: &mut [u8], words: &[(u32, bool)]) {
-    for &(addr, wanted) in words {
-        assert_eq!(rt; write_word(bytes, addr, 0x1234), wanted, "at {addr}");
-        assert_eq!(rt;
-            read_word(bytes, addr),
-            if wanted { Some(0x1234) } else { None }
-        );
-    }
-}
-
-#[test]
-fn the_last_byte_of_an_odd_length_is_in_no_word(rt: HostRuntime) -> Result<(), Fail> {
-    let mut bytes = [0xff; 7];
-    let words = [
-        (0, true),
-        (3, false),
-        (4, true),
-        (5, false),
-        (6, false),
-        (8, false),
-        (u32::MAX, false),
-    ];
-    assert_words(&rt, &mut bytes, &words);
-    assert_eq!(rt; bytes, [0x34, 0x12, 0xff, 0xff, 0x34, 0x12, 0xff]);
-    assert!(rt; has(&bytes, 6, 1) && !has(&bytes, 6, 2) && has(&bytes, 7, 0));
-    Ok(())
-}
-
-/// Asserts five bytes from an address on.
-fn assert_bytes(rt: &impl Abort, bytes: &[u8], addr: u32, wanted: &[u8; 5]) {
-    match uda_mem::window(bytes, addr, 5) {
-        Some(window) => assert_eq!(rt; window, wanted.as_slice()),
-        None => panic!(rt; "no bytes at {addr}"),
-    }
-}
-
-#[test]
-fn addresses_of_22_bits(rt: HostRuntime) -> Result<(), Fail> {
-    let mut bytes = vec![in rt.alloc(); 0u8; 4_194_304]?;
-    let words = [(0x4_0000, true), (0x3f_fffe, true), (0x40_0000, false)];
-    assert_words(&rt, &mut bytes, &words);
-    assert_bytes(&rt, &bytes, 0, &[0; 5]);
-    assert!(rt; has(&bytes, 0x3f_fffb, 4));
-    put_bytes(&mut bytes, 0x3f_fffb, &[1, 2, 3, 0x34]);
-    assert_bytes(&rt, &bytes, 0x3f_fffb, &[1, 2, 3, 0x34, 0x12]);
-    assert!(rt; has(&bytes, 0x3f_fffc, 2));
-    put_zeros(&mut bytes, 0x3f_fffc, 2);
-    assert_bytes(&rt, &bytes, 0x3f_fffb, &[1, 0, 0, 0x34, 0x12]);
-    assert!(rt; has(&bytes, 0x3f_fe00, 512));
-    assert_eq!(rt; uda_mem::block_at(&bytes, 0x3f_fe00)[511], 0x12);
-    Ok(())
-}
-
-#[test]
-fn a_host_memory_is_lent_as_a_slice(rt: HostRuntime) -> Result<(), Fail> {
     let mut memory = HostMemory::new(rt.alloc(), 8)?;
-    let bytes = memory.as_mut_slice();
-    assert!(rt; is_memory(bytes) && uda_mem::len(bytes) == 8 && has(bytes, 4, 2));
-    put_word(bytes, 4, 0x5678);
-    assert_eq!(rt;
-        memory.as_slice(),
-        [0, 0, 0, 0, 0x78, 0x56, 0, 0].as_slice()
-    );
+    assert_eq!(rt; first_wrong(memory.as_mut_slice(), &LENT), None);
+    let wanted = [0, 0, 0, 0, 0x78, 0x56, 0, 0];
+    assert_eq!(rt; memory.as_slice(), wanted.as_slice());
     Ok(())
 }

@@ -4,8 +4,8 @@ ghost use Rattle.std.specs.Prelude.{◌≡◌};
 
 use std::test::Fail;
 use uda_packet::{
-    Bad, BadKind, Command, End, EndBody, Envelope, Flags, Kind, Modifiers, Op, Transfer, UnitFlags,
-    decode_command, decode_end, encode_command, encode_end, status,
+    Bad, BadKind, Command, End, EndBody, Envelope, Kind, Op, decode_command, decode_end,
+    encode_command, encode_end,
 };
 
 // A command that is written and read again. The clause is the round trip, whatever the command.
@@ -22,18 +22,17 @@ fn end_again(end: &End) -> Option<End>
     decode_end(&encode_end(end))
 }
 
-// A text of which these bytes are the beginning, 0 from there on.
+// Returns a text that begins with these bytes, and is 0 from there on.
 fn text_of(front: &[u8]) -> [u8; 48] {
     let mut text = [0; 48];
-    for (to, from) in text.iter_mut().zip(front) {
-        *to = *from;
-    }
+    let count = front.len().min(48);
+    text[..count].copy_from_slice(&front[..count]);
     text
 }
 
-// The text with 0xFF in every byte but the named ones.
-fn with_noise(text: &[u8; 48], named: &[usize]) -> [u8; 48] {
-    let mut noisy = *text;
+// Returns the text with 0xFF in every byte except the named ones.
+fn with_noise(text: [u8; 48], named: &[usize]) -> [u8; 48] {
+    let mut noisy = text;
     for (i, byte) in noisy.iter_mut().enumerate() {
         if !named.contains(&i) {
             *byte = 0xff;
@@ -82,27 +81,47 @@ const ONLINE_END: [u8; 48] = [
     0x00, 0x00, 0x00, 0x00, 0xc0, 0x98, 0x0d, 0x00, 0x00, 0x00, 0x00, 0x00, 0x00, 0x00, 0x00, 0x00,
 ];
 
+const READ_COMMAND: Command = Command {
+    reference: 1,
+    unit: 0,
+    op: Op::Read {
+        bytes: 512,
+        address: 0x1000,
+        lbn: 5,
+    },
+};
+
+const ONLINE_COMMAND: Command = Command {
+    reference: 2,
+    unit: 3,
+    op: Op::Online { soft: Some(true) },
+};
+
 #[test]
-fn commands_are_written_and_read(rt: HostRuntime) {
-    let read = Command {
-        reference: 1,
-        unit: 0,
-        op: Op::Read {
-            bytes: 512,
-            address: 0x1000,
-            lbn: 5,
-        },
-    };
-    assert_eq!(rt; encode_command(&read), text_of(&READ));
-    assert_eq!(rt; decode_command(&text_of(&READ)), Ok(read));
-    let online = Command {
-        reference: 2,
-        unit: 3,
-        op: Op::Online { soft: Some(true) },
-    };
-    assert_eq!(rt; encode_command(&online), text_of(&ONLINE));
-    assert_eq!(rt; decode_command(&text_of(&ONLINE)), Ok(online));
-    assert_eq!(rt; command_again(&online), Ok(online));
+fn commands(rt: HostRuntime) {
+    for (command, front) in [
+        (READ_COMMAND, READ.as_slice()),
+        (ONLINE_COMMAND, ONLINE.as_slice()),
+    ] {
+        assert_eq!(rt; encode_command(&command), text_of(front));
+        assert_eq!(rt; decode_command(&text_of(front)), Ok(command));
+        assert_eq!(rt; command_again(&command), Ok(command));
+    }
+    for (modifiers, flags, soft) in [
+        (0x04, 0x30, Some(true)),
+        (0x04, 0x20, Some(false)),
+        (0x00, 0x10, None),
+    ] {
+        let text = text_of(&[2, 0, 0, 0, 3, 0, 0, 0, 9, 0, modifiers, 0, 0, 0, 0, flags]);
+        let op = Op::Online { soft };
+        assert_eq!(rt;
+            decode_command(&text),
+            Ok(Command {
+                op,
+                ..ONLINE_COMMAND
+            })
+        );
+    }
 }
 
 fn end(reference: u32, unit: u16, status: u16, body: EndBody) -> End {
@@ -114,25 +133,27 @@ fn end(reference: u32, unit: u16, status: u16, body: EndBody) -> End {
     }
 }
 
+const MOVED: EndBody = EndBody::Moved {
+    kind: Kind::Read,
+    bytes: 512,
+};
+
+const BROUGHT_ONLINE: EndBody = EndBody::Online {
+    flags: 0x1000,
+    size: 891_072,
+};
+
 #[test]
 fn ends_are_written_and_read(rt: HostRuntime) {
     let mut too_long = text_of(&UNKNOWN_END);
     too_long[11] = 0;
-    let moved = EndBody::Moved {
-        kind: Kind::Read,
-        bytes: 512,
-    };
-    let online = EndBody::Online {
-        flags: 0x1000,
-        size: 891_072,
-    };
     for (end, text) in [
-        (end(1, 0, 0, moved), text_of(&READ_END)),
+        (end(1, 0, 0, MOVED), text_of(&READ_END)),
         (
             end(1, 0, 0x0004, EndBody::Status { flags: 0 }),
             text_of(&STATUS_END),
         ),
-        (end(2, 3, 0, online), ONLINE_END),
+        (end(2, 3, 0, BROUGHT_ONLINE), ONLINE_END),
         (end(7, 2, 0x0001, EndBody::Invalid), too_long),
         (end(1, 0, 0, EndBody::Controller), text_of(&CONTROLLER_END)),
     ] {
@@ -140,63 +161,70 @@ fn ends_are_written_and_read(rt: HostRuntime) {
         assert_eq!(rt; decode_end(&text), Some(end));
         assert_eq!(rt; end_again(&end), Some(end));
     }
+    // a packet of another length
+    let other = End::of_other_length(&text_of(&UNKNOWN_END));
+    assert_eq!(rt; other, end(7, 2, 0x0001, EndBody::Invalid));
 }
+
+/// Commands that are refused: the fault, its end message's body and status, and its text.
+const REFUSED: [(&[u8], BadKind, EndBody, u16, &str); 4] = [
+    (
+        &[7, 0, 0, 0, 2, 0, 0, 0, 0x0b],
+        BadKind::Opcode,
+        EndBody::Invalid,
+        0x0801,
+        "reference 7, unit 2: no command has this opcode",
+    ),
+    // an unknown opcode goes before a stray modifier
+    (
+        &[7, 0, 0, 0, 2, 0, 0, 0, 0x0b, 0, 1, 0],
+        BadKind::Opcode,
+        EndBody::Invalid,
+        0x0801,
+        "reference 7, unit 2: no command has this opcode",
+    ),
+    // a stray modifier of a Set Controller Characteristics goes before its version
+    (
+        &[9, 0, 0, 0, 0, 0, 0, 0, 4, 0, 1, 0, 1, 0],
+        BadKind::Modifiers,
+        EndBody::Controller,
+        0x0a01,
+        "reference 9, unit 0: a modifier is none of the command's",
+    ),
+    (
+        &[9, 0, 0, 0, 0, 0, 0, 0, 4, 0, 0, 0, 1, 0],
+        BadKind::Version,
+        EndBody::Controller,
+        0x0c01,
+        "reference 9, unit 0: the version of MSCP is not 0",
+    ),
+];
 
 #[test]
 fn faults(rt: HostRuntime) -> Result<(), Fail> {
-    // An unknown opcode goes before a stray modifier.
-    let unknown = [7, 0, 0, 0, 2, 0, 0, 0, 0x0b, 0, 1, 0];
-    let bad = decode_command(&text_of(&unknown))
-        .err()
-        .ok_or("0x0B is no opcode")?;
-    assert_eq!(rt; bad.kind, BadKind::Opcode);
-    assert_eq!(rt; bad.body, EndBody::Invalid);
-    assert_eq!(rt; encode_end(&bad.end()), text_of(&UNKNOWN_END));
-
-    // A stray modifier of a Set Controller Characteristics goes before its version.
-    let stray = [9, 0, 0, 0, 0, 0, 0, 0, 4, 0, 1, 0, 1, 0];
-    let bad = decode_command(&text_of(&stray))
-        .err()
-        .ok_or("0x0001 is no modifier")?;
-    assert_eq!(rt; bad.kind, BadKind::Modifiers);
-    assert_eq!(rt; bad.body, EndBody::Controller);
-    assert_eq!(rt; bad.end().status, 0x0a01);
-    let version = [9, 0, 0, 0, 0, 0, 0, 0, 4, 0, 0, 0, 1, 0];
-    let bad = decode_command(&text_of(&version))
-        .err()
-        .ok_or("version 1 is unknown")?;
-    assert_eq!(rt; bad.kind, BadKind::Version);
-    assert_eq!(rt; bad.body, EndBody::Controller);
-    assert_eq!(rt; bad.end().status, 0x0c01);
+    for (front, kind, body, status, text) in REFUSED {
+        let bad = decode_command(&text_of(front)).err().ok_or("no fault")?;
+        let end = bad.end();
+        assert_eq!(rt; (bad.kind, bad.body, end.status), (kind, body, status));
+        let written = format!(in rt.alloc(); "{bad}")?;
+        assert_eq!(rt; written.as_str(), text);
+        if kind == BadKind::Opcode {
+            assert_eq!(rt; encode_end(&end), text_of(&UNKNOWN_END));
+            assert_eq!(rt; kind.number(), 1);
+        }
+    }
     Ok(())
 }
 
 #[test]
-fn a_packet_of_another_length(rt: HostRuntime) {
-    let end = End::of_other_length(&text_of(&UNKNOWN_END));
-    assert_eq!(rt; end.reference, 7);
-    assert_eq!(rt; end.unit, 2);
-    assert_eq!(rt; end.status, 0x0001);
-    assert_eq!(rt; end.body, EndBody::Invalid);
-}
-
-#[test]
-fn ends_and_faults_as_texts(rt: HostRuntime) -> Result<(), Fail> {
-    let read = EndBody::Moved {
-        kind: Kind::Read,
-        bytes: 512,
-    };
-    let online = EndBody::Online {
-        flags: 0x1000,
-        size: 891_072,
-    };
+fn ends_as_texts(rt: HostRuntime) -> Result<(), Fail> {
     for (end, text) in [
         (
-            end(3, 0, 0, read),
+            end(3, 0, 0, MOVED),
             "reference 3, unit 0, status 0x0000 (success): Read, 512 bytes",
         ),
         (
-            end(2, 3, 0x0100, online),
+            end(2, 3, 0x0100, BROUGHT_ONLINE),
             "reference 2, unit 3, status 0x0100 (already online): Online, flags 0x1000, 891072 blocks",
         ),
         (
@@ -215,60 +243,24 @@ fn ends_and_faults_as_texts(rt: HostRuntime) -> Result<(), Fail> {
         let written = format!(in rt.alloc(); "{end}")?;
         assert_eq!(rt; written.as_str(), text);
     }
-    let bad = decode_command(&text_of(&[7, 0, 0, 0, 2, 0, 0, 0, 0x0b]))
-        .err()
-        .ok_or("0x0B is no opcode")?;
-    let written = format!(in rt.alloc(); "{bad}")?;
-    assert_eq!(rt;
-        written.as_str(),
-        "reference 7, unit 2: no command has this opcode"
-    );
-    assert_eq!(rt; bad.kind.number(), 1);
-    let kinds = format!(in rt.alloc(); "{}; {}", BadKind::Modifiers, BadKind::Version)?;
-    assert_eq!(rt;
-        kinds.as_str(),
-        "a modifier is none of the command's; the version of MSCP is not 0"
-    );
     Ok(())
 }
 
 #[test]
-fn online_flags(rt: HostRuntime) {
-    for (modifiers, flags, soft) in [
-        (0x04, 0x30, Some(true)),
-        (0x04, 0x20, Some(false)),
-        (0x00, 0x10, None),
-    ] {
-        let text = text_of(&[2, 0, 0, 0, 3, 0, 0, 0, 9, 0, modifiers, 0, 0, 0, 0, flags]);
-        let online = Command {
-            reference: 2,
-            unit: 3,
-            op: Op::Online { soft },
-        };
-        assert_eq!(rt; decode_command(&text), Ok(online));
-    }
-}
-
-#[test]
 fn other_bytes_are_ignored(rt: HostRuntime) {
-    // A Read names its reference, unit, opcode, modifiers, count, address and block.
+    // a Read names its reference, unit, opcode, modifiers, count, address and block
     let read = text_of(&READ);
-    let noisy = with_noise(
-        &read,
-        &[
-            0, 1, 2, 3, 4, 5, 8, 10, 11, 12, 13, 14, 15, 16, 17, 18, 19, 28, 29, 30, 31,
-        ],
-    );
-    assert_eq!(rt; decode_command(&noisy), decode_command(&read));
+    let named = [
+        0, 1, 2, 3, 4, 5, 8, 10, 11, 12, 13, 14, 15, 16, 17, 18, 19, 28, 29, 30, 31,
+    ];
+    assert_eq!(rt; decode_command(&with_noise(read, &named)), Ok(READ_COMMAND));
 
-    // An end message of Online tells nothing more by its flags, identifier and media type.
-    let noisy = with_noise(
-        &ONLINE_END,
-        &[0, 1, 2, 3, 4, 5, 8, 10, 11, 14, 15, 36, 37, 38, 39],
-    );
-    assert_eq!(rt; decode_end(&noisy), decode_end(&ONLINE_END));
+    // an end message of Online tells nothing more by its flags, identifier and media type
+    let named = [0, 1, 2, 3, 4, 5, 8, 10, 11, 14, 15, 36, 37, 38, 39];
+    let wanted = end(2, 3, 0, BROUGHT_ONLINE);
+    assert_eq!(rt; decode_end(&with_noise(ONLINE_END, &named)), Some(wanted));
 
-    // Opcodes and end codes are apart.
+    // opcodes and end codes are apart
     assert_eq!(rt; decode_end(&read), None);
     assert!(rt; decode_command(&text_of(&READ_END)).is_err());
 }

@@ -1,0 +1,230 @@
+//! The program by its words, over streams that fail.
+use super::streams::{Manner, Sink, Source};
+use std::alloc::{AllocError, Global};
+use std::path::PathBuf;
+use std::test::Fail;
+use std::{env, fs, io, process};
+use uda_script::{program, unreadable_words};
+
+/// What the program is to do.
+#[derive(Clone, Copy)]
+enum Words {
+    /// One word alone.
+    One(&'static str),
+    /// To run this script over an image of these blocks, each of one byte.
+    Run(&'static str, &'static [u8]),
+}
+
+/// A run of the program, its streams, and what comes of it. Its data is all of 0x42.
+#[derive(Clone, Copy)]
+struct Case {
+    words: Words,
+    input: Manner,
+    out: Manner,
+    report: Manner,
+    status: u8,
+    /// How many bytes are written, where it is compared.
+    written: Option<usize>,
+    /// What is reported, where it is compared.
+    reported: Option<&'static str>,
+    /// The image's blocks afterwards.
+    left: &'static [u8],
+}
+
+const PROBE: Case = Case {
+    words: Words::One("probe"),
+    input: Manner::Whole,
+    out: Manner::Whole,
+    report: Manner::Whole,
+    status: 1,
+    written: None,
+    reported: Some("uda: write failed\n"),
+    left: &[],
+};
+
+const READ: Case = Case {
+    words: Words::Run("online 0\nread 0 0 1\n", &[0]),
+    left: &[0],
+    ..PROBE
+};
+
+const CASES: [Case; 15] = [
+    // a full device is reported once
+    Case {
+        out: Manner::Room(0),
+        ..PROBE
+    },
+    Case {
+        out: Manner::Room(1),
+        ..PROBE
+    },
+    Case {
+        out: Manner::Room(100),
+        ..PROBE
+    },
+    Case {
+        out: Manner::Room(143),
+        ..PROBE
+    },
+    Case {
+        out: Manner::Room(144),
+        status: 0,
+        written: Some(144),
+        reported: Some(""),
+        ..PROBE
+    },
+    Case {
+        out: Manner::Room(0),
+        ..READ
+    },
+    Case {
+        out: Manner::Room(1),
+        ..READ
+    },
+    Case {
+        out: Manner::Room(511),
+        ..READ
+    },
+    Case {
+        out: Manner::Room(512),
+        status: 0,
+        written: Some(512),
+        reported: Some("1 0000 0000 1\n2 0000 512\n"),
+        ..READ
+    },
+    // what can't be handed on isn't written
+    Case {
+        out: Manner::Stuck,
+        ..PROBE
+    },
+    // a fault that can't be reported keeps its status
+    Case {
+        words: Words::One("prob"),
+        report: Manner::Room(0),
+        status: 2,
+        reported: None,
+        ..PROBE
+    },
+    // a report that is full
+    Case {
+        report: Manner::Room(5),
+        written: Some(512),
+        reported: None,
+        ..READ
+    },
+    // nothing that was gathered before a write failed comes after it
+    Case {
+        out: Manner::Recovering,
+        written: Some(0),
+        ..READ
+    },
+    Case {
+        report: Manner::Recovering,
+        ..READ
+    },
+    // a byte at a time
+    Case {
+        words: Words::Run("online 0\nwrite 0 1 2\nread 0 2 1\n", &[0; 4]),
+        input: Manner::Single,
+        out: Manner::Single,
+        report: Manner::Single,
+        status: 0,
+        written: Some(512),
+        reported: Some("1 0000 0000 4\n2 0000 1024\n3 0000 512\n"),
+        left: &[0, 0x42, 0x42, 0],
+    },
+];
+
+// Returns the path of a file of this process's own, by a word.
+fn path_of(rt: &HostRuntime, word: &str) -> io::Result<PathBuf> {
+    let name = format!(in rt.alloc(); "uda-script-{}-{word}", process::id(rt.process()))?;
+    Ok(env::temp_dir(rt)?.join(rt.alloc(), name.as_str())?)
+}
+
+// Makes a file with these bytes, and returns its path.
+fn file_of(rt: &HostRuntime, word: &str, bytes: &[u8]) -> io::Result<PathBuf> {
+    let path = path_of(rt, word)?;
+    fs::write(rt, path.as_path(), bytes)?;
+    Ok(path)
+}
+
+// Returns the bytes of blocks, each of one byte.
+fn bytes_of(alloc: Global, blocks: &[u8]) -> Result<Vec<u8>, AllocError> {
+    let mut bytes = Vec::new(alloc);
+    for byte in blocks {
+        bytes.extend_from_slice(&[*byte; 512])?;
+    }
+    Ok(bytes)
+}
+
+// What comes of a run: its status, and the image's bytes afterwards.
+#[derive(Drop)]
+struct Outcome {
+    status: u8,
+    left: Vec<u8>,
+}
+
+impl Case {
+    // Runs the program.
+    fn run(&self, rt: &HostRuntime, out: &mut Sink, report: &mut Sink) -> Result<Outcome, Fail> {
+        let input = Source::new(self.input, &[0x42; 1030]);
+        match self.words {
+            Words::One(word) => Ok(Outcome {
+                status: program(rt, &[word], input, out, report),
+                left: Vec::new(rt.alloc()),
+            }),
+            Words::Run(script, blocks) => {
+                let script = file_of(rt, "script", script.as_bytes())?;
+                let image = file_of(rt, "image", &bytes_of(rt.alloc(), blocks)?)?;
+                let words = ["run", script.as_str(), image.as_str()];
+                let status = program(rt, &words, input, out, report);
+                let left = fs::read(rt, image.as_path())?;
+                fs::remove_file(rt, script.as_path())?;
+                fs::remove_file(rt, image.as_path())?;
+                Ok(Outcome { status, left })
+            }
+        }
+    }
+
+    // Returns whether these streams took what they were to take.
+    fn are_written(&self, out: &Sink, report: &Sink) -> bool {
+        (out.was_called() || !matches!(self.out, Manner::Recovering))
+            && self.written.unwrap_or(out.taken.len()) == out.taken.len()
+            && match self.reported {
+                Some(text) => report.taken.as_slice() == text.as_bytes(),
+                None => true,
+            }
+    }
+}
+
+#[test]
+fn streams_that_fail(rt: HostRuntime) -> Result<(), Fail> {
+    for (n, case) in CASES.iter().enumerate() {
+        let mut out = Sink::new(rt.alloc(), case.out);
+        let mut report = Sink::new(rt.alloc(), case.report);
+        let outcome = case.run(&rt, &mut out, &mut report)?;
+        assert_eq!(rt; outcome.status, case.status, "case {n}");
+        assert!(rt; case.are_written(&out, &report), "case {n}: texts");
+        assert!(rt;
+            outcome.left == bytes_of(rt.alloc(), case.left)?,
+            "case {n}: image"
+        );
+    }
+    Ok(())
+}
+
+#[test]
+fn words_that_cannot_be_read(rt: HostRuntime) -> Result<(), Fail> {
+    for (kind, status, text) in [
+        (io::ErrorKind::InvalidData, 2, "uda: usage\n"),
+        (io::ErrorKind::OutOfMemory, 1, "uda: out of memory\n"),
+    ] {
+        let mut report = Vec::new(rt.alloc());
+        assert_eq!(rt;
+            unreadable_words(&io::Error::from(kind), &mut report),
+            status
+        );
+        assert_eq!(rt; report.as_slice(), text.as_bytes());
+    }
+    Ok(())
+}

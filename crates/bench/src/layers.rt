@@ -21,7 +21,7 @@ pub const COMMANDS: u32 = 4096;
 const BUFFER: u32 = 0x1000;
 
 /// What each command of a round asks for.
-#[derive(Clone, Copy)]
+#[derive(Clone, Copy, Debug, PartialEq, Eq)]
 pub enum Errand {
     /// So many blocks, 32 or 1.
     Read(u32),

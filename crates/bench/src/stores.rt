@@ -62,7 +62,7 @@ impl Contest for InMemory {
 }
 
 /// How many blocks a bare call moves.
-#[derive(Clone, Copy)]
+#[derive(Clone, Copy, Debug, PartialEq, Eq)]
 pub enum Call {
     /// One.
     Block,

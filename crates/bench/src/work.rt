@@ -6,7 +6,7 @@ use uda_mem::HostMemory;
 use uda_packet::{Command, End, Op, status};
 
 /// Which way the blocks move.
-#[derive(Clone, Copy)]
+#[derive(Clone, Copy, Debug, PartialEq, Eq)]
 pub enum Direction {
     /// From the store to memory.
     Read,
@@ -26,7 +26,7 @@ impl Direction {
 }
 
 /// 64 MB, moved by transfers of one length.
-#[derive(Clone, Copy)]
+#[derive(Clone, Copy, Debug, PartialEq, Eq)]
 pub struct Work {
     /// Which way the blocks move.
     pub direction: Direction,

@@ -3,7 +3,7 @@ use Rattle.std.specs.Prelude.{ℕ, zero, suc, ◌+◌, ◌*◌, ◌/◌, min, Bo
 use Rattle.std.specs.Prelude.{length, Some, None}
 use Rattle.std.specs.List.{splice}
 use Rattle.std.specs.Simd.{first_chunks}
-use Rattle.uda_image.specs.Limits.{block_limit}
+use Rattle.uda_image.specs.Limits.{block_limit, store_limit}
 use Rattle.uda_image.specs.Store.{StoreState}
 
 -- how many blocks the bytes of an image make: the whole ones, and no more than an image has
@@ -71,7 +71,7 @@ pub record OpenImage : Type 0 where
 abbrev pub file_state : OpenImage → StoreState
 file_state image = record {
   blocks = [];
-  size = min image.size block_limit;
+  size = min image.size store_limit;
   faithful = false;
   never_fails = false;
   failures = 0;

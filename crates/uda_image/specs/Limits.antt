@@ -1,6 +1,10 @@
--- How large an image can be.
+-- How large a unit can be, which the manuals leave open.
 use Rattle.std.specs.Prelude.{ℕ}
 
--- the blocks that an RA81 shows its host, more than which no image has: the manuals leave it open
+-- the most blocks of an image: those that an RA81 shows its host
 abbrev pub block_limit : ℕ
 block_limit = 891072
+
+-- the most blocks of any store
+abbrev pub store_limit : ℕ
+store_limit = 2147483647

@@ -5,21 +5,25 @@ use Rattle.std.specs.List.{All}
 use Rattle.std.specs.Simd.{first_chunks}
 use Rattle.std.proofs.lemmas.List.{length-take-le}
 use Rattle.std.proofs.lemmas.List.Elements.{All-nil, All-cons}
-use Rattle.uda_image.specs.Limits.{block_limit}
+use Rattle.uda_image.specs.Limits.{block_limit, store_limit}
 use Rattle.uda_image.specs.Store.{IsImage}
 use Rattle.uda_image.specs.Image.{block_count_of, blocks_of}
 
 -- a size that is cut off at the limit is within it
-pub min-le : (size : ℕ) → min size block_limit ≤ block_limit
+pub min-le : (size : ℕ) → min size store_limit ≤ store_limit
 min-le size = omega arith
 
 -- nothing is said of a store that isn't faithful
 pub no_image : {size : ℕ} {blocks : List (List ℕ)} → false ≡ true → IsImage size blocks
 no_image h = absurd (cc)
 
-pub block_count-le : (bytes : List ℕ) → block_count_of bytes ≤ block_limit
+-- an image is within the limit of images, and so within that of stores
+pub block_count-within : (bytes : List ℕ) → block_count_of bytes ≤ block_limit
 unfolding block_count_of
-block_count-le bytes = min-le (length bytes / 512)
+block_count-within bytes = omega arith
+
+pub block_count-le : (bytes : List ℕ) → block_count_of bytes ≤ store_limit
+block_count-le bytes = omega (arith, block_count-within bytes)
 
 pub length-first_chunks : (k : ℕ) (bytes : List ℕ) → length (first_chunks 512 k bytes) ≡ k
 length-first_chunks zero bytes = refl

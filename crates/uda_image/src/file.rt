@@ -1,12 +1,12 @@
 //! Images in files.
 ghost use Rattle.std.specs.Prelude.{length, ◌≡◌, ◌≢◌, ◌≤◌, true, false, IsOk, OnOk, OnErr, IfOk, IfErr};
-ghost use Rattle.uda_image.specs.Limits.{block_limit};
+ghost use Rattle.uda_image.specs.Limits.{block_limit, store_limit};
 ghost use Rattle.uda_image.specs.Image.{file_state};
 ghost use Rattle.uda_image.specs.StoreLaws.{min-le, no_image};
 
 use crate::error::ImageError;
 use crate::length::count_blocks;
-use crate::store::{BLOCK_LIMIT, BlockStore, StoreError};
+use crate::store::{BLOCK_LIMIT, BlockStore, STORE_LIMIT, StoreError};
 use std::fs::{File, OpenFile, OpenOptions, TryLockError};
 use std::marker::Model;
 use std::os::unix::fs::FileExt;
@@ -33,7 +33,7 @@ pub struct FileImage {
 
 impl Model for FileImage {
     ghost use Rattle.std.specs.Prelude.{◌≤◌};
-    ghost use Rattle.uda_image.specs.Limits.{block_limit};
+    ghost use Rattle.uda_image.specs.Limits.{store_limit};
     ghost use Rattle.uda_image.specs.Image.{OpenImage};
 
     ghost Value = { OpenImage };
@@ -44,7 +44,7 @@ impl Model for FileImage {
       written = image.written;
     } };
 
-    ghost invariant = { λ image. image.size ≤ block_limit };
+    ghost invariant = { λ image. image.size ≤ store_limit };
 }
 
 // Whether a plain file stands at `path`. To open a pipe could wait for its other end, and to open
@@ -78,6 +78,32 @@ impl FileImage {
         ensures within_limit { IfOk result (λ image. image.size ≤ block_limit) }
         ensures errors { result ≢ Err ImageError.NoMemory }
     {
+        FileImage::open_within(rt, path, writable, BLOCK_LIMIT)
+    }
+
+    /// Opens a file as [`FileImage::open`] does, with up to [`STORE_LIMIT`] blocks.
+    pub fn open_large(rt: &HostRuntime, path: &str, writable: bool) -> Result<FileImage, ImageError>
+        ensures writable { IfOk result (λ image. image.writable ≡ writable) }
+        ensures written { IfOk result (λ image. image.written ≡ false) }
+        ensures within_limit { IfOk result (λ image. image.size ≤ store_limit) }
+        ensures errors { result ≢ Err ImageError.NoMemory }
+    {
+        FileImage::open_within(rt, path, writable, STORE_LIMIT)
+    }
+
+    // Opens a file of at most `limit` blocks.
+    fn open_within(
+        rt: &HostRuntime,
+        path: &str,
+        writable: bool,
+        limit: u32,
+    ) -> Result<FileImage, ImageError>
+        requires limit { limit ≤ store_limit }
+        ensures writable { IfOk result (λ image. image.writable ≡ writable) }
+        ensures written { IfOk result (λ image. image.written ≡ false) }
+        ensures within_limit { IfOk result (λ image. image.size ≤ limit) }
+        ensures errors { result ≢ Err ImageError.NoMemory }
+    {
         if !is_plain_file(rt, path) {
             return Err(ImageError::Open);
         }
@@ -90,7 +116,7 @@ impl FileImage {
         if !metadata.is_file() || !lock(&file, writable) {
             return Err(ImageError::Open);
         }
-        let size = count_blocks(metadata.len())?;
+        let size = count_blocks(metadata.len(), limit)?;
         Ok(FileImage {
             file,
             size,

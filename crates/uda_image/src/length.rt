@@ -1,24 +1,22 @@
 //! Lengths in bytes as counts of blocks.
 ghost use Rattle.std.specs.Prelude.{◌≡◌, ◌≢◌, ◌*◌, ◌/◌, ◌%◌, ◌<◌, ◌≤◌, ◌⊎◌, ◌↔◌, IfOk, IfErr};
-ghost use Rattle.uda_image.specs.Limits.{block_limit};
 
 use crate::error::ImageError;
-use crate::store::BLOCK_LIMIT;
 
-// How many blocks so many bytes make. A length that is no whole number of blocks is refused
-// before one that is too large.
-pub(crate) fn count_blocks(bytes: u64) -> Result<u32, ImageError>
+// Returns how many blocks `bytes` bytes make, which may be at most `limit`. A length that is no whole
+// number of blocks is refused before one that is too large.
+pub(crate) fn count_blocks(bytes: u64, limit: u32) -> Result<u32, ImageError>
     ensures whole { IfOk result (λ count. 512 * count ≡ bytes) }
-    ensures within_limit { IfOk result (λ count. count ≤ block_limit) }
+    ensures within_limit { IfOk result (λ count. count ≤ limit) }
     ensures length { (result ≡ Err ImageError.Length) ↔ (bytes % 512 ≢ 0) }
     ensures too_large { (result ≡ Err ImageError.TooLarge)
-        ↔ ((bytes % 512 ≡ 0) × (block_limit < bytes / 512)) }
+        ↔ ((bytes % 512 ≡ 0) × (limit < bytes / 512)) }
     ensures errors { IfErr result (λ e. (e ≡ ImageError.Length) ⊎ (e ≡ ImageError.TooLarge)) }
 {
     if bytes % 512 != 0 {
         return Err(ImageError::Length);
     }
-    if bytes / 512 > u64::from(BLOCK_LIMIT) {
+    if bytes / 512 > u64::from(limit) {
         return Err(ImageError::TooLarge);
     }
     Ok((bytes / 512) as u32)

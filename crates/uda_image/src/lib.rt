@@ -15,4 +15,4 @@ pub use error::ImageError;
 pub use failing::FailingImage;
 pub use file::FileImage;
 pub use memory::MemImage;
-pub use store::{BLOCK_LIMIT, BlockStore, Drive, StoreError};
+pub use store::{BLOCK_LIMIT, BlockStore, Drive, STORE_LIMIT, StoreError};

@@ -76,7 +76,7 @@ impl MemImage {
             ↔ ((length bytes.now % 512 ≡ 0) × (block_limit < length bytes.now / 512)) }
         ensures errors { result ≢ Err ImageError.Open }
     {
-        count_blocks(bytes.len() as u64)?;
+        count_blocks(bytes.len() as u64, BLOCK_LIMIT)?;
         Ok(MemImage {
             bytes: Vec::from_slice(alloc, bytes)?,
         })

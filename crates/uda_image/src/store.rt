@@ -2,14 +2,17 @@
 ghost use Rattle.std.specs.Prelude.{length, ◌≡◌, ◌+◌, ◌*◌, ◌<◌, ◌≤◌, true, IfErr, IsOk};
 ghost use Rattle.uda_image.specs.Store.{StoreState, IsImage, KeepsNature, Reads, Writes};
 ghost use Rattle.uda_image.specs.AtOnce.{ReadsAtOnce, WritesAtOnce};
-ghost use Rattle.uda_image.specs.Limits.{block_limit};
+ghost use Rattle.uda_image.specs.Limits.{store_limit};
 
 use std::error::Error;
 use std::fmt;
 
-/// The most blocks that an image has, which the manuals leave open. It is the number of blocks that
-/// an RA81 shows its host.
+/// The most blocks of an image, in memory or opened by [`crate::FileImage::open`]: those that an RA81
+/// shows its host. The manuals leave it open.
 pub const BLOCK_LIMIT: u32 = 891_072;
+
+/// The most blocks of any store, whose own limit may be lower.
+pub const STORE_LIMIT: u32 = 2_147_483_647;
 
 /// A store could not read or write a block (MSCP Basic Disk Functions Manual: status codes, drive
 /// error).
@@ -50,10 +53,10 @@ impl Error for StoreError {}
 pub trait BlockStore {
     ghost state: { Self → StoreState };
 
-    /// The number of blocks, at most [`BLOCK_LIMIT`], which no call changes.
+    /// Returns the number of blocks, at most [`STORE_LIMIT`], which no call changes.
     fn size(&self) -> u32
         ensures value { result ≡ (state self.now).size }
-        ensures within_limit { result ≤ block_limit };
+        ensures within_limit { result ≤ store_limit };
 
     /// Reads block `n`, which is below the size, into `to`. Errs with Read, and `to` may then hold
     /// any bytes.
@@ -105,7 +108,7 @@ pub trait BlockStore {
         false
     }
 
-    ghost within_limit: { (store : Self) → (state store).size ≤ block_limit };
+    ghost within_limit: { (store : Self) → (state store).size ≤ store_limit };
 
     ghost is_image: { (store : Self) → (state store).faithful ≡ true
         → IsImage (state store).size (state store).blocks };

@@ -422,11 +422,16 @@ fn set_len(rt: &HostRuntime, path: &PathBuf, len: u64) -> io::Result<()> {
         .set_len(len)
 }
 
-// Opens a file of `len` zeros as an image, and removes it. Returns the image's size.
-fn open_of(rt: &HostRuntime, len: u64) -> io::Result<Result<u32, ImageError>> {
+// Opens a file of `len` zeros as an image, which may be large or not, and removes it. Returns the image's size.
+fn open_of(rt: &HostRuntime, len: u64, large: bool) -> io::Result<Result<u32, ImageError>> {
     let path = file_of(rt, "long", &[])?;
     set_len(rt, &path, len)?;
-    let opened = match FileImage::open(rt, path.as_str(), false) {
+    let opened = if large {
+        FileImage::open_large(rt, path.as_str(), false)
+    } else {
+        FileImage::open(rt, path.as_str(), false)
+    };
+    let opened = match opened {
         Ok(image) => Ok(image.size()),
         Err(error) => Err(error),
     };
@@ -436,15 +441,19 @@ fn open_of(rt: &HostRuntime, len: u64) -> io::Result<Result<u32, ImageError>> {
 
 #[test]
 fn files_by_length(rt: HostRuntime) -> Result<(), Fail> {
-    for (len, opened) in [
-        (0, Ok(0)),
-        (512, Ok(1)),
-        (513, Err(ImageError::Length)),
-        (891_072 * 512, Ok(891_072)),
-        (891_073 * 512, Err(ImageError::TooLarge)),
-        (891_073 * 512 + 1, Err(ImageError::Length)),
+    for (len, large, opened) in [
+        (0, false, Ok(0)),
+        (512, false, Ok(1)),
+        (513, false, Err(ImageError::Length)),
+        (891_072 * 512, false, Ok(891_072)),
+        (891_073 * 512, false, Err(ImageError::TooLarge)),
+        (891_073 * 512 + 1, false, Err(ImageError::Length)),
+        (513, true, Err(ImageError::Length)),
+        (891_073 * 512, true, Ok(891_073)),
+        (2_147_483_647 * 512, true, Ok(2_147_483_647)),
+        (2_147_483_648 * 512, true, Err(ImageError::TooLarge)),
     ] {
-        assert_eq!(rt; open_of(&rt, len)?, opened, "{len} bytes");
+        assert_eq!(rt; open_of(&rt, len, large)?, opened, "{len} bytes");
     }
     Ok(())
 }

@@ -45,6 +45,8 @@ pub struct Plan {
     pub bad: Option<u32>,
     /// How many calls for several blocks are served before the first that is declined.
     pub at_once: u32,
+    /// How many are declined then, before all others are served.
+    pub declines: u32,
     /// Whether a read that fails spoils the first half of the block that it was handed.
     pub spoils: bool,
 }
@@ -76,7 +78,10 @@ impl Book {
 
     // Keeps a call for several blocks, and says whether it is served.
     fn serves(&mut self, writes: bool, first: u32, count: u32) -> bool {
-        let declined = self.plan.at_once == 0;
+        let declined = self.plan.at_once == 0 && self.plan.declines > 0;
+        if declined {
+            self.plan.declines -= 1;
+        }
         self.plan.at_once = self.plan.at_once.saturating_sub(1);
         self.keep(Call {
             writes,

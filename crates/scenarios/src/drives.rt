@@ -114,21 +114,23 @@ fn number_blocks(bytes: &mut [u8], first: u8) {
 // How a store fails.
 fn plan(words: &mut Words<'_>) -> Result<Plan, Fault> {
     Ok(Plan {
-        fails: if words.takes("fails") {
-            words.number()?
-        } else {
-            0
-        },
+        fails: number_after(words, "fails", 0)?,
         bad: if words.takes("bad") {
             Some(words.number()?)
         } else {
             None
         },
-        at_once: if words.takes("at-once") {
-            words.number()?
-        } else {
-            u32::MAX
-        },
+        at_once: number_after(words, "at-once", u32::MAX)?,
+        declines: number_after(words, "declines", u32::MAX)?,
         spoils: words.takes("spoils"),
     })
+}
+
+// Returns the number after a word, or another one if the word doesn't follow.
+fn number_after(words: &mut Words<'_>, word: &str, without: u32) -> Result<u32, Fault> {
+    if words.takes(word) {
+        words.number()
+    } else {
+        Ok(without)
+    }
 }

@@ -5,7 +5,7 @@ use Rattle.std.specs.List.{concat}
 use Rattle.std.specs.Simd.{first_chunks}
 use Rattle.std.proofs.lemmas.List.{same_lists, take_all, take-take, take-append-le, take-replicate, length-replicate, replicate-append-replicate}
 use Rattle.uda_mem.proofs.PutLaws.{put-nil, put-part, put-put_next, length-part-le}
-use Rattle.uda_packet.specs.declared.end.Kind.TheVariants.{Access, Erase, Read, Write}
+use Rattle.uda_packet.specs.declared.end.Kind.TheVariants.{Erase, Read, Write}
 use Rattle.uda_image.specs.AtOnce.{ReadsBlocks, WritesBlocks}
 use Rattle.uda_image.specs.StoreLaws.{length-first_chunks}
 use Rattle.uda_image.proofs.AtOnceLaws.{take-chunks, get_or-chunks}
@@ -83,26 +83,30 @@ module _ (t : Transfer) (count : ℕ) (old : StoreState) (memory : List ℕ) (wh
         calls = w.calls;
       }
 
-  pub accesses_ahead : t.kind ≡ Access → (new : StoreState) → Accessed old count new → Progress t count old memory new memory
-  accesses_ahead is new a = record {
-    stand = record {
-      in_memory = rw is (sym (put-nil memory t.buffer));
-      in_store = rw is (ap (λ (s : StoreState). s.blocks) a.state_stays ∙ sym (put-nil old.blocks t.lbn));
-    };
-    failures_stay = ap (λ (s : StoreState). s.failures) a.state_stays;
-    calls = a.calls;
-  }
+module _ (t : Transfer) (k count : ℕ) (old : StoreState) (memory : List ℕ) (now : StoreState) (memory_now : List ℕ)
+    (h : Progress t k old memory now memory_now) (new : StoreState) where
+  -- the zeros of so many blocks come to those of the first k
+  erased_on : k + count ≤ block_count t → put (put old.blocks t.lbn (take k (replicate (block_count t) (replicate 512 0)))) (t.lbn + k) (replicate count (replicate 512 0))
+      ≡ put old.blocks t.lbn (take (k + count) (replicate (block_count t) (replicate 512 0)))
+  erased_on within =
+      let block : List ℕ = replicate 512 0 in
+      let front : take k (replicate (block_count t) block) ≡ replicate k block = take-replicate k (block_count t) block (omega arith) in
+      let both : take (k + count) (replicate (block_count t) block) ≡ replicate (k + count) block = take-replicate (k + count) (block_count t) block (omega arith) in
+      ap (λ (b : List (List ℕ)). put (put old.blocks t.lbn b) (t.lbn + k) (replicate count block)) front
+      ∙ put-put_next old.blocks t.lbn (replicate k block) (replicate count block) (t.lbn + k) (ap (λ i. t.lbn + i) (sym (length-replicate k block)))
+      ∙ ap (λ (b : List (List ℕ)). put old.blocks t.lbn b) (replicate-append-replicate k count block ∙ sym both)
 
-  pub erases_ahead : t.kind ≡ Erase → (new : StoreState) → Erased old t.lbn count new → Progress t count old memory new memory
-  erases_ahead is new e =
-      let due : take count (replicate (block_count t) (replicate 512 0)) ≡ replicate count (replicate 512 0) = take-replicate count (block_count t) (replicate 512 0) (omega arith) in
+  pub erases_on : t.kind ≡ Erase → k + count ≤ block_count t → Erased now (t.lbn + k) count new → Progress t (k + count) old memory new memory_now
+  erases_on is within e =
+      let before : now.blocks ≡ put old.blocks t.lbn (take k (replicate (block_count t) (replicate 512 0))) = rw is at h.stand.in_store in
       record {
         stand = record {
-          in_memory = rw is (sym (put-nil memory t.buffer));
-          in_store = rw is (ap (λ (s : StoreState). s.blocks) e.written ∙ ap (λ (bs : List (List ℕ)). put old.blocks t.lbn bs) (sym due));
+          in_memory = h.stand.in_memory ∙ rw is refl;
+          in_store = rw is (ap (λ (s : StoreState). s.blocks) e.written
+              ∙ ap (λ (b : List (List ℕ)). put b (t.lbn + k) (replicate count (replicate 512 0))) before ∙ erased_on within);
         };
-        failures_stay = ap (λ (s : StoreState). s.failures) e.written;
-        calls = e.calls;
+        failures_stay = ap (λ (s : StoreState). s.failures) e.written ∙ h.failures_stay;
+        calls = go_more k count old.fails_in now.fails_in new.fails_in h.calls e.calls;
       }
 
 -- what holds while blocks are read in pieces, of which nothing is kept

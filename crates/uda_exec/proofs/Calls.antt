@@ -1,5 +1,5 @@
 -- The calls of a store of which it is known which one fails.
-use Rattle.std.proofs.Common.{◌≡◌, ℕ, suc, ◌+◌, ◌-◌, Option, Some, None, refl, ap, subst, ◌∙◌, arith, add-one}
+use Rattle.std.proofs.Common.{ℕ, suc, ◌+◌, ◌-◌, Option, Some, None, refl, ap, subst, ◌∙◌, arith, add-one}
 use Rattle.uda_image.specs.Store.{GoWell, FailsAfter}
 
 pub go_none : (left : Option ℕ) → GoWell 0 left left

@@ -1,5 +1,5 @@
 -- A transfer block by block: what the first k blocks leave, one block more, and the end.
-use Rattle.std.proofs.Common.{◌≡◌, ℕ, suc, ◌+◌, ◌-◌, ◌*◌, ◌<◌, ◌≤◌, Bool, true, false, List, [], ◌∷◌, ◌++◌, length, get_or, take, replicate, refl, sym, ap, ◌∙◌, arith, add-one, append-nil}
+use Rattle.std.proofs.Common.{◌≡◌, ℕ, suc, ◌+◌, ◌-◌, ◌*◌, ◌<◌, ◌≤◌, Bool, true, false, List, [], ◌∷◌, ◌++◌, length, get_or, take, replicate, refl, sym, ap, subst, ◌∙◌, arith, add-one, append-nil}
 use Rattle.std.specs.Prelude.{if◌then◌else◌}
 use Rattle.std.specs.List.{concat}
 use Rattle.std.proofs.lemmas.List.{take_more, take_all, length-take-le, length-replicate}
@@ -9,7 +9,8 @@ use lib.Seq.{take-append-add}
 use Rattle.uda_mem.proofs.PutLaws.{put-nil, put-put_next, length-part, length-part-le}
 use Rattle.uda_packet.specs.declared.end.Kind.TheVariants.{Access, Erase, Read, Write}
 use Rattle.uda_image.specs.StoreLaws.{length-first_chunks}
-use Rattle.uda_exec.proofs.Words.{put, part, Kind, Transfer, changes_blocks, StoreState, KeepsNature, IsImage, blocks_for, bytes_at, block_count, room_in, changes_memory, ChangesAt, due_by, blocks_due, bytes_landing, bytes_landing_of, blocks_stored, Stands, MovesBlock, LosesBlock, Progress, StopsAt}
+use Rattle.uda_exec.proofs.Words.{put, part, Kind, Transfer, changes_blocks, StoreState, KeepsNature, IsImage, blocks_for, bytes_at, block_count, room_in, changes_memory, ChangesAt, due_by, blocks_due, bytes_landing, bytes_landing_of, blocks_stored, Stands, MovesBlock, LosesBlock, Progress, StopsAt, MovesOn}
+use Rattle.uda_exec.proofs.Changes.{changes_again}
 use Rattle.uda_exec.proofs.Calls.{go_none, go_next, fails_then}
 use Rattle.uda_exec.proofs.Blocks.{AreBlocks, AreBlocks-part, AreBlocks-take, AreBlocks-in_blocks, length-bytes_at, length-concat_blocks}
 
@@ -124,8 +125,44 @@ progress_none t old memory = record {
   calls = go_none old.fails_in;
 }
 
+-- what is moved from the start on is all that is moved
+pub from_start : (t : Transfer) (count : ℕ) (old : StoreState) (memory : List ℕ) (new : StoreState) → MovesOn t 0 count old new → Progress t count old memory new memory
+from_start t count old memory new moves =
+    subst (λ (k : ℕ). Progress t k old memory new memory) (omega arith) (moves old memory memory (progress_none t old memory))
+
 -- what holds on the way, before block k
 pub record OnTheWay (t : Transfer) (k : ℕ) (old now : StoreState) (memory memory_now : List ℕ) : Type 0 where
+  pub within : k ≤ block_count t
   pub nature : KeepsNature old now
   pub changes : ChangesAt memory t.buffer (if changes_memory t.kind then t.bytes else 0) memory_now
   pub moves : (0 < block_count t → old.faithful ≡ true) → Progress t k old memory now memory_now
+
+both_natures : {old now new : StoreState} → KeepsNature old now → KeepsNature now new → KeepsNature old new
+both_natures was is = record {
+  size_stays = is.size_stays ∙ was.size_stays;
+  faithful_stays = is.faithful_stays ∙ was.faithful_stays;
+  never_fails_stays = is.never_fails_stays ∙ was.never_fails_stays;
+}
+
+module _ {t : Transfer} {k : ℕ} {old now : StoreState} {memory memory_now : List ℕ} (way : OnTheWay t k old now memory memory_now) {new : StoreState} (is : KeepsNature now new) where
+  -- one block more
+  pub way_next : (image : old.faithful ≡ true → IsImage old.size old.blocks) → t.lbn + block_count t ≤ old.size → t.buffer + room_in t ≤ length memory → k < block_count t
+      → (memory_after : List ℕ) → ChangesAt memory_now t.buffer (if changes_memory t.kind then t.bytes else 0) memory_after
+      → (now.faithful ≡ true → MovesBlock t k now memory_now new memory_after) → OnTheWay t (k + 1) old new memory memory_after
+  way_next image on_unit in_memory inside memory_after changes moves = record {
+    within = omega (arith, inside);
+    nature = both_natures way.nature is;
+    changes = changes_again _ _ _ _ _ way.changes changes;
+    moves = λ called.
+        let faithful = called (omega (arith, inside)) in
+        rw add-one (progress_next t k old memory now memory_now (image faithful) on_unit in_memory inside (way.moves called) new memory_after (moves (way.nature.faithful_stays ∙ faithful)));
+  }
+
+  -- so many blocks more, which leave memory as it is
+  pub way_on : (count : ℕ) → k + count ≤ block_count t → 0 < block_count t → (now.faithful ≡ true → MovesOn t k count now new) → OnTheWay t (k + count) old new memory memory_now
+  way_on count within some moves = record {
+    within = within;
+    nature = both_natures way.nature is;
+    changes = way.changes;
+    moves = λ called. moves (way.nature.faithful_stays ∙ called some) old memory memory_now (way.moves called);
+  }

@@ -17,7 +17,7 @@ pub use Rattle.uda_disk.specs.Request.{Act, Request, Extent, blocks_for, in_bloc
 pub use Rattle.uda_disk.specs.Answer.{Answer, blank_answer}
 pub use Rattle.uda_disk.specs.Plain.{refusal_status, extent_refusal, Bar, Barred, Free, bar_by, bar_at, refusal_on, Outcome, Done, Lost, is_lost, FitsCount, transfer_status, transfer_bytes, due, blocks_moved, stored, brought, mode_after, disk_after, bytes_on, answer_on, answer_by, disks_by, is_free, disk_by}
 pub use Rattle.uda_exec.specs.Commands.{landing_of, room_of, block_count, changes_memory, room_in, is_controller, bytes_asked, is_transfer, blocks_asked, buffer_start, bytes_at, asks_by, act_of, request_asked}
-pub use Rattle.uda_exec.specs.Transfers.{ChangesAt, blocks_due, bytes_landing, bytes_landing_of, ReadsInto, MovesBlock, LosesBlock, due_by, blocks_stored, Stands, Progress, StopsAt}
+pub use Rattle.uda_exec.specs.Transfers.{ChangesAt, blocks_due, bytes_landing, bytes_landing_of, ReadsInto, MovesBlock, LosesBlock, due_by, blocks_stored, Stands, Progress, StopsAt, MovesOn}
 pub use Rattle.uda_disk.specs.Units.{UnitState, disk_of, disks_of, HoldsImage, AreImages, Nature, nature_of, natures_of, modes_of, is_faithful, is_sure}
 pub use Rattle.uda_exec.specs.Refusal.{first_found, with_buffer, bar_with, is_odd, is_missing, extent_in, transfer_refusal}
 pub use Rattle.uda_exec.specs.Effect.{World, with_bytes_moved, plain_body, reply, body_for, end_for, bar_in, bar_of, memory_by, does, effect_by, effect, acts_by, acts, LossFits}

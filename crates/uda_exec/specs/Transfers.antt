@@ -87,6 +87,12 @@ pub record StopsAt (t : Transfer) (k : ℕ) (old : StoreState) (memory : List �
   pub counted : new.failures ≡ old.failures + 1
   pub calls : FailsAfter k old.fails_in new.fails_in
 
+-- from block k of the range on, so many blocks more are moved: whatever a transfer had moved by then, it has
+-- moved these too, and memory is as it was
+abbrev pub MovesOn : Transfer → ℕ → ℕ → StoreState → StoreState → Type 0
+MovesOn t k count now new = (old : StoreState) (memory memory_now : List ℕ)
+    → Progress t k old memory now memory_now → Progress t (k + count) old memory new memory_now
+
 -- so many blocks were read, of which nothing is kept
 pub record Accessed (old : StoreState) (count : ℕ) (new : StoreState) : Type 0 where
   pub state_stays : new ≡ record old { fails_in = new.fails_in }

@@ -7,7 +7,7 @@ ghost use Rattle.uda_mem.specs.Put.{part};
 ghost use Rattle.uda_image.specs.Store.{KeepsNature, Reads, Writes};
 ghost use Rattle.uda_exec.specs.Commands.{block_count, room_in, changes_memory};
 ghost use Rattle.uda_exec.specs.Transfers.{ChangesAt, ReadsInto, MovesBlock, LosesBlock};
-ghost use Rattle.uda_exec.specs.Transfers.{Accessed, Erased, Progress, StopsAt};
+ghost use Rattle.uda_exec.specs.Transfers.{Accessed, Erased, MovesOn, Progress, StopsAt};
 ghost use Rattle.uda_disk.specs.Request.{first_block};
 
 use uda_disk::first_block;
@@ -179,8 +179,26 @@ fn erase_at_once<S: BlockStore>(store: &mut S, n: u32, count: u32) -> u32
     done
 }
 
-// Moves whole blocks from the start of a transfer's range at once, where there are two or more and the store
-// has a way to, and answers how many it moved.
+// Moves blocks of an Access or an Erase from block `k` of its range on, a piece at a time, up to the first piece
+// that the store declines. Returns how many it moved: none of a Read or a Write.
+fn move_pieces<S: BlockStore>(t: Transfer, k: u32, store: &mut S) -> u32
+    requires in_range { k ≤ block_count t }
+    requires on_unit { t.lbn + block_count t ≤ (S.state store.old).size }
+    ensures nature { KeepsNature (S.state store.old) (S.state store.new) }
+    ensures within { k + result ≤ block_count t }
+    ensures moves { (S.state store.old).faithful ≡ true
+        → MovesOn t k result (S.state store.old) (S.state store.new) }
+{
+    let count = block_count(t) - k;
+    match t.kind {
+        Kind::Access => access_at_once(store, t.lbn + k, count),
+        Kind::Erase => erase_at_once(store, t.lbn + k, count),
+        Kind::Read | Kind::Write => 0,
+    }
+}
+
+// Moves blocks from the start of a transfer's range at once, if there are two or more whole ones and the store
+// has a way to. Returns how many it moved.
 #[tactic(auto, using(crate::proofs::Changes::changes_nothing))]
 fn move_at_once<S: BlockStore>(t: Transfer, store: &mut S, memory: &mut [u8]) -> u32
     requires on_unit { t.lbn + block_count t ≤ (S.state store.old).size }
@@ -198,8 +216,7 @@ fn move_at_once<S: BlockStore>(t: Transfer, store: &mut S, memory: &mut [u8]) ->
         return 0;
     }
     match t.kind {
-        Kind::Access => access_at_once(store, t.lbn, count),
-        Kind::Erase => erase_at_once(store, t.lbn, count),
+        Kind::Access | Kind::Erase => move_pieces(t, 0, store),
         Kind::Read => {
             let start = t.buffer as usize;
             let end = start + 512 * count as usize;
@@ -220,10 +237,11 @@ fn move_at_once<S: BlockStore>(t: Transfer, store: &mut S, memory: &mut [u8]) ->
     }
 }
 
-// Moves the blocks of a transfer's range: whole blocks at once, as far as the store does that, and those
-// behind them one at a time, in rising order, up to the first at which the store fails; that block, or its
-// bytes of a Read's buffer, may then hold anything. A transfer without blocks doesn't call the store. The
-// range lies on the unit and the buffer in memory, which the caller checks.
+// Moves the blocks of a transfer's range in rising order, up to the first at which the store fails: at once as
+// far as the store does that, and then one at a time. After each piece of single blocks, the store is asked
+// for further pieces of an Access or an Erase. The block at which the store fails, or its bytes of a Read's
+// buffer, may then hold anything. A transfer without blocks doesn't call the store. The range lies on the unit
+// and the buffer in memory, which the caller checks.
 pub fn move_blocks<S: BlockStore>(t: Transfer, store: &mut S, memory: &mut [u8]) -> Result<(), Lost>
     requires on_unit { t.lbn + block_count t ≤ (S.state store.old).size }
     requires in_memory { t.buffer + room_in t ≤ length memory.old }
@@ -237,11 +255,15 @@ pub fn move_blocks<S: BlockStore>(t: Transfer, store: &mut S, memory: &mut [u8])
         (λ _. Progress t (block_count t) (S.state store.old) memory.old (S.state store.new) memory.new)
         (λ lost. StopsAt t lost.block (S.state store.old) memory.old (S.state store.new) memory.new) }
 {
-    let moved = move_at_once(t, store, memory);
-    for k in moved..block_count(t) {
-        let Ok(()) = move_block(t, k, store, memory) else {
-            return Err(Lost { block: k });
+    let mut done = move_at_once(t, store, memory);
+    while done < block_count(t) {
+        let Ok(()) = move_block(t, done, store, memory) else {
+            return Err(Lost { block: done });
         };
+        done += 1;
+        if done % PIECE == 0 {
+            done += move_pieces(t, done, store);
+        }
     }
     Ok(())
 }

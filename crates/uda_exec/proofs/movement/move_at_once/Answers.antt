@@ -1,21 +1,15 @@
 use Rattle.std.proofs.Common.{refl, arith}
 use Rattle.uda_mem.specs.Put.{part}
 use Rattle.uda_mem.proofs.PutLaws.{put_mid-put}
-use Rattle.uda_exec.proofs.AtOnce.{changes_front, same_put_back, none_ahead, reads_ahead, writes_ahead, accesses_ahead, erases_ahead}
+use Rattle.uda_exec.proofs.AtOnce.{changes_front, same_put_back, none_ahead, reads_ahead, writes_ahead}
+use Rattle.uda_exec.proofs.Steps.{from_start}
 use Rattle.uda_exec.proofs.movement.move_at_once.Goals as goal
 
 pub returns-then-count-lt2-clause-moves : goal.returns-then-count-lt2-clause-moves
 returns-then-count-lt2-clause-moves g c called = none_ahead _ _ _ _ _ refl refl
 
 pub returns-in-Access-clause-moves : goal.returns-in-Access-clause-moves
-returns-in-Access-clause-moves g c called =
-    let faithful = called (omega arith) in
-    accesses_ahead _ _ _ _ (omega arith) c.in-Access.is _ (c.access_at_once.ensures.accessed faithful)
-
-pub returns-in-Erase-clause-moves : goal.returns-in-Erase-clause-moves
-returns-in-Erase-clause-moves g c called =
-    let faithful = called (omega arith) in
-    erases_ahead _ _ _ _ (omega arith) c.in-Erase.is _ (c.erase_at_once.ensures.erased faithful)
+returns-in-Access-clause-moves g c called = from_start _ _ _ _ _ (c.move_pieces.ensures.moves (called (omega arith)))
 
 pub returns-then-read_at_once-clause-changes : goal.returns-then-read_at_once-clause-changes
 returns-then-read_at_once-clause-changes g c =

@@ -31,6 +31,9 @@ use Rattle.uda_port.specs.Message.{message_of_text, message_in}
 use Rattle.uda_port.specs.Interrupt.{told_at, word_below, memory_told}
 use Rattle.uda_port.specs.Port.{PortState, CreditsAgree, next_grant, commands_told, responses_told, interrupts_told}
 use Rattle.uda_port.specs.Turn.{port_turn_on, port_with_message, delivery_of, FetchesOne, NothingToFetch, FetchLine, GoesOn, Fails, InFetch, InRest, RunningTurn, TurnGoes}
+use Rattle.uda_port.specs.declared.trace.Trace.{Trace}
+use Rattle.uda_port.specs.declared.trace.Trace.TheVariants as trace
+use Rattle.uda_port.specs.Trace.{turn_of}
 use Rattle.uda_host.specs.Layout.{slots, memory_size, response_descriptor, command_descriptor, response_packet, command_packet, owner_word, flag_word}
 use Rattle.uda_host.specs.Slots.{Slot, slot_at, command_at, response_at, owned, memory_reopened, RingsHold, WritesSlot}
 use Rattle.uda_host.specs.InStep.{IsSound, unfetched}
@@ -266,6 +269,15 @@ module _ {S : Type 0} {h : Inside S} (host : IsHost h) (before : PortState) (aft
   lives cause (InRest goes) = rest_lives cause goes
 
 -- ---- a turn
+
+-- a trace of another kind is of another turn
+pub undelivered : (was : Trace) → ((end : End) → was ≡ trace.Delivered end → ⊥) → turn_of was ≡ Delivered → ⊥
+undelivered (trace.Fetched command) other is = absurd (cc)
+undelivered (trace.Refused end) other is = absurd (cc)
+undelivered (trace.Executed end) other is = absurd (cc)
+undelivered (trace.Delivered end) other is = other end refl
+undelivered trace.Idle other is = absurd (cc)
+undelivered (trace.Dead cause) other is = absurd (cc)
 
 module _ {S : Type 0} {h : Inside S} {value : HostState} (is : host_view h ≡ value) (host : IsHost h) (new : PortState) (after : List ℕ) (agree : CreditsAgree new) where
   -- one that takes no end

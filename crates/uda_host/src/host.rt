@@ -17,7 +17,16 @@ use uda_exec::Exec;
 use uda_image::BlockStore;
 use uda_mem::HostMemory;
 use uda_packet::{Command, End, Op};
-use uda_port::{NoPort, Port, Turn};
+use uda_port::{NoPort, Port, Trace};
+
+/// One turn of a host's port.
+#[derive(Clone, Copy, Debug, PartialEq, Eq)]
+pub struct Step {
+    /// What the port did.
+    pub trace: Trace,
+    /// The end message that the host took, if the port delivered one.
+    pub end: Option<End>,
+}
 
 /// A host with its port: it posts commands, gives the port its turns, and takes the ends.
 ///
@@ -103,18 +112,30 @@ impl<S: BlockStore> Host<S> {
         self.posted.push(*command);
     }
 
-    /// Gives the port one turn, and takes the end that it delivers: reads it at the next place of the
-    /// response ring, gives the descriptor back to the port, and notes the credits.
-    ///
-    /// UDA50 Programmer's Documentation Kit: response ring, credits.
+    /// Gives the port one turn, and takes the end message that it delivers, as [`Host::step_traced`] does.
     pub fn step(&mut self) -> Option<End>
         requires some { 0 < out_of self.old }
         ensures goes { HostGoes self.old result self.new }
         ensures adds_up { AddsUp self.new }
         ensures images { AreImages self.new.units }
     {
-        let Turn::Delivered = self.port.turn(&mut self.memory) else {
-            return None;
+        self.step_traced().end
+    }
+
+    /// Gives the port one turn, and takes the end message that it delivers: reads it at the next place of the
+    /// response ring, gives the descriptor back to the port, and notes the credits. Returns what the port did,
+    /// too.
+    ///
+    /// UDA50 Programmer's Documentation Kit: response ring, credits.
+    pub fn step_traced(&mut self) -> Step
+        requires some { 0 < out_of self.old }
+        ensures goes { HostGoes self.old result.end self.new }
+        ensures adds_up { AddsUp self.new }
+        ensures images { AreImages self.new.units }
+    {
+        let trace = self.port.turn_traced(&mut self.memory);
+        let Trace::Delivered(_) = trace else {
+            return Step { trace, end: None };
         };
         let Some(end) = end_at(&self.memory, self.response_place) else {
             unreachable!()
@@ -123,7 +144,10 @@ impl<S: BlockStore> Host<S> {
         reopen(&mut self.memory, self.response_place);
         self.response_place = (self.response_place + 1) % SLOTS;
         self.held += credits;
-        Some(end)
+        Step {
+            trace,
+            end: Some(end),
+        }
     }
 
     /// Has one command done while no other is out, in three turns, and answers its end.

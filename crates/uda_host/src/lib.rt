@@ -12,5 +12,5 @@ mod posted;
 mod ring;
 mod start;
 
-pub use host::Host;
+pub use host::{Host, Step};
 pub use ring::buffer_address;

@@ -11,8 +11,20 @@ use std::alloc::{AllocError, Global};
 use uda_disk::{Answer, Request};
 use uda_packet::{End, EndBody};
 
-// The answer that stands before a request is posted.
-fn blank(alloc: Global, request: &Request) -> Result<Answer, AllocError>
+// Returns a vector with room for `count` bytes: an earlier answer's, if its capacity suffices.
+fn room_for(alloc: Global, count: usize, used: Option<Answer>) -> Result<Vec<u8>, AllocError>
+    ensures room { IfOk result (λ bytes. count ≤ vec_capacity bytes) }
+{
+    if let Some(Answer::Data { bytes, .. }) = used {
+        if count <= bytes.capacity() {
+            return Ok(bytes);
+        }
+    }
+    Vec::with_capacity(alloc, count)
+}
+
+// Returns the answer of a request before it is posted.
+fn blank(alloc: Global, request: &Request, used: Option<Answer>) -> Result<Answer, AllocError>
     ensures long { IfOk result (λ a.
         too_long (request_value request.now) ≡ true → a ≡ Answer.TooLong) }
     ensures room { IfOk result (λ a.
@@ -22,21 +34,26 @@ fn blank(alloc: Global, request: &Request) -> Result<Answer, AllocError>
     match request {
         Request::Read { bytes, .. } if !request.is_too_long() => Ok(Answer::Data {
             status: 0,
-            bytes: Vec::with_capacity(alloc, *bytes as usize)?,
+            bytes: room_for(alloc, *bytes as usize, used)?,
         }),
         _ => Ok(Answer::TooLong),
     }
 }
 
-/// The answers before the first command: `TooLong` for a request that is, and room for a Read's bytes.
-pub(crate) fn blanks(alloc: Global, requests: &[Request]) -> Result<Vec<Answer>, AllocError>
+/// Returns the answers before the first command: `TooLong` for a request that is too long, and room for the
+/// bytes of a Read. Memory of the earlier answers is reused if it suffices.
+pub(crate) fn blanks(
+    alloc: Global,
+    requests: &[Request],
+    mut used: Vec<Answer>,
+) -> Result<Vec<Answer>, AllocError>
     ensures counted { IfOk result (λ answers. length answers.items ≡ length requests.now) }
     ensures blank { IfOk result (λ answers.
         AreBlank (request_values requests.now) 0 answers.items) }
 {
     let mut answers = Vec::new(alloc);
     for request in requests {
-        answers.push(blank(alloc, request)?)?;
+        answers.push(blank(alloc, request, used.pop())?)?;
     }
     Ok(answers)
 }

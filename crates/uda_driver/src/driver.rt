@@ -120,7 +120,48 @@ impl<S: BlockStore> Driver<S> {
         ensures counts { IfOk result (λ _.
             CountsOn (request_values requests.now) self.old self.new) }
     {
-        let answers = prepare(self.alloc, requests)?;
+        self.run_reusing(requests, Vec::new(self.alloc))
+    }
+
+    /// Executes the requests as [`run`](Driver::run) does, and reuses the memory of earlier answers.
+    ///
+    /// The bytes of a Read go into an earlier answer's memory if it has room for them. The contents of the
+    /// earlier answers are lost.
+    pub fn run_reusing(
+        &mut self,
+        requests: &[Request],
+        used: Vec<Answer>,
+    ) -> Result<Vec<Answer>, RunError>
+        ensures too_many { (result ≡ Err RunError.TooMany) ↔ (request_limit < length requests.now) }
+        ensures unchanged { IfErr result (λ _. self.new ≡ self.old) }
+        ensures rest { IsAtRest self.new }
+        ensures natures { natures_of (units_of self.new) ≡ natures_of (units_of self.old) }
+        ensures four { (length (units_of self.old) ≡ 4) × (length (units_of self.new) ≡ 4) }
+        ensures images { AreImages (units_of self.old) × AreImages (units_of self.new) }
+        ensures shape { IfOk result (λ answers.
+            AreAnswersOf (request_values requests.now) (answer_values answers.items)) }
+        ensures headline { IfOk result (λ answers.
+            AllFaithful (units_of self.old) → NoneFailed (units_of self.old) (units_of self.new)
+            → IsPlainRun (units_of self.old) (request_values requests.now)
+            (answer_values answers.items) (units_of self.new)) }
+        ensures headline_untold { IfOk result (λ answers.
+            AllFaithful (units_of self.old)
+            → tells_drive_error (answer_values answers.items) ≡ false
+            → IsPlainRun (units_of self.old) (request_values requests.now)
+            (answer_values answers.items) (units_of self.new)) }
+        ensures sure { AllFaithful (units_of self.old)
+            → SureNeverFail (units_of self.old) (units_of self.new) }
+        ensures losses { IfOk result (λ answers.
+            AllFaithful (units_of self.old)
+            → TellsLosses (units_of self.old) (request_values requests.now)
+            (answer_values answers.items) (units_of self.new)) }
+        ensures seems { IfOk result (λ answers.
+            SeemsPlain (units_of self.old) (request_values requests.now)
+            (answer_values answers.items) (units_of self.new)) }
+        ensures counts { IfOk result (λ _.
+            CountsOn (request_values requests.now) self.old self.new) }
+    {
+        let answers = prepare(self.alloc, requests, used)?;
         Ok(drive(&mut self.host, requests, answers))
     }
 
@@ -133,8 +174,8 @@ impl<S: BlockStore> Driver<S> {
     }
 }
 
-// An answer for each request, with room for what it will tell.
-fn prepare(alloc: Global, requests: &[Request]) -> Result<Vec<Answer>, RunError>
+// Makes an answer for each request, with room for the bytes of a Read.
+fn prepare(alloc: Global, requests: &[Request], used: Vec<Answer>) -> Result<Vec<Answer>, RunError>
     ensures too_many { (result ≡ Err RunError.TooMany) ↔ (request_limit < length requests.now) }
     ensures few { IfOk result (λ _. length requests.now ≤ request_limit) }
     ensures counted { IfOk result (λ answers. length answers.items ≡ length requests.now) }
@@ -144,7 +185,7 @@ fn prepare(alloc: Global, requests: &[Request]) -> Result<Vec<Answer>, RunError>
     if requests.len() > REQUEST_LIMIT {
         return Err(RunError::TooMany);
     }
-    match blanks(alloc, requests) {
+    match blanks(alloc, requests, used) {
         Ok(answers) => Ok(answers),
         Err(_) => Err(RunError::NoMemory),
     }

@@ -1,10 +1,11 @@
+use Rattle.std.proofs.lemmas.Result.{err_from_is_err_and}
 use Rattle.std.proofs.lemmas.List.Elements.{All-nil}
 use Rattle.std.proofs.Common.{◌≢◌, sym, ◌∙◌, rules}
 use Rattle.std.proofs.lemmas.List.{length-map}
 use Rattle.uda_disk.specs.Values.{request_value, answer_value}
 use Rattle.uda_posting.proofs.Owing.{owes_end, owes_plain, owes_untold, owes_seems}
 use Rattle.uda_driver.proofs.Told.{untold_errors}
-use Rattle.uda_driver.proofs.driver.Driver.run.Goals as goal
+use Rattle.uda_driver.proofs.driver.Driver.run_reusing.Goals as goal
 
 pub invariant_of-self : goal.invariant_of-self
 invariant_of-self g c = c.drive.ensures.ready
@@ -16,12 +17,14 @@ drive-requires g c =
 
 pub returns-clause-shape : goal.returns-clause-shape
 returns-clause-shape g c = record {
-  counted = length-map c.drive.result.items answer_value ∙ c.drive.ensures.counted ∙ sym (length-map c.args.requests.now request_value);
+  counted = length-map c.drive.result.items answer_value ∙ c.drive.ensures.counted
+      ∙ sym (length-map c.args.requests.now request_value);
   formed = λ k r a at told. c.drive.ensures.owes.formed k r a at told (All-nil (λ p. p.place ≢ k));
 }
 
 pub returns-clause-headline : goal.returns-clause-headline
-returns-clause-headline g c = rw (← c.self.view_is) (λ faithful none. owes_plain faithful c.self.invariant.images c.drive.ensures.owes none)
+returns-clause-headline g c = rw (← c.self.view_is)
+    (λ faithful none. owes_plain faithful c.self.invariant.images c.drive.ensures.owes none)
 
 pub returns-clause-losses : goal.returns-clause-losses
 returns-clause-losses g c = rw (← c.self.view_is) (λ faithful. record {
@@ -31,10 +34,25 @@ returns-clause-losses g c = rw (← c.self.view_is) (λ faithful. record {
 })
 
 pub returns-clause-headline_untold : goal.returns-clause-headline_untold
-returns-clause-headline_untold g c = rw (← c.self.view_is) (λ faithful none. owes_untold faithful c.self.invariant.images c.drive.ensures.owes (λ u. untold_errors u _ _ none))
+returns-clause-headline_untold g c = rw (← c.self.view_is)
+    (λ faithful none. owes_untold faithful c.self.invariant.images c.drive.ensures.owes
+    (λ u. untold_errors u _ _ none))
 
 pub returns-clause-sure : goal.returns-clause-sure
-returns-clause-sure g c = rw (← c.self.view_is) (λ faithful. (c.drive.ensures.owes.sound faithful c.self.invariant.images).sure)
+returns-clause-sure g c = rw (← c.self.view_is) (λ faithful.
+    (c.drive.ensures.owes.sound faithful c.self.invariant.images).sure)
 
 pub returns-clause-seems : goal.returns-clause-seems
 returns-clause-seems g c = rw (← c.self.view_is) (owes_seems c.drive.ensures.owes)
+
+pub returns-in_err-answers-clause-too_many : goal.returns-in_err-answers-clause-too_many
+returns-in_err-answers-clause-too_many g c =
+    let exit = err_from_is_err_and c.from_residual.result c.from_residual.ensures.1 in
+    rw (exit.1, exit.2) c.in_err-answers.ensures.too_many
+
+pub returns-in_err-answers-clause-images : goal.returns-in_err-answers-clause-images
+returns-in_err-answers-clause-images g c = rw (← c.self.view_is)
+    (c.self.invariant.images, c.self.invariant.images)
+
+pub returns-clause-images : goal.returns-clause-images
+returns-clause-images g c = rw (← c.self.view_is) (c.self.invariant.images, c.drive.ensures.ready.images)

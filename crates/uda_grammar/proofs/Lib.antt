@@ -4,3 +4,5 @@ pub mod Fields
 pub mod Scripts
 pub mod WordLaws
 pub mod FormLaws
+pub mod Lengths
+pub mod Lines

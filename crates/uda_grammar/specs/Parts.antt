@@ -1,6 +1,6 @@
 -- A text cut at each place of one byte.
-use Rattle.std.specs.Prelude.{ℕ, ◌==◌, List, [], Option, Some, None}
-use Rattle.std.specs.List.{slice_split}
+use Rattle.std.specs.Prelude.{◌≡◌, ℕ, false, ◌==◌, List, [], Option, Some, None}
+use Rattle.std.specs.List.{All, slice_split}
 
 -- the parts between the places of this byte: one more than there are places, and some may be empty
 abbrev pub parts : ℕ → List ℕ → List (List ℕ)
@@ -19,3 +19,7 @@ words_of line = parts 32 line
 -- and makes no request where it is empty.
 abbrev pub lines_of : List ℕ → List (List ℕ)
 lines_of text = parts 10 text
+
+-- a text without a line feed
+abbrev pub IsOneLine : List ℕ → Type 0
+IsOneLine text = All (λ byte. (byte == 10) ≡ false) text

@@ -1,5 +1,5 @@
 -- What the lines of a script ask for.
-use Rattle.std.specs.Prelude.{ℕ, ◌+◌, Bool, true, not, ◌&&◌, ◌==◌, if◌then◌else◌, List, [], ◌∷◌, ◌++◌, Option}
+use Rattle.std.specs.Prelude.{◌≡◌, ℕ, ◌+◌, Bool, true, not, ◌&&◌, ◌==◌, if◌then◌else◌, List, [], ◌∷◌, ◌++◌, Option}
 use Rattle.std.specs.Prelude.{Some, None, is_none}
 use Rattle.uda_grammar.specs.declared.script.Line.{Line}
 use Rattle.uda_grammar.specs.declared.error.ScriptError.{ScriptError}
@@ -45,6 +45,14 @@ fault_in text = fault_from 1 (lines_of text)
 -- the requests of a text's lines before that one
 abbrev pub requests_in : List ℕ → List Line
 requests_in text = requests_from 1 (lines_of text)
+
+-- After these bytes, whatever follows: these requests were made and no line was a fault. Their first line has
+-- the number `number`, and the next line has the number `next`.
+pub record LeadsTo (number : ℕ) (bytes : List ℕ) (next : ℕ) (made : List Line) : Type 0 where
+  pub requests : (rest : List ℕ)
+      → requests_from number (lines_of (bytes ++ rest)) ≡ made ++ requests_from next (lines_of rest)
+  pub fault : (rest : List ℕ)
+      → fault_from number (lines_of (bytes ++ rest)) ≡ fault_from next (lines_of rest)
 
 -- the errors of reading a text
 abbrev pub IsReadingError : ScriptError → Type 0

@@ -15,8 +15,8 @@ use uda_disk::TRANSFER_LIMIT;
 // What parts the words of a line.
 const SPACE: u8 = b' ';
 
-// The most that a line can have written, in this measure: as much as one command.
-fn most_written(measure: Measure) -> u32
+/// The most that a line can have written, in this measure: as much as one command.
+pub(crate) fn most_written(measure: Measure) -> u32
     ensures most { result ≡ most_written measure }
 {
     match measure {

@@ -5,6 +5,7 @@
 
 mod cut;
 mod error;
+mod expected;
 mod forms;
 mod law;
 mod number;
@@ -15,7 +16,8 @@ mod transfer;
 mod verb;
 
 pub use error::ScriptError;
+pub use expected::{Expected, Part, explain};
 pub use law::one_text;
-pub use parsing::parse;
+pub use parsing::{parse, parse_line};
 pub use script::{Line, SCRIPT_LIMIT, Script};
 pub use statement::{Amount, Statement};

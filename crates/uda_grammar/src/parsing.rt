@@ -1,5 +1,6 @@
 //! How a script is read.
-ghost use Rattle.std.specs.Prelude.{◌≡◌, ℕ, true, false, ◌<◌, ◌≤◌, ◌++◌, length, OnOk, IfOk, IfErr};
+ghost use Rattle.std.specs.Prelude.{◌≡◌, ℕ, true, false, ◌<◌, ◌≤◌, ◌++◌, length, OnOk, OnErr, IfOk, IfErr};
+ghost use Rattle.std.specs.Option.{option_to_list};
 ghost use Rattle.uda_grammar.specs.Limit.{script_limit};
 ghost use Rattle.uda_grammar.specs.Reading.{is_silent, is_fault, request_in, requests_in, fault_in};
 ghost use Rattle.uda_grammar.specs.Reading.{IsReadingError};
@@ -20,6 +21,26 @@ fn is_silent_line(line: &[u8]) -> bool
     matches!(line, [] | [b'#', ..])
 }
 
+/// Reads one line of a script, of this number: the request that it makes, if any.
+///
+/// # Errors
+///
+/// `Syntax` if the line is none of the forms that [`parse`] reads.
+pub fn parse_line(number: u64, line: &[u8]) -> Result<Option<Line>, ScriptError>
+    ensures request { IfOk result (λ made. option_to_list made ≡ request_in number line.now) }
+    ensures formed { OnOk result (is_fault line.now ≡ false) }
+    ensures unformed { OnErr result (is_fault line.now ≡ true) }
+    ensures error { IfErr result (λ e. e ≡ ScriptError.Syntax number) }
+{
+    if is_silent_line(line) {
+        return Ok(None);
+    }
+    match statement_in(line) {
+        Some(statement) => Ok(Some(Line { number, statement })),
+        None => Err(ScriptError::Syntax { line: number }),
+    }
+}
+
 // Reads one line, of this number: the request that it makes, if any, goes behind the others.
 fn read_line(lines: &mut Vec<Line>, number: u64, line: &[u8]) -> Result<(), ScriptError>
     requires short { length lines.old.items ≤ script_limit }
@@ -35,16 +56,13 @@ fn read_line(lines: &mut Vec<Line>, number: u64, line: &[u8]) -> Result<(), Scri
     ensures full_formed { result ≡ Err ScriptError.TooManyLines → is_fault line.now ≡ false }
     ensures kinds { IfErr result IsReadingError }
 {
-    if is_silent_line(line) {
+    let Some(request) = parse_line(number, line)? else {
         return Ok(());
-    }
-    let Some(statement) = statement_in(line) else {
-        return Err(ScriptError::Syntax { line: number });
     };
     if lines.len() == SCRIPT_LIMIT {
         return Err(ScriptError::TooManyLines);
     }
-    match lines.push(Line { number, statement }) {
+    match lines.push(request) {
         Ok(()) => Ok(()),
         Err(_) => Err(ScriptError::NoMemory),
     }

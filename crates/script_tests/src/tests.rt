@@ -3,3 +3,4 @@ mod batches;
 mod lines;
 mod program;
 mod streams;
+mod texts;

@@ -15,11 +15,11 @@ use Rattle.uda_disk.specs.declared.request.Request.{Request as Made}
 use Rattle.uda_driver.specs.Run.{DriverState, request_limit}
 use Rattle.uda_script_run.specs.Requests.{bytes_taken, requests}
 use Rattle.uda_script_run.specs.Reading.{ReadsRequests}
-use Rattle.uda_script_run.specs.Texts.{out_text, report_text}
-use Rattle.uda_script_run.specs.Script.{Serves, Runs, Streams, EndsWhole, EndsInError, NothingDone, TextsBegin}
+use Rattle.uda_script_run.specs.Texts.{out_text, report_text, plain, whole_report}
+use Rattle.uda_script_run.specs.Script.{Serves, Runs, Streams, writers_of, EndsWhole, EndsInError, NothingDone, TextsBegin}
 
 -- a request a line
-length-requests : (lines : List Line) (bytes : List ℕ) → length (requests lines bytes) ≡ length lines
+pub length-requests : (lines : List Line) (bytes : List ℕ) → length (requests lines bytes) ≡ length lines
 length-requests [] bytes = refl
 length-requests (line ∷ rest) bytes = let fewer = length-requests rest (drop (bytes_taken line) bytes) in omega (arith, fewer)
 
@@ -60,7 +60,7 @@ ends_whole (Err e) lines before after asked told driver driver_after read served
 
 pub ends_broken : (r : Result (Unit {0}) ScriptError) (lines : List Line) (before after : Streams) (asked : List Request) (told : List Answer) (driver driver_after : DriverState)
     → ReadsRequests lines before.input after.input asked → Serves asked told driver driver_after
-    → OnErr r (TextsBegin told before.out after.out before.report after.report) → IfErr r (λ e. e ≡ Write)
+    → OnErr r (TextsBegin (whole_report plain) told (writers_of before) (writers_of after)) → IfErr r (λ e. e ≡ Write)
     → IfErr r (EndsInError lines before after driver driver_after)
 ends_broken (Ok u) lines before after asked told driver driver_after read served begun error = tt
 ends_broken (Err e) lines before after asked told driver driver_after read served begun error =

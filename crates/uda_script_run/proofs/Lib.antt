@@ -3,3 +3,8 @@ pub mod Texting
 pub mod Fillings
 pub mod Readings
 pub mod Endings
+pub mod Appends
+pub mod Alikes
+pub mod Batching
+pub mod Streaming
+pub mod Outcomes

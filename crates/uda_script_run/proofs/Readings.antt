@@ -84,7 +84,7 @@ pub lines_none : (lines : List Line) (left : Option (List ℕ)) → ReadsLines l
 lines_none lines left = record { count = 0; part = reads_none (requests lines) left; counts = omega arith; short = λ held. ap (first_short lines) (omega arith) }
 
 -- a line that the data holds isn't the short one
-short_later : (line : Line) (rest : List Line) (held : ℕ) → first_short (line ∷ rest) (bytes_taken line + held) ≡ first_short rest held
+pub short_later : (line : Line) (rest : List Line) (held : ℕ) → first_short (line ∷ rest) (bytes_taken line + held) ≡ first_short rest held
 short_later line rest held =
     let holds : nat_lt (bytes_taken line + held) (bytes_taken line) ≡ false = grind (arith, nat_tests) in
     let less : (bytes_taken line + held) - bytes_taken line ≡ held = omega arith in

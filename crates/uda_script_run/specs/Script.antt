@@ -12,7 +12,9 @@ use Rattle.uda_grammar.specs.declared.error.ScriptError.TheVariants.{NoMemory, S
 use Rattle.uda_grammar.specs.declared.error.ScriptError.TheVariants.{ShortData, Read, Write}
 use Rattle.uda_grammar.specs.declared.script.Line.{Line}
 use Rattle.uda_script_run.specs.Requests.{requests, taken, first_short}
-use Rattle.uda_script_run.specs.Texts.{out_text, report_text, AppendsBeginning}
+use Rattle.uda_script_run.specs.declared.style.ReportPart.{ReportPart}
+use Rattle.uda_script_run.specs.Texts.{out_text, report_text, part_text, plain, whole_report}
+use Rattle.uda_script_run.specs.Texts.{AppendsBeginning}
 
 -- the driver answered these requests so, and nothing of them is left out
 pub record Serves (asked : List Request) (told : List Answer)
@@ -45,6 +47,17 @@ pub record Streams : Type 0 where
 abbrev pub streams : Option (List ℕ) → Option (List ℕ) → Option (List ℕ) → Streams
 streams input out report = record { input = input; out = out; report = report }
 
+-- the bytes that the two writers hold, if they are known
+pub record Writers : Type 0 where
+  pub out : Option (List ℕ)
+  pub report : Option (List ℕ)
+
+abbrev pub writers : Option (List ℕ) → Option (List ℕ) → Writers
+writers out report = record { out = out; report = report }
+
+abbrev pub writers_of : Streams → Writers
+writers_of s = writers s.out s.report
+
 -- a script that was run to its end: both texts were written whole
 pub record EndsWhole (lines : List Line) (before after : Streams)
     (driver driver_after : DriverState) : Type 0 where
@@ -54,12 +67,14 @@ pub record EndsWhole (lines : List Line) (before after : Streams)
   pub out : Appends before.out after.out (out_text told)
   pub report : Appends before.report after.report (report_text told)
 
--- a beginning of both texts was written, `out` wholly before `report`
-pub data TextsBegin (told : List Answer) (out out_after report report_after : Option (List ℕ)) : Type 0 where
-  InOut : AppendsBeginning out out_after (out_text told) → report_after ≡ report
-      → TextsBegin told out out_after report report_after
-  InReport : Appends out out_after (out_text told) → AppendsBeginning report report_after (report_text told)
-      → TextsBegin told out out_after report report_after
+-- a beginning of both texts of a report's part was written, `out` wholly before `report`
+pub data TextsBegin (part : ReportPart) (told : List Answer) (before after : Writers) : Type 0 where
+  InOut : AppendsBeginning before.out after.out (out_text told) → after.report ≡ before.report
+      → TextsBegin part told before after
+  InReport :
+      Appends before.out after.out (out_text told)
+      → AppendsBeginning before.report after.report (part_text part told)
+      → TextsBegin part told before after
 
 -- a script that was run, but of which the texts couldn't be written to their end
 pub record EndsBroken (lines : List Line) (before after : Streams)
@@ -67,7 +82,7 @@ pub record EndsBroken (lines : List Line) (before after : Streams)
   pub bytes : List ℕ
   pub told : List Answer
   pub runs : Runs lines before.input after.input bytes told driver driver_after
-  pub texts : TextsBegin told before.out after.out before.report after.report
+  pub texts : TextsBegin (whole_report plain) told (writers_of before) (writers_of after)
 
 -- nothing was done but that some data may have been read
 pub record NothingDone (before after : Streams) (driver driver_after : DriverState) : Type 0 where

@@ -3,10 +3,21 @@
 //! Its tests are in the crate `script_tests`.
 #![tactic(auto)]
 
+mod batch;
+mod channels;
 mod growth;
 mod put;
 mod requests;
 mod script;
+mod source;
+mod stream;
+mod style;
+mod text_error;
 mod texts;
 
+pub use channels::Channels;
+pub use requests::read_requests;
 pub use script::run_script;
+pub use stream::run_text;
+pub use style::{Outcome, ReportStyle};
+pub use text_error::TextError;

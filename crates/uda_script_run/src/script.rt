@@ -1,15 +1,16 @@
 //! A script that is run by a driver.
 
-ghost use Rattle.std.specs.Prelude.{◌≡◌, ◌≤◌, length, OnOk, OnErr, IfOk, IfErr};
+ghost use Rattle.std.specs.Prelude.{◌≡◌, ◌+◌, ◌<◌, ◌≤◌, ◌^◌, length, OnOk, OnErr, IfOk, IfErr};
 ghost use Rattle.std.specs.Io.KnownBytes.{Appends};
 ghost use Rattle.uda_disk.specs.Units.{natures_of};
 ghost use Rattle.uda_disk.specs.Values.{request_values, answer_values};
 ghost use Rattle.uda_driver.specs.Run.{units_of, request_limit};
 ghost use Rattle.uda_script_run.specs.Requests.{taken};
-ghost use Rattle.uda_script_run.specs.Texts.{out_text, report_text};
-ghost use Rattle.uda_script_run.specs.Script.{Serves, streams, TextsBegin, EndsWhole, EndsInError};
+ghost use Rattle.uda_script_run.specs.Texts.{out_text, part_text};
+ghost use Rattle.uda_script_run.specs.Script.{Serves, streams, writers, TextsBegin, EndsWhole, EndsInError};
 
 use crate::requests::read_requests;
+use crate::style::{ReportPart, ReportStyle};
 use crate::texts::{put_out, put_report};
 use std::alloc::Global;
 use std::io::{Read, Write};
@@ -50,14 +51,20 @@ pub fn run_script<S: BlockStore, R: Read, W: Write, V: Write>(
     ensures natures { natures_of (units_of driver.new) ≡ natures_of (units_of driver.old) }
 {
     let requests = read_requests(alloc, script.lines(), input)?;
-    let answers = serve(driver, &requests)?;
-    print(out, report, &answers)
+    let answers = serve(driver, &requests, Vec::new(alloc))?;
+    let part = ReportPart {
+        style: ReportStyle::PLAIN,
+        first: 1,
+    };
+    print(out, report, part, &answers)
 }
 
-// Has the requests done. A script has no more of them than one run may have.
-fn serve<S: BlockStore>(
+/// Executes the requests, of which there are no more than one run may have. The answers reuse the memory of
+/// earlier ones.
+pub(crate) fn serve<S: BlockStore>(
     driver: &mut Driver<S>,
     requests: &[Request],
+    used: Vec<Answer>,
 ) -> Result<Vec<Answer>, ScriptError>
     requires few { length requests.now ≤ request_limit }
     ensures answers { IfOk result (λ answers. Serves (request_values requests.now)
@@ -66,27 +73,30 @@ fn serve<S: BlockStore>(
     ensures error { IfErr result (λ e. e ≡ ScriptError.NoMemory) }
     ensures natures { natures_of (units_of driver.new) ≡ natures_of (units_of driver.old) }
 {
-    match driver.run(requests) {
+    match driver.run_reusing(requests, used) {
         Ok(answers) => Ok(answers),
         Err(RunError::NoMemory) => Err(ScriptError::NoMemory),
         Err(RunError::TooMany) => Err(ScriptError::TooManyLines),
     }
 }
 
-// Writes both texts, `out` wholly before `report`.
-fn print<W: Write, V: Write>(
+/// Writes both texts of a part of a report, `out` wholly before `report`.
+pub(crate) fn print<W: Write, V: Write>(
     out: &mut W,
     report: &mut V,
+    part: ReportPart,
     answers: &[Answer],
 ) -> Result<(), ScriptError>
+    requires countable { part.first + length answers.now < 2 ^ 64 }
     ensures out { OnOk result
         (Appends (W.contents out.old) (W.contents out.new) (out_text (answer_values answers.now))) }
     ensures report { OnOk result (Appends (V.contents report.old) (V.contents report.new)
-        (report_text (answer_values answers.now))) }
-    ensures begun { OnErr result (TextsBegin (answer_values answers.now)
-        (W.contents out.old) (W.contents out.new) (V.contents report.old) (V.contents report.new)) }
+        (part_text part (answer_values answers.now))) }
+    ensures begun { OnErr result (TextsBegin part (answer_values answers.now)
+        (writers (W.contents out.old) (V.contents report.old))
+        (writers (W.contents out.new) (V.contents report.new))) }
     ensures error { IfErr result (λ e. e ≡ ScriptError.Write) }
 {
     put_out(out, answers)?;
-    put_report(report, answers)
+    put_report(report, part, answers)
 }

@@ -1,21 +1,23 @@
 //! What a script's run prints of its answers.
 
-ghost use Rattle.std.specs.Prelude.{◌≡◌, OnOk, OnErr, IfErr};
+ghost use Rattle.std.specs.Prelude.{◌≡◌, ◌+◌, ◌<◌, ◌^◌, length, OnOk, OnErr, IfErr};
 ghost use Rattle.std.specs.Io.KnownBytes.{Appends, Keeps};
 ghost use Rattle.uda_disk.specs.Values.{answer_value, answer_values};
-ghost use Rattle.uda_script_run.specs.Texts.{answer_bytes, out_text, report_line, report_text};
+ghost use Rattle.uda_script_run.specs.Texts.{answer_bytes, out_text, report_line, named_line, styled_line};
+ghost use Rattle.uda_script_run.specs.Texts.{part_text};
 ghost use Rattle.uda_script_run.specs.Texts.{AppendsBeginning};
 
 use crate::put::put_all;
+use crate::style::{ReportPart, ReportStyle, has_succeeded, status_name};
 use arrayvec::ArrayString;
 use std::fmt::Write as _;
 use std::io::Write;
 use uda_disk::Answer;
 use uda_grammar::ScriptError;
 
-/// The room for a line of the report: a number, two words and a number of 32 bits, and what parts
-/// them, are 42 bytes at most.
-const LINE_ROOM: usize = 64;
+/// The room for a line of the report. A number, two words, a number of 32 bits and the spaces are 42 bytes at
+/// most, and a name in parentheses 34.
+const LINE_ROOM: usize = 128;
 
 /// Writes the bytes of all `Data` answers, in the order of their requests, and flushes `out`. Where a
 /// write fails, or the flush, the answer is [`ScriptError::Write`].
@@ -32,19 +34,46 @@ pub fn put_out<W: Write>(out: &mut W, answers: &[Answer]) -> Result<(), ScriptEr
     flush(out)
 }
 
-/// Writes a line for each answer, numbered from 1, and flushes `report`. Where a write fails, or the
-/// flush, the answer is [`ScriptError::Write`].
-pub fn put_report<V: Write>(report: &mut V, answers: &[Answer]) -> Result<(), ScriptError>
+/// Writes the lines of these answers, and flushes `report`. If a write or the flush fails, returns
+/// [`ScriptError::Write`].
+pub fn put_report<V: Write>(
+    report: &mut V,
+    part: ReportPart,
+    answers: &[Answer],
+) -> Result<(), ScriptError>
+    requires { part.first + length answers.now < 2 ^ 64 }
     ensures whole { OnOk result (Appends (V.contents report.old) (V.contents report.new)
-        (report_text (answer_values answers.now))) }
+        (part_text part (answer_values answers.now))) }
     ensures begun { OnErr result (AppendsBeginning (V.contents report.old) (V.contents report.new)
-        (report_text (answer_values answers.now))) }
+        (part_text part (answer_values answers.now))) }
     ensures error { IfErr result (λ e. e ≡ ScriptError.Write) }
 {
     for (place, answer) in answers.iter().enumerate() {
-        put_line(report, place + 1, answer)?;
+        put_styled(report, part.style, part.first + place, answer)?;
     }
     flush(report)
+}
+
+// Writes what the report has of one answer in this style.
+fn put_styled<V: Write>(
+    report: &mut V,
+    style: ReportStyle,
+    number: usize,
+    answer: &Answer,
+) -> Result<(), ScriptError>
+    ensures whole { OnOk result (Appends (V.contents report.old) (V.contents report.new)
+        (styled_line style number (answer_value answer.now))) }
+    ensures begun { OnErr result (AppendsBeginning (V.contents report.old) (V.contents report.new)
+        (styled_line style number (answer_value answer.now))) }
+    ensures error { IfErr result (λ e. e ≡ ScriptError.Write) }
+{
+    if style.failures_only && has_succeeded(answer) {
+        Ok(())
+    } else if style.names {
+        put_named(report, number, answer)
+    } else {
+        put_line(report, number, answer)
+    }
 }
 
 // The bytes that an answer brings, if it brings any.
@@ -71,6 +100,22 @@ fn put_line<V: Write>(report: &mut V, number: usize, answer: &Answer) -> Result<
 {
     let mut line = ArrayString::<LINE_ROOM>::new();
     match writeln!(line, "{number} {answer}") {
+        Ok(()) => put_all(report, line.as_bytes()),
+        Err(_) => Err(ScriptError::Write),
+    }
+}
+
+// A line with the name of the answer's status, made whole before any of it is written.
+fn put_named<V: Write>(report: &mut V, number: usize, answer: &Answer) -> Result<(), ScriptError>
+    ensures whole { OnOk result (Appends (V.contents report.old) (V.contents report.new)
+        (named_line number (answer_value answer.now))) }
+    ensures begun { OnErr result (AppendsBeginning (V.contents report.old) (V.contents report.new)
+        (named_line number (answer_value answer.now))) }
+    ensures error { IfErr result (λ e. e ≡ ScriptError.Write) }
+{
+    let mut line = ArrayString::<LINE_ROOM>::new();
+    let name = status_name(answer);
+    match writeln!(line, "{number} {answer} ({name})") {
         Ok(()) => put_all(report, line.as_bytes()),
         Err(_) => Err(ScriptError::Write),
     }

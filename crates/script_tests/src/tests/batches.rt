@@ -152,7 +152,7 @@ fn bytes_of(alloc: Global, blocks: &[u8; 8]) -> Result<Vec<u8>, AllocError> {
 }
 
 // Starts a driver over a drive of these blocks as unit 0, and no other.
-fn driver_of(alloc: Global, blocks: &[u8]) -> Result<Driver<MemImage>, Fail> {
+pub fn driver_of(alloc: Global, blocks: &[u8]) -> Result<Driver<MemImage>, Fail> {
     let store = MemImage::from_bytes(alloc, blocks)?;
     let drive = Some(Drive { store, hard: false });
     match Driver::start(alloc, [drive, None, None, None]) {
@@ -219,7 +219,7 @@ fn first_of<S: Drop>(drives: [Option<Drive<S>>; 4]) -> Option<S> {
 }
 
 // Returns the bytes of unit 0.
-fn left_in(alloc: Global, driver: Driver<MemImage>) -> Result<Vec<u8>, Fail> {
+pub fn left_in(alloc: Global, driver: Driver<MemImage>) -> Result<Vec<u8>, Fail> {
     match first_of(driver.into_stores()) {
         Some(image) => Ok(Vec::from_slice(alloc, image.bytes())?),
         None => Err("no drive".into()),

@@ -1,0 +1,301 @@
+//! Scripts that are read from a stream while they run: batches and their borders.
+use super::batches::{driver_of, left_in};
+use super::streams::{Manner, Sink, Source};
+use std::alloc::Global;
+use std::test::Fail;
+use uda_driver::Driver;
+use uda_grammar::{Expected, Part, ScriptError, explain};
+use uda_image::MemImage;
+use uda_script_run::{Channels, Outcome, ReportStyle, TextError, run_text};
+
+/// A script over a drive of eight blocks as unit 0: it brings the unit online, repeats a line, and then has a
+/// tail.
+#[derive(Clone, Copy)]
+struct Text {
+    line: &'static str,
+    /// How often the line comes.
+    count: usize,
+    tail: &'static str,
+    style: ReportStyle,
+    /// How many bytes of data there are. All are 7.
+    held: usize,
+    out: Manner,
+    done: Result<Outcome, TextError>,
+    /// How many bytes are written.
+    written: usize,
+    /// How many lines the report has, and how it ends.
+    lines: usize,
+    last: &'static str,
+    /// How many bytes of data are left, if the run succeeds.
+    unread: usize,
+}
+
+/// A script of one line.
+const ONLINE: Text = Text {
+    line: "",
+    count: 0,
+    tail: "",
+    style: ReportStyle {
+        names: false,
+        failures_only: false,
+    },
+    held: 0,
+    out: Manner::Whole,
+    done: Ok(Outcome::AllSucceeded),
+    written: 0,
+    lines: 1,
+    last: "1 0000 0000 8\n",
+    unread: 0,
+};
+
+const READS: Text = Text {
+    line: "read 0 0 1\n",
+    ..ONLINE
+};
+
+const WRITES: Text = Text {
+    line: "write 0 0 1\n",
+    ..ONLINE
+};
+
+const TEXTS: [Text; 14] = [
+    ONLINE,
+    // one batch, and one request more
+    Text {
+        count: 63,
+        written: 32_256,
+        lines: 64,
+        last: "\n64 0000 512\n",
+        ..READS
+    },
+    Text {
+        count: 64,
+        written: 32_768,
+        lines: 65,
+        last: "\n65 0000 512\n",
+        ..READS
+    },
+    // more requests than a script of run_script may have
+    Text {
+        line: "status 0\n",
+        count: 4_200,
+        lines: 4_201,
+        last: "\n4201 0000 0000\n",
+        ..ONLINE
+    },
+    // data is taken over batches, and no more than the lines take
+    Text {
+        count: 100,
+        held: 51_300,
+        lines: 101,
+        last: "\n101 0000 512\n",
+        unread: 100,
+        ..WRITES
+    },
+    // data that ends in the second batch
+    Text {
+        count: 100,
+        held: 36_000,
+        done: Err(TextError::Script(ScriptError::ShortData { line: 72 })),
+        lines: 64,
+        last: "\n64 0000 512\n",
+        ..WRITES
+    },
+    // a writer that fails in the second batch
+    Text {
+        count: 100,
+        out: Manner::Room(33_000),
+        done: Err(TextError::Script(ScriptError::Write)),
+        written: 33_000,
+        lines: 64,
+        last: "\n64 0000 512\n",
+        ..READS
+    },
+    // a line that is no statement: all requests before it are executed
+    Text {
+        count: 100,
+        tail: "read 0 0 1 \nread 0 0 1\n",
+        done: Err(TextError::Syntax {
+            line: 102,
+            expected: Expected {
+                column: 12,
+                part: Part::End,
+            },
+        }),
+        written: 51_200,
+        lines: 101,
+        last: "\n101 0000 512\n",
+        ..READS
+    },
+    Text {
+        count: 4_200,
+        tail: "status",
+        line: "status 0\n",
+        done: Err(TextError::Syntax {
+            line: 4_202,
+            expected: Expected {
+                column: 7,
+                part: Part::Unit,
+            },
+        }),
+        lines: 4_201,
+        last: "\n4201 0000 0000\n",
+        ..ONLINE
+    },
+    // long lines: a comment, and one that is no statement
+    Text {
+        tail: "# a comment may have more bytes than any statement: all after the first are ignored\nstatus 0",
+        lines: 2,
+        last: "\n2 0000 0000\n",
+        ..ONLINE
+    },
+    Text {
+        tail: "read 0 0 00000000000000000000000000000000000000000000000000000000000000000000000001\n",
+        done: Err(TextError::Syntax {
+            line: 2,
+            expected: Expected {
+                column: 10,
+                part: Part::Count { most: u32::MAX },
+            },
+        }),
+        ..ONLINE
+    },
+    // failures
+    Text {
+        tail: "read 0 8 1\nstatus 0\n",
+        done: Ok(Outcome::SomeFailed),
+        lines: 3,
+        last: "\n2 1c01 0\n3 0000 0000\n",
+        ..ONLINE
+    },
+    Text {
+        tail: "read 0 8 1\nstatus 0\n",
+        style: ReportStyle {
+            names: true,
+            failures_only: true,
+        },
+        done: Ok(Outcome::SomeFailed),
+        last: "2 1c01 0 (invalid block number)\n",
+        ..ONLINE
+    },
+    Text {
+        tail: "read 0 0 33\n",
+        style: ReportStyle {
+            names: true,
+            failures_only: false,
+        },
+        done: Ok(Outcome::SomeFailed),
+        lines: 2,
+        last: "1 0000 0000 8 (success)\n2 long (too long)\n",
+        ..ONLINE
+    },
+];
+
+// What comes of a text.
+#[derive(Drop)]
+struct Ran {
+    done: Result<Outcome, TextError>,
+    written: usize,
+    report: Vec<u8>,
+    unread: usize,
+}
+
+impl Text {
+    // Returns the whole script.
+    fn script(&self, alloc: Global) -> Result<Vec<u8>, Fail> {
+        let mut script = Vec::new(alloc);
+        script.extend_from_slice(b"online 0\n")?;
+        for _ in 0..self.count {
+            script.extend_from_slice(self.line.as_bytes())?;
+        }
+        script.extend_from_slice(self.tail.as_bytes())?;
+        Ok(script)
+    }
+
+    // Runs the script.
+    fn run(&self, alloc: Global, driver: &mut Driver<MemImage>) -> Result<Ran, Fail> {
+        let script = self.script(alloc)?;
+        let data = Vec::from_elem(alloc, 7, self.held)?;
+        let mut channels = Channels {
+            input: Source::new(Manner::Halting(1_000), &data),
+            out: Sink::new(alloc, self.out),
+            report: Sink::new(alloc, Manner::Whole),
+        };
+        let done = run_text(alloc, self.style, script.as_slice(), &mut channels, driver);
+        let unread = channels.input.left.len();
+        Ok(Ran {
+            done,
+            written: channels.out.taken.len(),
+            report: channels.report.taken,
+            unread,
+        })
+    }
+
+    // Returns whether this is what is wanted.
+    fn is_result(&self, got: &Ran) -> bool {
+        got.done == self.done
+            && got.written == self.written
+            && got.report.iter().filter(|byte| **byte == b'\n').count() == self.lines
+            && got.report.ends_with(self.last.as_bytes())
+            && (self.done.is_err() || got.unread == self.unread)
+    }
+}
+
+#[test]
+fn texts(rt: HostRuntime) -> Result<(), Fail> {
+    let alloc = rt.alloc();
+    for (n, text) in TEXTS.iter().enumerate() {
+        let mut driver = driver_of(alloc, &[5; 4096])?;
+        let got = text.run(alloc, &mut driver)?;
+        assert!(rt; text.is_result(&got), "text {n}");
+        let left = left_in(alloc, driver)?;
+        assert!(rt;
+            left.starts_with(&[if text.held == 0 { 5 } else { 7 }]),
+            "text {n}: blocks"
+        );
+    }
+    Ok(())
+}
+
+// Lines that are no statements, and what each should have had.
+const EXPECTED: [(&str, &str); 9] = [
+    (
+        "raed 0 0 1",
+        "column 1: expected a request, such as read or online",
+    ),
+    ("read", "column 5: expected a unit's number, at most 65535"),
+    (
+        "read 65536 0 1",
+        "column 6: expected a unit's number, at most 65535",
+    ),
+    (
+        "read 0 00 1",
+        "column 8: expected a block's number, at most 4294967295",
+    ),
+    ("write 0 0 33", "column 11: expected a count, at most 32"),
+    (
+        "writeb 0 0 16385",
+        "column 12: expected a count, at most 16384",
+    ),
+    (
+        "fill 0 0 1 A5",
+        "column 12: expected a byte in two hexadecimal digits, as a5",
+    ),
+    (
+        "online 0 protected",
+        "column 10: expected protect, or the end of the line",
+    ),
+    (
+        "online 0 protect ",
+        "column 18: expected the end of the line",
+    ),
+];
+
+#[test]
+fn expected_parts(rt: HostRuntime) -> Result<(), Fail> {
+    for (line, wanted) in EXPECTED {
+        let got = format!(in rt.alloc(); "{}", explain(line.as_bytes()))?;
+        assert!(rt; got.as_str() == wanted, "{line}");
+    }
+    Ok(())
+}

@@ -1,0 +1,37 @@
+use Rattle.std.specs.Fmt.{decimal}
+use Rattle.uda_disk.specs.Display.{answer_display}
+use Rattle.std.proofs.Common.{◌≡◌, List, [], ◌∷◌, ℕ, ◌++◌, ap, ◌∙◌, subst}
+use Rattle.std.specs.Io.KnownBytes.{Appends}
+use Rattle.std.proofs.lemmas.Fmt.{contents_after_writes}
+use Rattle.std.proofs.lemmas.Result.{on_ok_weaker, on_err_weaker}
+use Rattle.uda_disk.specs.Values.{answer_value}
+use Rattle.uda_script_run.specs.Texts.{named_line, AppendsBeginning}
+use Rattle.uda_script_run.proofs.texts.put_named.Goals as goal
+use Rattle.uda_script_run.proofs.texts.put_named.Given as given
+
+-- the line with this name
+abbrev line_with : (g : given.Over) (c : goal.After-put_all g) → List ℕ → List ℕ
+line_with g c name =
+    decimal c.args.number ++ 32 ∷ (answer_display (answer_value c.args.answer.now) ++ 32 ∷ 40 ∷
+    (name ++ 41 ∷ 10 ∷ []))
+
+-- the buffer has the line
+told : (g : given.Over) (c : goal.After-put_all g) → c.as_bytes.result.now ≡ named_line c.args.number
+    (answer_value c.args.answer.now)
+told g c =
+    let line = line_with g c c.status_name-name.result.now in
+    let made : c.writeln.new.self.bytes ≡ c.new-line.result.bytes ++ line =
+    contents_after_writes _ (λ s. s.bytes) (λ w bs v h. h) c.new-line.result line c.writeln.new.self
+    c.in-Ok.ensures.writes in
+    c.as_bytes.ensures.value ∙ c.deref.ensures.0 ∙ made ∙ ap (λ (t : List ℕ). t ++ line) c.new-line.ensures
+    ∙ ap (line_with g c) c.status_name-name.ensures.name
+
+pub returns-in-Ok-clause-whole : goal.returns-in-Ok-clause-whole
+returns-in-Ok-clause-whole g c = on_ok_weaker c.put_all.result
+    (subst (λ (t : List ℕ). Appends (g.V.Write.contents c.args.report.now)
+    (g.V.Write.contents c.put_all.new.writer) t) (told g c)) c.put_all.ensures.whole
+
+pub returns-in-Ok-clause-begun : goal.returns-in-Ok-clause-begun
+returns-in-Ok-clause-begun g c = on_err_weaker c.put_all.result
+    (subst (λ (t : List ℕ). AppendsBeginning (g.V.Write.contents c.args.report.now)
+    (g.V.Write.contents c.put_all.new.writer) t) (told g c)) c.put_all.ensures.begun

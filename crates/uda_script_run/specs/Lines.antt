@@ -1,0 +1,56 @@
+-- What a line and a batch of lines are of a text that is read from a stream.
+use Rattle.std.specs.Prelude.{◌≡◌, ℕ, ◌+◌, Bool, false, if◌then◌else◌, List, [], ◌∷◌, ◌++◌, take, Option, Some, None, IfSome}
+use Rattle.std.specs.Io.KnownBytes.{Consumes, IsAtEnd}
+use Rattle.uda_grammar.specs.declared.script.Line.{Line}
+use Rattle.uda_grammar.specs.Parts.{IsOneLine, lines_of}
+use Rattle.uda_grammar.specs.Reading.{requests_from, fault_from, LeadsTo}
+use Rattle.uda_grammar.specs.declared.error.ScriptError.TheVariants.{NoMemory}
+use Rattle.uda_script_run.specs.declared.text_error.TextError.{TextError}
+use Rattle.uda_script_run.specs.declared.text_error.TextError.TheVariants as error
+use Rattle.uda_script_run.specs.declared.source.Next.{Next}
+use Rattle.uda_script_run.specs.declared.source.Next.TheVariants.{More, End, Fault}
+
+-- how many bytes of a line are kept
+abbrev pub line_room : ℕ
+line_room = 64
+
+-- a line was read, of which the first bytes are kept: up to its line feed, or to the end of the text
+pub record ReadsLine (text text_after : Option (List ℕ)) (kept : List ℕ) (ended : Bool) : Type 0 where
+  pub line : List ℕ
+  pub one : IsOneLine line
+  pub is_kept : kept ≡ take line_room line
+  pub consumed : Consumes text text_after (line ++ (if ended then 10 ∷ [] else []))
+  pub at_end : ended ≡ false → IsAtEnd text_after
+
+-- a place in a text: how many lines were read, and the bytes that are left, if they are known
+pub record TextAt : Type 0 where
+  pub lines_read : ℕ
+  pub left : Option (List ℕ)
+
+abbrev pub text_at : ℕ → Option (List ℕ) → TextAt
+text_at lines_read left = record { lines_read = lines_read; left = left }
+
+-- whole lines were read, none of them a fault, and they make these requests
+pub record ReadsOn (before after : TextAt) (made : List Line) : Type 0 where
+  pub bytes : List ℕ
+  pub consumed : Consumes before.left after.left bytes
+  pub leads : LeadsTo (before.lines_read + 1) bytes (after.lines_read + 1) made
+
+-- the rest of the text makes these requests, up to its first fault, if it has one
+pub record EndsWith (before : TextAt) (made : List Line) (first_fault : Option ℕ) : Type 0 where
+  pub rest : List ℕ
+  pub is_text : IfSome before.left (λ bytes. rest ≡ bytes)
+  pub requests : requests_from (before.lines_read + 1) (lines_of rest) ≡ made
+  pub fault : fault_from (before.lines_read + 1) (lines_of rest) ≡ first_fault
+
+-- what was read, by what follows it
+abbrev pub ReadsBatch : TextAt → TextAt → List Line → Next → Type 0
+ReadsBatch before after made More = ReadsOn before after made
+ReadsBatch before after made End = EndsWith before made None
+ReadsBatch before after made (Fault line expected) = EndsWith before made (Some line)
+
+-- why a text was not read to its end: it can't be read, or memory ran out
+abbrev pub IsUnreadText : TextError → Type 0
+IsUnreadText error.Unreadable = Unit {0}
+IsUnreadText (error.Script NoMemory) = Unit {0}
+IsUnreadText _ = ⊥

@@ -1,0 +1,71 @@
+//! A script that is read from a stream while it runs.
+
+ghost use Rattle.std.specs.Prelude.{IfOk, IfErr};
+ghost use Rattle.uda_script_run.specs.Batches.{setting};
+ghost use Rattle.uda_script_run.specs.Stream.{RanText, StopsInText};
+
+use crate::batch::{Progress, run_batch};
+use crate::channels::Channels;
+use crate::source::{Next, Source};
+use crate::style::{Outcome, ReportStyle};
+use crate::text_error::TextError;
+use std::alloc::Global;
+use std::io::{BufRead, Read, Write};
+use uda_driver::Driver;
+use uda_image::BlockStore;
+
+/// More batches than any text has. So the numbers of requests stay within 64 bits.
+const MOST_BATCHES: u64 = 1 << 56;
+
+/// Runs a script of any length while its text is read from a stream, in bounded memory.
+///
+/// The lines have the forms that [`parse`](uda_grammar::parse) reads, and there may be any number of them.
+/// Their requests are executed in batches of 64. After each batch `out` gets the bytes that it read, and
+/// `report` its lines. In the plain style both get, over all batches, the bytes that
+/// [`run_script`](crate::run_script) writes for the same requests. Answers and disks are those of one in-order
+/// run of all of them. The text is read byte by byte, so it should be a buffered reader.
+///
+/// # Errors
+///
+/// An error stops the run. The batches before it were executed, and their texts were written.
+///
+/// - `Unreadable`: the text can't be read. Nothing else was done, except that data may have been read.
+/// - `Syntax`: this is the first line that is no statement. All requests before it were executed.
+/// - `Script(ShortData)`, `Script(Read)` and `Script(NoMemory)`: as `Unreadable`. `ShortData` names the first
+///   line whose bytes the data does not hold.
+/// - `Script(Write)`: one more batch was executed, and only a beginning of its texts was written.
+pub fn run_text<S: BlockStore, T: BufRead + Drop, R: Read, W: Write, V: Write>(
+    alloc: Global,
+    style: ReportStyle,
+    text: T,
+    channels: &mut Channels<R, W, V>,
+    driver: &mut Driver<S>,
+) -> Result<Outcome, TextError>
+    ensures whole { IfOk result (λ outcome. RanText style (T.remaining text) outcome
+        (setting (R.remaining channels.old.input) (W.contents channels.old.out)
+        (V.contents channels.old.report) driver.old)
+        (setting (R.remaining channels.new.input) (W.contents channels.new.out)
+        (V.contents channels.new.report) driver.new)) }
+    ensures error { IfErr result (StopsInText style (T.remaining text)
+        (setting (R.remaining channels.old.input) (W.contents channels.old.out)
+        (V.contents channels.old.report) driver.old)
+        (setting (R.remaining channels.new.input) (W.contents channels.new.out)
+        (V.contents channels.new.report) driver.new)) }
+{
+    let mut source = Source {
+        text,
+        lines_read: 0,
+    };
+    let mut lines = Vec::new(alloc);
+    let mut progress = Progress::start(alloc, style);
+    for _ in 0..MOST_BATCHES {
+        let next = source.read_batch(&mut lines)?;
+        progress = run_batch(alloc, &lines, progress, channels, driver)?;
+        match next {
+            Next::More => {}
+            Next::End => return Ok(progress.outcome),
+            Next::Fault { line, expected } => return Err(TextError::Syntax { line, expected }),
+        }
+    }
+    Err(TextError::Unreadable)
+}

@@ -1,5 +1,7 @@
 # What to build, and what to check:
 #   make            the program uda as out/uda, without proofs: about a minute
+#   make uda50      the program uda50 as out/uda50, without proofs: about a minute
+#   make install    installs both programs and the man page below PREFIX, /usr/local, and below DESTDIR
 #   make scenarios  the program that carries out scenarios, as out/scenarios, without proofs: about a minute
 #   make library    the library for C as out/libuda50.a, without proofs: half a minute
 #   make test       every test, without proofs: a few minutes
@@ -8,10 +10,22 @@
 # `make -C c` builds the proved library for C. All of it needs the Rattle kit's command rt on the path.
 sources := $(shell find crates -name '*.rt') crates.txt
 
+PREFIX ?= /usr/local
+
 all: out/uda
 
 out/uda: $(sources) tools/unproved
 	tools/unproved program uda $@
+
+uda50: out/uda50
+
+out/uda50: $(sources) tools/unproved
+	tools/unproved program uda50 $@
+
+install: out/uda out/uda50
+	install -d $(DESTDIR)$(PREFIX)/bin $(DESTDIR)$(PREFIX)/share/man/man1
+	install -m 755 out/uda out/uda50 $(DESTDIR)$(PREFIX)/bin
+	install -m 644 man/uda50.1 $(DESTDIR)$(PREFIX)/share/man/man1
 
 scenarios: out/scenarios
 
@@ -32,4 +46,4 @@ proofs:
 clean:
 	rm -rf out
 
-.PHONY: all scenarios library test proofs clean
+.PHONY: all uda50 install scenarios library test proofs clean

@@ -1,0 +1,180 @@
+//! Arguments read.
+
+use crate::block_range::BlockRange;
+use crate::grammar::{copy_grammar, create_grammar, dump_grammar, grammar};
+use crate::image_name::ImageName;
+use crate::task::{Copy, Create, Dump, DumpFormat, Run, Task};
+use clap::error::ErrorKind;
+use clap::{ArgMatches, Error};
+use std::alloc::Global;
+use uda50_show::DriveType;
+
+/// What the arguments ask for.
+#[derive(Debug, Drop)]
+pub enum Asked<'w> {
+    /// A task.
+    Task(Task<'w>),
+    /// A text to print.
+    Text {
+        /// The help, the version, or what is wrong with the arguments.
+        text: Error,
+        /// The usage of the verb, if the text should have it and doesn't.
+        usage: Option<String>,
+    },
+}
+
+/// Reads the arguments, of which the first is the program's name. `drives` are the names of the drive types.
+pub fn read_arguments<'w>(
+    alloc: Global,
+    arguments: &'w [&'w str],
+    drives: &'w [&'static str],
+) -> Asked<'w> {
+    match read(alloc, arguments, drives) {
+        Ok(task) => Asked::Task(task),
+        Err(text) => {
+            let usage = match text.kind() {
+                ErrorKind::InvalidValue | ErrorKind::ValueValidation => {
+                    usage_of(alloc, arguments, drives)
+                }
+                _ => None,
+            };
+            Asked::Text { text, usage }
+        }
+    }
+}
+
+// The usage of the verb that the arguments name, if its options have values that can be wrong.
+fn usage_of<'w>(
+    alloc: Global,
+    arguments: &'w [&'w str],
+    drives: &'w [&'static str],
+) -> Option<String> {
+    let verb = match *arguments.get(1)? {
+        "dump" => dump_grammar(alloc).ok()?.bin_name("uda50 dump"),
+        "create" => create_grammar(alloc, drives).ok()?.bin_name("uda50 create"),
+        _ => return None,
+    };
+    verb.ok()?.render_usage().ok()
+}
+
+fn read<'w>(
+    alloc: Global,
+    arguments: &'w [&'w str],
+    drives: &'w [&'static str],
+) -> Result<Task<'w>, Error> {
+    let matches = grammar(alloc, drives)?.try_get_matches_from(arguments)?;
+    let Some((verb, found)) = matches.subcommand() else {
+        return Err(grammar(alloc, &[])?.error(ErrorKind::MissingSubcommand, "a verb is missing")?);
+    };
+    match verb {
+        "run" => read_run(alloc, found),
+        "copy" => read_copy(alloc, found),
+        "info" => Ok(Task::Info {
+            images: images(alloc, found)?,
+        }),
+        "dump" => Ok(read_dump(found)),
+        "create" => Ok(read_create(found)),
+        _ => Ok(Task::Decode {
+            file: text(found, "FILE"),
+        }),
+    }
+}
+
+fn read_run<'w>(alloc: Global, found: &ArgMatches<'w>) -> Result<Task<'w>, Error> {
+    Ok(Task::Run(Run {
+        script: text(found, "SCRIPT"),
+        units: units(alloc, found)?,
+        names: found.get_flag("names"),
+        quiet: found.get_flag("quiet"),
+    }))
+}
+
+fn read_copy<'w>(alloc: Global, found: &ArgMatches<'w>) -> Result<Task<'w>, Error> {
+    let blocks = match found.get_str("blocks") {
+        None => None,
+        Some(text) => match BlockRange::parse(text) {
+            None => return Err(wrong_range(alloc, text)?),
+            range => range,
+        },
+    };
+    Ok(Task::Copy(Copy {
+        from: image(found, "FROM"),
+        to: image(found, "TO"),
+        blocks,
+        verify: found.get_flag("verify"),
+        skips_lost: found.get_flag("continue"),
+        force: found.get_flag("force"),
+    }))
+}
+
+// The error of an invalid range.
+fn wrong_range(alloc: Global, text: &str) -> Result<Error, Error> {
+    let message = format!(in alloc;
+        "invalid value '{text}' for '--blocks <A..B>': expected a range of blocks, as 0..400176"
+    )?;
+    let mut verb = copy_grammar(alloc)?.bin_name("uda50 copy")?;
+    Ok(verb.error(ErrorKind::ValueValidation, message.as_str())?)
+}
+
+fn read_dump<'w>(found: &ArgMatches<'w>) -> Task<'w> {
+    let count = found.get_one::<u32>("COUNT").unwrap_or(1);
+    let blocks = match found.get_one::<u32>("LBN") {
+        Some(start) => BlockRange::of_count(start, count),
+        None => None,
+    };
+    let format = if found.get_flag("raw") {
+        DumpFormat::Raw {
+            force: found.get_flag("force"),
+        }
+    } else if found.get_flag("octal") {
+        DumpFormat::Octal
+    } else {
+        DumpFormat::Hexadecimal
+    };
+    Task::Dump(Dump {
+        image: image(found, "IMAGE"),
+        blocks,
+        format,
+    })
+}
+
+fn read_create<'w>(found: &ArgMatches<'w>) -> Task<'w> {
+    let blocks = match DriveType::named(text(found, "drive")) {
+        Some(drive) => drive.blocks,
+        None => found.get_one::<u32>("blocks").unwrap_or(0),
+    };
+    Task::Create(Create {
+        image: image(found, "IMAGE"),
+        blocks,
+        force: found.get_flag("force"),
+    })
+}
+
+// The value of an argument that must be there or has a default, and else the empty text.
+fn text<'w>(found: &ArgMatches<'w>, name: &str) -> &'w str {
+    found.get_str(name).unwrap_or("")
+}
+
+// The image that an argument names.
+fn image<'w>(found: &ArgMatches<'w>, name: &str) -> ImageName<'w> {
+    ImageName::parse(text(found, name))
+}
+
+// The images that the arguments IMAGE name.
+fn images<'w>(alloc: Global, found: &ArgMatches<'w>) -> Result<Vec<ImageName<'w>>, Error> {
+    let mut images = Vec::new(alloc);
+    for name in found.get_strs("IMAGE").unwrap_or(&[]) {
+        images.push(ImageName::parse(name))?;
+    }
+    Ok(images)
+}
+
+// The images of units 0 to 3.
+fn units<'w>(alloc: Global, found: &ArgMatches<'w>) -> Result<Vec<Option<ImageName<'w>>>, Error> {
+    let mut units = Vec::new(alloc);
+    for name in found.get_strs("IMAGE").unwrap_or(&[]) {
+        let image = (*name != "-").then(|| ImageName::parse(name));
+        units.push(image)?;
+    }
+    Ok(units)
+}

@@ -1,0 +1,93 @@
+//! What the program is asked to do.
+
+use crate::block_range::BlockRange;
+use crate::image_name::ImageName;
+
+/// What the program is asked to do, by verb.
+#[derive(Debug, Drop)]
+pub enum Task<'w> {
+    /// `run`: executes a script.
+    Run(Run<'w>),
+    /// `copy`: copies an image.
+    Copy(Copy<'w>),
+    /// `info`: describes images.
+    Info {
+        /// The images.
+        images: Vec<ImageName<'w>>,
+    },
+    /// `dump`: prints blocks.
+    Dump(Dump<'w>),
+    /// `create`: makes an image.
+    Create(Create<'w>),
+    /// `decode`: prints the fields of packets.
+    Decode {
+        /// The file with the packets, `-` for standard input.
+        file: &'w str,
+    },
+}
+
+/// The arguments of `run`.
+#[derive(Debug, Drop)]
+pub struct Run<'w> {
+    /// The file with the script, `-` for standard input.
+    pub script: &'w str,
+    /// The images of units 0 to 3; `None` for no drive.
+    pub units: Vec<Option<ImageName<'w>>>,
+    /// Whether each line of the report has the name of its status.
+    pub names: bool,
+    /// Whether only failures are reported.
+    pub quiet: bool,
+}
+
+/// The arguments of `copy`.
+#[derive(Clone, Copy, Debug)]
+pub struct Copy<'w> {
+    /// The image to read.
+    pub from: ImageName<'w>,
+    /// The image to write.
+    pub to: ImageName<'w>,
+    /// The blocks to copy; `None` for all.
+    pub blocks: Option<BlockRange>,
+    /// Whether the copy is read back and compared.
+    pub verify: bool,
+    /// Whether to continue after blocks that can't be read.
+    pub skips_lost: bool,
+    /// Whether an existing file may be written.
+    pub force: bool,
+}
+
+/// The arguments of `dump`.
+#[derive(Clone, Copy, Debug)]
+pub struct Dump<'w> {
+    /// The image.
+    pub image: ImageName<'w>,
+    /// The blocks to print; `None` for all.
+    pub blocks: Option<BlockRange>,
+    /// How to print them.
+    pub format: DumpFormat,
+}
+
+/// How `dump` prints blocks.
+#[derive(Clone, Copy, Debug, PartialEq, Eq)]
+pub enum DumpFormat {
+    /// Bytes in hexadecimal, and as text.
+    Hexadecimal,
+    /// Words in octal, and as text.
+    Octal,
+    /// The blocks themselves.
+    Raw {
+        /// Whether also to a terminal.
+        force: bool,
+    },
+}
+
+/// The arguments of `create`.
+#[derive(Clone, Copy, Debug)]
+pub struct Create<'w> {
+    /// The file to make.
+    pub image: ImageName<'w>,
+    /// The number of its blocks.
+    pub blocks: u32,
+    /// Whether an existing file may be overwritten.
+    pub force: bool,
+}

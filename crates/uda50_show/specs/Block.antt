@@ -1,0 +1,43 @@
+-- The fields of a block of 512 bytes. Words have their low byte first.
+use Rattle.std.specs.Prelude.{ℕ, zero, suc, ◌+◌, ◌*◌, ◌%◌, List, [], ◌∷◌, ◌++◌, take, drop, slice_index, Bool, true, false}
+use Rattle.std.specs.List.{sum}
+use Rattle.std.specs.Int.RustNames.{bit_xor}
+use Rattle.byteorder.specs.Endian.{little_from}
+use Rattle.uda50_show.specs.declared.checksum.Checksum.{Checksum}
+use Rattle.uda50_show.specs.declared.checksum.Checksum.TheVariants.{Right, Wrong}
+
+-- the byte at an offset
+abbrev pub byte_at : ℕ → List ℕ → ℕ
+byte_at offset block = slice_index block offset
+
+-- the word of two bytes at an offset
+abbrev pub word_at : ℕ → List ℕ → ℕ
+word_at offset block = little_from offset 2 block
+
+-- the long word of four bytes at an offset
+abbrev pub long_at : ℕ → List ℕ → ℕ
+long_at offset block = little_from offset 4 block
+
+-- `count` bytes from an offset on
+abbrev pub bytes_at : ℕ → ℕ → List ℕ → List ℕ
+bytes_at offset count block = take count (drop offset block)
+
+-- the first words of a block
+unfoldable pub words : ℕ → List ℕ → List ℕ
+words zero block = []
+words (suc count) block = words count block ++ word_at (2 * count) block ∷ []
+
+-- their sum in 16 bits
+abbrev pub word_sum : ℕ → List ℕ → ℕ
+word_sum count block = sum (words count block) % 65536
+
+-- the exclusive or of `count` words from an offset on
+unfoldable pub word_parity : ℕ → ℕ → List ℕ → ℕ
+word_parity offset zero block = 0
+word_parity offset (suc count) block =
+    bit_xor (word_parity offset count block) (word_at (offset + 2 * count) block)
+
+-- what a checksum says, by whether it fits
+abbrev pub checksum_of : Bool → Checksum
+checksum_of true = Right
+checksum_of false = Wrong

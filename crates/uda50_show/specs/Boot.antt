@@ -1,0 +1,39 @@
+-- How boot blocks begin. PDP-11 Processor Handbook: the instructions NOP and BR. KA630 CPU Module Technical
+-- Manual: the boot block of a disk.
+use Rattle.std.specs.Prelude.{ℕ, ◌+◌, ◌*◌, ◌/◌, ◌%◌, ◌==◌, List, Bool, ◌&&◌, ◌||◌, nat_le, Option, Some, None, if◌then◌else◌}
+use Rattle.uda50_show.specs.declared.boot_block.BootBlock.{BootBlock}
+use Rattle.uda50_show.specs.declared.boot_block.BootBlock.TheVariants as boot
+use Rattle.uda50_show.specs.Block.{byte_at, word_at, checksum_of}
+
+-- the first word is NOP
+abbrev pub begins_with_nop : List ℕ → Bool
+begins_with_nop block = word_at 0 block == 160
+
+-- the word at an offset is BR, with any distance
+abbrev pub has_branch : ℕ → List ℕ → Bool
+has_branch offset block = word_at offset block / 256 == 1
+
+-- what block 0 shows of a bootstrap for a PDP-11
+abbrev pub pdp11_boot : List ℕ → Option BootBlock
+pdp11_boot block =
+    if begins_with_nop block && has_branch 2 block then Some boot.Pdp11
+    else if begins_with_nop block || has_branch 0 block then Some boot.PerhapsPdp11
+    else None
+
+-- the offset of a VAX's identification area: byte 2 counts words
+abbrev pub area_of : List ℕ → ℕ
+area_of block = 2 * byte_at 2 block
+
+-- block 0 is marked as a bootstrap for a VAX: byte 3 is 1, and the area begins with 0x18, for the VAX
+abbrev pub is_vax_boot : List ℕ → Bool
+is_vax_boot block =
+    (byte_at 3 block == 1) && (nat_le (area_of block + 4) 512 && (byte_at (area_of block) block == 0x18))
+
+-- the sum of the area's first four bytes, which is 0xFF if the fourth is the complement of the others' sum
+abbrev pub area_sum : List ℕ → ℕ
+area_sum block = let area = area_of block in
+    (byte_at area block + byte_at (area + 1) block + byte_at (area + 2) block + byte_at (area + 3) block) % 256
+
+-- what block 0 shows of a bootstrap for a VAX
+abbrev pub vax_boot : List ℕ → BootBlock
+vax_boot block = boot.Vax (checksum_of (area_sum block == 0xFF))

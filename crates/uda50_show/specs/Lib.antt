@@ -1,0 +1,5 @@
+pub mod Block
+pub mod Boot
+pub mod Home
+pub mod Labels
+pub mod Tokens

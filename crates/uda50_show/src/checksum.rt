@@ -1,0 +1,83 @@
+//! Checksums of blocks.
+ghost use Rattle.std.specs.Prelude.{◌≡◌, ◌≤◌, ◌+◌, ◌*◌};
+ghost use Rattle.uda50_show.specs.Block.{word_at, long_at, word_sum, word_parity, checksum_of};
+
+use byteorder::{ByteOrder, LittleEndian};
+use std::fmt;
+
+/// What a block's checksum says of it.
+#[derive(Clone, Copy, Debug, PartialEq, Eq)]
+pub enum Checksum {
+    /// It fits the bytes.
+    Right,
+    /// It doesn't.
+    Wrong,
+    /// The format has none, or none that is checked here.
+    Unchecked,
+}
+
+impl Checksum {
+    // What a comparison says.
+    pub(crate) fn of(fits: bool) -> Checksum
+        ensures { result ≡ checksum_of fits }
+    {
+        if fits {
+            Checksum::Right
+        } else {
+            Checksum::Wrong
+        }
+    }
+}
+
+/// As `, checksum wrong`, and nothing if there is no checksum.
+impl fmt::Display for Checksum {
+    fn fmt<W: fmt::Write>(&self, f: &mut fmt::Formatter<W>) -> fmt::Result {
+        f.write_str(match self {
+            Checksum::Right => ", checksum right",
+            Checksum::Wrong => ", checksum wrong",
+            Checksum::Unchecked => "",
+        })
+    }
+}
+
+// The word at an offset, its low byte first.
+pub(crate) fn word_at(block: &[u8; 512], offset: usize) -> u16
+    requires { offset + 2 ≤ 512 }
+    ensures { result ≡ word_at offset block.now }
+{
+    LittleEndian::read_u16(&block[offset..])
+}
+
+// The long word at an offset, its low byte first.
+pub(crate) fn long_at(block: &[u8; 512], offset: usize) -> u32
+    requires { offset + 4 ≤ 512 }
+    ensures { result ≡ long_at offset block.now }
+{
+    LittleEndian::read_u32(&block[offset..])
+}
+
+// The sum of the first words, without carries out of 16 bits.
+#[tactic(auto, unfolding(crate::specs::Block::words))]
+pub(crate) fn word_sum(block: &[u8; 512], count: usize) -> u16
+    requires { 2 * count ≤ 512 }
+    ensures { result ≡ word_sum count block.now }
+{
+    let mut sum = 0u16;
+    for n in 0..count {
+        sum = sum.wrapping_add(word_at(block, 2 * n));
+    }
+    sum
+}
+
+// The exclusive or of words from an offset on.
+#[tactic(auto, unfolding(crate::specs::Block::word_parity))]
+pub(crate) fn word_parity(block: &[u8; 512], offset: usize, count: usize) -> u16
+    requires { offset + 2 * count ≤ 512 }
+    ensures { result ≡ word_parity offset count block.now }
+{
+    let mut parity = 0u16;
+    for n in 0..count {
+        parity ^= word_at(block, offset + 2 * n);
+    }
+    parity
+}

@@ -1,0 +1,133 @@
+//! Home blocks: the block of a volume that names its format and its label.
+//!
+//! RT-11 Volume and File Formats Manual; Files-11 On-Disk Structure, levels 1 and 2.
+ghost use Rattle.std.specs.Prelude.{◌≡◌, ◌≢◌, ◌≤◌, ◌+◌, ◌↔◌, IfSome, IsNone, IsTrue};
+ghost use Rattle.uda50_show.specs.declared.home_block.VolumeFormat.{VolumeFormat};
+ghost use Rattle.uda50_show.specs.Block.{bytes_at};
+ghost use Rattle.uda50_show.specs.Home.{format_text, volume_offset, home_checksum};
+
+use crate::checksum::{Checksum, word_at, word_sum};
+use crate::text::FixedText;
+use std::fmt;
+
+/// A format of volumes.
+#[derive(Clone, Copy, Debug, PartialEq, Eq)]
+pub enum VolumeFormat {
+    /// RT-11.
+    Rt11,
+    /// Files-11 level 1, of RSX-11 and IAS.
+    Ods1,
+    /// Files-11 level 2, of VMS.
+    Ods2,
+}
+
+impl VolumeFormat {
+    // The format that the text at the end of a home block names.
+    fn named(text: &[u8]) -> Option<VolumeFormat>
+        ensures some { IfSome result (λ format. text.now ≡ format_text format) }
+        ensures none { IsNone result → (format : VolumeFormat) → text.now ≢ format_text format }
+    {
+        if is_same(text, b"DECRT11A    ") {
+            Some(VolumeFormat::Rt11)
+        } else if is_same(text, b"DECFILE11A  ") {
+            Some(VolumeFormat::Ods1)
+        } else if is_same(text, b"DECFILE11B  ") {
+            Some(VolumeFormat::Ods2)
+        } else {
+            None
+        }
+    }
+}
+
+impl fmt::Display for VolumeFormat {
+    fn fmt<W: fmt::Write>(&self, f: &mut fmt::Formatter<W>) -> fmt::Result {
+        f.write_str(match self {
+            VolumeFormat::Rt11 => "RT-11",
+            VolumeFormat::Ods1 => "Files-11 ODS-1",
+            VolumeFormat::Ods2 => "Files-11 ODS-2",
+        })
+    }
+}
+
+/// What a home block says of its volume.
+#[derive(Clone, Copy, Debug, PartialEq, Eq)]
+pub struct HomeBlock {
+    /// The format.
+    pub format: VolumeFormat,
+    /// The volume's label.
+    pub volume: [u8; 12],
+    /// The volume's owner.
+    pub owner: [u8; 12],
+    /// Whether both checksums of a Files-11 home block fit.
+    pub checksum: Checksum,
+}
+
+impl HomeBlock {
+    /// Reads block 1 of a volume; `None` if it names none of the formats.
+    pub fn read(block: &[u8; 512]) -> Option<HomeBlock>
+        ensures format { IfSome result (λ home. bytes_at 496 12 block.now ≡ format_text home.format) }
+        ensures none { IsNone result
+            → (format : VolumeFormat) → bytes_at 496 12 block.now ≢ format_text format }
+        ensures volume { IfSome result (λ home.
+            home.volume ≡ bytes_at (volume_offset home.format) 12 block.now) }
+        ensures owner { IfSome result (λ home. home.owner ≡ bytes_at 484 12 block.now) }
+        ensures checksum { IfSome result (λ home.
+            home.checksum ≡ home_checksum home.format block.now) }
+    {
+        let format = VolumeFormat::named(&block[496..508])?;
+        let label = match format {
+            VolumeFormat::Ods1 => 14,
+            _ => 472,
+        };
+        Some(HomeBlock {
+            format,
+            volume: twelve_at(block, label),
+            owner: twelve_at(block, 484),
+            checksum: checksum_in(format, block),
+        })
+    }
+}
+
+// Whether two texts are the same.
+fn is_same(text: &[u8], other: &[u8]) -> bool
+    ensures { IsTrue result ↔ (text.now ≡ other.now) }
+{
+    text == other
+}
+
+// What the checksums of a home block say.
+fn checksum_in(format: VolumeFormat, block: &[u8; 512]) -> Checksum
+    ensures { result ≡ home_checksum format block.now }
+{
+    match format {
+        VolumeFormat::Rt11 => Checksum::Unchecked,
+        VolumeFormat::Ods1 | VolumeFormat::Ods2 => Checksum::of(
+            word_sum(block, 29) == word_at(block, 58)
+                && word_sum(block, 255) == word_at(block, 510),
+        ),
+    }
+}
+
+// The twelve bytes from an offset on.
+fn twelve_at(block: &[u8; 512], offset: usize) -> [u8; 12]
+    requires { offset + 12 ≤ 512 }
+    ensures { result ≡ bytes_at offset 12 block.now }
+{
+    let mut bytes = [0; 12];
+    bytes.copy_from_slice(&block[offset..offset + 12]);
+    bytes
+}
+
+/// As `RT-11 home block, volume "RT11A", owner ""`.
+impl fmt::Display for HomeBlock {
+    fn fmt<W: fmt::Write>(&self, f: &mut fmt::Formatter<W>) -> fmt::Result {
+        write!(
+            f,
+            "{} home block, volume \"{}\", owner \"{}\"{}",
+            self.format,
+            FixedText(&self.volume),
+            FixedText(&self.owner),
+            self.checksum
+        )
+    }
+}

@@ -1,0 +1,27 @@
+//! What the program `uda50` prints of packets, blocks and images: values with their texts.
+#![tactic(auto)]
+
+mod boot_block;
+mod checksum;
+mod disk_label;
+mod drive_type;
+mod fields;
+mod home_block;
+mod number;
+mod packet;
+mod reached;
+mod reader;
+mod row;
+mod text;
+
+pub use boot_block::BootBlock;
+pub use checksum::Checksum;
+pub use disk_label::DiskLabel;
+pub use drive_type::{DRIVE_TYPES, DriveType, TypesOfSize};
+pub use home_block::{HomeBlock, VolumeFormat};
+pub use number::Grouped;
+pub use packet::Packet;
+pub use reached::Reached;
+pub use reader::{PacketReader, TokenError};
+pub use row::{HexRow, OctalRow};
+pub use text::FixedText;

@@ -1,0 +1,133 @@
+//! The text of a packet: its fields by name.
+
+use crate::fields::word;
+use std::fmt;
+use uda_packet::{
+    Bad, BadKind, Command, End, EndBody, Flags, Op, Transfer, UnitFlags, decode_command,
+    decode_end, status,
+};
+
+/// The 48 bytes of a message. Its text has a line for each field: of an end message if byte 8 is an end
+/// code, else of a command, or of what is wrong with it.
+#[derive(Clone, Copy, Debug, PartialEq, Eq)]
+pub struct Packet(pub [u8; 48]);
+
+impl Packet {
+    /// Returns whether the bytes are a command or an end message.
+    pub fn is_valid(&self) -> bool {
+        decode_end(&self.0).is_some() || decode_command(&self.0).is_ok()
+    }
+}
+
+impl fmt::Display for Packet {
+    fn fmt<W: fmt::Write>(&self, f: &mut fmt::Formatter<W>) -> fmt::Result {
+        if let Some(end) = decode_end(&self.0) {
+            return write_end(f, &end);
+        }
+        let (code, modifiers) = (self.0[8], word(&self.0, 10));
+        match decode_command(&self.0) {
+            Ok(command) => write_command(f, &command, modifiers),
+            Err(bad) => write_bad(f, &bad, code, modifiers),
+        }
+    }
+}
+
+// The lines of an end message.
+fn write_end<W: fmt::Write>(f: &mut fmt::Formatter<W>, end: &End) -> fmt::Result {
+    let End {
+        reference,
+        unit,
+        status,
+        body,
+    } = *end;
+    writeln!(f, "end message: {}", body.name())?;
+    writeln!(f, "  reference   {reference}")?;
+    writeln!(f, "  unit        {unit}")?;
+    writeln!(f, "  end code    0x{:02x}", body.code())?;
+    let name = status::name(status);
+    writeln!(f, "  status      0x{status:04x} ({name})")?;
+    match body {
+        EndBody::Status { flags } => write_flags(f, flags),
+        EndBody::Online { flags, size } => {
+            write_flags(f, flags)?;
+            writeln!(f, "  unit size   {size} blocks")
+        }
+        EndBody::Moved { bytes, .. } => writeln!(f, "  byte count  {bytes}"),
+        EndBody::Invalid | EndBody::Controller | EndBody::Available => Ok(()),
+    }
+}
+
+// The line of the unit flags.
+fn write_flags<W: fmt::Write>(f: &mut fmt::Formatter<W>, flags: u16) -> fmt::Result {
+    let bits = UnitFlags::from_bits_retain(flags);
+    let software = bits.contains(UnitFlags::SOFT);
+    let hardware = bits.contains(UnitFlags::HARD);
+    let names = match (software, hardware) {
+        (false, false) => "",
+        (true, false) => " (software write protection)",
+        (false, true) => " (hardware write protection)",
+        (true, true) => " (software and hardware write protection)",
+    };
+    writeln!(f, "  unit flags  0x{flags:04x}{names}")
+}
+
+// The lines of a command.
+fn write_command<W: fmt::Write>(
+    f: &mut fmt::Formatter<W>,
+    command: &Command,
+    modifiers: u16,
+) -> fmt::Result {
+    let Command {
+        reference,
+        unit,
+        op,
+    } = *command;
+    writeln!(f, "command: {}", op.name())?;
+    writeln!(f, "  reference   {reference}")?;
+    writeln!(f, "  unit        {unit}")?;
+    writeln!(f, "  opcode      0x{:02x}", op.opcode())?;
+    writeln!(f, "  modifiers   0x{modifiers:04x}")?;
+    if let Op::Online { soft: Some(soft) } = op {
+        let asked = if soft { "on" } else { "off" };
+        return writeln!(f, "  protection  {asked} (Set Write Protect)");
+    }
+    match op.transfer() {
+        Some(transfer) => write_transfer(f, &transfer),
+        None => Ok(()),
+    }
+}
+
+// The lines of a transfer's parameters.
+fn write_transfer<W: fmt::Write>(f: &mut fmt::Formatter<W>, transfer: &Transfer) -> fmt::Result {
+    writeln!(f, "  byte count  {}", transfer.bytes)?;
+    if transfer.kind.has_buffer() {
+        writeln!(f, "  buffer      0x{:08x}", transfer.buffer)?;
+    }
+    writeln!(f, "  lbn         {}", transfer.lbn)
+}
+
+// The lines of a text that is no command.
+fn write_bad<W: fmt::Write>(
+    f: &mut fmt::Formatter<W>,
+    bad: &Bad,
+    code: u8,
+    modifiers: u16,
+) -> fmt::Result {
+    let Bad {
+        reference,
+        unit,
+        kind,
+        body,
+    } = *bad;
+    match kind {
+        BadKind::Opcode => writeln!(f, "neither a command nor an end message: {kind}")?,
+        _ => writeln!(f, "invalid command, {}: {kind}", body.name())?,
+    }
+    writeln!(f, "  reference   {reference}")?;
+    writeln!(f, "  unit        {unit}")?;
+    writeln!(f, "  opcode      0x{code:02x}")?;
+    writeln!(f, "  modifiers   0x{modifiers:04x}")?;
+    let status = bad.end().status;
+    let name = status::name(status);
+    writeln!(f, "  rejected    status 0x{status:04x} ({name})")
+}

@@ -1,0 +1,46 @@
+//! The text of a line of progress.
+
+use std::fmt;
+
+/// How far a copy has come, as ` 45 %  205 of 456 MB  812 MB/s  0:03 left`. A MB is 1,000,000 bytes.
+#[derive(Clone, Copy, Debug, PartialEq, Eq)]
+pub struct Reached {
+    /// The number of blocks that are done.
+    pub done: u32,
+    /// The number of all blocks.
+    pub all: u32,
+    /// The milliseconds since the copy began.
+    pub elapsed: u64,
+}
+
+// Returns the MB of blocks.
+fn megabytes(blocks: u32) -> u64 {
+    u64::from(blocks) * 512 / 1_000_000
+}
+
+impl Reached {
+    // Returns the MB of a second.
+    fn rate(self) -> u64 {
+        u64::from(self.done) * 512 / 1_000 / self.elapsed.max(1)
+    }
+
+    // Returns the seconds that the other blocks will take at the same rate.
+    fn left(self) -> u64 {
+        let left = u64::from(self.all.saturating_sub(self.done));
+        left.saturating_mul(self.elapsed) / u64::from(self.done.max(1)) / 1_000
+    }
+}
+
+impl fmt::Display for Reached {
+    fn fmt<W: fmt::Write>(&self, f: &mut fmt::Formatter<W>) -> fmt::Result {
+        let share = u64::from(self.done) * 100 / u64::from(self.all.max(1));
+        let (done, all) = (megabytes(self.done), megabytes(self.all));
+        let (rate, left) = (self.rate(), self.left());
+        write!(
+            f,
+            "{share:3} %  {done} of {all} MB  {rate} MB/s  {}:{:02} left",
+            left / 60,
+            left % 60
+        )
+    }
+}

@@ -1,0 +1,31 @@
+//! Bytes as text.
+
+use std::fmt;
+
+/// A text field of fixed length: without the spaces and zero bytes at its end, and with a point for each
+/// byte that is no printable ASCII character.
+#[derive(Clone, Copy, Debug)]
+pub struct FixedText<'b>(pub &'b [u8]);
+
+impl fmt::Display for FixedText<'_> {
+    fn fmt<W: fmt::Write>(&self, f: &mut fmt::Formatter<W>) -> fmt::Result {
+        let end = self.0.iter().rposition(|byte| *byte != b' ' && *byte != 0);
+        let shown = match end {
+            Some(last) => &self.0[..last + 1],
+            None => &self.0[..0],
+        };
+        for byte in shown {
+            f.write_char(printable(*byte))?;
+        }
+        Ok(())
+    }
+}
+
+/// Returns the character of a printable ASCII byte, and a point for any other.
+pub(crate) fn printable(byte: u8) -> char {
+    if byte.is_ascii_graphic() || byte == b' ' {
+        char::from(byte)
+    } else {
+        '.'
+    }
+}

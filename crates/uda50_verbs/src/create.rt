@@ -1,0 +1,51 @@
+//! `uda50 create`: new images.
+
+use crate::fault::{Fault, Reason};
+use crate::outcome::Outcome;
+use std::fs;
+use std::fs::{File, OpenFile, OpenOptions, TryLockError};
+use uda50_arguments::Create;
+
+/// Makes an image of zeros, or makes an existing file one.
+pub(crate) fn create<'w>(rt: &HostRuntime, create: &Create<'w>) -> Result<Outcome, Fault<'w>> {
+    let path = create.image.path;
+    if create.image.protected {
+        return Err(Fault::new(path, Reason::Protected));
+    }
+    let existing = fs::metadata(rt, path);
+    let (file, new) = match existing {
+        Ok(_) if !create.force => return Err(Fault::new(path, Reason::Exists)),
+        Ok(metadata) if !metadata.is_file() => return Err(Fault::new(path, Reason::NotPlain)),
+        Ok(_) => (emptied(rt, path)?, false),
+        Err(_) => (
+            OpenOptions::new()
+                .write(true)
+                .create_new(true)
+                .open(rt, path)
+                .map_err(|error| Fault::system(path, error))?,
+            true,
+        ),
+    };
+    match file.set_len(512 * u64::from(create.blocks)) {
+        Ok(()) => Ok(Outcome::Done),
+        Err(error) => {
+            if new {
+                let _ = fs::remove_file(rt, path);
+            }
+            Err(Fault::system(path, error))
+        }
+    }
+}
+
+// Opens a file that nobody else uses, and makes it empty.
+fn emptied<'w>(rt: &HostRuntime, path: &'w str) -> Result<File, Fault<'w>> {
+    let file = OpenOptions::new()
+        .write(true)
+        .open(rt, path)
+        .map_err(|error| Fault::system(path, error))?;
+    if let Err(TryLockError::WouldBlock) = file.try_lock() {
+        return Err(Fault::new(path, Reason::InUse));
+    }
+    file.set_len(0).map_err(|error| Fault::system(path, error))?;
+    Ok(file)
+}

@@ -1,0 +1,114 @@
+//! The program's entry.
+ghost use Rattle.std.specs.Prelude.{◌≡◌, ◌≢◌, ◌≤◌};
+ghost use Rattle.std.specs.IoError.{error_kind};
+
+use crate::copy::copy;
+use crate::create::create;
+use crate::decode::decode;
+use crate::dump::dump;
+use crate::fault::{Fault, Reason};
+use crate::info::info;
+use crate::outcome::Outcome;
+use crate::run::run;
+use crate::streams::fill_closed_streams;
+use clap::Error;
+use clap::error::ErrorKind as UsageError;
+use std::io;
+use std::io::{BufWriter, ErrorKind, Write};
+use uda50_arguments::{Asked, Task, read_arguments};
+use uda50_show::DriveType;
+
+/// The status of wrong arguments.
+const USAGE: u8 = 2;
+
+/// The status of a fault.
+const FAULT: u8 = 1;
+
+/// Does what the arguments ask for, of which the first is the program's name. Returns the exit status: 0 if
+/// all is well, 1 after a fault, 2 for wrong arguments, 3 if a request failed. A fault has a line on standard
+/// error, unless it is only that the reader of standard output closed it.
+pub fn program(rt: &HostRuntime, arguments: &[&str]) -> u8
+    ensures status { result ≤ 3 }
+{
+    let Some(held) = fill_closed_streams(rt) else {
+        return report(rt, &Fault::new("standard streams", Reason::NoSuchFile));
+    };
+    let drives = DriveType::names();
+    let status = match read_arguments(rt.alloc(), arguments, &drives) {
+        Asked::Text { text, usage } => print_text(rt, &text, usage.as_ref()),
+        Asked::Task(task) => match perform(rt, &task) {
+            Ok(outcome) => outcome.status(),
+            Err(fault) => report(rt, &fault),
+        },
+    };
+    drop(held);
+    status
+}
+
+/// Ends a program whose arguments can't be read, and returns the exit status.
+pub fn unreadable_arguments(rt: &HostRuntime, error: &io::Error) -> u8
+    ensures memory { error_kind error.now ≡ ErrorKind.OutOfMemory → result ≡ 1 }
+    ensures usage { error_kind error.now ≢ ErrorKind.OutOfMemory → result ≡ 2 }
+{
+    if error.kind() == ErrorKind::OutOfMemory {
+        let _ = eprintln!(rt; "uda50: out of memory");
+        return FAULT;
+    }
+    let _ = eprintln!(rt; "uda50: an argument is not valid UTF-8");
+    USAGE
+}
+
+// Prints the help, the version, or what is wrong with the arguments, and returns the exit status.
+fn print_text(rt: &HostRuntime, text: &Error, usage: Option<&String>) -> u8
+    ensures { result ≤ 2 }
+{
+    if text.kind() == UsageError::OutOfMemory {
+        return report(rt, &Fault::new("uda50", Reason::NoMemory));
+    }
+    let printed = text.print(rt);
+    if let Some(usage) = usage {
+        let _ = eprintln!(rt; "\n{usage}");
+    }
+    match printed {
+        _ if text.use_stderr() => USAGE,
+        Ok(()) => 0,
+        Err(error) => report(rt, &Fault::from(error)),
+    }
+}
+
+// Prints a fault's line, and returns its exit status. A closed reader of standard output is no fault.
+fn report(rt: &HostRuntime, fault: &Fault<'_>) -> u8
+    ensures { result ≤ 1 }
+{
+    if fault.is_closed_output() {
+        return 0;
+    }
+    let _ = eprintln!(rt; "uda50: {fault}");
+    FAULT
+}
+
+// Does a task, its output gathered before it is written.
+fn perform<'w>(rt: &HostRuntime, task: &Task<'w>) -> Result<Outcome, Fault<'w>> {
+    let mut out = BufWriter::new(rt.alloc(), rt.stdout())?;
+    let done = perform_with(rt, task, &mut out);
+    let flushed = out.flush();
+    drop(out.into_parts());
+    let outcome = done?;
+    flushed?;
+    Ok(outcome)
+}
+
+fn perform_with<'w, W: Write>(
+    rt: &HostRuntime,
+    task: &Task<'w>,
+    out: &mut W,
+) -> Result<Outcome, Fault<'w>> {
+    match task {
+        Task::Info { images } => info(rt, images.as_slice(), out),
+        Task::Dump(asked) => dump(rt, asked, out),
+        Task::Create(asked) => create(rt, asked),
+        Task::Decode { file } => decode(rt, file, out),
+        Task::Run(asked) => run(rt, asked),
+        Task::Copy(asked) => copy(rt, asked),
+    }
+}

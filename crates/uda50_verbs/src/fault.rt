@@ -1,0 +1,184 @@
+//! Faults: why a verb ended early.
+
+use std::alloc::AllocError;
+use std::io::ErrorKind;
+use std::{fmt, io};
+use thiserror::Error;
+use uda_grammar::Expected;
+use uda_image::StoreError;
+use uda50_arguments::BlockRange;
+use uda50_show::{Grouped, TokenError};
+
+/// What standard input is called in faults.
+pub(crate) const STANDARD_INPUT: &str = "standard input";
+
+/// What standard output is called in faults.
+pub(crate) const STANDARD_OUTPUT: &str = "standard output";
+
+/// A fault, with the file or stream that it is of.
+#[derive(Debug, Drop)]
+pub struct Fault<'w> {
+    /// The path of the file, or the name of the stream.
+    pub name: &'w str,
+    /// Why.
+    pub reason: Reason,
+}
+
+/// Why a file can't be used, or a verb can't go on.
+#[derive(Debug, Drop, Error)]
+pub enum Reason {
+    /// An allocation failed.
+    #[error("out of memory")]
+    NoMemory,
+    /// There is no file.
+    #[error("no such file")]
+    NoSuchFile,
+    /// The file may not be opened.
+    #[error("permission denied")]
+    PermissionDenied,
+    /// The file is there and was to be made.
+    #[error("exists already; --force overwrites it")]
+    Exists,
+    /// The path is a folder, a device, a pipe or a socket.
+    #[error("not a plain file")]
+    NotPlain,
+    /// The image was named with `lock:` and was to be written.
+    #[error("write protected")]
+    Protected,
+    /// Another process or unit holds the file's lock.
+    #[error("in use by another process")]
+    InUse,
+    /// The length is no multiple of 512.
+    #[error("{} bytes is not a multiple of 512; perhaps another emulator's format with a trailing record?", Grouped(*.0))]
+    Length(u64),
+    /// There are more blocks than are supported.
+    #[error("{} blocks are more than 2,147,483,647", Grouped(*.0))]
+    TooLarge(u64),
+    /// The image doesn't have the blocks.
+    #[error("no blocks {} to {}: the image has {} blocks", .range.start, .range.end.saturating_sub(1), Grouped(u64::from(*.blocks)))]
+    PastEnd {
+        /// The blocks that were asked for.
+        range: BlockRange,
+        /// The size of the image.
+        blocks: u32,
+    },
+    /// A block can't be read or written.
+    #[error("block {block}: {error}")]
+    Block {
+        /// The block.
+        block: u32,
+        /// What failed.
+        error: StoreError,
+    },
+    /// A block of the copy isn't that of the source.
+    #[error("block {0} differs from the source's")]
+    Differs(u32),
+    /// The controller rejected a request.
+    #[error("a request was rejected with status {0:04x}")]
+    Rejected(u16),
+    /// The target of a copy is its source.
+    #[error("is the source of the copy")]
+    SameFile,
+    /// What was written may not be on the medium.
+    #[error("cannot be written out")]
+    NotSynced,
+    /// A stream can't be read.
+    #[error("cannot be read")]
+    Unreadable,
+    /// A stream can't be written.
+    #[error("cannot be written")]
+    Unwritable,
+    /// A line of the script is no statement.
+    #[error("line {line}, {expected}")]
+    Syntax {
+        /// The line, from 1.
+        line: u64,
+        /// What it should have had.
+        expected: Expected,
+    },
+    /// Standard input ended inside the data of a line.
+    #[error("line {0}: standard input ended inside its data")]
+    DataEnded(u64),
+    /// Raw blocks were to be written to a terminal.
+    #[error("is a terminal; --force writes raw blocks to it")]
+    Terminal,
+    /// A token is neither a byte nor a word.
+    #[error("line {line}, word {word}: {error}")]
+    Token {
+        /// The line, from 1.
+        line: u64,
+        /// The number of the token on its line, from 1.
+        word: u64,
+        /// What is wrong.
+        error: TokenError,
+    },
+    /// The text ends inside a packet.
+    #[error("the last packet has {0} of 48 bytes")]
+    ShortPacket(usize),
+    /// A call of the system failed.
+    #[error("{0}")]
+    System(io::Error),
+}
+
+impl<'w> Fault<'w> {
+    /// Makes a fault of a file or a stream.
+    pub fn new(name: &'w str, reason: Reason) -> Fault<'w> {
+        Fault { name, reason }
+    }
+
+    /// Makes the fault of a failed call of the system on a file.
+    pub fn system(name: &'w str, error: io::Error) -> Fault<'w> {
+        Fault {
+            name,
+            reason: Reason::of(error),
+        }
+    }
+
+    /// Returns whether the fault is of this file or stream.
+    pub fn is_of(&self, name: &str) -> bool {
+        self.name == name
+    }
+
+    /// Returns whether the fault is only that the reader of standard output closed it.
+    pub fn is_closed_output(&self) -> bool {
+        match &self.reason {
+            Reason::System(error) => {
+                self.name == STANDARD_OUTPUT && error.kind() == ErrorKind::BrokenPipe
+            }
+            _ => false,
+        }
+    }
+}
+
+impl Reason {
+    /// Returns the reason for an error of the system.
+    pub fn of(error: io::Error) -> Reason {
+        match error.kind() {
+            ErrorKind::NotFound => Reason::NoSuchFile,
+            ErrorKind::PermissionDenied => Reason::PermissionDenied,
+            ErrorKind::AlreadyExists => Reason::Exists,
+            ErrorKind::OutOfMemory => Reason::NoMemory,
+            ErrorKind::IsADirectory => Reason::NotPlain,
+            _ => Reason::System(error),
+        }
+    }
+}
+
+impl<'w> From<AllocError> for Fault<'w> {
+    fn from(_: AllocError) -> Self {
+        Fault::new("uda50", Reason::NoMemory)
+    }
+}
+
+impl<'w> From<io::Error> for Fault<'w> {
+    fn from(error: io::Error) -> Self {
+        Fault::system(STANDARD_OUTPUT, error)
+    }
+}
+
+/// As `disk.img: no such file`.
+impl fmt::Display for Fault<'_> {
+    fn fmt<W: fmt::Write>(&self, f: &mut fmt::Formatter<W>) -> fmt::Result {
+        write!(f, "{}: {}", self.name, self.reason)
+    }
+}

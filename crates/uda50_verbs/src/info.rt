@@ -1,0 +1,100 @@
+//! `uda50 info`: what images are.
+
+use crate::fault::Fault;
+use crate::image::{is_writable, open, read_block};
+use crate::outcome::Outcome;
+use std::fmt;
+use std::io::Write;
+use uda_image::BlockStore;
+use uda50_arguments::ImageName;
+use uda50_show::{BootBlock, DiskLabel, Grouped, HomeBlock, TypesOfSize};
+
+/// Describes each image. The fault of one has its line, and the others follow.
+pub(crate) fn info<'w, W: Write>(
+    rt: &HostRuntime,
+    images: &[ImageName<'w>],
+    out: &mut W,
+) -> Result<Outcome, Fault<'w>> {
+    let mut outcome = Outcome::Done;
+    for image in images {
+        let described = describe(rt, *image, out);
+        match described {
+            Ok(()) => {}
+            Err(fault) if fault.is_of(image.path) => {
+                out.flush()?;
+                let _ = eprintln!(rt; "uda50: {fault}");
+                outcome = Outcome::FaultReported;
+            }
+            Err(fault) => return Err(fault),
+        }
+    }
+    Ok(outcome)
+}
+
+// Writes the lines of an image.
+fn describe<'w, W: Write>(
+    rt: &HostRuntime,
+    name: ImageName<'w>,
+    out: &mut W,
+) -> Result<(), Fault<'w>> {
+    let path = name.path;
+    let mut image = open(rt, path, false)?;
+    let zero = read_block(&mut image, path, 0)?;
+    let one = read_block(&mut image, path, 1)?;
+    let thirty_one = read_block(&mut image, path, 31)?;
+    write_size(out, path, image.size())?;
+    let writable = match (name.protected, is_writable(rt, name)) {
+        (true, _) => "no (lock:)",
+        (false, true) => "yes",
+        (false, false) => "no",
+    };
+    writeln!(out, "  writable: {writable}")?;
+    write_contents(out, &zero, &one, &thirty_one)
+}
+
+// Writes the lines of an image's size.
+fn write_size<'w, W: Write>(out: &mut W, path: &str, blocks: u32) -> Result<(), Fault<'w>> {
+    let bytes = 512 * u64::from(blocks);
+    writeln!(
+        out,
+        "{path}: {} blocks, {} bytes",
+        Grouped(u64::from(blocks)),
+        Grouped(bytes)
+    )?;
+    Ok(writeln!(out, "  drive types of this size: {}", TypesOfSize(blocks))?)
+}
+
+// Writes a line for each thing that blocks 0, 1 and 31 show.
+fn write_contents<'w, W: Write>(
+    out: &mut W,
+    zero: &[u8; 512],
+    one: &[u8; 512],
+    thirty_one: &[u8; 512],
+) -> Result<(), Fault<'w>> {
+    let found = [
+        write_found(out, 0, BootBlock::read(zero))?,
+        write_found(out, 0, DiskLabel::in_block_0(zero))?,
+        write_found(out, 1, HomeBlock::read(one))?,
+        write_found(out, 1, DiskLabel::in_block_1(one))?,
+        write_found(out, 31, DiskLabel::in_block_31(thirty_one))?,
+    ];
+    if found.iter().all(|found| !*found) {
+        writeln!(out, "  contents: not recognized")?;
+    }
+    Ok(())
+}
+
+// Writes the line of what a block shows, and returns whether it shows anything.
+fn write_found<'w, W: Write, D: fmt::Display + Drop>(
+    out: &mut W,
+    block: u32,
+    found: Option<D>,
+) -> Result<bool, Fault<'w>> {
+    match found {
+        Some(found) => {
+            writeln!(out, "  block {block}: {found}")?;
+            Ok(true)
+        }
+        None => Ok(false),
+    }
+}

@@ -1,0 +1,20 @@
+//! The verbs of the program `uda50`.
+#![tactic(auto)]
+
+mod copy;
+mod create;
+mod decode;
+mod dump;
+mod entry;
+mod fault;
+mod image;
+mod info;
+mod outcome;
+mod progress;
+mod run;
+mod streams;
+mod target;
+
+pub use entry::{program, unreadable_arguments};
+pub use fault::{Fault, Reason};
+pub use outcome::Outcome;

@@ -1,0 +1,28 @@
+//! How a verb ended.
+
+/// How a verb ended that met no fault of its own.
+#[derive(Clone, Copy, Debug, PartialEq, Eq)]
+pub enum Outcome {
+    /// All is well.
+    Done,
+    /// A request failed, blocks were lost, or a packet was invalid.
+    Failed,
+    /// A fault was reported already.
+    FaultReported,
+}
+
+impl Outcome {
+    ghost use Rattle.std.specs.Prelude.{◌≡◌};
+    ghost use Rattle.uda50_verbs.specs.Statuses.{exit_status};
+
+    /// Returns the exit status.
+    pub fn status(self) -> u8
+        ensures status { result ≡ exit_status self }
+    {
+        match self {
+            Outcome::Done => 0,
+            Outcome::FaultReported => 1,
+            Outcome::Failed => 3,
+        }
+    }
+}

@@ -1,0 +1,108 @@
+//! How far a copy has come, on standard error.
+
+use std::io::IsTerminal;
+use std::ops::Range;
+use std::time::Instant;
+use uda50_copy::Observer;
+use uda50_show::Reached;
+
+/// How often the line of progress is written, in milliseconds.
+const INTERVAL: u64 = 200;
+
+/// Takes the line of progress away.
+const CLEAR: &str = "\r\x1b[K";
+
+/// Shows how far a copy has come, if standard error is a terminal, and lists the blocks that are lost.
+#[derive(Drop)]
+pub(crate) struct Progress<'r, 'w> {
+    rt: &'r HostRuntime,
+    name: &'w str,
+    blocks: Range<u32>,
+    line: Option<Line>,
+    run: Range<u32>,
+    lost: u32,
+}
+
+// The line of progress: when the copy began, and when the line is to be written next.
+#[derive(Clone, Copy)]
+struct Line {
+    start: Instant,
+    next: u64,
+}
+
+impl<'r, 'w> Progress<'r, 'w> {
+    /// Begins to show what happens to these blocks of a file.
+    pub(crate) fn start(rt: &'r HostRuntime, name: &'w str, blocks: Range<u32>) -> Self {
+        let line = match Instant::now(rt) {
+            Ok(start) if rt.stderr().is_terminal() => Some(Line {
+                start,
+                next: INTERVAL,
+            }),
+            _ => None,
+        };
+        Progress {
+            rt,
+            name,
+            blocks,
+            line,
+            run: 0..0,
+            lost: 0,
+        }
+    }
+
+    /// Takes the line of progress away, lists the last lost blocks, and returns how many were lost in all.
+    pub(crate) fn end(mut self) -> u32 {
+        self.clear();
+        self.list();
+        let blocks = if self.lost == 1 { "block" } else { "blocks" };
+        if self.lost > 0 {
+            let _ = eprintln!(self.rt; "uda50: {}: {} {blocks} lost", self.name, self.lost);
+        }
+        self.lost
+    }
+
+    // Lists the lost blocks that follow one another, if there are any.
+    fn list(&mut self) {
+        if self.run.start < self.run.end {
+            self.clear();
+            let Range { start, end } = self.run;
+            let _ = eprintln!(self.rt; "uda50: {}: lost {start}..{end}", self.name);
+        }
+    }
+
+    fn clear(&self) {
+        if self.line.is_some() {
+            let _ = eprint!(self.rt; "{CLEAR}");
+        }
+    }
+}
+
+impl Observer for Progress<'_, '_> {
+    fn reached(&mut self, end: u32) {
+        let Some(line) = self.line else {
+            return;
+        };
+        let Ok(elapsed) = line.start.elapsed(self.rt) else {
+            return;
+        };
+        let elapsed = u64::try_from(elapsed.as_millis()).unwrap_or(u64::MAX);
+        if elapsed >= line.next {
+            self.line = Some(Line {
+                next: elapsed.saturating_add(INTERVAL),
+                ..line
+            });
+            let done = end.saturating_sub(self.blocks.start);
+            let all = self.blocks.end.saturating_sub(self.blocks.start);
+            let _ = eprint!(self.rt; "{CLEAR}{}", Reached { done, all, elapsed });
+        }
+    }
+
+    fn lost(&mut self, block: u32) {
+        if block != self.run.end {
+            self.list();
+            self.run = block..block;
+        }
+        self.run.end = block.saturating_add(1);
+        self.lost = self.lost.saturating_add(1);
+    }
+}

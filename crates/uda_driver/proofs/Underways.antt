@@ -1,10 +1,10 @@
 -- The steps of a run of requests.
-use Rattle.std.proofs.Common.{◌≡◌, ℕ, ◌+◌, ◌<◌, ◌≤◌, inl, inr, Bool, true, false, List, [], ◌∷◌, ◌++◌, length, map, take, drop, set, get_or, nat_eq, Option, Some, None, refl, sym, ap, ◌∙◌, arith, subst}
+use Rattle.std.proofs.Common.{◌≡◌, ℕ, ◌+◌, ◌<◌, ◌≤◌, inl, inr, Bool, true, false, List, [], ◌∷◌, length, map, take, drop, set, get_or, nat_eq, Option, Some, None, refl, sym, ap, ◌∙◌, arith}
 use Rattle.std.specs.Prelude.{slice_get, slice_set, option_map, replicate, ◌||◌}
-use Rattle.std.proofs.lemmas.List.{length-map, length-take, length-set, length_push, map-set, take_all, drop_all, nil_from_length}
+use Rattle.std.proofs.lemmas.List.{length-map, length-set, length_push, map-set, take_all, drop_all, nil_from_length}
 use Rattle.std.proofs.lemmas.List.Edits.{length-remove}
 use Rattle.std.proofs.lemmas.Bool.{eqb-true, eqb-false, or_cases, or_parts}
-use Rattle.std.proofs.lemmas.Option.{slice_get-map, slice_get-get_or}
+use Rattle.std.proofs.lemmas.Option.{slice_get_within, slice_get-map, slice_get-get_or}
 use Rattle.uda_packet.specs.declared.end.End.{End}
 use Rattle.uda_disk.specs.Units.{Units, AreImages, nature_of, natures_of}
 use Rattle.uda_exec.specs.Disks.{PENDING_LIMIT}
@@ -26,7 +26,7 @@ use Rattle.uda_driver.specs.Blank.{AreBlank}
 use Rattle.uda_driver.specs.Out.{posted_with, clashes_with_any, must_wait, IsFit}
 use Rattle.uda_driver.specs.Steps.{HasFree, PutsOut, Steps, TellsNone, TellsOne}
 use Rattle.uda_driver.specs.Load.{triangle, InLead, IsOver}
-use Rattle.uda_driver.specs.Underway.{Driving, IsAtWork, Underway}
+use Rattle.uda_driver.specs.Underway.{IsAtWork, Underway}
 use Rattle.uda_driver.specs.Drive.{IsDriving, Ran}
 use Rattle.uda_driver.specs.declared.buffers.Out.{Out}
 use Rattle.uda_driver.proofs.Slots.{some_free, clashing_out, no_clash_at}
@@ -61,11 +61,18 @@ steps_less adds_up some steps = let t = turned steps in omega (arith, t.all, t.t
 -- ---- while requests are out
 
 module _ {start : HostState} {requests : List CodeRequest} {n : ℕ} {out : List (Option Out)} {answers : List CodeAnswer} {host : HostState} (U : Underway start requests n out answers host) where
-  room : length (take n (request_values requests)) ≤ length (answer_values answers)
-  room = omega (arith, length-take n (request_values requests), length-map requests request_value, length-map answers answer_value, U.sized)
+  room : length (request_values requests) ≤ length (answer_values answers)
+  room = omega (arith, length-map requests request_value, length-map answers answer_value, U.sized)
 
-  pub is_driving : IsDriving out answers host
-  is_driving = record { start = start.units; requests = take n (request_values requests); driving = U.driving; room = omega (arith, room, length-map answers answer_value) }
+  pub is_driving : n ≤ length requests → IsDriving out answers host
+  is_driving low = record {
+    start = start.units;
+    requests = request_values requests;
+    n = n;
+    driving = U.driving;
+    room = omega (arith, room, length-map answers answer_value);
+    low = omega (arith, low, length-map requests request_value);
+  }
 
   pub all_credits : host.credits + out_of host ≡ PENDING_LIMIT
   all_credits = U.at_work.adds_up.credits_are U.at_work.begun
@@ -108,7 +115,7 @@ module _ {start : HostState} {requests : List CodeRequest} {n : ℕ} {out : List
     underway_step (TellsOne e takes tells) =
         let t = turned_takes takes in
         let place = tells.done.one.place in
-        let low : place < n = omega (arith, (U.driving.fit tells.done.number tells.done.one tells.done.stands).before, length-take n (request_values requests)) in
+        let low : place < n = (U.driving.fit tells.done.number tells.done.one tells.done.stands).before in
         let a = answer_of (request_value tells.done.one.request.now).act e (buffer_of (posted_with tells.done.number tells.done.one) new.memory) in
         let values : answer_values told ≡ slice_set (answer_values answers) place a =
         ap answer_values tells.answers_are ∙ map-set answer_value answers place tells.told ∙ ap (set (answer_values answers) place) tells.told_is in
@@ -141,22 +148,15 @@ module _ {start : HostState} {requests : List CodeRequest} {n : ℕ} {out : List
   w : Next (request_values requests) n (request_value request)
   w = next_at it
 
-  blank_here : slice_get answers n ≡ Some (get_or answers n CodeTooLong)
-  blank_here = slice_get-get_or answers n CodeTooLong (omega (arith, it.low, U.sized))
-
   pub underway_skip : too_long (request_value request) ≡ true → Underway start requests (n + 1) out answers host
-  underway_skip long =
-      let own = U.blank n (request_value request) (get_or answers n CodeTooLong) (omega arith) (at_place it) blank_here in
-      let here = slice_get-map answer_value answers n ∙ ap (option_map answer_value) (blank_here ∙ ap (λ (a : CodeAnswer). Some a) (own.long long)) in
-      let blank = ap (slice_get (answer_values answers)) w.counted ∙ here in
-      record {
-        driving = subst (λ (rs : List Request). Driving start.units rs out (answer_values answers) host) (sym w.more) (driving_skip U.driving (request_value request) long blank);
-        blank = λ k q a from. U.blank k q a (omega (arith, from));
-        sized = U.sized;
-        at_work = U.at_work;
-        posted = omega (arith, U.posted, w.skipped long);
-        load = load_skip w long U.load;
-      }
+  underway_skip long = record {
+    driving = driving_skip U.driving (request_value request) long w.rest;
+    blank = λ k q a from. U.blank k q a (omega (arith, from));
+    sized = U.sized;
+    at_work = U.at_work;
+    posted = omega (arith, U.posted, w.skipped long);
+    load = load_skip w long U.load;
+  }
 
   -- one that must wait comes in no lead
   pub wait_ends : must_wait host out (request_value request) ≡ true → too_long (request_value request) ≡ false
@@ -174,18 +174,17 @@ module _ {start : HostState} {requests : List CodeRequest} {n : ℕ} {out : List
         let request_is = ap request_value is in
         let own = U.blank n (request_value request) one.answer (omega arith) (at_place it)
         (slice_get-get_or answers n d (omega (arith, it.low, U.sized)) ∙ ap (λ (a : CodeAnswer). Some a) (sym answer_is)) in
-        let fit : IsFit (length (take n rs) + 1) one = record {
-          before = omega (arith, place, w.counted);
+        let fit : IsFit (n + 1) one = record {
+          before = omega (arith, place);
           short = ap too_long request_is ∙ short;
           prepared = rw request_is (own.room short);
         } in
         let clear = (or_parts (nat_eq host.credits 0) (clashes_with_any (request_value request) out) free).1 in
-        let told_is : answer_values left ≡ slice_set (answer_values answers) (length (take n rs)) TooLong = ap (map answer_value) left_is ∙ map-set answer_value answers n CodeTooLong ∙ ap (λ (k : ℕ). set (answer_values answers) k TooLong) (sym w.counted) in
-        let posted = driving_post U.driving puts fit (place ∙ sym w.counted) (λ number other stands. no_clash_at (request_value one.request.now) out number other (ap (λ (q : Request). clashes_with_any q out) request_is ∙ clear) stands) U.at_work.adds_up.size TooLong in
-        let more : take n rs ++ request_value one.request.now ∷ [] ≡ take (n + 1) rs = ap (λ (q : Request). take n rs ++ q ∷ []) request_is ∙ sym w.more in
+        let told_is : answer_values left ≡ slice_set (answer_values answers) one.place TooLong = ap (map answer_value) left_is ∙ map-set answer_value answers n CodeTooLong ∙ ap (λ (k : ℕ). set (answer_values answers) k TooLong) (sym place) in
+        let posted = driving_post U.driving puts fit place (w.rest ∙ ap (λ (q : Request). q ∷ drop (n + 1) rs) (sym request_is)) (λ number other stands. no_clash_at (request_value one.request.now) out number other (ap (λ (q : Request). clashes_with_any q out) request_is ∙ clear) stands) U.at_work.adds_up.size TooLong in
         let changed = puts.posts.is in
         record {
-          driving = rw (← more, told_is) posted;
+          driving = rw told_is posted;
           blank = λ k q a from stands at. U.blank k q a (omega (arith, from)) stands (sym (slice_get-set_other answers n k CodeTooLong (λ same. omega (arith, same, from))) ∙ ap (λ (as' : List CodeAnswer). slice_get as' k) (sym left_is) ∙ at);
           sized = ap length left_is ∙ length-set answers n CodeTooLong ∙ U.sized;
           at_work = record { begun = rw changed U.at_work.begun; images = rw changed U.at_work.images; adds_up = adds_up };
@@ -204,7 +203,11 @@ pub underway_start : {start : HostState} {requests : List CodeRequest} {out : Li
 underway_start {start} {requests} {answers = answers} ready none sized blank =
     let rest = ready.rest in
     record {
-      driving = driving_start (answer_values answers) rest.idle none;
+      driving = driving_start (request_values requests) (answer_values answers) rest.idle none
+          (λ k r asked long.
+          let a = get_or answers k CodeTooLong in
+          let at = slice_get-get_or answers k CodeTooLong (omega (arith, slice_get_within (request_values requests) k r asked, length-map requests request_value, sized)) in
+          slice_get-map answer_value answers k ∙ ap (option_map answer_value) at ∙ ap (λ (b : CodeAnswer). Some (answer_value b)) ((blank k r a (omega arith) asked at).long long));
       blank = blank;
       sized = sized;
       at_work = record { begun = rest.begun; images = ready.images; adds_up = ready.adds_up };
@@ -252,8 +255,8 @@ module _ {start : HostState} {requests : List CodeRequest} {n : ℕ} {out : List
         load = omega (arith, over.load, over.within, p, triangle-is (lead (request_values requests)), ap (λ (h : List _). triangle (length h)) none_due);
       }
 
-  owed : Owes start.units (request_values requests) [] (answer_values answers) host.units host.memory
-  owed = driving_end (omega (arith, length-map answers answer_value, length-map requests request_value, U.sized)) none (subst (λ (qs : List Request). Driving start.units qs out (answer_values answers) host) whole U.driving)
+  owed : Owes start.units (request_values requests) [] (answer_values answers) host.units
+  owed = driving_end (omega (arith, length-map answers answer_value, length-map requests request_value, U.sized)) (omega (arith, all, length-map requests request_value)) none U.driving
 
   pub ran : Ran start requests answers host
   ran = record {

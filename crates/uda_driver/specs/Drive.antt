@@ -1,5 +1,5 @@
 -- What a turn of a run needs, and what a run comes to.
-use Rattle.std.specs.Prelude.{◌≡◌, ◌≤◌, List, [], length, Option}
+use Rattle.std.specs.Prelude.{◌≡◌, ℕ, ◌≤◌, List, [], length, Option}
 use Rattle.uda_disk.specs.Units.{Units}
 use Rattle.uda_disk.specs.Request.{Request}
 use Rattle.uda_disk.specs.Values.{request_values, answer_values}
@@ -16,13 +16,15 @@ use Rattle.uda_driver.specs.declared.buffers.Out.{Out}
 pub record IsDriving (out : List (Option Out)) (answers : List CodeAnswer) (host : HostState) : Type 0 where
   pub start : Units
   pub requests : List Request
-  pub driving : Driving start requests out (answer_values answers) host
+  pub n : ℕ
+  pub driving : Driving start requests n out (answer_values answers) host
   pub room : length requests ≤ length answers
+  pub low : n ≤ length requests
 
 -- all are posted, and nothing is out
 pub record Ran (start : HostState) (requests : List CodeRequest) (answers : List CodeAnswer)
     (host : HostState) : Type 0 where
   pub ready : IsDriver host
   pub counted : length answers ≡ length requests
-  pub owes : Owes start.units (request_values requests) [] (answer_values answers) host.units host.memory
+  pub owes : Owes start.units (request_values requests) [] (answer_values answers) host.units
   pub counts : CountsOn (request_values requests) start host

@@ -1,191 +1,170 @@
 -- The steps of the ledger.
-use Rattle.std.proofs.Common.{◌≡◌, ◌≢◌, ℕ, zero, suc, ◌-◌, ◌<◌, ◌≤◌, true, List, [], ◌∷◌, ◌++◌, length, map, set, Some, refl, sym, ap, ap₂, ◌∙◌, arith, subst, subst₂}
-use Rattle.std.specs.Prelude.{slice_get, slice_set, insert, remove, All, AllPairs}
-use Rattle.std.proofs.lemmas.List.{length-map, length-set, map_push, set_comm, set-append_left, set-append_right}
-use Rattle.std.proofs.lemmas.List.Edits.{length-remove}
-use Rattle.std.proofs.lemmas.List.Elements.{All-nil, All-cons, All-head, All-tail, All-push}
-use Rattle.std.proofs.lemmas.Option.{slice_get_within, get_or_from_slice_get}
+use Rattle.std.proofs.Common.{◌≡◌, ◌≢◌, ℕ, zero, suc, ◌+◌, ◌-◌, ◌<◌, ◌≤◌, Bool, true, false, List, [], ◌∷◌, ◌++◌, length, map, set, get_or, Some, refl, sym, ap, ◌∙◌, arith, subst}
+use Rattle.std.specs.Prelude.{slice_get, insert, remove, All, AllPairs}
+use Rattle.std.proofs.lemmas.List.{set_comm, set-append_right, append_assoc, length_push}
+use Rattle.std.proofs.lemmas.List.Elements.{All-nil, All-cons, All-head, All-tail}
+use Rattle.std.proofs.lemmas.List.Kept.{AllPairs-cons}
 use Rattle.uda_disk.specs.Disk.{Disks}
 use Rattle.uda_disk.specs.Request.{Request, blocks_named}
 use Rattle.uda_disk.specs.Answer.{Answer, TooLong}
 use Rattle.uda_disk.specs.Plain.{Outcome, Done, FitsCount}
-use Rattle.uda_disk.specs.Order.{NoClash, PassesOlder}
+use Rattle.uda_disk.specs.Order.{NoClash, PassesOlder, passes}
 use Rattle.uda_disk.specs.PlainRun.{FixedRequest, requests_of, too_long, step_as, step_of, plain_as, FitsRequest, PlainWithLosses}
-use Rattle.uda_disk.proofs.Runs.{runs-push, length-runs}
 use Rattle.uda_disk.proofs.OrderLaw.{request_order_is_free}
-use Rattle.uda_model.specs.Ledger.{Due, requests_due, FixedDue, dues_in, fixed_request, with_answers, ComesBefore, Opens, Closes, Skips, TakesIn, CarriesOut}
-use Rattle.uda_disk.proofs.Lists.{map-insert, put_back, put_in, All-insert, pairs_first, pairs_rest}
+use Rattle.uda_disk.proofs.Lists.{map-insert, put_back, All-insert}
+use Rattle.uda_model.specs.Ledger.{Due, dues_from, ComesBefore, untold, FixedDue, dues_in, FitsDue, told_by, told_by_all, GoesBefore, Opens, Closes, CarriesOut}
 
--- a request that is too long
-step-long : (o : Outcome) (disks : Disks) (r : Request) → too_long r ≡ true → step_as o r disks ≡ (TooLong, disks)
-step-long o disks r h = rw h refl
+-- ---- one that may go is done first
 
-losses-push : (start : Disks) (requests : List Request) (answers : List Answer) (left : Disks) (r : Request) (o : Outcome) → FitsCount (blocks_named r.act) o → PlainWithLosses start requests answers left
-    → PlainWithLosses start (requests ++ r ∷ []) (answers ++ (step_as o r left).0 ∷ []) (step_as o r left).1
-losses-push start requests answers left r o f h =
-    let d : FixedRequest = record { request = r; outcome = o } in
-    let more : List Answer × Disks → List Answer × Disks = λ x. (x.0 ++ (step_of d x.1).0 ∷ [], (step_of d x.1).1) in
+abbrev fixed_request : FixedDue → FixedRequest
+fixed_request f = record { request = f.due.request; outcome = f.outcome }
+
+-- both answers, and the disks
+abbrev both : List Answer × Disks → (Answer × Answer) × Disks
+both (a ∷ b ∷ rest, disks) = ((a, b), disks)
+both (answers, disks) = ((TooLong, TooLong), disks)
+
+swap : (y x : FixedDue) (w : List Answer × Disks) → GoesBefore y.due x.due → told_by x (told_by y w) ≡ told_by y (told_by x w)
+swap y x w may =
+    let a = fixed_request y in let b = fixed_request x in
+    let law = request_order_is_free (a ∷ b ∷ []) 1 b w.1
+    (AllPairs-cons NoClash a.request (b.request ∷ []) (All-cons (NoClash a.request) b.request [] may.clear (All-nil (NoClash a.request))) (AllPairs-cons NoClash b.request [] (All-nil (NoClash b.request)) (λ i j d before within. absurd (omega arith))))
+    (record { stands = omega arith; passes_each = first }) refl in
+    let told : (Answer × Answer) × Disks → List Answer × Disks = λ t. (set (set w.0 y.due.place t.0.0) x.due.place t.0.1, t.1) in
+    let now = told_by x w in let later = step_of a now.1 in
+    ap (λ l. told (both l)) (sym law) ∙ ap (λ answers. (answers, later.1)) (set_comm w.0 y.due.place x.due.place later.0 (step_of b w.1).0 may.two)
+  where
+    first : (i : ℕ) (older r : Request) → i < 1 → slice_get (y.due.request ∷ x.due.request ∷ []) i ≡ Some older → slice_get (y.due.request ∷ x.due.request ∷ []) 1 ≡ Some r → passes older r ≡ true
+    first zero older r below at_i at_j = let one : y.due.request ≡ older = cc in let other : x.due.request ≡ r = cc in rw (← one, ← other) may.passes
+    first (suc i) older r below at_i at_j = absurd (omega arith)
+
+goes_first : (due : List Due) (j : ℕ) (x : FixedDue) (fixed : List FixedDue) (w : List Answer × Disks) → slice_get due j ≡ Some x.due → dues_in fixed ≡ remove due j
+    → ((i : ℕ) (older : Due) → i < j → slice_get due i ≡ Some older → GoesBefore older x.due) → told_by_all (insert fixed j x) w ≡ told_by_all fixed (told_by x w)
+goes_first [] j x fixed w at e may = absurd (cc)
+goes_first (q ∷ qs) zero x fixed w at e may = refl
+goes_first (q ∷ qs) (suc j) x [] w at e may = absurd (cc)
+goes_first (q ∷ qs) (suc j) x (y ∷ ys) w at e may =
+    let is : y.due ≡ q = cc in let rest : dues_in ys ≡ remove qs j = cc in
+    goes_first qs j x ys (told_by y w) at rest (λ i older below there. may (suc i) older (omega arith) there)
+    ∙ ap (told_by_all ys) (swap y x w (subst (λ d. GoesBefore d x.due) (sym is) (may 0 q (omega arith) refl)))
+
+pub ledger_carries_out : CarriesOut
+ledger_carries_out start requests due now j f at may fits h fixed e fit =
+    let dues = map-insert (λ (x : FixedDue). x.due) fixed j f ∙ ap (λ ds. insert ds j f.due) e ∙ put_back due j f.due at in
+    subst (λ w. PlainWithLosses start requests w.0 w.1) (goes_first due j f fixed now at e may) (h (insert fixed j f) dues (All-insert FitsDue fixed j f fits fit))
+
+-- ---- the beginning and the end
+
+losses_cons : (start : Disks) (r : Request) (o : Outcome) (requests : List Request) (answers : List Answer) (left : Disks) → FitsCount (blocks_named r.act) o
+    → PlainWithLosses (step_as o r start).1 requests answers left → PlainWithLosses start (r ∷ requests) ((step_as o r start).0 ∷ answers) left
+losses_cons start r o requests answers left f h =
+    let x : FixedRequest = record { request = r; outcome = o } in
     record {
-      fixed = h.fixed ++ d ∷ [];
-      are_requests = map_push (λ (x : FixedRequest). x.request) h.fixed d ∙ ap (λ (rs : List Request). rs ++ r ∷ []) h.are_requests;
-      fit = All-push FitsRequest h.fixed d h.fit f;
-      gives = runs-push step_of h.fixed d start ∙ ap more h.gives;
+      fixed = x ∷ h.fixed;
+      are_requests = ap (λ rs. r ∷ rs) h.are_requests;
+      fit = All-cons FitsRequest x h.fixed f h.fit;
+      gives = ap (λ (l : List Answer × Disks). ((step_as o r start).0 ∷ l.0, l.1)) h.gives;
     }
 
--- ---- answers in their places
+-- these requests, done behind others that have these answers, are a plain run
+record RunsOn (start : Disks) (requests : List Request) (front : List Answer) (w : List Answer × Disks) : Type 0 where
+  answers : List Answer
+  run : PlainWithLosses start requests answers w.1
+  whole : w.0 ≡ front ++ answers
 
-abbrev IsBelow : ℕ → Due → Type 0
-IsBelow n p = p.place < n
+abbrev RunOn : List Request → Type 0
+RunOn requests =
+    (front told : List Answer) (start : Disks) (fixed : List FixedDue) → told ≡ front ++ untold requests → dues_in fixed ≡ dues_from (length front) requests → All FitsDue fixed
+    → RunsOn start requests front (told_by_all fixed (told, start))
 
-with_answers-behind : (told : List Answer) (x : Answer) (due : List Due) (later : List Answer) → All (IsBelow (length told)) due → with_answers (told ++ x ∷ []) due later ≡ with_answers told due later ++ x ∷ []
-with_answers-behind told x [] later h = refl
-with_answers-behind told x (q ∷ qs) [] h = refl
-with_answers-behind told x (q ∷ qs) (b ∷ bs) h =
-    let here : q.place < length told = All-head (IsBelow (length told)) q qs h in
-    let size : length (set told q.place b) ≡ length told = length-set told q.place b in
-    ap (λ (t : List Answer). with_answers t qs bs) (set-append_left told (x ∷ []) q.place b here)
-    ∙ with_answers-behind (set told q.place b) x qs bs (subst (λ (n : ℕ). All (IsBelow n) qs) (sym size) (All-tail (IsBelow (length told)) q qs h))
+-- one that is done first, with those behind it
+on : (start : Disks) (r : Request) (rest : List Request) (front : List Answer) (o : Outcome) (w : List Answer × Disks) → FitsCount (blocks_named r.act) o
+    → RunsOn (step_as o r start).1 rest (front ++ (step_as o r start).0 ∷ []) w → RunsOn start (r ∷ rest) front w
+on start r rest front o w f h =
+    let a = (step_as o r start).0 in
+    record { answers = a ∷ h.answers; run = losses_cons start r o rest h.answers w.1 f h.run; whole = h.whole ∙ append_assoc front (a ∷ []) h.answers }
 
-with_answers-push : (told : List Answer) (x : Answer) (due : List Due) (p : Due) (later : List Answer) (a : Answer) → All (IsBelow (length told)) due → p.place ≡ length told → length later ≡ length due
-    → with_answers (told ++ x ∷ []) (due ++ p ∷ []) (later ++ a ∷ []) ≡ with_answers told due later ++ a ∷ []
-with_answers-push told x [] p [] a h at n =
-    let first : p.place - length told ≡ 0 = omega arith in
-    set-append_right told (x ∷ []) (length told) p.place a refl (omega arith) ∙ ap (λ (i : ℕ). told ++ set (x ∷ []) i a) first
-with_answers-push told x [] p (b ∷ bs) a h at n = absurd (omega arith)
-with_answers-push told x (q ∷ qs) p [] a h at n = absurd (omega arith)
-with_answers-push told x (q ∷ qs) p (b ∷ bs) a h at n =
-    let here : q.place < length told = All-head (IsBelow (length told)) q qs h in
-    let size : length (set told q.place b) ≡ length told = length-set told q.place b in
-    ap (λ (t : List Answer). with_answers t (qs ++ p ∷ []) (bs ++ a ∷ [])) (set-append_left told (x ∷ []) q.place b here)
-    ∙ with_answers-push (set told q.place b) x qs p bs a (subst (λ (m : ℕ). All (IsBelow m) qs) (sym size) (All-tail (IsBelow (length told)) q qs h)) (at ∙ sym size) (omega arith)
+on_short : (r : Request) (rest : List Request) → RunOn rest → (front told : List Answer) (start : Disks) (fixed : List FixedDue) → told ≡ front ++ untold (r ∷ rest)
+    → dues_in fixed ≡ record { place = length front; request = r } ∷ dues_from (suc (length front)) rest → All FitsDue fixed → RunsOn start (r ∷ rest) front (told_by_all fixed (told, start))
+on_short r rest again front told start [] is e fit = absurd (cc)
+on_short r rest again front told start (x ∷ xs) is e fit =
+    let d : Due = record { place = length front; request = r } in
+    let own : x.due ≡ d = cc in let others : dues_in xs ≡ dues_from (suc (length front)) rest = cc in
+    let now = step_as x.outcome r start in
+    let first : told_by x (told, start) ≡ (set told (length front) now.0, now.1) = ap (λ y. told_by (record { due = y; outcome = x.outcome }) (told, start)) own in
+    let none : length front - length front ≡ 0 = omega arith in let longer : suc (length front) ≡ length (front ++ now.0 ∷ []) = omega (arith, length_push front now.0) in
+    let placed : set told (length front) now.0 ≡ (front ++ now.0 ∷ []) ++ untold rest =
+    ap (λ t. set t (length front) now.0) is ∙ set-append_right front (TooLong ∷ untold rest) (length front) (length front) now.0 refl (omega arith) ∙ ap (λ i. front ++ set (TooLong ∷ untold rest) i now.0) none
+    ∙ sym (append_assoc front (now.0 ∷ []) (untold rest)) in
+    on start r rest front x.outcome _ (subst (λ (y : Due). FitsDue (record { due = y; outcome = x.outcome })) own (All-head FitsDue x xs fit))
+    (subst (λ w. RunsOn now.1 rest (front ++ now.0 ∷ []) (told_by_all xs w)) (sym first)
+    (again (front ++ now.0 ∷ []) (set told (length front) now.0) now.1 xs placed (others ∙ ap (λ k. dues_from k rest) longer) (All-tail FitsDue x xs fit)))
 
-with_answers-insert : (told : List Answer) (due : List Due) (j : ℕ) (p : Due) (later : List Answer) (a : Answer) → AllPairs ComesBefore due → slice_get due j ≡ Some p → length later ≡ length (remove due j)
-    → with_answers told due (insert later j a) ≡ with_answers (slice_set told p.place a) (remove due j) later
-with_answers-insert told [] j p later a rising at n = absurd (cc)
-with_answers-insert told (q ∷ qs) zero p later a rising at n = let same : q ≡ p = cc in ap (λ (x : Due). with_answers (set told x.place a) qs later) same
-with_answers-insert told (q ∷ qs) (suc j) p [] a rising at n = absurd (omega arith)
-with_answers-insert told (q ∷ qs) (suc j) p (b ∷ bs) a rising at n =
-    let earlier : q.place < p.place = subst (ComesBefore q) (get_or_from_slice_get qs j p p at) (pairs_first ComesBefore q qs rising j p (slice_get_within qs j p at)) in
-    let other : q.place ≢ p.place = λ e. omega arith in
-    with_answers-insert (set told q.place b) qs j p bs a (pairs_rest ComesBefore q qs rising) at (omega arith)
-    ∙ ap (λ (t : List Answer). with_answers t (remove qs j) bs) (set_comm told q.place p.place b a other)
+runs_on : (requests : List Request) → RunOn requests
+runs_on [] front told start [] is e fit = record { answers = []; run = record { fixed = []; are_requests = refl; fit = All-nil FitsRequest; gives = refl }; whole = is }
+runs_on [] front told start (f ∷ fs) is e fit = absurd (cc)
+runs_on (r ∷ rest) front told start fixed is e fit = by (runs_on rest) (too_long r) refl
+  where
+    by : RunOn rest → (b : Bool) → too_long r ≡ b → RunsOn start (r ∷ rest) front (told_by_all fixed (told, start))
+    by again false short = on_short r rest again front told start fixed is (rw short at e) fit
+    by again true long =
+        let is_long : step_as Done r start ≡ (TooLong, start) = rw long refl in
+        on start r rest front Done _ tt (subst (λ x. RunsOn x.1 rest (front ++ x.0 ∷ []) (told_by_all fixed (told, start))) (sym is_long)
+        (again (front ++ TooLong ∷ []) told start fixed (is ∙ sym (append_assoc front (TooLong ∷ []) (untold rest))) ((rw long at e) ∙ ap (λ k. dues_from k rest) (let longer : suc (length front) ≡ length (front ++ TooLong ∷ []) = omega (arith, length_push front TooLong) in longer)) fit))
 
--- ---- the steps
-
--- nothing was posted
 pub ledger_opens : Opens
-ledger_opens start [] e fit = record { fixed = []; are_requests = refl; fit = All-nil FitsRequest; gives = refl }
-ledger_opens start (f ∷ fs) e fit = absurd (cc)
+ledger_opens start requests fixed e fit =
+    let h = runs_on requests [] (untold requests) start fixed refl e fit in
+    subst (λ answers. PlainWithLosses start requests answers (told_by_all fixed (untold requests, start)).1) (sym h.whole) h.run
 
--- a request that is too long is answered at once
-pub ledger_skips : Skips
-ledger_skips start requests due told disks r long below h fixed e fit =
-    let later = plain_as disks (map fixed_request fixed) in
-    let is : step_as Done r later.1 ≡ (TooLong, later.1) = step-long Done later.1 r long in
-    let more = losses-push start requests (with_answers told due later.0) later.1 r Done tt (h fixed e fit) in
-    let P : List Answer → Disks → Type 0 = λ answers left. PlainWithLosses start (requests ++ r ∷ []) answers left in
-    subst₂ P (ap (λ (x : Answer × Disks). with_answers told due later.0 ++ x.0 ∷ []) is ∙ sym (with_answers-behind told TooLong due later.0 below)) (ap (λ (x : Answer × Disks). x.1) is) more
-
--- a list that ends with y when it is mapped ends with some z
-record Ends (fixed : List FixedDue) (due : List Due) (p : Due) : Type 0 where
-  front : List FixedDue
-  last : FixedDue
-  whole : fixed ≡ front ++ last ∷ []
-  front_is : dues_in front ≡ due
-  last_is : last.due ≡ p
-
-ends : (fixed : List FixedDue) (due : List Due) (p : Due) → dues_in fixed ≡ due ++ p ∷ [] → Ends fixed due p
-ends [] [] p e = absurd (cc)
-ends [] (q ∷ qs) p e = absurd (cc)
-ends (f ∷ []) [] p e = let same : f.due ≡ p = cc in record { front = []; last = f; whole = refl; front_is = refl; last_is = same }
-ends (f ∷ g ∷ fs) [] p e = absurd (cc)
-ends (f ∷ fs) (q ∷ qs) p e =
-    let tail : dues_in fs ≡ qs ++ p ∷ [] = cc in
-    let head : f.due ≡ q = cc in
-    let rest = ends fs qs p tail in
-    let cons : Due → List Due → List Due = λ x xs. x ∷ xs in
-    record { front = f ∷ rest.front; last = rest.last; whole = ap (λ (xs : List FixedDue). f ∷ xs) rest.whole; front_is = ap₂ cons head rest.front_is; last_is = rest.last_is }
-
-fits_front : (front : List FixedDue) (f : FixedDue) → All FitsRequest (map fixed_request (front ++ f ∷ [])) → All FitsRequest (map fixed_request front) × FitsRequest (fixed_request f)
-fits_front [] f fit = (All-nil FitsRequest, All-head FitsRequest (fixed_request f) [] fit)
-fits_front (x ∷ xs) f fit =
-    let rest = fits_front xs f (All-tail FitsRequest (fixed_request x) (map fixed_request (xs ++ f ∷ [])) fit) in
-    (All-cons FitsRequest (fixed_request x) (map fixed_request xs) (All-head FitsRequest (fixed_request x) (map fixed_request (xs ++ f ∷ [])) fit) rest.0, rest.1)
-
--- a request is posted
-pub ledger_takes_in : TakesIn
-ledger_takes_in start requests due told disks p below at h fixed e fit =
-    let split = ends fixed due p e in
-    let f = split.last in
-    let fits = fits_front split.front f (subst (λ (xs : List FixedDue). All FitsRequest (map fixed_request xs)) split.whole fit) in
-    let later = plain_as disks (map fixed_request split.front) in
-    let d : FixedRequest = record { request = p.request; outcome = f.outcome } in
-    let is_d : fixed_request f ≡ d = ap (λ (q : Due). record { request = q.request; outcome = f.outcome }) split.last_is in
-    let now = step_of d later.1 in
-    let more = losses-push start requests (with_answers told due later.0) later.1 p.request f.outcome (subst FitsRequest is_d fits.1) (h split.front split.front_is fits.0) in
-    let requests_are : map fixed_request fixed ≡ map fixed_request split.front ++ d ∷ [] =
-    ap (map fixed_request) split.whole ∙ map_push fixed_request split.front f ∙ ap (λ (x : FixedRequest). map fixed_request split.front ++ x ∷ []) is_d in
-    let all : plain_as disks (map fixed_request fixed) ≡ (later.0 ++ now.0 ∷ [], now.1) = ap (plain_as disks) requests_are ∙ runs-push step_of (map fixed_request split.front) d disks in
-    let size : length later.0 ≡ length due =
-    length-runs step_of (map fixed_request split.front) disks ∙ length-map split.front fixed_request ∙ sym (length-map split.front (λ (x : FixedDue). x.due)) ∙ ap length split.front_is in
-    let P : List Answer → Disks → Type 0 = λ answers left. PlainWithLosses start (requests ++ p.request ∷ []) answers left in
-    subst₂ P
-    (sym (ap (λ (x : List Answer × Disks). with_answers (told ++ TooLong ∷ []) (due ++ p ∷ []) x.0) all ∙ with_answers-push told TooLong due p later.0 now.0 below at size))
-    (sym (ap (λ (x : List Answer × Disks). x.1) all)) more
-
-requests-same : (fixed : List FixedDue) → requests_of (map fixed_request fixed) ≡ requests_due (dues_in fixed)
-requests-same [] = refl
-requests-same (f ∷ fs) = ap (λ (rs : List Request). f.due.request ∷ rs) (requests-same fs)
-
--- a request that is taken out, with its outcome, among those that were left: all again, in their places
-module _ (due : List Due) (j : ℕ) (p : Due) (o : Outcome) (at : slice_get due j ≡ Some p) (fixed : List FixedDue) (e : dues_in fixed ≡ remove due j) where
-  abbrev pub all_fixed : List FixedDue
-  all_fixed = insert fixed j (record { due = p; outcome = o })
-
-  abbrev pub fixed_here : FixedRequest
-  fixed_here = fixed_request (record { due = p; outcome = o })
-
-  size : length fixed ≡ length (remove due j)
-  size = sym (length-map fixed (λ (x : FixedDue). x.due)) ∙ ap length e
-
-  inserted : map fixed_request all_fixed ≡ insert (map fixed_request fixed) j fixed_here
-  inserted = map-insert fixed_request fixed j (record { due = p; outcome = o })
-
-  dues_are : dues_in all_fixed ≡ due
-  dues_are = map-insert (λ (x : FixedDue). x.due) fixed j (record { due = p; outcome = o }) ∙ ap (λ (ps : List Due). insert ps j p) e ∙ put_back due j p at
-
-  requests_are : requests_of (map fixed_request all_fixed) ≡ requests_due due
-  requests_are = requests-same all_fixed ∙ ap requests_due dues_are
-
-  there : (slice_get (insert (map fixed_request fixed) j fixed_here) j ≡ Some fixed_here) × (remove (insert (map fixed_request fixed) j fixed_here) j ≡ map fixed_request fixed)
-  there = put_in (map fixed_request fixed) j fixed_here (omega (arith, size, length-remove due j (slice_get_within due j p at), slice_get_within due j p at, length-map fixed fixed_request))
-
-  stands : slice_get (map fixed_request all_fixed) j ≡ Some fixed_here
-  stands = ap (λ (ys : List FixedRequest). slice_get ys j) inserted ∙ there.0
-
-  others : remove (map fixed_request all_fixed) j ≡ map fixed_request fixed
-  others = ap (λ (ys : List FixedRequest). remove ys j) inserted ∙ there.1
-
--- a request that may go is done
-pub ledger_carries_out : CarriesOut
-ledger_carries_out start requests due told disks j p o clear rising goes at f h fixed e fit =
-    let all = all_fixed due j p o at fixed e in
-    let xs = map fixed_request all in
-    let x = fixed_here due j p o at fixed e in
-    let asked = requests_are due j p o at fixed e in
-    let all_fit : All FitsRequest xs = subst (All FitsRequest) (sym (inserted due j p o at fixed e)) (All-insert FitsRequest (map fixed_request fixed) j x f fit) in
-    let law = request_order_is_free xs j x disks (subst (AllPairs NoClash) (sym asked) clear) (subst (λ (rs : List Request). PassesOlder rs j) (sym asked) goes) (stands due j p o at fixed e) in
-    let now = step_as o p.request disks in
-    let later = plain_as now.1 (map fixed_request fixed) in
-    let first : (insert later.0 j now.0, later.1) ≡ plain_as disks xs =
-    ap (λ (ys : List FixedRequest). let l = plain_as now.1 ys in (insert l.0 j now.0, l.1)) (sym (others due j p o at fixed e)) ∙ law in
-    let n : length later.0 ≡ length (remove due j) = length-runs step_of (map fixed_request fixed) now.1 ∙ length-map fixed fixed_request ∙ size due j p o at fixed e in
-    let P : List Answer → Disks → Type 0 = λ answers left. PlainWithLosses start requests answers left in
-    subst₂ P
-    (sym (ap (λ (x : List Answer × Disks). with_answers told due x.0) first) ∙ with_answers-insert told due j p later.0 now.0 rising at n)
-    (sym (ap (λ (x : List Answer × Disks). x.1) first))
-    (h all (dues_are due j p o at fixed e) all_fit)
-
--- nothing is due
 pub ledger_closes : Closes
-ledger_closes start requests told disks h = h [] refl (All-nil FitsRequest)
+ledger_closes start requests now h = h [] refl (All-nil FitsDue)
+
+-- ---- what is due at first
+
+-- it is the request at its place, where the first has place k
+pub record IsFrom (k : ℕ) (requests : List Request) (d : Due) : Type 0 where
+  pub from : k ≤ d.place
+  pub stands : slice_get requests (d.place - k) ≡ Some d.request
+
+pub record AreFrom (k : ℕ) (requests : List Request) (dues : List Due) : Type 0 where
+  pub each : All (IsFrom k requests) dues
+  pub rise : AllPairs ComesBefore dues
+  pub all : (i : ℕ) (r : Request) → slice_get requests i ≡ Some r → too_long r ≡ false → All (λ d. d.place ≢ k + i) dues → ⊥
+
+from_more : (k : ℕ) (r : Request) (rest : List Request) → AreFrom (suc k) rest (dues_from (suc k) rest) → AreFrom k (r ∷ rest) (dues_from k (r ∷ rest))
+from_more k r rest more = by (too_long r) refl
+  where
+    dues : List Due
+    dues = dues_from (suc k) rest
+
+    one : Due
+    one = record { place = k; request = r }
+
+    behind : All (IsFrom k (r ∷ rest)) dues
+    behind i d low =
+        let it = more.each i d low in let p = (get_or dues i d).place in let next : p - k ≡ suc (p - suc k) = omega (arith, it.from) in
+        record { from = omega (arith, it.from); stands = ap (slice_get (r ∷ rest)) next ∙ it.stands }
+
+    others : (i : ℕ) (q : Request) → slice_get rest i ≡ Some q → too_long q ≡ false → All (λ d. d.place ≢ k + suc i) dues → ⊥
+    others i q at short none = more.all i q at short (λ j d low same. none j d low (same ∙ omega arith))
+
+    skipped : too_long r ≡ true → (i : ℕ) (q : Request) → slice_get (r ∷ rest) i ≡ Some q → too_long q ≡ false → All (λ d. d.place ≢ k + i) dues → ⊥
+    skipped long zero q at short none = let is : r ≡ q = cc in cc (long, short, ap too_long is)
+    skipped long (suc i) q at short none = others i q at short none
+
+    with_one : (i : ℕ) (q : Request) → slice_get (r ∷ rest) i ≡ Some q → too_long q ≡ false → All (λ d. d.place ≢ k + i) (one ∷ dues) → ⊥
+    with_one zero q at short none = All-head (λ d. d.place ≢ k + 0) one dues none (omega arith)
+    with_one (suc i) q at short none = others i q at short (All-tail (λ d. d.place ≢ k + suc i) one dues none)
+
+    by : (b : Bool) → too_long r ≡ b → AreFrom k (r ∷ rest) (dues_from k (r ∷ rest))
+    by true long = rw long (record { each = behind; rise = more.rise; all = skipped long })
+    by false short = rw short (record {
+      each = All-cons (IsFrom k (r ∷ rest)) one dues (let first : k - k ≡ 0 = omega arith in record { from = omega arith; stands = ap (slice_get (r ∷ rest)) first }) behind;
+      rise = AllPairs-cons ComesBefore one dues (λ i d low. omega (arith, (more.each i d low).from)) more.rise;
+      all = with_one;
+    })
+
+pub are_from : (k : ℕ) (requests : List Request) → AreFrom k requests (dues_from k requests)
+are_from k [] = record { each = All-nil (IsFrom k []); rise = λ i j d before within. absurd (omega arith); all = λ i r at. absurd (cc) }
+are_from k (r ∷ rest) = from_more k r rest (are_from (suc k) rest)

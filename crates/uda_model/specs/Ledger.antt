@@ -1,20 +1,30 @@
 -- What requests that aren't done yet will make of the disks and of the answers.
-use Rattle.std.specs.Prelude.{◌≡◌, ℕ, ◌<◌, true, List, [], ◌∷◌, ◌++◌, length, map, remove, All, AllPairs}
+use Rattle.std.specs.Prelude.{◌≡◌, ◌≢◌, ℕ, suc, ◌<◌, true, List, [], ◌∷◌, map, remove, All, if◌then◌else◌}
 use Rattle.std.specs.Prelude.{Some, slice_get, slice_set}
 use Rattle.uda_disk.specs.Disk.{Disks}
 use Rattle.uda_disk.specs.Request.{Request, blocks_named}
 use Rattle.uda_disk.specs.Answer.{Answer, TooLong}
 use Rattle.uda_disk.specs.Plain.{Outcome, FitsCount}
-use Rattle.uda_disk.specs.PlainRun.{too_long, FixedRequest, step_as, FitsRequest, plain_as, PlainWithLosses}
-use Rattle.uda_disk.specs.Order.{NoClash, PassesOlder}
+use Rattle.uda_disk.specs.PlainRun.{too_long, step_as, PlainWithLosses}
+use Rattle.uda_disk.specs.Order.{NoClash, passes}
 
 -- a request that is to be done: its place in the list of requests, counted from 0
 pub record Due : Type 0 where
   pub place : ℕ
   pub request : Request
 
-abbrev pub requests_due : List Due → List Request
-requests_due due = map (λ d. d.request) due
+-- of requests, the first of which is at this place, those that aren't too long
+abbrev pub dues_from : ℕ → List Request → List Due
+dues_from k [] = []
+dues_from k (r ∷ rest) =
+    if too_long r then dues_from (suc k) rest else record { place = k; request = r } ∷ dues_from (suc k) rest
+
+abbrev pub ComesBefore : Due → Due → Type 0
+ComesBefore d e = d.place < e.place
+
+-- no answer is told yet
+abbrev pub untold : List Request → List Answer
+untold requests = map (λ _. TooLong) requests
 
 -- its outcome fixed
 pub record FixedDue : Type 0 where
@@ -24,67 +34,50 @@ pub record FixedDue : Type 0 where
 abbrev pub dues_in : List FixedDue → List Due
 dues_in fixed = map (λ f. f.due) fixed
 
-abbrev pub fixed_request : FixedDue → FixedRequest
-fixed_request f = record { request = f.due.request; outcome = f.outcome }
+abbrev pub FitsDue : FixedDue → Type 0
+FitsDue f = FitsCount (blocks_named f.due.request.act) f.outcome
 
--- answers, each put at the place of its request
-abbrev pub with_answers : List Answer → List Due → List Answer → List Answer
-with_answers told [] later = told
-with_answers told (d ∷ rest) [] = told
-with_answers told (d ∷ rest) (answer ∷ later) = with_answers (slice_set told d.place answer) rest later
+-- one is done, and its answer told at its place; and all of these, in their order
+abbrev pub told_by : FixedDue → List Answer × Disks → List Answer × Disks
+told_by f w =
+    let now = step_as f.outcome f.due.request w.1 in (slice_set w.0 f.due.place now.0, now.1)
+
+abbrev pub told_by_all : List FixedDue → List Answer × Disks → List Answer × Disks
+told_by_all [] w = w
+told_by_all (f ∷ rest) w = told_by_all rest (told_by f w)
 
 -- However the requests that are due end, doing them in this order from the disks as they are now, and putting
 -- their answers beside those that were told, is a plain run of all requests from the start.
-abbrev pub Ledger : Disks → List Request → List Due → List Answer → Disks → Type 0
-Ledger start requests due told disks =
-    (fixed : List FixedDue) → dues_in fixed ≡ due → All FitsRequest (map fixed_request fixed)
-    → PlainWithLosses start requests
-    (with_answers told due (plain_as disks (map fixed_request fixed)).0)
-    (plain_as disks (map fixed_request fixed)).1
+abbrev pub Ledger : Disks → List Request → List Due → List Answer × Disks → Type 0
+Ledger start requests due now =
+    (fixed : List FixedDue) → dues_in fixed ≡ due → All FitsDue fixed
+    → PlainWithLosses start requests (told_by_all fixed now).0 (told_by_all fixed now).1
 
 -- ---- its steps
 
--- all that are due have places among these
-abbrev pub AreBelow : ℕ → List Due → Type 0
-AreBelow n due = All (λ d. d.place < n) due
-
-abbrev pub ComesBefore : Due → Due → Type 0
-ComesBefore d e = d.place < e.place
-
--- at first nothing is due, and at last what was told is a plain run
+-- at first all are due that aren't too long, and at last what was told is a plain run
 abbrev pub Opens : Type 0
-Opens = (start : Disks) → Ledger start [] [] [] start
+Opens =
+    (start : Disks) (requests : List Request)
+    → Ledger start requests (dues_from 0 requests) (untold requests, start)
 
 abbrev pub Closes : Type 0
 Closes =
-    (start : Disks) (requests : List Request) (told : List Answer) (disks : Disks)
-    → Ledger start requests [] told disks → PlainWithLosses start requests told disks
+    (start : Disks) (requests : List Request) (now : List Answer × Disks)
+    → Ledger start requests [] now → PlainWithLosses start requests now.0 now.1
 
--- a request that is too long is answered at once
-abbrev pub Skips : Type 0
-Skips =
-    (start : Disks) (requests : List Request) (due : List Due) (told : List Answer) (disks : Disks)
-    (r : Request)
-    → too_long r ≡ true → AreBelow (length told) due
-    → Ledger start requests due told disks
-    → Ledger start (requests ++ r ∷ []) due (told ++ TooLong ∷ []) disks
-
--- one more is due, whose answer is still to come
-abbrev pub TakesIn : Type 0
-TakesIn =
-    (start : Disks) (requests : List Request) (due : List Due) (told : List Answer) (disks : Disks)
-    (d : Due)
-    → AreBelow (length told) due → d.place ≡ length told
-    → Ledger start requests due told disks
-    → Ledger start (requests ++ d.request ∷ []) (due ++ d ∷ []) (told ++ TooLong ∷ []) disks
+-- a request may be done before an older one: it has another place, may pass it, and they don't clash
+pub record GoesBefore (older d : Due) : Type 0 where
+  pub two : older.place ≢ d.place
+  pub passes : passes older.request d.request ≡ true
+  pub clear : NoClash older.request d.request
 
 -- one that may go is done, and its answer told
 abbrev pub CarriesOut : Type 0
 CarriesOut =
-    (start : Disks) (requests : List Request) (due : List Due) (told : List Answer) (disks : Disks)
-    (j : ℕ) (d : Due) (o : Outcome)
-    → AllPairs NoClash (requests_due due) → AllPairs ComesBefore due → PassesOlder (requests_due due) j
-    → slice_get due j ≡ Some d → FitsCount (blocks_named d.request.act) o
-    → Ledger start requests due told disks
-    → Ledger start requests (remove due j) (slice_set told d.place (step_as o d.request disks).0)
-    (step_as o d.request disks).1
+    (start : Disks) (requests : List Request) (due : List Due) (now : List Answer × Disks)
+    (j : ℕ) (f : FixedDue)
+    → slice_get due j ≡ Some f.due
+    → ((i : ℕ) (older : Due) → i < j → slice_get due i ≡ Some older → GoesBefore older f.due)
+    → FitsDue f → Ledger start requests due now
+    → Ledger start requests (remove due j) (told_by f now)

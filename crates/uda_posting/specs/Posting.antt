@@ -72,9 +72,6 @@ due_of p = record { place = p.place; request = p.request }
 abbrev pub dues_of : List Posted → List Due
 dues_of out = map due_of out
 
-abbrev pub requests_posted : List Posted → List Request
-requests_posted out = map (λ p. p.request) out
-
 -- the bytes of its buffer
 abbrev pub buffer_of : Posted → List ℕ → List ℕ
 buffer_of p memory = part memory (buffer_start (posted_command p).op) (room_of (posted_command p).op)

@@ -1,24 +1,23 @@
 -- The steps of a driver: those of its host and those of what is owed, together.
-use Rattle.std.proofs.Common.{◌≡◌, ◌≢◌, ℕ, ◌+◌, ◌<◌, ◌≤◌, inl, inr, false, true, List, [], ◌∷◌, ◌++◌, length, map, drop, set, get_or, add-one, Option, Some, None, refl, sym, ap, ap₂, ◌∙◌, arith, subst, subst₂, length-append}
-use Rattle.std.specs.Prelude.{slice_get, slice_set, option_map, remove, replicate, All}
-use Rattle.std.proofs.lemmas.List.{length-map, map_push, append_assoc, drop_all, nil_from_length}
-use Rattle.std.proofs.lemmas.Option.{slice_get_within, slice_get-map}
+use Rattle.std.proofs.Common.{◌≡◌, ◌≢◌, ℕ, ◌+◌, ◌<◌, ◌≤◌, inl, inr, false, true, List, [], ◌∷◌, ◌++◌, length, map, set, get_or, Option, Some, None, refl, sym, ap, ap₂, ◌∙◌, arith, subst, subst₂, length-append}
+use Rattle.std.specs.Prelude.{slice_get, slice_set, remove, replicate, All}
+use Rattle.std.proofs.lemmas.List.{length-map, map_push, nil_from_length}
+use Rattle.std.proofs.lemmas.Option.{slice_get_within}
 use Rattle.uda_mem.specs.Put.{put, part}
 use Rattle.uda_mem.proofs.PutLaws.{length-part}
 use Rattle.uda_packet.specs.declared.command.Command.{Command}
 use Rattle.uda_packet.specs.declared.end.End.{End}
 use Rattle.uda_exec.specs.Disks.{PENDING_LIMIT}
-use Rattle.uda_disk.proofs.Lists.{slice_get-append, slice_get-last}
 use Rattle.uda_disk.specs.Request.{Request}
 use Rattle.uda_disk.specs.PlainRun.{too_long}
 use Rattle.uda_disk.specs.Answer.{Answer, TooLong}
-use Rattle.uda_posting.specs.Posting.{Posted, posted_command, due_of, dues_of, answer_of, buffer_of, bytes_brought}
+use Rattle.uda_posting.specs.Posting.{Posted, posted_command, answer_of, buffer_of, bytes_brought}
 use Rattle.uda_disk.specs.Values.{request_value}
 use Rattle.uda_disk.specs.Units.{Units}
 use Rattle.uda_posting.specs.Keeping.{Misses, Beside, Apart, Owes, Ended, answer_now, alive, Keeps}
-use Rattle.uda_model.specs.Ledger.{Due, dues_from}
+use Rattle.uda_model.specs.Ledger.{NoneToCome}
 use Rattle.uda_posting.proofs.Posts.{buffer-at, bytes_fit, ready-put}
-use Rattle.uda_posting.proofs.Ending.{keeps_start, keeps_put, keeps_post, Ends, keeps_execute, keeps_deliver, keeps_end}
+use Rattle.uda_posting.proofs.Ending.{keeps_start, clash_turned, keeps_put, keeps_skip, keeps_post, Ends, keeps_execute, keeps_deliver, keeps_end}
 use Rattle.uda_host.specs.Layout.{buffers_start, buffer_address, memory_size}
 use Rattle.uda_host.specs.InStep.{IsAbove}
 use Rattle.uda_host.specs.Host.{HostState, out_of, BuffersStay, TakesEnd, Works, OneFetched, OneDone, IsIdle}
@@ -27,7 +26,7 @@ use Rattle.uda_driver.specs.Steps.{PutsOut, IsReferred}
 use Rattle.uda_driver.specs.Underway.{Outs, Driving}
 use Rattle.uda_driver.specs.declared.buffers.Out.{Out}
 use Rattle.uda_driver.proofs.Slots.{set_at, freed_at}
-use Rattle.uda_driver.proofs.Outs.{clash_turned, none_at, outs_none, of_alive, outs_post, outs_execute, own, own_reference, outs_take}
+use Rattle.uda_driver.proofs.Outs.{none_at, outs_none, of_alive, outs_post, outs_execute, own, own_reference, outs_take}
 
 -- ---- buffers
 
@@ -50,32 +49,30 @@ beside_from p q is that other meet =
 -- ---- memory
 
 -- while the buffers stay, so does what is kept
-stay_kept : {start : Units} {requests : List Request} {due : List Posted} {to_do : List Due} {ended : List Ended} {answers : List Answer} {units : Units} {memory after : List ℕ}
-    → All IsBuffered (alive ended due) → BuffersStay memory after → Keeps start requests due to_do ended answers units memory → Keeps start requests due to_do ended answers units after
-stay_kept {start} {requests} {due} {to_do} {ended} {answers} {units} {memory} {after} all stay keeps =
+stay_kept : {start : Units} {requests : List Request} {n : ℕ} {due : List Posted} {ended : List Ended} {answers : List Answer} {units : Units} {memory after : List ℕ}
+    → All IsBuffered (alive ended due) → BuffersStay memory after → Keeps start requests n due ended answers units memory → Keeps start requests n due ended answers units after
+stay_kept {start} {requests} {n} {due} {ended} {answers} {units} {memory} {after} all stay keeps =
     let short = length-part after 0 buffers_start in
-    subst (λ (m : List ℕ). Keeps start requests due to_do ended answers units m) (sym stay.below)
+    subst (λ (m : List ℕ). Keeps start requests n due ended answers units m) (sym stay.below)
     (keeps_put keeps 0 (part after 0 buffers_start) (λ k d low meet. is_above (get_or (alive ended due) k d) (all k d low) (omega (arith, short))))
 
 has_buffer : {n : ℕ} (out : List (Option Out)) → length out ≡ PENDING_LIMIT → AreFit n out → (number : ℕ) (one : Out) → slice_get out number ≡ Some (Some one) → IsBuffered (posted_with number one)
 has_buffer {n} out sized fit number one stands = record { short = (fit number one stands).short; number = number; within = omega (arith, slice_get_within out number (Some one) stands, sized); address_is = refl }
 
 stays : {start : Units} {requests : List Request} {n : ℕ} {out : List (Option Out)} {answers : List Answer} {host : HostState} {after : List ℕ} (D : Driving start requests n out answers host)
-    → BuffersStay host.memory after → Keeps start requests D.due D.to_do D.ended answers host.units after
+    → BuffersStay host.memory after → Keeps start requests n D.due D.ended answers host.units after
 stays D stay = stay_kept (of_alive D.outs IsBuffered (has_buffer _ D.outs.sized D.fit)) stay D.keeps
 
 -- ---- a turn
 
 module _ {start : Units} {requests : List Request} {n : ℕ} {out : List (Option Out)} {answers : List Answer} {host new : HostState} (D : Driving start requests n out answers host) where
   pub driving_works : Works host new → Driving start requests n out answers new
-  driving_works (OneFetched f) = rw f.is (record { due = D.due; ended = D.ended; to_do = D.to_do; begins = D.begins; are_due = D.are_due; keeps = stays D f.buffers; outs = D.outs; fit = D.fit })
+  driving_works (OneFetched f) = rw f.is (record { due = D.due; ended = D.ended; are_due = D.are_due; keeps = stays D f.buffers; outs = D.outs; fit = D.fit })
   driving_works (OneDone x) =
-      let t : Ends start requests D.due D.to_do (dues_from n (drop n requests)) D.ended answers x.place x.end (record { units = new.units; pending = new.due }) new.memory = keeps_execute D.keeps D.are_due refl D.begins D.outs.apart x.executes in
+      let t : Ends start requests n D.due D.ended answers x.place x.end (record { units = new.units; pending = new.due }) new.memory = keeps_execute D.keeps D.are_due refl D.outs.apart x.executes in
       rw x.is (record {
         due = remove D.due x.place;
         ended = D.ended ++ record { posted = t.posted; end = x.end } ∷ [];
-        to_do = remove D.to_do x.place;
-        begins = t.begins;
         are_due = t.pending;
         keeps = t.keeps;
         outs = outs_execute D.outs x.place t.posted x.end t.stands t.reference;
@@ -110,16 +107,14 @@ module _ {start : Units} {requests : List Request} {n : ℕ} {out : List (Option
   driving_takes room done =
       let p = posted_with done.number done.one in
       let back = outs_take outs_split done.number done.one done.stands done.refers in
-      let delivered = keeps_deliver room (subst (λ (es : List Ended). Keeps start requests D.due D.to_do es answers host.units new.memory) split.is (stays D takes.buffers)) in
+      let delivered = keeps_deliver room (subst (λ (es : List Ended). Keeps start requests n D.due es answers host.units new.memory) split.is (stays D takes.buffers)) in
       let told : answer_now new.memory split.first ≡ answer_of p.request.act e (buffer_of p new.memory) = ap₂ (λ (q : Posted) (x : End). answer_of q.request.act x (buffer_of q new.memory)) (sym back.same) split.end_is in
       let answers_are = ap₂ (slice_set answers) (ap (λ (q : Posted). q.place) (sym back.same)) told in
       rw takes.is (record {
         due = D.due;
         ended = split.later;
-        to_do = D.to_do;
-        begins = D.begins;
         are_due = D.are_due;
-        keeps = subst (λ (now : List Answer). Keeps start requests D.due D.to_do split.later now host.units new.memory) answers_are delivered;
+        keeps = subst (λ (now : List Answer). Keeps start requests n D.due split.later now host.units new.memory) answers_are delivered;
         outs = back.outs;
         fit = λ k one stands. D.fit k one (freed_at out done.number k one (slice_get_within out done.number _ done.stands) stands).1;
       })
@@ -130,20 +125,18 @@ pub still_fit : {n m : ℕ} {one : Out} → n ≤ m → IsFit n one → IsFit m 
 still_fit le fit = record { before = omega (arith, fit.before); short = fit.short; prepared = fit.prepared }
 
 module _ {start : Units} {requests : List Request} {n : ℕ} {out : List (Option Out)} {answers : List Answer} {host : HostState} (D : Driving start requests n out answers host) where
-  -- one that is too long was never to be done
-  pub driving_skip : (r : Request) → too_long r ≡ true → drop n requests ≡ r ∷ drop (n + 1) requests → Driving start requests (n + 1) out answers host
-  driving_skip r long rest = record {
+  -- one that is too long is never posted
+  pub driving_skip : (r : Request) → slice_get requests n ≡ Some r → too_long r ≡ true → Driving start requests (n + 1) out answers host
+  driving_skip r asked long = record {
     due = D.due;
     ended = D.ended;
-    to_do = D.to_do;
-    begins = D.begins ∙ ap (λ l. dues_of D.due ++ l) (ap (dues_from n) rest ∙ rw (long, add-one) refl);
     are_due = D.are_due;
-    keeps = D.keeps;
+    keeps = keeps_skip D.keeps r asked long;
     outs = D.outs;
     fit = λ number one stands. still_fit (omega arith) (D.fit number one stands);
   }
 
-  module _ {one : Out} {new : HostState} {after : List (Option Out)} (puts : PutsOut one host out new after) (fit : IsFit (n + 1) one) (place : one.place ≡ n) (rest : drop n requests ≡ request_value one.request.now ∷ drop (n + 1) requests)
+  module _ {one : Out} {new : HostState} {after : List (Option Out)} (puts : PutsOut one host out new after) (fit : IsFit (n + 1) one) (place : one.place ≡ n) (asked : slice_get requests one.place ≡ Some (request_value one.request.now))
       (clear : (number : ℕ) (other : Out) → slice_get out number ≡ Some (Some other) → clashes_with (request_value one.request.now) (Some other) ≡ false) (size : length host.memory ≡ memory_size) (left : Answer) where
     abbrev pub now : Posted
     now = posted_with puts.number one
@@ -162,21 +155,13 @@ module _ {start : Units} {requests : List Request} {n : ℕ} {out : List (Option
       clear = clash_turned now.request (posted_with k other).request (clear k other stands);
     }
 
-    -- it is the first of those that are still to be posted
-    begins_now : D.to_do ≡ dues_of (D.due ++ now ∷ []) ++ dues_from (n + 1) (drop (n + 1) requests)
-    begins_now =
-        let later = dues_from (n + 1) (drop (n + 1) requests) in
-        let first : dues_from n (drop n requests) ≡ due_of now ∷ later = ap (dues_from n) rest ∙ rw (fit.short, place, add-one) refl in
-        D.begins ∙ ap (λ l. dues_of D.due ++ l) first ∙ sym (append_assoc (dues_of D.due) (due_of now ∷ []) later) ∙ ap (λ l. l ++ later) (sym (map_push due_of D.due now))
-
-    kept_brought : Keeps start requests (D.due ++ now ∷ []) D.to_do D.ended (slice_set answers now.place left) host.units (put host.memory now.address (bytes_brought now.request.act))
+    kept_brought : Keeps start requests (n + 1) (D.due ++ now ∷ []) D.ended (slice_set answers now.place left) host.units (put host.memory now.address (bytes_brought now.request.act))
     kept_brought =
         let brought = bytes_brought now.request.act in
         let fits = (bytes_fit now.request.act now.address).fits in let buffer = buffer-at now.request.unit now.request.act now.address fit.short in
         let ready = ready-put now host.memory fit.short (omega arith) (omega (arith, slice_get_within out puts.number None puts.free, D.outs.sized, size)) in
         let misses = of_alive D.outs (λ q. Misses now.address (length brought) (posted_command q)) (λ k other stands meet. (apart k other stands).beside (omega (arith, fits, buffer.here (omega (arith, fits))))) in
-        let stands = ap (λ (ds : List Due). slice_get ds (length D.due)) begins_now ∙ slice_get-append (dues_of (D.due ++ now ∷ [])) (dues_from (n + 1) (drop (n + 1) requests)) (length D.due) (due_of now) (slice_get-map due_of (D.due ++ now ∷ []) (length D.due) ∙ ap (option_map due_of) (slice_get-last D.due (length D.due) now refl)) in
-        keeps_post (keeps_put D.keeps now.address brought misses) (length D.due) now left stands ready
+        keeps_post (keeps_put D.keeps now.address brought misses) now left place asked ready
 
     fit_after : AreFit (n + 1) (set out puts.number (Some one))
     fit_after = λ k other stands. elim (set_at out puts.number k (Some one) (Some other) (slice_get_within out puts.number None puts.free) stands) [
@@ -192,8 +177,6 @@ module _ {start : Units} {requests : List Request} {n : ℕ} {out : List (Option
         rw (puts.out_is, puts.posts.is) (record {
           due = D.due ++ now ∷ [];
           ended = D.ended;
-          to_do = D.to_do;
-          begins = begins_now;
           are_due = ap (λ (cs : List Command). cs ++ posted_command now ∷ []) D.are_due ∙ sym (map_push posted_command D.due now);
           keeps = kept;
           outs = outs;
@@ -207,8 +190,6 @@ pub driving_start : {host : HostState} {out : List (Option Out)} (requests : Lis
 driving_start {host} {out} requests answers idle none long = record {
   due = [];
   ended = [];
-  to_do = dues_from 0 requests;
-  begins = refl;
   are_due = idle.none_due;
   keeps = keeps_start host.units requests answers host.memory long;
   outs = outs_none out host.waiting none idle.none_wait;
@@ -216,13 +197,11 @@ driving_start {host} {out} requests answers idle none long = record {
 }
 
 pub driving_end : {start : Units} {requests : List Request} {n : ℕ} {out : List (Option Out)} {answers : List Answer} {host : HostState}
-    → length answers ≡ length requests → length requests ≤ n → out_of host ≡ 0 → Driving start requests n out answers host → Owes start requests [] answers host.units
+    → length answers ≡ length requests → length requests ≤ n → out_of host ≡ 0 → Driving start requests n out answers host → Owes start requests answers host.units × NoneToCome requests answers
 driving_end {start} {requests} {n} {answers = answers} {host} size all none D =
     let none_due = nil_from_length D.due (omega (arith, none, ap length D.are_due, length-map D.due posted_command)) in
     let none_ended = nil_from_length D.ended (omega (arith, none, ap length D.outs.waits, length-map D.ended (λ (d : Ended). d.end))) in
-    let none_left : D.to_do ≡ [] = D.begins ∙ ap₂ (λ due rest. dues_of due ++ dues_from n rest) none_due (drop_all n requests all) in
-    let K : List Posted → List Due → List Ended → Type 0 = λ due to_do ended. Keeps start requests due to_do ended answers host.units host.memory in
-    keeps_end size (subst (λ due. K due [] []) none_due (subst (λ to_do. K D.due to_do []) none_left (subst (K D.due D.to_do) none_ended D.keeps)))
+    keeps_end size all (subst₂ (λ (due : List Posted) (ended : List Ended). Keeps start requests n due ended answers host.units host.memory) none_due none_ended D.keeps)
 
 -- as many are out as the host has
 pub counted_out : {start : Units} {requests : List Request} {n : ℕ} {out : List (Option Out)} {answers : List Answer} {host : HostState} → Driving start requests n out answers host → count_out out ≡ out_of host

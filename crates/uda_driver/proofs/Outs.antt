@@ -1,10 +1,6 @@
 -- What is out, as a request is posted, done, and taken back with its end.
-use Rattle.std.proofs.Common.{◌≡◌, ◌≢◌, ℕ, zero, suc, min, max, ◌+◌, ◌⊎◌, inl, inr, false, List, [], ◌∷◌, ◌++◌, length, map, set, Option, Some, None, refl, sym, ap, ap₂, ◌∙◌, arith, subst, subst₂, length-append}
-use Rattle.std.specs.Prelude.{slice_get, remove, replicate, All, AllPairs, nat_eq}
-use Rattle.std.proofs.Math.Bool.{and_comm, or_comm}
-use Rattle.std.proofs.lemmas.Bool.Decides.{nat_tests}
-use Rattle.uda_disk.specs.Request.{Request, is_moving, is_writing, lbn_of, blocks_named}
-use Rattle.uda_disk.specs.Order.{clash}
+use Rattle.std.proofs.Common.{◌≡◌, ◌≢◌, ℕ, zero, suc, ◌+◌, ◌⊎◌, inl, inr, List, [], ◌∷◌, ◌++◌, length, map, set, Option, Some, None, refl, sym, ap, ap₂, ◌∙◌, arith, subst, subst₂, length-append}
+use Rattle.std.specs.Prelude.{slice_get, remove, replicate, All, AllPairs}
 use Rattle.std.proofs.lemmas.List.{map_push, append_assoc, length-set, length_push}
 use Rattle.std.proofs.lemmas.List.Edits.{length-remove}
 use Rattle.std.proofs.lemmas.List.Elements.{All-nil, All-cons, All-head, All-tail, All-push}
@@ -16,6 +12,7 @@ use Rattle.uda_exec.specs.Disks.{PENDING_LIMIT}
 use Rattle.uda_disk.proofs.Slots.{slice_get-set_same, slice_get-set_other}
 use Rattle.uda_posting.specs.Posting.{Posted}
 use Rattle.uda_posting.specs.Keeping.{Ended, RefersBack, Apart, alive}
+use Rattle.uda_posting.proofs.Ending.{apart_turned}
 use Rattle.uda_disk.proofs.Lists.{All-remove, All-at, pairs_first, pairs_rest, pairs_others}
 use Rattle.uda_driver.specs.Out.{posted_with, IsOut}
 use Rattle.uda_driver.specs.Underway.{Outs}
@@ -34,17 +31,6 @@ module _ {A : Type 0} (ys : List A) (j : ℕ) (a : A) (stands : slice_get ys j �
       AllPairs-cons R a (remove ys j) (pairs_others R R (λ x y two. (two, turned x y two)) ys j a pairs stands) (all_pairs_remove R ys j (slice_get_within ys j a stands) pairs)
   pairs_moved R turned (x ∷ xs) pairs =
       AllPairs-cons R x (xs ++ a ∷ remove ys j) (all_moved (R x) xs (pairs_first R x (xs ++ ys) pairs)) (pairs_moved R turned xs (pairs_rest R x (xs ++ ys) pairs))
-
--- two requests clash either way
-pub clash_turned : (r s : Request) → clash r s ≡ false → clash s r ≡ false
-clash_turned r s h =
-    let units : nat_eq s.unit r.unit ≡ nat_eq r.unit s.unit = grind (arith, nat_tests) in
-    let starts : max (lbn_of s.act) (lbn_of r.act) ≡ max (lbn_of r.act) (lbn_of s.act) = omega arith in
-    let ends : min (lbn_of s.act + blocks_named s.act) (lbn_of r.act + blocks_named r.act) ≡ min (lbn_of r.act + blocks_named r.act) (lbn_of s.act + blocks_named s.act) = omega arith in
-    rw (and_comm (is_moving s.act) (is_moving r.act), units, or_comm (is_writing s.act) (is_writing r.act), starts, ends) h
-
-apart_turned : (p q : Posted) → Apart p q → Apart q p
-apart_turned p q apart = record { two = λ same. apart.two (sym same); beside = λ meet. apart.beside (omega arith); clear = clash_turned p.request q.request apart.clear }
 
 -- ---- nothing is out
 

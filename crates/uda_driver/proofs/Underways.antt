@@ -14,6 +14,7 @@ use Rattle.uda_disk.specs.PlainRun.{too_long, posted_count}
 use Rattle.uda_disk.specs.Answer.{TooLong}
 use Rattle.uda_disk.specs.Order.{lead, lead_from}
 use Rattle.uda_posting.specs.Posting.{posted_command, answer_of, buffer_of}
+use Rattle.uda_model.specs.Ledger.{NoneToCome}
 use Rattle.uda_posting.specs.Keeping.{Owes}
 use Rattle.uda_disk.specs.Values.{request_value, answer_value, request_values, answer_values}
 use Rattle.uda_disk.specs.declared.request.Request.{Request as CodeRequest}
@@ -150,7 +151,7 @@ module _ {start : HostState} {requests : List CodeRequest} {n : ℕ} {out : List
 
   pub underway_skip : too_long (request_value request) ≡ true → Underway start requests (n + 1) out answers host
   underway_skip long = record {
-    driving = driving_skip U.driving (request_value request) long w.rest;
+    driving = driving_skip U.driving (request_value request) (at_place it) long;
     blank = λ k q a from. U.blank k q a (omega (arith, from));
     sized = U.sized;
     at_work = U.at_work;
@@ -181,7 +182,7 @@ module _ {start : HostState} {requests : List CodeRequest} {n : ℕ} {out : List
         } in
         let clear = (or_parts (nat_eq host.credits 0) (clashes_with_any (request_value request) out) free).1 in
         let told_is : answer_values left ≡ slice_set (answer_values answers) one.place TooLong = ap (map answer_value) left_is ∙ map-set answer_value answers n CodeTooLong ∙ ap (λ (k : ℕ). set (answer_values answers) k TooLong) (sym place) in
-        let posted = driving_post U.driving puts fit place (w.rest ∙ ap (λ (q : Request). q ∷ drop (n + 1) rs) (sym request_is)) (λ number other stands. no_clash_at (request_value one.request.now) out number other (ap (λ (q : Request). clashes_with_any q out) request_is ∙ clear) stands) U.at_work.adds_up.size TooLong in
+        let posted = driving_post U.driving puts fit place (ap (slice_get rs) place ∙ at_place it ∙ ap Some (sym request_is)) (λ number other stands. no_clash_at (request_value one.request.now) out number other (ap (λ (q : Request). clashes_with_any q out) request_is ∙ clear) stands) U.at_work.adds_up.size TooLong in
         let changed = puts.posts.is in
         record {
           driving = rw told_is posted;
@@ -255,13 +256,14 @@ module _ {start : HostState} {requests : List CodeRequest} {n : ℕ} {out : List
         load = omega (arith, over.load, over.within, p, triangle-is (lead (request_values requests)), ap (λ (h : List _). triangle (length h)) none_due);
       }
 
-  owed : Owes start.units (request_values requests) [] (answer_values answers) host.units
+  owed : Owes start.units (request_values requests) (answer_values answers) host.units × NoneToCome (request_values requests) (answer_values answers)
   owed = driving_end (omega (arith, length-map answers answer_value, length-map requests request_value, U.sized)) (omega (arith, all, length-map requests request_value)) none U.driving
 
   pub ran : Ran start requests answers host
   ran = record {
-    ready = record { rest = rests; four = same_count host.units start.units owed.natures ∙ ready.four; images = U.at_work.images; adds_up = U.at_work.adds_up };
+    ready = record { rest = rests; four = same_count host.units start.units owed.0.natures ∙ ready.four; images = U.at_work.images; adds_up = U.at_work.adds_up };
     counted = U.sized;
-    owes = owed;
+    owes = owed.0;
+    none_to_come = owed.1;
     counts = counted_on;
   }

@@ -1,10 +1,11 @@
 -- What a turn of a run needs, and what a run comes to.
-use Rattle.std.specs.Prelude.{◌≡◌, ℕ, ◌≤◌, List, [], length, Option}
+use Rattle.std.specs.Prelude.{◌≡◌, ℕ, ◌≤◌, List, length, Option}
 use Rattle.uda_disk.specs.Units.{Units}
 use Rattle.uda_disk.specs.Request.{Request}
 use Rattle.uda_disk.specs.Values.{request_values, answer_values}
 use Rattle.uda_disk.specs.declared.request.Request.{Request as CodeRequest}
 use Rattle.uda_disk.specs.declared.answer.Answer.{Answer as CodeAnswer}
+use Rattle.uda_model.specs.Ledger.{NoneToCome}
 use Rattle.uda_posting.specs.Keeping.{Owes}
 use Rattle.uda_host.specs.Host.{HostState}
 use Rattle.uda_driver.specs.Run.{CountsOn}
@@ -26,5 +27,6 @@ pub record Ran (start : HostState) (requests : List CodeRequest) (answers : List
     (host : HostState) : Type 0 where
   pub ready : IsDriver host
   pub counted : length answers ≡ length requests
-  pub owes : Owes start.units (request_values requests) [] (answer_values answers) host.units
+  pub owes : Owes start.units (request_values requests) (answer_values answers) host.units
+  pub none_to_come : NoneToCome (request_values requests) (answer_values answers)
   pub counts : CountsOn (request_values requests) start host

@@ -1,5 +1,5 @@
 -- What a driver knows between two steps of a run: four records, of which `Underway` is the whole.
-use Rattle.std.specs.Prelude.{◌≡◌, ℕ, ◌+◌, ◌<◌, List, ◌++◌, length, map, take, drop, Option}
+use Rattle.std.specs.Prelude.{◌≡◌, ℕ, ◌+◌, ◌<◌, List, length, map, take, Option}
 use Rattle.std.specs.Prelude.{All, AllPairs}
 use Rattle.uda_packet.specs.declared.end.End.{End}
 use Rattle.uda_disk.specs.Units.{AreImages, Units}
@@ -7,9 +7,8 @@ use Rattle.uda_exec.specs.Disks.{PENDING_LIMIT}
 use Rattle.uda_disk.specs.Request.{Request}
 use Rattle.uda_disk.specs.Answer.{Answer}
 use Rattle.uda_disk.specs.PlainRun.{posted_count}
-use Rattle.uda_posting.specs.Posting.{Posted, commands_in, dues_of}
+use Rattle.uda_posting.specs.Posting.{Posted, commands_in}
 use Rattle.uda_posting.specs.Keeping.{Ended, Keeps, RefersBack, Apart, alive}
-use Rattle.uda_model.specs.Ledger.{Due, dues_from}
 use Rattle.uda_disk.specs.Values.{request_values, answer_values}
 use Rattle.uda_disk.specs.declared.request.Request.{Request as CodeRequest}
 use Rattle.uda_disk.specs.declared.answer.Answer.{Answer as CodeAnswer}
@@ -31,16 +30,14 @@ pub record Outs (out : List (Option Out)) (due : List Posted) (ended : List Ende
   pub waits : waiting ≡ map (λ d. d.end) ended
   pub refer : All RefersBack ended
 
--- Of these requests the first n were posted or answered at once: of those some are due, some have ended, and the
--- answers of all others are told. The others are still to be posted, but those that are too long.
+-- Of the first n requests some are due, some have ended, and the answers of all others are told. What is due is
+-- pending at the host.
 pub record Driving (start : Units) (requests : List Request) (n : ℕ) (out : List (Option Out))
     (answers : List Answer) (host : HostState) : Type 0 where
   pub due : List Posted
   pub ended : List Ended
-  pub to_do : List Due
-  pub begins : to_do ≡ dues_of due ++ dues_from n (drop n requests)
   pub are_due : host.due ≡ commands_in due
-  pub keeps : Keeps start requests due to_do ended answers host.units host.memory
+  pub keeps : Keeps start requests n due ended answers host.units host.memory
   pub outs : Outs out due ended host.waiting
   pub fit : AreFit n out
 

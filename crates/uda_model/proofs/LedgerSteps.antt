@@ -13,7 +13,7 @@ use Rattle.uda_disk.specs.PlainRun.{FixedRequest, requests_of, too_long, step_of
 use Rattle.uda_disk.specs.Runs.{runs_first}
 use Rattle.uda_disk.proofs.OrderLaw.{request_order_is_free}
 use Rattle.uda_disk.proofs.Slots.{set-itself}
-use Rattle.uda_model.specs.Ledger.{is_to_come, untold, finish, told_by, IsToCome, GoesBefore, Opens, Closes, CarriesOut}
+use Rattle.uda_model.specs.Ledger.{is_to_come, untold, finish, told_by, IsToCome, NoneToCome, GoesBefore, Opens, Closes, CarriesOut}
 
 -- ---- one that may go is done first
 
@@ -103,7 +103,7 @@ ledger_opens start requests fixed e fit =
     record { fixed = fixed; are_requests = e; fit = fit; gives = gives }
 
 closed : (xs : List FixedRequest) (told : List Answer) (disks : Disks)
-    → ((k : ℕ) (r : Request) → IsToCome (requests_of xs) told k r → ⊥) → finish xs told disks ≡ (told, disks)
+    → NoneToCome (requests_of xs) told → finish xs told disks ≡ (told, disks)
 closed [] told disks none = refl
 closed (x ∷ xs) [] disks none = refl
 closed (x ∷ xs) (a ∷ told) disks none =
@@ -114,13 +114,13 @@ closed (x ∷ xs) (a ∷ told) disks none =
     behind a w = (a ∷ w.0, w.1)
 
     long_stays : (b : Bool) → too_long x.request ≡ b
-        → ((k : ℕ) (r : Request) → IsToCome (requests_of (x ∷ xs)) (TooLong ∷ told) k r → ⊥)
+        → NoneToCome (requests_of (x ∷ xs)) (TooLong ∷ told)
         → finish xs told disks ≡ (told, disks) → finish (x ∷ xs) (TooLong ∷ told) disks ≡ (TooLong ∷ told, disks)
     long_stays true long none rest = rw long (ap (behind TooLong) rest)
     long_stays false short none rest =
         absurd (none 0 x.request (record { stands = refl; short = short; untold = refl }))
 
-    by : (a : Answer) → ((k : ℕ) (r : Request) → IsToCome (requests_of (x ∷ xs)) (a ∷ told) k r → ⊥)
+    by : (a : Answer) → NoneToCome (requests_of (x ∷ xs)) (a ∷ told)
         → finish xs told disks ≡ (told, disks) → finish (x ∷ xs) (a ∷ told) disks ≡ (a ∷ told, disks)
     by TooLong none rest = long_stays (too_long x.request) refl none rest
     by a none rest = ap (behind a) rest
@@ -138,5 +138,5 @@ ledger_closes start requests now none h =
     let xs = map done requests in
     let asked = done-asks requests in
     subst (λ w. PlainWithLosses start requests w.0 w.1)
-    (closed xs now.0 now.1 (subst (λ rs. (k : ℕ) (r : Request) → IsToCome rs now.0 k r → ⊥) (sym asked) none))
+    (closed xs now.0 now.1 (subst (λ rs. NoneToCome rs now.0) (sym asked) none))
     (h xs asked (All-map FitsRequest done requests (λ i r low. tt)))

@@ -51,6 +51,9 @@ pub record IsToCome (requests : List Request) (told : List Answer) (k : ℕ) (r 
   pub short : too_long r ≡ false
   pub untold : slice_get told k ≡ Some TooLong
 
+abbrev pub NoneToCome : List Request → List Answer → Type 0
+NoneToCome requests told = (k : ℕ) (r : Request) → IsToCome requests told k r → ⊥
+
 -- one that may go before each older one whose answer is still to come is done
 abbrev pub CarriesOut : Type 0
 CarriesOut =
@@ -63,5 +66,5 @@ CarriesOut =
 abbrev pub Closes : Type 0
 Closes =
     (start : Disks) (requests : List Request) (now : List Answer × Disks)
-    → ((k : ℕ) (r : Request) → IsToCome requests now.0 k r → ⊥)
-    → Ledger start requests now → PlainWithLosses start requests now.0 now.1
+    → NoneToCome requests now.0 → Ledger start requests now
+    → PlainWithLosses start requests now.0 now.1

@@ -1,8 +1,7 @@
 -- What is owed, as a request is done by its command.
-use Rattle.std.proofs.Common.{◌≡◌, ◌≢◌, ℕ, ◌+◌, ◌-◌, ◌<◌, inl, inr, Bool, true, false, List, [], ◌∷◌, set, get_or, Some, refl, sym, ap, ap₂, ◌∙◌, arith, subst, subst₂}
-use Rattle.std.specs.Prelude.{slice_get, slice_set, option_map, remove, map, nat_eq, ◌&&◌, if◌then◌else◌}
+use Rattle.std.proofs.Common.{◌≡◌, ◌≢◌, ℕ, ◌+◌, ◌<◌, inl, inr, Bool, true, false, List, [], ◌∷◌, set, get_or, Option, None, Some, refl, sym, ap, ap₂, ◌∙◌, arith, subst, subst₂}
+use Rattle.std.specs.Prelude.{slice_get, slice_set, option_map, map, nat_eq, ◌&&◌, if◌then◌else◌}
 use Rattle.std.proofs.lemmas.List.{length-set, length-map, map-set}
-use Rattle.std.proofs.lemmas.List.Quantifiers.{all_pairs_remove}
 use Rattle.std.proofs.lemmas.Bool.{cases_eq, eq-eqb, ne_eqb}
 use Rattle.std.proofs.lemmas.Option.{slice_get_within, slice_get-map, slice_get-get_or}
 use Rattle.uda_packet.specs.declared.end.End.{End}
@@ -10,21 +9,20 @@ use Rattle.uda_disk.specs.Disk.{Disks}
 use Rattle.uda_disk.specs.Request.{Request}
 use Rattle.uda_disk.specs.Answer.{Answer, TooLong}
 use Rattle.uda_disk.specs.Plain.{Done, is_lost}
-use Rattle.uda_disk.specs.PlainRun.{step_as, step, plain, PlainWithLosses, tells_error, drive_errors}
+use Rattle.uda_disk.specs.PlainRun.{FixedRequest, step_of, step, plain, PlainWithLosses, tells_error, drive_errors}
 use Rattle.uda_disk.specs.Form.{IsAnswerOf}
 use Rattle.uda_disk.proofs.Slots.{slice_get-set_same, slice_get-set_other}
 use Rattle.uda_disk.proofs.Runs.{length-runs}
 use Rattle.uda_disk.proofs.Errors.{is_error, losses_told, errors-set}
-use Rattle.uda_disk.proofs.Lists.{All-remove, All-at, pairs_others}
 use Rattle.uda_disk.specs.Units.{disks_of, failures_at, Units, AllFaithful, is_sure}
 use Rattle.uda_exec.specs.Execution.{Executes}
 use Rattle.uda_exec.proofs.Units.{faithful_stays, sure_stays}
-use Rattle.uda_model.specs.Ledger.{Due, dues_from, untold, FixedDue, told_by, ComesBefore, GoesBefore}
-use Rattle.uda_model.proofs.LedgerSteps.{ledger_opens, ledger_carries_out, ledger_closes, are_from}
-use Rattle.uda_posting.specs.Posting.{answer_of, Posted, posted_command, due_of, buffer_of, Ready}
-use Rattle.uda_posting.specs.Keeping.{IsToCome, Owes}
+use Rattle.uda_model.specs.Ledger.{untold, told_by, IsToCome, NoneToCome, GoesBefore}
+use Rattle.uda_model.proofs.LedgerSteps.{ledger_opens, ledger_carries_out, ledger_closes}
+use Rattle.uda_posting.specs.Posting.{answer_of, Posted, posted_command, buffer_of, Ready}
+use Rattle.uda_posting.specs.Keeping.{Owes}
 use Rattle.uda_posting.specs.Seeming.{bares, is_done, has_begun, outline, outlines, TellsTransfer, GoesAs, AllGoAs, SeemsPlain}
-use Rattle.uda_posting.proofs.Seemings.{look, step_looks, run_looks, plain_each, goes_as, IsServed, served}
+use Rattle.uda_posting.proofs.Seemings.{look, step_looks, run_looks, plain_each, outline_same, goes_as, IsServed, served}
 
 -- ---- failures
 
@@ -57,53 +55,66 @@ told_none u (r ∷ rest) = omega (arith, none_told u r.unit false (λ _. refl), 
 pub untold_at : (requests : List Request) (k : ℕ) (r : Request) → slice_get requests k ≡ Some r → slice_get (untold requests) k ≡ Some TooLong
 untold_at requests k r asked = slice_get-map (λ (_ : Request). TooLong) requests k ∙ ap (option_map (λ (_ : Request). TooLong)) asked
 
-pub owes_start : (units : Units) (requests : List Request) → Owes units requests (dues_from 0 requests) (untold requests) units
-owes_start units requests =
-    let from = are_from 0 requests in
-    record {
-      run = (untold requests, disks_of units);
-      ledger = ledger_opens (disks_of units) requests;
-      looks = refl;
-      faithful = λ _. record { same = refl; errors = λ u. omega (arith, told_none u requests); sure = λ u never. refl };
-      tell = λ k r a asked at begun. let both : Some TooLong ≡ Some a = sym (untold_at requests k r asked) ∙ at in let is : TooLong ≡ a = cc in absurd (cc (begun, ap has_begun is));
-      counted = length-map requests (λ (_ : Request). TooLong);
-      in_order = from.rise;
-      to_come = λ k d low.
-          let it = from.each k d low in let p = (get_or (dues_from 0 requests) k d).place in let at : p ≡ p - 0 = omega arith in
-          let stands = ap (slice_get requests) at ∙ it.stands in
-          record { stands = stands; untold = untold_at requests p _ stands };
-      natures = refl;
-    }
+pub owes_start : (units : Units) (requests : List Request) → Owes units requests (untold requests) units
+owes_start units requests = record {
+  run = (untold requests, disks_of units);
+  ledger = ledger_opens (disks_of units) requests;
+  looks = refl;
+  faithful = λ _. record {
+    same = refl;
+    errors = λ u. omega (arith, told_none u requests);
+    sure = λ u never. refl;
+  };
+  tell = λ k r a asked at begun.
+      let both : Some TooLong ≡ Some a = sym (untold_at requests k r asked) ∙ at in
+      let is : TooLong ≡ a = cc in absurd (cc (begun, ap has_begun is));
+  counted = length-map requests (λ (_ : Request). TooLong);
+  natures = refl;
+}
 
 -- ---- a request is done
 
 outlines-set : (w : List Answer) (i : ℕ) (x : Answer × Disks) → outlines (slice_set w i x.0, x.1) ≡ (set (map outline w) i (look x).0, (look x).1)
 outlines-set w i x = ap (λ l. (l, bares x.1)) (map-set outline w i x.0)
 
--- a command is done that is due and may go
-pub owes_done : {start : Units} {requests : List Request} {to_do : List Due} {told : List Answer} {units after : Units} {memory left : List ℕ} {e : End} (owes : Owes start requests to_do told units)
-    (j : ℕ) (p : Posted) → slice_get to_do j ≡ Some (due_of p) → ((i : ℕ) (older : Due) → i < j → slice_get to_do i ≡ Some older → GoesBefore older (due_of p)) → Ready p memory
-    → Executes (posted_command p) units memory e after left → Owes start requests (remove to_do j) (slice_set told p.place (answer_of p.request.act e (buffer_of p left))) after
-owes_done {start} {requests} {to_do} {told} {units} {after} {memory} {left} {e} owes j p stands may ready x =
+-- what has one outline is still to come alike
+to_come_alike : (requests : List Request) (w v : List Answer × Disks) → outlines w ≡ outlines v
+    → (k : ℕ) (r : Request) → IsToCome requests w.0 k r → IsToCome requests v.0 k r
+to_come_alike requests w v same k r it = record { stands = it.stands; short = it.short; untold = by (slice_get v.0 k) refl }
+  where
+    looks : option_map outline (slice_get v.0 k) ≡ Some (Some TooLong)
+    looks = sym (slice_get-map outline v.0 k) ∙ ap (λ l. slice_get l.0 k) (sym same) ∙ slice_get-map outline w.0 k ∙ ap (option_map outline) it.untold
+
+    by : (x : Option Answer) → slice_get v.0 k ≡ x → slice_get v.0 k ≡ Some TooLong
+    by None is = let none : option_map outline None ≡ Some (Some TooLong) = ap (option_map outline) (sym is) ∙ looks in absurd (cc)
+    by (Some a) is =
+        let both : Some (outline a) ≡ Some (Some TooLong) = ap (option_map outline) (sym is) ∙ looks in
+        let look : outline a ≡ outline TooLong = cc in let two = outline_same a TooLong look in
+        is ∙ ap Some (two.1 two.0)
+
+-- a command is done whose request may go before each older one that is still to come
+pub owes_done : {start : Units} {requests : List Request} {told : List Answer} {units after : Units} {memory left : List ℕ} {e : End} (owes : Owes start requests told units) (p : Posted)
+    → IsToCome requests told p.place p.request → ((i : ℕ) (older : Request) → i < p.place → IsToCome requests told i older → GoesBefore older p.request) → Ready p memory
+    → Executes (posted_command p) units memory e after left → Owes start requests (slice_set told p.place (answer_of p.request.act e (buffer_of p left))) after
+owes_done {start} {requests} {told} {units} {after} {memory} {left} {e} owes p own may ready x =
     let r = p.request in let i = p.place in let run = owes.run in
+    let now : List Answer × Disks = (told, disks_of units) in
     let a = answer_of r.act e (buffer_of p left) in
     let s = served p units memory e after left ready x in
-    let f : FixedDue = record { due = due_of p; outcome = s.outcome } in
-    let now = step_as s.outcome r run.1 in
+    let f : FixedRequest = record { request = r; outcome = s.outcome } in
     let more = λ (it : IsServed s.outcome p units a after) (u : ℕ). one_failure u r.unit (is_error a) (is_lost s.outcome) units after it.lost x.others_stay it.failures_are in
-    let own = All-at (IsToCome requests told) to_do j (due_of p) owes.to_come stands in
-    let others = pairs_others ComesBefore (λ (d q : Due). q.place ≢ d.place) (λ y z before. (λ same. omega arith, λ same. omega arith)) to_do j (due_of p) owes.in_order stands in
     record {
-      run = told_by f run;
-      ledger = ledger_carries_out (disks_of start) requests to_do run j f stands may s.fits owes.ledger;
+      run = told_by i f run;
+      ledger = ledger_carries_out (disks_of start) requests run i f (to_come_alike requests now run (sym owes.looks) i r own)
+          (λ k older below it. may k older below (to_come_alike requests run now owes.looks k older it)) s.fits owes.ledger;
       looks =
           let seen = step_looks s.outcome Done r run.1 (disks_of units) (ap (λ w. w.1) owes.looks) ∙ sym s.looks in
-          outlines-set run.0 i now ∙ ap₂ (λ l x. (set l i x.0, x.1)) (ap (λ w. w.0) owes.looks) seen ∙ sym (outlines-set told i (a, disks_of after));
+          outlines-set run.0 i (step_of f run.1) ∙ ap₂ (λ l x. (set l i x.0, x.1)) (ap (λ w. w.0) owes.looks) seen ∙ sym (outlines-set told i (a, disks_of after));
       faithful = λ trusted.
           let before = owes.faithful trusted in
           let it = s.faithful (faithful_stays start units owes.natures r.unit ∙ trusted r.unit) in
           record {
-            same = ap (told_by f) before.same ∙ ap (λ x. (set told i x.0, x.1)) (sym it.is);
+            same = ap (told_by i f) before.same ∙ ap (λ x. (set told i x.0, x.1)) (sym it.is);
             errors = λ u. omega (arith, before.errors u, more it u, errors-set u requests told i r a own.stands own.untold);
             sure = λ u never.
                 let none : tells_error u r a ≡ 0 = none_told u r.unit (is_error a)
@@ -118,18 +129,14 @@ owes_done {start} {requests} {to_do} {told} {units} {after} {memory} {left} {e} 
         | inr other ↦ owes.tell k q b asked (sym (slice_get-set_other told i k a other) ∙ at) begun
       ];
       counted = length-set told i a ∙ owes.counted;
-      in_order = all_pairs_remove ComesBefore to_do j (slice_get_within to_do j (due_of p) stands) owes.in_order;
-      to_come = λ k d low.
-          let it = All-remove (IsToCome requests told) to_do j owes.to_come k d low in
-          record { stands = it.stands; untold = slice_get-set_other told i _ a (others k d low) ∙ it.untold };
       natures = x.natures_stay ∙ owes.natures;
     }
 
--- ---- nothing is to be done
+-- ---- nothing is still to come
 
-module _ {start : Units} {requests : List Request} {told : List Answer} {units : Units} (owes : Owes start requests [] told units) where
+module _ {start : Units} {requests : List Request} {told : List Answer} {units : Units} (owes : Owes start requests told units) (none : NoneToCome requests told) where
   ran : PlainWithLosses (disks_of start) requests owes.run.0 owes.run.1
-  ran = ledger_closes (disks_of start) requests owes.run owes.ledger
+  ran = ledger_closes (disks_of start) requests owes.run (λ k r it. none k r (to_come_alike requests owes.run (told, disks_of units) owes.looks k r it)) owes.ledger
 
   pub owes_end : AllFaithful start → PlainWithLosses (disks_of start) requests told (disks_of units)
   owes_end trusted = subst (λ (w : List Answer × Disks). PlainWithLosses (disks_of start) requests w.0 w.1) (owes.faithful trusted).same ran

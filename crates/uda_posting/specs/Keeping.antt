@@ -1,5 +1,5 @@
 -- What a driver keeps between two commands, of requests and disks.
-use Rattle.std.specs.Prelude.{◌≡◌, ◌≢◌, ℕ, ◌+◌, ◌<◌, true, List, ◌++◌, length, map, All, AllPairs, Some}
+use Rattle.std.specs.Prelude.{◌≡◌, ◌≢◌, ℕ, ◌+◌, ◌<◌, ◌≤◌, true, List, ◌++◌, length, map, All, AllPairs, Some}
 use Rattle.std.specs.Prelude.{slice_get}
 use Rattle.uda_mem.specs.Put.{Meet}
 use Rattle.uda_packet.specs.declared.command.Command.{Command}
@@ -13,7 +13,7 @@ use Rattle.uda_disk.specs.Order.{NoClash}
 use Rattle.uda_disk.specs.PlainRun.{drive_errors}
 use Rattle.uda_posting.specs.Posting.{Posted, posted_command, answer_of, buffer_of, Ready}
 use Rattle.uda_posting.specs.Seeming.{outlines, AllTell}
-use Rattle.uda_model.specs.Ledger.{Due, ComesBefore, Ledger}
+use Rattle.uda_model.specs.Ledger.{IsToCome, Ledger}
 
 -- ---- memory
 
@@ -28,16 +28,18 @@ Beside c d = Misses (buffer_start c.op) (room_of c.op) d
 abbrev pub IsReadyIn : List ℕ → Posted → Type 0
 IsReadyIn memory p = Ready p memory
 
--- ---- what is to be done
+-- ---- places in the list of requests
 
--- it is the request at its place, and its answer is still to come
-pub record IsToCome (requests : List Request) (told : List Answer) (d : Due) : Type 0 where
-  pub stands : slice_get requests d.place ≡ Some d.request
-  pub untold : slice_get told d.place ≡ Some TooLong
+abbrev pub IsEarlier : Posted → Posted → Type 0
+IsEarlier p q = p.place < q.place
 
--- none of these is the request at place k
-abbrev pub IsNotDue : ℕ → List Due → Type 0
-IsNotDue k dues = All (λ d. d.place ≢ k) dues
+abbrev pub IsNotAt : ℕ → Posted → Type 0
+IsNotAt k p = p.place ≢ k
+
+-- one of the first n requests was posted, and its answer is still to come
+pub record IsDue (requests : List Request) (n : ℕ) (told : List Answer) (p : Posted) : Type 0 where
+  pub before : p.place < n
+  pub to_come : IsToCome requests told p.place p.request
 
 -- two that are out have places and buffers of their own, and don't clash
 pub record Apart (p q : Posted) : Type 0 where
@@ -62,18 +64,15 @@ pub record IsTrue (start : Units) (requests : List Request) (run : List Answer �
       → failures_at (slice_get units u) ≡ failures_at (slice_get start u) + drive_errors u requests told
   pub sure : SureNeverFail start units
 
--- Of these requests some are still to be done; all others have their answers. The ledger has a run, which is as
--- told but for what a store may leave of blocks and transfers, and over faithful stores is as told.
-pub record Owes (start : Units) (requests : List Request) (to_do : List Due) (told : List Answer)
-    (units : Units) : Type 0 where
+-- The answers of these requests that are told. The ledger has a run, which is as told but for what a store may
+-- leave of blocks and transfers, and over faithful stores is as told.
+pub record Owes (start : Units) (requests : List Request) (told : List Answer) (units : Units) : Type 0 where
   pub run : List Answer × Disks
-  pub ledger : Ledger (disks_of start) requests to_do run
+  pub ledger : Ledger (disks_of start) requests run
   pub looks : outlines run ≡ outlines (told, disks_of units)
   pub faithful : AllFaithful start → IsTrue start requests run told units
   pub tell : AllTell requests told
   pub counted : length told ≡ length requests
-  pub in_order : AllPairs ComesBefore to_do
-  pub to_come : All (IsToCome requests told) to_do
   pub natures : natures_of units ≡ natures_of start
 
 -- ---- what has ended
@@ -91,22 +90,26 @@ abbrev pub Tells : List Answer → List ℕ → Ended → Type 0
 Tells told memory d = slice_get told d.posted.place ≡ Some (answer_now memory d)
 
 abbrev pub EndedNotAt : ℕ → Ended → Type 0
-EndedNotAt k d = d.posted.place ≢ k
+EndedNotAt k d = IsNotAt k d.posted
 
 -- those that have ended, the next end first, and those that are due
 abbrev pub alive : List Ended → List Posted → List Posted
 alive ended due = map (λ d. d.posted) ended ++ due
 
--- What is owed, where of what is to be done some are due, to be done by their commands, and some answers still
--- lie in their ends: the driver has told all others.
-pub record Keeps (start : Units) (requests : List Request) (due : List Posted) (to_do : List Due)
-    (ended : List Ended) (answers : List Answer) (units : Units) (memory : List ℕ) : Type 0 where
+-- What is owed, where the first n requests were posted or are too long. Of those that were posted some are due,
+-- to be done by their commands, and some answers still lie in their ends: the driver has told all others.
+pub record Keeps (start : Units) (requests : List Request) (n : ℕ) (due : List Posted) (ended : List Ended)
+    (answers : List Answer) (units : Units) (memory : List ℕ) : Type 0 where
   pub told : List Answer
-  pub owes : Owes start requests to_do told units
+  pub owes : Owes start requests told units
   pub ready : All (IsReadyIn memory) due
+  pub are_due : All (IsDue requests n told) due
+  pub in_order : AllPairs IsEarlier due
+  pub others_told : (k : ℕ) (r : Request) → IsToCome requests told k r → All (IsNotAt k) due → n ≤ k
+  pub untold : (k : ℕ) → n ≤ k → k < length requests → slice_get told k ≡ Some TooLong
   pub tell : All (Tells told memory) ended
-  pub shown : (k : ℕ) → k < length requests → IsNotDue k to_do → All (EndedNotAt k) ended
-      → slice_get answers k ≡ slice_get told k
+  pub shown : (k : ℕ) → k < length requests → ((r : Request) → IsToCome requests told k r → ⊥)
+      → All (EndedNotAt k) ended → slice_get answers k ≡ slice_get told k
 
 -- the end gives the request by its place, counted from 1
 abbrev pub RefersBack : Ended → Type 0

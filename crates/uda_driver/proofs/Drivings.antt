@@ -17,7 +17,8 @@ use Rattle.uda_disk.specs.Units.{Units}
 use Rattle.uda_posting.specs.Keeping.{Misses, Beside, Apart, Owes, Ended, answer_now, alive, Keeps}
 use Rattle.uda_model.specs.Ledger.{NoneToCome}
 use Rattle.uda_posting.proofs.Posts.{buffer-at, bytes_fit, ready-put}
-use Rattle.uda_posting.proofs.Ending.{keeps_start, clash_turned, keeps_put, keeps_skip, keeps_post, Ends, keeps_execute, keeps_deliver, keeps_end}
+use Rattle.uda_posting.proofs.Owing.{clash_turned}
+use Rattle.uda_posting.proofs.Ending.{keeps_start, keeps_put, keeps_skip, keeps_post, Ends, keeps_execute, keeps_deliver, keeps_end}
 use Rattle.uda_host.specs.Layout.{buffers_start, buffer_address, memory_size}
 use Rattle.uda_host.specs.InStep.{IsAbove}
 use Rattle.uda_host.specs.Host.{HostState, out_of, BuffersStay, TakesEnd, Works, OneFetched, OneDone, IsIdle}
@@ -59,25 +60,7 @@ stay_kept {start} {requests} {n} {due} {ended} {answers} {units} {memory} {after
 has_buffer : {n : ℕ} (out : List (Option Out)) → length out ≡ PENDING_LIMIT → AreFit n out → (number : ℕ) (one : Out) → slice_get out number ≡ Some (Some one) → IsBuffered (posted_with number one)
 has_buffer {n} out sized fit number one stands = record { short = (fit number one stands).short; number = number; within = omega (arith, slice_get_within out number (Some one) stands, sized); address_is = refl }
 
-stays : {start : Units} {requests : List Request} {n : ℕ} {out : List (Option Out)} {answers : List Answer} {host : HostState} {after : List ℕ} (D : Driving start requests n out answers host)
-    → BuffersStay host.memory after → Keeps start requests n D.due D.ended answers host.units after
-stays D stay = stay_kept (of_alive D.outs IsBuffered (has_buffer _ D.outs.sized D.fit)) stay D.keeps
-
--- ---- a turn
-
-module _ {start : Units} {requests : List Request} {n : ℕ} {out : List (Option Out)} {answers : List Answer} {host new : HostState} (D : Driving start requests n out answers host) where
-  pub driving_works : Works host new → Driving start requests n out answers new
-  driving_works (OneFetched f) = rw f.is (record { due = D.due; ended = D.ended; are_due = D.are_due; keeps = stays D f.buffers; outs = D.outs; fit = D.fit })
-  driving_works (OneDone x) =
-      let t : Ends start requests n D.due D.ended answers x.place x.end (record { units = new.units; pending = new.due }) new.memory = keeps_execute D.keeps D.are_due refl D.outs.apart x.executes in
-      rw x.is (record {
-        due = remove D.due x.place;
-        ended = D.ended ++ record { posted = t.posted; end = x.end } ∷ [];
-        are_due = t.pending;
-        keeps = t.keeps;
-        outs = outs_execute D.outs x.place t.posted x.end t.stands t.reference;
-        fit = D.fit;
-      })
+-- ---- an end
 
 -- the end that waits first is that of the command that has ended first
 record FirstEnded (ended : List Ended) (e : End) : Type 0 where
@@ -90,48 +73,83 @@ first_ended : (ended : List Ended) (e : End) (rest : List End) → e ∷ rest �
 first_ended [] e rest waits = absurd (cc)
 first_ended (d ∷ later) e rest waits = record { first = d; later = later; is = refl; end_is = cc }
 
-module _ {start : Units} {requests : List Request} {n : ℕ} {out : List (Option Out)} {answers : List Answer} {host new : HostState} {e : End} (D : Driving start requests n out answers host) (takes : TakesEnd host e new) where
-  split : FirstEnded D.ended e
-  split = first_ended D.ended e new.waiting (sym takes.waited ∙ D.outs.waits)
-
-  outs_split : Outs out D.due (split.first ∷ split.later) (e ∷ new.waiting)
-  outs_split = subst₂ (λ (es : List Ended) (w : List End). Outs out D.due es w) split.is takes.waited D.outs
-
-  -- an end is of one that is out
-  pub end_refers : IsReferred e.reference out
-  end_refers = let it = own outs_split in record { number = it.number; one = it.one; stands = it.stands; refers = own_reference outs_split }
-
-  -- once it is told, that one is out no more
-  pub driving_takes : length requests ≤ length answers → (done : IsReferred e.reference out)
-      → Driving start requests n (set out done.number None) (slice_set answers done.one.place (answer_of (request_value done.one.request.now).act e (buffer_of (posted_with done.number done.one) new.memory))) new
-  driving_takes room done =
-      let p = posted_with done.number done.one in
-      let back = outs_take outs_split done.number done.one done.stands done.refers in
-      let delivered = keeps_deliver room (subst (λ (es : List Ended). Keeps start requests n D.due es answers host.units new.memory) split.is (stays D takes.buffers)) in
-      let told : answer_now new.memory split.first ≡ answer_of p.request.act e (buffer_of p new.memory) = ap₂ (λ (q : Posted) (x : End). answer_of q.request.act x (buffer_of q new.memory)) (sym back.same) split.end_is in
-      let answers_are = ap₂ (slice_set answers) (ap (λ (q : Posted). q.place) (sym back.same)) told in
-      rw takes.is (record {
-        due = D.due;
-        ended = split.later;
-        are_due = D.are_due;
-        keeps = subst (λ (now : List Answer). Keeps start requests n D.due split.later now host.units new.memory) answers_are delivered;
-        outs = back.outs;
-        fit = λ k one stands. D.fit k one (freed_at out done.number k one (slice_get_within out done.number _ done.stands) stands).1;
-      })
-
--- ---- one more request
-
+-- what may be out of the first n requests may be of more
 pub still_fit : {n m : ℕ} {one : Out} → n ≤ m → IsFit n one → IsFit m one
 still_fit le fit = record { before = omega (arith, fit.before); short = fit.short; prepared = fit.prepared }
 
+-- ---- nothing is out yet
+
+pub driving_start : {host : HostState} {out : List (Option Out)} (requests : List Request) (answers : List Answer) → IsIdle host → out ≡ replicate PENDING_LIMIT None → Driving host.units requests 0 out answers host
+driving_start {host} {out} requests answers idle none = record {
+  due = [];
+  ended = [];
+  are_due = idle.none_due;
+  keeps = keeps_start host.units requests answers host.memory;
+  outs = outs_none out host.waiting none idle.none_wait;
+  fit = λ number one stands. absurd (none_at PENDING_LIMIT number one (sym (ap (λ (o : List (Option Out)). slice_get o number) none) ∙ stands));
+}
+
+-- ---- the steps
+
 module _ {start : Units} {requests : List Request} {n : ℕ} {out : List (Option Out)} {answers : List Answer} {host : HostState} (D : Driving start requests n out answers host) where
+  stays : {after : List ℕ} → BuffersStay host.memory after → Keeps start requests n D.due D.ended answers host.units after
+  stays stay = stay_kept (of_alive D.outs IsBuffered (has_buffer _ D.outs.sized D.fit)) stay D.keeps
+
+  -- as many are out as the host has
+  pub counted_out : count_out out ≡ out_of host
+  counted_out =
+      omega (arith, D.outs.counted, length-append (map (λ (d : Ended). d.posted) D.ended) D.due, length-map D.ended (λ (d : Ended). d.posted), length-map D.ended (λ (d : Ended). d.end), ap length D.outs.waits, ap length D.are_due, length-map D.due posted_command)
+
+  -- a turn
+  pub driving_works : {new : HostState} → Works host new → Driving start requests n out answers new
+  driving_works (OneFetched f) = rw f.is (record { due = D.due; ended = D.ended; are_due = D.are_due; keeps = stays f.buffers; outs = D.outs; fit = D.fit })
+  driving_works {new} (OneDone x) =
+      let t : Ends start requests n D.due D.ended answers x.place x.end (record { units = new.units; pending = new.due }) new.memory = keeps_execute D.keeps D.are_due refl D.outs.apart x.executes in
+      rw x.is (record {
+        due = remove D.due x.place;
+        ended = D.ended ++ record { posted = t.posted; end = x.end } ∷ [];
+        are_due = t.pending;
+        keeps = t.keeps;
+        outs = outs_execute D.outs x.place t.posted x.end t.stands t.reference;
+        fit = D.fit;
+      })
+
+  module _ {new : HostState} {e : End} (takes : TakesEnd host e new) where
+    split : FirstEnded D.ended e
+    split = first_ended D.ended e new.waiting (sym takes.waited ∙ D.outs.waits)
+
+    outs_split : Outs out D.due (split.first ∷ split.later) (e ∷ new.waiting)
+    outs_split = subst₂ (λ (es : List Ended) (w : List End). Outs out D.due es w) split.is takes.waited D.outs
+
+    -- an end is of one that is out
+    pub end_refers : IsReferred e.reference out
+    end_refers = let it = own outs_split in record { number = it.number; one = it.one; stands = it.stands; refers = own_reference outs_split }
+
+    -- once it is told, that one is out no more
+    pub driving_takes : length requests ≤ length answers → (done : IsReferred e.reference out)
+        → Driving start requests n (set out done.number None) (slice_set answers done.one.place (answer_of (request_value done.one.request.now).act e (buffer_of (posted_with done.number done.one) new.memory))) new
+    driving_takes room done =
+        let p = posted_with done.number done.one in
+        let back = outs_take outs_split done.number done.one done.stands done.refers in
+        let delivered = keeps_deliver room (subst (λ (es : List Ended). Keeps start requests n D.due es answers host.units new.memory) split.is (stays takes.buffers)) in
+        let told : answer_now new.memory split.first ≡ answer_of p.request.act e (buffer_of p new.memory) = ap₂ (λ (q : Posted) (x : End). answer_of q.request.act x (buffer_of q new.memory)) (sym back.same) split.end_is in
+        let answers_are = ap₂ (slice_set answers) (ap (λ (q : Posted). q.place) (sym back.same)) told in
+        rw takes.is (record {
+          due = D.due;
+          ended = split.later;
+          are_due = D.are_due;
+          keeps = subst (λ (now : List Answer). Keeps start requests n D.due split.later now host.units new.memory) answers_are delivered;
+          outs = back.outs;
+          fit = λ k one stands. D.fit k one (freed_at out done.number k one (slice_get_within out done.number _ done.stands) stands).1;
+        })
+
   -- one that is too long is never posted
-  pub driving_skip : (r : Request) → slice_get requests n ≡ Some r → too_long r ≡ true → Driving start requests (n + 1) out answers host
-  driving_skip r asked long = record {
+  pub driving_skip : (r : Request) → slice_get requests n ≡ Some r → too_long r ≡ true → slice_get answers n ≡ Some TooLong → Driving start requests (n + 1) out answers host
+  driving_skip r asked long blank = record {
     due = D.due;
     ended = D.ended;
     are_due = D.are_due;
-    keeps = keeps_skip D.keeps r asked long;
+    keeps = keeps_skip D.keeps r asked long blank;
     outs = D.outs;
     fit = λ number one stands. still_fit (omega arith) (D.fit number one stands);
   }
@@ -183,27 +201,10 @@ module _ {start : Units} {requests : List Request} {n : ℕ} {out : List (Option
           fit = fit_after;
         })
 
--- ---- nothing is out
-
-pub driving_start : {host : HostState} {out : List (Option Out)} (requests : List Request) (answers : List Answer) → IsIdle host → out ≡ replicate PENDING_LIMIT None
-    → ((k : ℕ) (r : Request) → slice_get requests k ≡ Some r → too_long r ≡ true → slice_get answers k ≡ Some TooLong) → Driving host.units requests 0 out answers host
-driving_start {host} {out} requests answers idle none long = record {
-  due = [];
-  ended = [];
-  are_due = idle.none_due;
-  keeps = keeps_start host.units requests answers host.memory long;
-  outs = outs_none out host.waiting none idle.none_wait;
-  fit = λ number one stands. absurd (none_at PENDING_LIMIT number one (sym (ap (λ (o : List (Option Out)). slice_get o number) none) ∙ stands));
-}
-
-pub driving_end : {start : Units} {requests : List Request} {n : ℕ} {out : List (Option Out)} {answers : List Answer} {host : HostState}
-    → length answers ≡ length requests → length requests ≤ n → out_of host ≡ 0 → Driving start requests n out answers host → Owes start requests answers host.units × NoneToCome requests answers
-driving_end {start} {requests} {n} {answers = answers} {host} size all none D =
-    let none_due = nil_from_length D.due (omega (arith, none, ap length D.are_due, length-map D.due posted_command)) in
-    let none_ended = nil_from_length D.ended (omega (arith, none, ap length D.outs.waits, length-map D.ended (λ (d : Ended). d.end))) in
-    keeps_end size all (subst₂ (λ (due : List Posted) (ended : List Ended). Keeps start requests n due ended answers host.units host.memory) none_due none_ended D.keeps)
-
--- as many are out as the host has
-pub counted_out : {start : Units} {requests : List Request} {n : ℕ} {out : List (Option Out)} {answers : List Answer} {host : HostState} → Driving start requests n out answers host → count_out out ≡ out_of host
-counted_out D =
-    omega (arith, D.outs.counted, length-append (map (λ (d : Ended). d.posted) D.ended) D.due, length-map D.ended (λ (d : Ended). d.posted), length-map D.ended (λ (d : Ended). d.end), ap length D.outs.waits, ap length D.are_due, length-map D.due posted_command)
+  -- all are posted, and nothing is out
+  pub driving_end : length answers ≡ length requests → length requests ≤ n → out_of host ≡ 0
+      → Owes start requests answers host.units × NoneToCome requests answers
+  driving_end size all none =
+      let none_due = nil_from_length D.due (omega (arith, none, ap length D.are_due, length-map D.due posted_command)) in
+      let none_ended = nil_from_length D.ended (omega (arith, none, ap length D.outs.waits, length-map D.ended (λ (d : Ended). d.end))) in
+      keeps_end size all (subst₂ (λ (due : List Posted) (ended : List Ended). Keeps start requests n due ended answers host.units host.memory) none_due none_ended D.keeps)

@@ -12,7 +12,7 @@ use Rattle.uda_exec.specs.Disks.{PENDING_LIMIT}
 use Rattle.uda_disk.proofs.Slots.{slice_get-set_same, slice_get-set_other}
 use Rattle.uda_posting.specs.Posting.{Posted}
 use Rattle.uda_posting.specs.Keeping.{Ended, RefersBack, Apart, alive}
-use Rattle.uda_posting.proofs.Ending.{apart_turned}
+use Rattle.uda_posting.proofs.Owing.{apart_turned}
 use Rattle.uda_disk.proofs.Lists.{All-remove, All-at, pairs_first, pairs_rest, pairs_others}
 use Rattle.uda_driver.specs.Out.{posted_with, IsOut}
 use Rattle.uda_driver.specs.Underway.{Outs}

@@ -1,27 +1,35 @@
--- What is owed, as a request is done by its command.
-use Rattle.std.proofs.Common.{◌≡◌, ◌≢◌, ℕ, ◌+◌, ◌<◌, inl, inr, Bool, true, false, List, [], ◌∷◌, set, get_or, Option, None, Some, refl, sym, ap, ap₂, ◌∙◌, arith, subst, subst₂}
-use Rattle.std.specs.Prelude.{slice_get, slice_set, option_map, map, nat_eq, ◌&&◌, if◌then◌else◌}
+-- What is owed and what is due, as requests are posted and done by their commands.
+use Rattle.std.proofs.Common.{◌≡◌, ◌≢◌, ℕ, suc, min, max, ◌+◌, ◌<◌, ◌≤◌, ◌⊎◌, inl, inr, Bool, true, false, List, [], ◌∷◌, ◌++◌, length, set, get_or, Option, None, Some, refl, sym, ap, ap₂, ◌∙◌, arith, subst, subst₂}
+use Rattle.std.specs.Prelude.{slice_get, slice_set, option_map, map, remove, All, AllPairs, nat_eq, ◌&&◌, if◌then◌else◌}
+use Rattle.std.proofs.Math.Bool.{and_comm, or_comm}
 use Rattle.std.proofs.lemmas.List.{length-set, length-map, map-set}
-use Rattle.std.proofs.lemmas.Bool.{cases_eq, eq-eqb, ne_eqb}
+use Rattle.std.proofs.lemmas.List.Elements.{All-nil, All-cons, All-push}
+use Rattle.std.proofs.lemmas.List.Quantifiers.{all_pairs_push, all_pairs_remove}
+use Rattle.std.proofs.lemmas.Bool.{cases_eq, cases_lt, eq-eqb, ne_eqb}
+use Rattle.std.proofs.lemmas.Bool.Decides.{nat_tests}
 use Rattle.std.proofs.lemmas.Option.{slice_get_within, slice_get-map, slice_get-get_or}
 use Rattle.uda_packet.specs.declared.end.End.{End}
 use Rattle.uda_disk.specs.Disk.{Disks}
-use Rattle.uda_disk.specs.Request.{Request}
+use Rattle.uda_disk.specs.Request.{Act, Online, Available, Request, is_moving, is_writing, lbn_of, blocks_named}
+use Rattle.uda_disk.specs.Order.{clash}
 use Rattle.uda_disk.specs.Answer.{Answer, TooLong}
 use Rattle.uda_disk.specs.Plain.{Done, is_lost}
-use Rattle.uda_disk.specs.PlainRun.{FixedRequest, step_of, step, plain, PlainWithLosses, tells_error, drive_errors}
+use Rattle.uda_disk.specs.PlainRun.{too_long, FixedRequest, step_of, step, plain, PlainWithLosses, tells_error, drive_errors}
 use Rattle.uda_disk.specs.Form.{IsAnswerOf}
 use Rattle.uda_disk.proofs.Slots.{slice_get-set_same, slice_get-set_other}
 use Rattle.uda_disk.proofs.Runs.{length-runs}
+use Rattle.uda_disk.proofs.Lists.{put_back, All-remove, All-insert, All-at, All-front, slice_get-last, pairs_others}
 use Rattle.uda_disk.proofs.Errors.{is_error, losses_told, errors-set}
 use Rattle.uda_disk.specs.Units.{disks_of, failures_at, Units, AllFaithful, is_sure}
 use Rattle.uda_exec.specs.Execution.{Executes}
+use Rattle.uda_exec.specs.Order.{MayGo}
 use Rattle.uda_exec.proofs.Units.{faithful_stays, sure_stays}
 use Rattle.uda_model.specs.Ledger.{untold, told_by, IsToCome, NoneToCome, GoesBefore}
 use Rattle.uda_model.proofs.LedgerSteps.{ledger_opens, ledger_carries_out, ledger_closes}
-use Rattle.uda_posting.specs.Posting.{answer_of, Posted, posted_command, buffer_of, Ready}
-use Rattle.uda_posting.specs.Keeping.{Owes}
+use Rattle.uda_posting.specs.Posting.{answer_of, Posted, posted_command, commands_in, buffer_of, Ready}
+use Rattle.uda_posting.specs.Keeping.{IsEarlier, IsNotAt, IsDue, AreDue, Apart, Owes}
 use Rattle.uda_posting.specs.Seeming.{bares, is_done, has_begun, outline, outlines, TellsTransfer, GoesAs, AllGoAs, SeemsPlain}
+use Rattle.uda_posting.proofs.Posts.{passes}
 use Rattle.uda_posting.proofs.Seemings.{look, step_looks, run_looks, plain_each, outline_same, goes_as, IsServed, served}
 
 -- ---- failures
@@ -131,6 +139,155 @@ owes_done {start} {requests} {told} {units} {after} {memory} {left} {e} owes p o
       counted = length-set told i a ∙ owes.counted;
       natures = x.natures_stay ∙ owes.natures;
     }
+
+-- ---- two that are out
+
+-- two requests clash either way
+pub clash_turned : (r s : Request) → clash r s ≡ false → clash s r ≡ false
+clash_turned r s h =
+    let units : nat_eq s.unit r.unit ≡ nat_eq r.unit s.unit = grind (arith, nat_tests) in
+    let starts : max (lbn_of s.act) (lbn_of r.act) ≡ max (lbn_of r.act) (lbn_of s.act) = omega arith in
+    let ends : min (lbn_of s.act + blocks_named s.act) (lbn_of r.act + blocks_named r.act) ≡ min (lbn_of r.act + blocks_named r.act) (lbn_of s.act + blocks_named s.act) = omega arith in
+    rw (and_comm (is_moving s.act) (is_moving r.act), units, or_comm (is_writing s.act) (is_writing r.act), starts, ends) h
+
+pub apart_turned : (p q : Posted) → Apart p q → Apart q p
+apart_turned p q apart = record { two = λ same. apart.two (sym same); beside = λ meet. apart.beside (omega arith); clear = clash_turned p.request q.request apart.clear }
+
+pub apart_others : (due : List Posted) (j : ℕ) (p : Posted) → AllPairs Apart due → slice_get due j ≡ Some p → All (Apart p) (remove due j)
+apart_others due j p apart at = pairs_others Apart Apart (λ y z two. (two, apart_turned y z two)) due j p apart at
+
+-- ---- what is still to come
+
+pub is_told : (act : Act) (e : End) (buffer : List ℕ) → answer_of act e buffer ≢ TooLong
+is_told (Online protect) e buffer same = cc
+is_told _ e buffer same = cc
+
+-- where another answer is told, the same is still to come
+pub told_at : (requests : List Request) (told : List Answer) (i k : ℕ) (a : Answer) (r : Request) → k ≢ i → IsToCome requests told k r → IsToCome requests (slice_set told i a) k r
+told_at requests told i k a r other it = record { stands = it.stands; short = it.short; untold = slice_get-set_other told i k a other ∙ it.untold }
+
+-- and what is still to come was so before
+was_to_come : (requests : List Request) (told : List Answer) (i k : ℕ) (a : Answer) (r : Request) → i < length told → a ≢ TooLong → IsToCome requests (slice_set told i a) k r → (k ≢ i) × IsToCome requests told k r
+was_to_come requests told i k a r low new it = elim (cases_eq k i) [
+  | inl same ↦
+      let both : Some a ≡ Some TooLong = sym (slice_get-set_same told i a low) ∙ ap (slice_get (set told i a)) (sym same) ∙ it.untold in
+      let is : a ≡ TooLong = cc in absurd (new is)
+  | inr other ↦ (other, record { stands = it.stands; short = it.short; untold = sym (slice_get-set_other told i k a other) ∙ it.untold })
+]
+
+-- ---- what is due
+
+-- one of these is at place k
+record StandsAt (due : List Posted) (d : Posted) (k : ℕ) : Type 0 where
+  index : ℕ
+  low : index < length due
+  place : (get_or due index d).place ≡ k
+
+find : (due : List Posted) (d : Posted) (k : ℕ) → StandsAt due d k ⊎ All (IsNotAt k) due
+find [] d k = inr (All-nil (IsNotAt k))
+find (p ∷ rest) d k = elim (cases_eq p.place k) [
+  | inl same ↦ inl (record { index = 0; low = omega arith; place = same })
+  | inr other ↦ (elim (find rest d k) [
+      | inl it ↦ inl (record { index = suc it.index; low = omega (arith, it.low); place = it.place })
+      | inr none ↦ inr (All-cons (IsNotAt k) p rest other none)
+    ])
+]
+
+pub due_start : (requests : List Request) → AreDue requests 0 (untold requests) []
+due_start requests = record {
+  each = All-nil (IsDue requests 0 (untold requests));
+  in_order = λ i j d before within. absurd (omega arith);
+  no_other = λ k r it none. omega arith;
+  untold = λ k le low. untold_at requests k _ (slice_get-get_or requests k (record { unit = 0; act = Available }) low);
+}
+
+-- another place than that of one, where none of the others is, is no place of any
+pub due_back : (due : List Posted) (j k : ℕ) (d : Posted) → j < length due → (get_or due j d).place ≢ k → All (IsNotAt k) (remove due j) → All (IsNotAt k) due
+due_back due j k d low other none = let p = get_or due j d in subst (All (IsNotAt k)) (put_back due j p (slice_get-get_or due j d low)) (All-insert (IsNotAt k) (remove due j) j p other none)
+
+module _ {requests : List Request} {n : ℕ} {told : List Answer} {due : List Posted} (D : AreDue requests n told due) where
+  -- one of the first n is one of the first n + 1
+  still_due : All (IsDue requests (n + 1) told) due
+  still_due k d l = let it = D.each k d l in record { before = omega (arith, it.before); to_come = it.to_come }
+
+  -- the next request is too long
+  pub due_skip : (r : Request) → slice_get requests n ≡ Some r → too_long r ≡ true → AreDue requests (n + 1) told due
+  due_skip r asked long = record {
+    each = still_due;
+    in_order = D.in_order;
+    no_other = λ k s it none. elim (cases_eq k n) [
+      | inl same ↦
+          (let both : Some r ≡ Some s = sym asked ∙ ap (slice_get requests) (sym same) ∙ it.stands in
+          let is : r ≡ s = cc in absurd (cc (long, it.short, ap too_long is)))
+      | inr other ↦ omega (arith, D.no_other k s it none)
+    ];
+    untold = λ k le. D.untold k (omega arith);
+  }
+
+  -- the next request is posted
+  pub due_post : (p : Posted) → p.place ≡ n → slice_get requests p.place ≡ Some p.request → too_long p.request ≡ false → AreDue requests (n + 1) told (due ++ p ∷ [])
+  due_post p place asked short = record {
+    each = All-push (IsDue requests (n + 1) told) due p still_due (record {
+      before = omega (arith, place);
+      to_come = record { stands = asked; short = short; untold = D.untold p.place (omega arith) (slice_get_within requests p.place p.request asked) };
+    });
+    in_order = all_pairs_push IsEarlier due p D.in_order (λ k d l. omega (arith, (D.each k d l).before, place));
+    no_other = λ k r it none.
+        let other : p.place ≢ k = All-at (IsNotAt k) (due ++ p ∷ []) (length due) p none (slice_get-last due (length due) p refl) in
+        omega (arith, D.no_other k r it (All-front (IsNotAt k) due (p ∷ []) none), other, place);
+    untold = λ k le. D.untold k (omega arith);
+  }
+
+  module _ (j : ℕ) (d : Posted) (low : j < length due) where
+    abbrev p : Posted
+    p = get_or due j d
+
+    at_p : slice_get due j ≡ Some p
+    at_p = slice_get-get_or due j d low
+
+    -- one that may go goes before each older one that is to come
+    pub due_before : AllPairs Apart due → MayGo (commands_in due) j → (k : ℕ) (older : Request) → k < p.place → IsToCome requests told k older → GoesBefore older p.request
+    due_before apart may k older below it = elim (find due d k) [
+      | inl found ↦
+          (let m = found.index in let q = get_or due m d in
+          let first : m < j = elim (cases_lt m j) [
+            | inl low ↦ low
+            | inr past ↦ (elim (cases_eq m j) [
+                | inl same ↦ absurd (omega (arith, ap (λ at. (get_or due at d).place) same, found.place))
+                | inr other ↦ absurd (omega (arith, D.in_order j m d (omega arith) found.low, found.place))
+              ])
+          ] in
+          let asked : Some q.request ≡ Some older = sym (D.each m d found.low).to_come.stands ∙ ap (slice_get requests) found.place ∙ it.stands in
+          let is : q.request ≡ older = cc in
+          subst (λ r. GoesBefore r p.request) is (record {
+            passes = passes q p (may.passes m (posted_command q) (posted_command p) first (command_at m found.low) (command_at j low));
+            clear = (apart m j d first low).clear;
+          }))
+      | inr none ↦ absurd (omega (arith, D.no_other k older it none, (D.each j d low).before))
+    ]
+      where
+        command_at : (m : ℕ) → m < length due → slice_get (commands_in due) m ≡ Some (posted_command (get_or due m d))
+        command_at m low = slice_get-map posted_command due m ∙ ap (option_map posted_command) (slice_get-get_or due m d low)
+
+    -- it is done
+    pub due_done : (a : Answer) → a ≢ TooLong → AllPairs Apart due → AreDue requests n (slice_set told p.place a) (remove due j)
+    due_done a new apart =
+        let own = D.each j d low in
+        let others = apart_others due j p apart at_p in
+        record {
+          each = λ k q l.
+              let was = All-remove (IsDue requests n told) due j D.each k q l in
+              record { before = was.before; to_come = told_at requests told p.place _ a _ (λ same. (others k q l).two (sym same)) was.to_come };
+          in_order = all_pairs_remove IsEarlier due j low D.in_order;
+          no_other = λ k r it none.
+              let was = was_to_come requests told p.place k a r (slice_get_within told p.place TooLong own.to_come.untold) new it in
+              D.no_other k r was.1 (due_back due j k d low (λ same. was.0 (sym same)) none);
+          untold = λ k le within. slice_get-set_other told p.place k a (λ same. omega (arith, own.before, same)) ∙ D.untold k le within;
+        }
+
+-- where nothing is due, no answer is to come
+pub due_none : (requests : List Request) (n : ℕ) (told : List Answer) → length requests ≤ n → AreDue requests n told [] → NoneToCome requests told
+due_none requests n told all D k r it = omega (arith, D.no_other k r it (All-nil (IsNotAt k)), slice_get_within requests k r it.stands, all)
 
 -- ---- nothing is still to come
 

@@ -41,6 +41,14 @@ pub record IsDue (requests : List Request) (n : ℕ) (told : List Answer) (p : P
   pub before : p.place < n
   pub to_come : IsToCome requests told p.place p.request
 
+-- Of these requests exactly these are due, in the order of their places, of those among the first n that are to
+-- come. Of the requests behind them no answer is told.
+pub record AreDue (requests : List Request) (n : ℕ) (told : List Answer) (due : List Posted) : Type 0 where
+  pub each : All (IsDue requests n told) due
+  pub in_order : AllPairs IsEarlier due
+  pub no_other : (k : ℕ) (r : Request) → IsToCome requests told k r → All (IsNotAt k) due → n ≤ k
+  pub untold : (k : ℕ) → n ≤ k → k < length requests → slice_get told k ≡ Some TooLong
+
 -- two that are out have places and buffers of their own, and don't clash
 pub record Apart (p q : Posted) : Type 0 where
   pub two : p.place ≢ q.place
@@ -103,13 +111,10 @@ pub record Keeps (start : Units) (requests : List Request) (n : ℕ) (due : List
   pub told : List Answer
   pub owes : Owes start requests told units
   pub ready : All (IsReadyIn memory) due
-  pub are_due : All (IsDue requests n told) due
-  pub in_order : AllPairs IsEarlier due
-  pub others_told : (k : ℕ) (r : Request) → IsToCome requests told k r → All (IsNotAt k) due → n ≤ k
-  pub untold : (k : ℕ) → n ≤ k → k < length requests → slice_get told k ≡ Some TooLong
+  pub are_due : AreDue requests n told due
   pub tell : All (Tells told memory) ended
-  pub shown : (k : ℕ) → k < length requests → ((r : Request) → IsToCome requests told k r → ⊥)
-      → All (EndedNotAt k) ended → slice_get answers k ≡ slice_get told k
+  pub shown : (k : ℕ) → k < n → All (IsNotAt k) due → All (EndedNotAt k) ended
+      → slice_get answers k ≡ slice_get told k
 
 -- the end gives the request by its place, counted from 1
 abbrev pub RefersBack : Ended → Type 0

@@ -71,4 +71,5 @@ loop-host-2-preserved g c =
     underway_step c.loop-host-2.invariant step.adds_up step.images (drain_ends c.args.requests.now (omega arith)) step.steps
 
 pub returns : goal.returns
-returns g c = ran c.requires.ready (omega arith) (omega (arith, c.loop-host-2-test.false, c.credits.ensures.credits)) c.loop-host-2.invariant
+returns g c = ran c.loop-host-2.invariant c.requires.ready (omega arith)
+    (omega (arith, c.loop-host-2-test.false, c.credits.ensures.credits))

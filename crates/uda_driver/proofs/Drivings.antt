@@ -39,26 +39,49 @@ pub record IsBuffered (p : Posted) : Type 0 where
   pub address_is : p.address ≡ buffer_address number
 
 pub is_above : (p : Posted) → IsBuffered p → IsAbove (posted_command p)
-is_above p is meet = let buffer = buffer-at p.request.unit p.request.act p.address is.short in omega (arith, buffer.here (omega arith), is.address_is)
+is_above p is meet =
+    let buffer = buffer-at p.request.unit p.request.act p.address is.short in
+    omega (arith, buffer.here (omega arith), is.address_is)
 
 -- commands with two buffers are beside one another
-beside_from : (p q : Posted) → IsBuffered p → IsBuffered q → q.address ≢ p.address → Beside (posted_command q) (posted_command p)
+beside_from : (p q : Posted) → IsBuffered p → IsBuffered q → q.address ≢ p.address
+    → Beside (posted_command q) (posted_command p)
 beside_from p q is that other meet =
-    let own = buffer-at p.request.unit p.request.act p.address is.short in let its = buffer-at q.request.unit q.request.act q.address that.short in
-    other (omega (arith, own.small, own.here (omega arith), its.small, its.here (omega arith), is.address_is, that.address_is))
+    let own = buffer-at p.request.unit p.request.act p.address is.short in
+    let its = buffer-at q.request.unit q.request.act q.address that.short in
+    other (omega (
+      arith,
+      own.small,
+      own.here (omega arith),
+      its.small,
+      its.here (omega arith),
+      is.address_is,
+      that.address_is,
+    ))
 
 -- ---- memory
 
 -- while the buffers stay, so does what is kept
-stay_kept : {start : Units} {requests : List Request} {n : ℕ} {due : List Posted} {ended : List Ended} {answers : List Answer} {units : Units} {memory after : List ℕ}
-    → All IsBuffered (alive ended due) → BuffersStay memory after → Keeps start requests n due ended answers units memory → Keeps start requests n due ended answers units after
+stay_kept : {start : Units} {requests : List Request} {n : ℕ} {due : List Posted} {ended : List Ended}
+    {answers : List Answer} {units : Units} {memory after : List ℕ}
+    → All IsBuffered (alive ended due) → BuffersStay memory after
+    → Keeps start requests n due ended answers units memory
+    → Keeps start requests n due ended answers units after
 stay_kept {start} {requests} {n} {due} {ended} {answers} {units} {memory} {after} all stay keeps =
     let short = length-part after 0 buffers_start in
     subst (λ (m : List ℕ). Keeps start requests n due ended answers units m) (sym stay.below)
-    (keeps_put keeps 0 (part after 0 buffers_start) (λ k d low meet. is_above (get_or (alive ended due) k d) (all k d low) (omega (arith, short))))
+    (keeps_put keeps 0 (part after 0 buffers_start)
+    (λ k d low meet. is_above (get_or (alive ended due) k d) (all k d low) (omega (arith, short))))
 
-has_buffer : {n : ℕ} (out : List (Option Out)) → length out ≡ PENDING_LIMIT → AreFit n out → (number : ℕ) (one : Out) → slice_get out number ≡ Some (Some one) → IsBuffered (posted_with number one)
-has_buffer {n} out sized fit number one stands = record { short = (fit number one stands).short; number = number; within = omega (arith, slice_get_within out number (Some one) stands, sized); address_is = refl }
+has_buffer : {n : ℕ} (out : List (Option Out)) → length out ≡ PENDING_LIMIT → AreFit n out
+    → (number : ℕ) (one : Out) → slice_get out number ≡ Some (Some one) → IsBuffered (posted_with number one)
+has_buffer {n} out sized fit number one stands =
+    record {
+      short = (fit number one stands).short;
+      number = number;
+      within = omega (arith, slice_get_within out number (Some one) stands, sized);
+      address_is = refl;
+    }
 
 -- ---- an end
 
@@ -69,7 +92,8 @@ record FirstEnded (ended : List Ended) (e : End) : Type 0 where
   is : ended ≡ first ∷ later
   end_is : first.end ≡ e
 
-first_ended : (ended : List Ended) (e : End) (rest : List End) → e ∷ rest ≡ map (λ d. d.end) ended → FirstEnded ended e
+first_ended : (ended : List Ended) (e : End) (rest : List End) → e ∷ rest ≡ map (λ d. d.end) ended
+    → FirstEnded ended e
 first_ended [] e rest waits = absurd (cc)
 first_ended (d ∷ later) e rest waits = record { first = d; later = later; is = refl; end_is = cc }
 
@@ -79,32 +103,56 @@ still_fit le fit = record { before = omega (arith, fit.before); short = fit.shor
 
 -- ---- nothing is out yet
 
-pub driving_start : {host : HostState} {out : List (Option Out)} (requests : List Request) (answers : List Answer) → IsIdle host → out ≡ replicate PENDING_LIMIT None → Driving host.units requests 0 out answers host
+pub driving_start : {host : HostState} {out : List (Option Out)} (requests : List Request)
+    (answers : List Answer) → IsIdle host → out ≡ replicate PENDING_LIMIT None
+    → Driving host.units requests 0 out answers host
 driving_start {host} {out} requests answers idle none = record {
   due = [];
   ended = [];
   are_due = idle.none_due;
   keeps = keeps_start host.units requests answers host.memory;
   outs = outs_none out host.waiting none idle.none_wait;
-  fit = λ number one stands. absurd (none_at PENDING_LIMIT number one (sym (ap (λ (o : List (Option Out)). slice_get o number) none) ∙ stands));
+  fit = λ number one stands. absurd (none_at PENDING_LIMIT number one
+      (sym (ap (λ (o : List (Option Out)). slice_get o number) none) ∙ stands));
 }
 
 -- ---- the steps
 
-module _ {start : Units} {requests : List Request} {n : ℕ} {out : List (Option Out)} {answers : List Answer} {host : HostState} (D : Driving start requests n out answers host) where
-  stays : {after : List ℕ} → BuffersStay host.memory after → Keeps start requests n D.due D.ended answers host.units after
+module _ {start : Units} {requests : List Request} {n : ℕ} {out : List (Option Out)} {answers : List Answer}
+    {host : HostState} (D : Driving start requests n out answers host) where
+  stays : {after : List ℕ} → BuffersStay host.memory after
+      → Keeps start requests n D.due D.ended answers host.units after
   stays stay = stay_kept (of_alive D.outs IsBuffered (has_buffer _ D.outs.sized D.fit)) stay D.keeps
 
   -- as many are out as the host has
   pub counted_out : count_out out ≡ out_of host
   counted_out =
-      omega (arith, D.outs.counted, length-append (map (λ (d : Ended). d.posted) D.ended) D.due, length-map D.ended (λ (d : Ended). d.posted), length-map D.ended (λ (d : Ended). d.end), ap length D.outs.waits, ap length D.are_due, length-map D.due posted_command)
+      omega (
+        arith,
+        D.outs.counted,
+        length-append (map (λ (d : Ended). d.posted) D.ended) D.due,
+        length-map D.ended (λ (d : Ended). d.posted),
+        length-map D.ended (λ (d : Ended). d.end),
+        ap length D.outs.waits,
+        ap length D.are_due,
+        length-map D.due posted_command,
+      )
 
   -- a turn
   pub driving_works : {new : HostState} → Works host new → Driving start requests n out answers new
-  driving_works (OneFetched f) = rw f.is (record { due = D.due; ended = D.ended; are_due = D.are_due; keeps = stays f.buffers; outs = D.outs; fit = D.fit })
+  driving_works (OneFetched f) = rw f.is
+      (record {
+        due = D.due;
+        ended = D.ended;
+        are_due = D.are_due;
+        keeps = stays f.buffers;
+        outs = D.outs;
+        fit = D.fit;
+      })
   driving_works {new} (OneDone x) =
-      let t : Ends start requests n D.due D.ended answers x.place x.end (record { units = new.units; pending = new.due }) new.memory = keeps_execute D.keeps D.are_due refl D.outs.apart x.executes in
+      let t : Ends start requests n D.due D.ended answers x.place x.end
+      (record { units = new.units; pending = new.due }) new.memory =
+      keeps_execute D.keeps D.are_due refl D.outs.apart x.executes in
       rw x.is (record {
         due = remove D.due x.place;
         ended = D.ended ++ record { posted = t.posted; end = x.end } ∷ [];
@@ -123,28 +171,39 @@ module _ {start : Units} {requests : List Request} {n : ℕ} {out : List (Option
 
     -- an end is of one that is out
     pub end_refers : IsReferred e.reference out
-    end_refers = let it = own outs_split in record { number = it.number; one = it.one; stands = it.stands; refers = own_reference outs_split }
+    end_refers =
+        let it = own outs_split in
+        record { number = it.number; one = it.one; stands = it.stands; refers = own_reference outs_split }
 
     -- once it is told, that one is out no more
     pub driving_takes : length requests ≤ length answers → (done : IsReferred e.reference out)
-        → Driving start requests n (set out done.number None) (slice_set answers done.one.place (answer_of (request_value done.one.request.now).act e (buffer_of (posted_with done.number done.one) new.memory))) new
+        → Driving start requests n (set out done.number None)
+        (slice_set answers done.one.place (answer_of (request_value done.one.request.now).act e
+        (buffer_of (posted_with done.number done.one) new.memory))) new
     driving_takes room done =
         let p = posted_with done.number done.one in
         let back = outs_take outs_split done.number done.one done.stands done.refers in
-        let delivered = keeps_deliver room (subst (λ (es : List Ended). Keeps start requests n D.due es answers host.units new.memory) split.is (stays takes.buffers)) in
-        let told : answer_now new.memory split.first ≡ answer_of p.request.act e (buffer_of p new.memory) = ap₂ (λ (q : Posted) (x : End). answer_of q.request.act x (buffer_of q new.memory)) (sym back.same) split.end_is in
+        let delivered = keeps_deliver room (subst
+        (λ (es : List Ended). Keeps start requests n D.due es answers host.units new.memory) split.is
+        (stays takes.buffers)) in
+        let told : answer_now new.memory split.first ≡ answer_of p.request.act e (buffer_of p new.memory) =
+        ap₂ (λ (q : Posted) (x : End). answer_of q.request.act x (buffer_of q new.memory))
+        (sym back.same) split.end_is in
         let answers_are = ap₂ (slice_set answers) (ap (λ (q : Posted). q.place) (sym back.same)) told in
         rw takes.is (record {
           due = D.due;
           ended = split.later;
           are_due = D.are_due;
-          keeps = subst (λ (now : List Answer). Keeps start requests n D.due split.later now host.units new.memory) answers_are delivered;
+          keeps = subst (λ (now : List Answer). Keeps start requests n D.due split.later now host.units
+              new.memory) answers_are delivered;
           outs = back.outs;
-          fit = λ k one stands. D.fit k one (freed_at out done.number k one (slice_get_within out done.number _ done.stands) stands).1;
+          fit = λ k one stands. D.fit k one (freed_at out done.number k one
+              (slice_get_within out done.number _ done.stands) stands).1;
         })
 
   -- one that is too long is never posted
-  pub driving_skip : (r : Request) → slice_get requests n ≡ Some r → too_long r ≡ true → slice_get answers n ≡ Some TooLong → Driving start requests (n + 1) out answers host
+  pub driving_skip : (r : Request) → slice_get requests n ≡ Some r → too_long r ≡ true
+      → slice_get answers n ≡ Some TooLong → Driving start requests (n + 1) out answers host
   driving_skip r asked long blank = record {
     due = D.due;
     ended = D.ended;
@@ -154,48 +213,70 @@ module _ {start : Units} {requests : List Request} {n : ℕ} {out : List (Option
     fit = λ number one stands. still_fit (omega arith) (D.fit number one stands);
   }
 
-  module _ {one : Out} {new : HostState} {after : List (Option Out)} (puts : PutsOut one host out new after) (fit : IsFit (n + 1) one) (place : one.place ≡ n) (asked : slice_get requests one.place ≡ Some (request_value one.request.now))
-      (clear : (number : ℕ) (other : Out) → slice_get out number ≡ Some (Some other) → clashes_with (request_value one.request.now) (Some other) ≡ false) (size : length host.memory ≡ memory_size) (left : Answer) where
+  module _ {one : Out} {new : HostState} {after : List (Option Out)} (puts : PutsOut one host out new after)
+      (fit : IsFit (n + 1) one) (place : one.place ≡ n)
+      (asked : slice_get requests one.place ≡ Some (request_value one.request.now))
+      (clear : (number : ℕ) (other : Out) → slice_get out number ≡ Some (Some other)
+      → clashes_with (request_value one.request.now) (Some other) ≡ false)
+      (size : length host.memory ≡ memory_size) (left : Answer) where
     abbrev pub now : Posted
     now = posted_with puts.number one
 
     now_buffered : IsBuffered now
-    now_buffered = record { short = fit.short; number = puts.number; within = omega (arith, slice_get_within out puts.number None puts.free, D.outs.sized); address_is = refl }
+    now_buffered = record {
+      short = fit.short;
+      number = puts.number;
+      within = omega (arith, slice_get_within out puts.number None puts.free, D.outs.sized);
+      address_is = refl;
+    }
 
-    other_buffer : (k : ℕ) (other : Out) → slice_get out k ≡ Some (Some other) → (posted_with k other).address ≢ now.address
+    other_buffer : (k : ℕ) (other : Out) → slice_get out k ≡ Some (Some other)
+        → (posted_with k other).address ≢ now.address
     other_buffer k other stands same =
-        let both : Some (Some other) ≡ Some None = sym stands ∙ ap (slice_get out) (omega (arith, same)) ∙ puts.free in cc
+        let both : Some (Some other) ≡ Some None = sym stands ∙ ap (slice_get out) (omega (arith, same))
+        ∙ puts.free in cc
 
     apart : (k : ℕ) (other : Out) → slice_get out k ≡ Some (Some other) → Apart (posted_with k other) now
     apart k other stands = record {
       two = λ same. omega (arith, (D.fit k other stands).before, place);
-      beside = beside_from now (posted_with k other) now_buffered (has_buffer out D.outs.sized D.fit k other stands) (other_buffer k other stands);
+      beside = beside_from now (posted_with k other) now_buffered
+          (has_buffer out D.outs.sized D.fit k other stands) (other_buffer k other stands);
       clear = clash_turned now.request (posted_with k other).request (clear k other stands);
     }
 
-    kept_brought : Keeps start requests (n + 1) (D.due ++ now ∷ []) D.ended (slice_set answers now.place left) host.units (put host.memory now.address (bytes_brought now.request.act))
+    kept_brought : Keeps start requests (n + 1) (D.due ++ now ∷ []) D.ended
+        (slice_set answers now.place left) host.units
+        (put host.memory now.address (bytes_brought now.request.act))
     kept_brought =
         let brought = bytes_brought now.request.act in
-        let fits = (bytes_fit now.request.act now.address).fits in let buffer = buffer-at now.request.unit now.request.act now.address fit.short in
-        let ready = ready-put now host.memory fit.short (omega arith) (omega (arith, slice_get_within out puts.number None puts.free, D.outs.sized, size)) in
-        let misses = of_alive D.outs (λ q. Misses now.address (length brought) (posted_command q)) (λ k other stands meet. (apart k other stands).beside (omega (arith, fits, buffer.here (omega (arith, fits))))) in
+        let fits = (bytes_fit now.request.act now.address).fits in
+        let buffer = buffer-at now.request.unit now.request.act now.address fit.short in
+        let ready = ready-put now host.memory fit.short (omega arith)
+        (omega (arith, slice_get_within out puts.number None puts.free, D.outs.sized, size)) in
+        let misses = of_alive D.outs (λ q. Misses now.address (length brought) (posted_command q))
+        (λ k other stands meet. (apart k other stands).beside
+        (omega (arith, fits, buffer.here (omega (arith, fits))))) in
         keeps_post (keeps_put D.keeps now.address brought misses) now left place asked ready
 
     fit_after : AreFit (n + 1) (set out puts.number (Some one))
-    fit_after = λ k other stands. elim (set_at out puts.number k (Some one) (Some other) (slice_get_within out puts.number None puts.free) stands) [
-      | inl it ↦ (let same = it.1 in let is : one ≡ other = cc in subst (IsFit (n + 1)) is fit)
-      | inr it ↦ still_fit (omega arith) (D.fit k other it.1)
-    ]
+    fit_after = λ k other stands. elim (set_at out puts.number k (Some one) (Some other)
+        (slice_get_within out puts.number None puts.free) stands) [
+          | inl it ↦ (let same = it.1 in let is : one ≡ other = cc in subst (IsFit (n + 1)) is fit)
+          | inr it ↦ still_fit (omega arith) (D.fit k other it.1)
+        ]
 
     -- what it brings stands in its buffer, and its command is posted
     pub driving_post : Driving start requests (n + 1) after (slice_set answers now.place left) new
     driving_post =
         let outs = outs_post D.outs puts.number one puts.free apart in
-        let kept = stay_kept (of_alive outs IsBuffered (has_buffer (set out puts.number (Some one)) outs.sized fit_after)) puts.posts.buffers kept_brought in
+        let kept = stay_kept (of_alive outs IsBuffered
+        (has_buffer (set out puts.number (Some one)) outs.sized fit_after)) puts.posts.buffers
+        kept_brought in
         rw (puts.out_is, puts.posts.is) (record {
           due = D.due ++ now ∷ [];
           ended = D.ended;
-          are_due = ap (λ (cs : List Command). cs ++ posted_command now ∷ []) D.are_due ∙ sym (map_push posted_command D.due now);
+          are_due = ap (λ (cs : List Command). cs ++ posted_command now ∷ []) D.are_due
+              ∙ sym (map_push posted_command D.due now);
           keeps = kept;
           outs = outs;
           fit = fit_after;
@@ -205,6 +286,10 @@ module _ {start : Units} {requests : List Request} {n : ℕ} {out : List (Option
   pub driving_end : length answers ≡ length requests → length requests ≤ n → out_of host ≡ 0
       → Owes start requests answers host.units × NoneToCome requests answers
   driving_end size all none =
-      let none_due = nil_from_length D.due (omega (arith, none, ap length D.are_due, length-map D.due posted_command)) in
-      let none_ended = nil_from_length D.ended (omega (arith, none, ap length D.outs.waits, length-map D.ended (λ (d : Ended). d.end))) in
-      keeps_end size all (subst₂ (λ (due : List Posted) (ended : List Ended). Keeps start requests n due ended answers host.units host.memory) none_due none_ended D.keeps)
+      let none_due = nil_from_length D.due (omega
+      (arith, none, ap length D.are_due, length-map D.due posted_command)) in
+      let none_ended = nil_from_length D.ended
+      (omega (arith, none, ap length D.outs.waits, length-map D.ended (λ (d : Ended). d.end))) in
+      keeps_end size all (subst₂ (λ (due : List Posted)
+      (ended : List Ended). Keeps start requests n due ended answers host.units host.memory) none_due
+      none_ended D.keeps)

@@ -33,21 +33,28 @@ triangle-is n = let h = double n in omega arith
 
 -- ---- the lead goes on, or ends
 
-lead-post : (room : ℕ) (seen : List Request) (r : Request) (rest : List Request) → 0 < room → too_long r ≡ false → list_any (clash r) seen ≡ false → lead_from room seen (r ∷ rest) ≡ lead_from (room - 1) (r ∷ seen) rest + 1
+lead-post : (room : ℕ) (seen : List Request) (r : Request) (rest : List Request) → 0 < room
+    → too_long r ≡ false → list_any (clash r) seen ≡ false
+    → lead_from room seen (r ∷ rest) ≡ lead_from (room - 1) (r ∷ seen) rest + 1
 lead-post zero seen r rest some short clear = absurd (omega arith)
-lead-post (suc room) seen r rest some short clear = let e : suc room - 1 ≡ room = omega arith in rw (e, short, clear) (omega arith)
+lead-post (suc room) seen r rest some short clear =
+    let e : suc room - 1 ≡ room = omega arith in
+    rw (e, short, clear) (omega arith)
 
-lead-skip : (room : ℕ) (seen : List Request) (r : Request) (rest : List Request) → too_long r ≡ true → lead_from room seen (r ∷ rest) ≡ lead_from room seen rest
+lead-skip : (room : ℕ) (seen : List Request) (r : Request) (rest : List Request) → too_long r ≡ true
+    → lead_from room seen (r ∷ rest) ≡ lead_from room seen rest
 lead-skip zero seen r [] long = refl
 lead-skip zero seen r (s ∷ rest) long = refl
 lead-skip (suc room) seen r rest long = rw long refl
 
 -- one that must wait ends it
-pub lead-waits : (room : ℕ) (seen : List Request) (r : Request) (rest : List Request) → too_long r ≡ false → nat_eq room 0 || list_any (clash r) seen ≡ true → lead_from room seen (r ∷ rest) ≡ 0
+pub lead-waits : (room : ℕ) (seen : List Request) (r : Request) (rest : List Request) → too_long r ≡ false
+    → nat_eq room 0 || list_any (clash r) seen ≡ true → lead_from room seen (r ∷ rest) ≡ 0
 lead-waits zero seen r rest short waits = refl
 lead-waits (suc room) seen r rest short waits =
     let some : nat_eq (suc room) 0 ≡ false = eqb-suc-zero room in
-    let met : list_any (clash r) seen ≡ true = ap (λ (b : Bool). b || list_any (clash r) seen) (sym some) ∙ waits in rw (short, met) refl
+    let met : list_any (clash r) seen ≡ true = ap (λ (b : Bool). b || list_any (clash r) seen) (sym some)
+    ∙ waits in rw (short, met) refl
 
 pub lead-none : (room : ℕ) (seen : List Request) → lead_from room seen [] ≡ 0
 lead-none zero seen = refl
@@ -72,7 +79,9 @@ next requests n r stands =
 
 -- ---- the steps
 
-pub load_start : {start : HostState} {out : List (Option Out)} (requests : List Request) → out ≡ replicate PENDING_LIMIT None → start.due ≡ [] → start.credits ≡ PENDING_LIMIT → LoadAt start requests 0 out start
+pub load_start : {start : HostState} {out : List (Option Out)} (requests : List Request)
+    → out ≡ replicate PENDING_LIMIT None → start.due ≡ [] → start.credits ≡ PENDING_LIMIT
+    → LoadAt start requests 0 out start
 load_start requests none idle all = GoesOn (record {
   seen = [];
   clash_alike = λ r. sym (ap (clashes_with_any r) none);
@@ -82,54 +91,91 @@ load_start requests none idle all = GoesOn (record {
 })
 
 -- where no more come in the lead, it is over
-pub over_from : {start host : HostState} {requests : List Request} {n : ℕ} {out : List (Option Out)} → ((l : InLead start requests n out host) → lead_from host.credits l.seen (drop n requests) ≡ 0)
+pub over_from : {start host : HostState} {requests : List Request} {n : ℕ} {out : List (Option Out)}
+    → ((l : InLead start requests n out host) → lead_from host.credits l.seen (drop n requests) ≡ 0)
     → LoadAt start requests n out host → LeadOver start requests n host
 over_from {host = host} {requests} {n} none (GoesOn l) =
     let all : lead requests ≡ length host.due = l.ahead ∙ omega (arith, none l) in
-    record { within = omega (arith, all, l.all_due); load = omega (arith, ap triangle all, all, l.all_due, l.load_is) }
+    record {
+      within = omega (arith, all, l.all_due);
+      load = omega (arith, ap triangle all, all, l.all_due, l.load_is);
+    }
 over_from none (IsOver over) = over
 
-module _ {start host new : HostState} {requests : List Request} {n : ℕ} (over : LeadOver start requests n host) where
+module _ {start host new : HostState} {requests : List Request} {n : ℕ}
+    (over : LeadOver start requests n host) where
   pub over_works : Works host new → LeadOver start requests n new
   over_works (OneFetched f) = rw f.is (record { within = over.within; load = over.load })
   over_works (OneDone x) =
       let taken = x.executes.taken in
-      let fewer : length host.due ≡ length new.due + 1 = omega (arith, ap length taken.taken, length-remove host.due x.place taken.may.stands, taken.may.stands) in
-      rw x.is (record { within = over.within; load = omega (arith, over.load, ap triangle fewer, triangle-more (length new.due), fewer) })
+      let fewer : length host.due ≡ length new.due + 1 =
+      omega (
+        arith,
+        ap length taken.taken,
+        length-remove host.due x.place taken.may.stands,
+        taken.may.stands,
+      ) in
+      rw x.is (record {
+        within = over.within;
+        load = omega (arith, over.load, ap triangle fewer, triangle-more (length new.due), fewer);
+      })
 
   pub over_takes : {e : End} → TakesEnd host e new → LeadOver start requests n new
   over_takes t = rw t.is (record { within = over.within; load = over.load })
 
-module _ {start host : HostState} {requests : List Request} {n : ℕ} {out : List (Option Out)} {r : Request} (it : Next requests n r) where
-  pub load_skip : too_long r ≡ true → LoadAt start requests n out host → LoadAt start requests (n + 1) out host
+module _ {start host : HostState} {requests : List Request} {n : ℕ} {out : List (Option Out)} {r : Request}
+    (it : Next requests n r) where
+  pub load_skip : too_long r ≡ true → LoadAt start requests n out host
+      → LoadAt start requests (n + 1) out host
   load_skip long (GoesOn l) = GoesOn (record {
     seen = l.seen;
     clash_alike = l.clash_alike;
-    ahead = l.ahead ∙ ap (λ (rest : List Request). length host.due + lead_from host.credits l.seen rest) it.rest ∙ ap (λ (k : ℕ). length host.due + k) (lead-skip host.credits l.seen r (drop (n + 1) requests) long);
+    ahead = l.ahead ∙ ap (λ (rest : List Request). length host.due + lead_from host.credits l.seen rest)
+        it.rest ∙ ap (λ (k : ℕ). length host.due + k)
+        (lead-skip host.credits l.seen r (drop (n + 1) requests) long);
     all_due = l.all_due ∙ sym (it.skipped long);
     load_is = l.load_is;
   })
-  load_skip long (IsOver over) = let same = it.skipped long in IsOver (record { within = omega (arith, over.within, same); load = omega (arith, over.load, same) })
+  load_skip long (IsOver over) =
+      let same = it.skipped long in
+      IsOver (record { within = omega (arith, over.within, same); load = omega (arith, over.load, same) })
 
-  pub load_post : {one : Out} {new : HostState} {after : List (Option Out)} → request_value one.request.now ≡ r → too_long r ≡ false → 0 < host.credits → clashes_with_any r out ≡ false
-      → (puts : PutsOut one host out new after) → LoadAt start requests n out host → LoadAt start requests (n + 1) (set out puts.number (Some one)) new
+  pub load_post : {one : Out} {new : HostState} {after : List (Option Out)}
+      → request_value one.request.now ≡ r → too_long r ≡ false → 0 < host.credits
+      → clashes_with_any r out ≡ false
+      → (puts : PutsOut one host out new after) → LoadAt start requests n out host
+      → LoadAt start requests (n + 1) (set out puts.number (Some one)) new
   load_post {one} {new} is short some clear puts load = by load
     where
       longer : length new.due ≡ length host.due + 1
-      longer = ap (λ (h : HostState). length h.due) puts.posts.is ∙ length_push host.due (posted_command (posted_with puts.number one))
+      longer = ap (λ (h : HostState). length h.due) puts.posts.is
+          ∙ length_push host.due (posted_command (posted_with puts.number one))
 
-      by : LoadAt start requests n out host → LoadAt start requests (n + 1) (set out puts.number (Some one)) new
+      by : LoadAt start requests n out host
+          → LoadAt start requests (n + 1) (set out puts.number (Some one)) new
       by (GoesOn l) = GoesOn (record {
         seen = r ∷ l.seen;
-        clash_alike = λ x. ap₂ (λ (a b : Bool). a || b) (ap (clash x) (sym is)) (l.clash_alike x) ∙ sym (clashes-taken x out puts.number one puts.free);
+        clash_alike = λ x. ap₂ (λ (a b : Bool). a || b) (ap (clash x) (sym is)) (l.clash_alike x)
+            ∙ sym (clashes-taken x out puts.number one puts.free);
         ahead =
-            let ends = lead-post host.credits l.seen r (drop (n + 1) requests) some short (l.clash_alike r ∙ clear) in
-            let fewer = ap (λ (h : HostState). lead_from h.credits (r ∷ l.seen) (drop (n + 1) requests)) puts.posts.is in
-            l.ahead ∙ ap (λ (rest : List Request). length host.due + lead_from host.credits l.seen rest) it.rest ∙ omega (arith, ends, fewer, longer);
+            let ends = lead-post host.credits l.seen r (drop (n + 1) requests) some short
+            (l.clash_alike r ∙ clear) in
+            let fewer = ap (λ (h : HostState). lead_from h.credits (r ∷ l.seen) (drop (n + 1) requests))
+            puts.posts.is in
+            l.ahead ∙ ap (λ (rest : List Request). length host.due + lead_from host.credits l.seen rest)
+            it.rest ∙ omega (arith, ends, fewer, longer);
         all_due = omega (arith, longer, l.all_due, it.posted short);
         load_is = ap (λ (h : HostState). h.load) puts.posts.is ∙ l.load_is;
       })
       by (IsOver over) = IsOver (record {
         within = omega (arith, over.within, it.posted short);
-        load = omega (arith, over.load, over.within, it.posted short, ap (λ (h : HostState). h.load) puts.posts.is, ap triangle longer, triangle-more (length host.due));
+        load = omega (
+          arith,
+          over.load,
+          over.within,
+          it.posted short,
+          ap (λ (h : HostState). h.load) puts.posts.is,
+          ap triangle longer,
+          triangle-more (length host.due),
+        );
       })

@@ -11,7 +11,8 @@ use Rattle.uda_disk.specs.declared.answer.Answer.{Answer as CodeAnswer}
 use Rattle.uda_posting.proofs.Owing.{none_told}
 use Rattle.uda_driver.specs.Run.{is_drive_error, tells_drive_error}
 
-pub untold_errors : (u : ℕ) (requests : List Request) (told : List Answer) → tells_drive_error told ≡ false → drive_errors u requests told ≡ 0
+pub untold_errors : (u : ℕ) (requests : List Request) (told : List Answer) → tells_drive_error told ≡ false
+    → drive_errors u requests told ≡ 0
 untold_errors u [] told h = refl
 untold_errors u (r ∷ rest) [] h = refl
 untold_errors u (r ∷ rest) (answer ∷ later) h =
@@ -20,6 +21,8 @@ untold_errors u (r ∷ rest) (answer ∷ later) h =
     omega (arith, first, untold_errors u rest later parts.1)
 
 -- the answers of the code tell it as what contracts see of them
-pub told_values : (answers : List CodeAnswer) → tells_drive_error (answer_values answers) ≡ list_any (λ answer. is_drive_error (answer_value answer)) answers
+pub told_values : (answers : List CodeAnswer)
+    → tells_drive_error (answer_values answers) ≡ list_any
+    (λ answer. is_drive_error (answer_value answer)) answers
 told_values [] = refl
 told_values (answer ∷ rest) = ap (λ (b : Bool). is_drive_error (answer_value answer) || b) (told_values rest)

@@ -1,10 +1,10 @@
 -- The steps of a run of requests.
-use Rattle.std.proofs.Common.{◌≡◌, ℕ, ◌+◌, ◌<◌, ◌≤◌, inl, inr, Bool, true, false, List, [], ◌∷◌, length, map, take, drop, set, get_or, nat_eq, Option, Some, None, refl, sym, ap, ◌∙◌, arith}
+use Rattle.std.proofs.Common.{◌≡◌, ℕ, ◌+◌, ◌<◌, ◌≤◌, inl, inr, Bool, true, false, List, [], length, map, take, drop, set, get_or, nat_eq, Option, Some, None, refl, sym, ap, ◌∙◌, arith}
 use Rattle.std.specs.Prelude.{slice_get, slice_set, option_map, replicate, ◌||◌}
 use Rattle.std.proofs.lemmas.List.{length-map, length-set, length_push, map-set, take_all, drop_all, nil_from_length}
 use Rattle.std.proofs.lemmas.List.Edits.{length-remove}
 use Rattle.std.proofs.lemmas.Bool.{eqb-true, eqb-false, or_cases, or_parts}
-use Rattle.std.proofs.lemmas.Option.{slice_get_within, slice_get-map, slice_get-get_or}
+use Rattle.std.proofs.lemmas.Option.{slice_get-map, slice_get-get_or}
 use Rattle.uda_packet.specs.declared.end.End.{End}
 use Rattle.uda_disk.specs.Units.{Units, AreImages, nature_of, natures_of}
 use Rattle.uda_exec.specs.Disks.{PENDING_LIMIT}
@@ -46,18 +46,36 @@ turned_works : {host new : HostState} → Works host new → Turned host new
 turned_works (OneFetched f) = rw f.is (record { all = refl; turns = refl; taken = omega arith })
 turned_works {host} {new} (OneDone x) =
     let out = x.executes.taken in
-    rw x.is (record { all = omega (arith, ap length out.taken, length-remove host.due x.place out.may.stands, out.may.stands, length_push host.waiting x.end); turns = refl; taken = omega arith })
+    rw x.is (record {
+      all = omega (
+        arith,
+        ap length out.taken,
+        length-remove host.due x.place out.may.stands,
+        out.may.stands,
+        length_push host.waiting x.end,
+      );
+      turns = refl;
+      taken = omega arith;
+    })
 
 turned_takes : {host new : HostState} {e : End} → TakesEnd host e new → Turned host new
-turned_takes t = rw t.is (record { all = omega (arith, ap length t.waited); turns = refl; taken = omega arith })
+turned_takes t = rw t.is (record {
+  all = omega (arith, ap length t.waited);
+  turns = refl;
+  taken = omega arith;
+})
 
-turned : {host new : HostState} {out after : List (Option Out)} {answers told : List CodeAnswer} → Steps host out answers new after told → Turned host new
+turned : {host new : HostState} {out after : List (Option Out)} {answers told : List CodeAnswer}
+    → Steps host out answers new after told → Turned host new
 turned (TellsNone works out_is answers_are) = turned_works works
 turned (TellsOne e takes tells) = turned_takes takes
 
 -- so fewer turns are left
-pub steps_less : {host new : HostState} {out after : List (Option Out)} {answers told : List CodeAnswer} → AddsUp host → 0 < out_of host → Steps host out answers new after told → turns_left new < turns_left host
-steps_less adds_up some steps = let t = turned steps in omega (arith, t.all, t.turns, adds_up.turns_are, adds_up.fetched_were_posted, some)
+pub steps_less : {host new : HostState} {out after : List (Option Out)} {answers told : List CodeAnswer}
+    → AddsUp host → 0 < out_of host → Steps host out answers new after told → turns_left new < turns_left host
+steps_less adds_up some steps =
+    let t = turned steps in
+    omega (arith, t.all, t.turns, adds_up.turns_are, adds_up.fetched_were_posted, some)
 
 -- ---- the next request
 
@@ -66,19 +84,26 @@ pub record IsAt (requests : List CodeRequest) (n : ℕ) (request : CodeRequest) 
   pub low : n < length requests
   pub is : request ≡ get_or requests n request
 
-at_place : {requests : List CodeRequest} {n : ℕ} {request : CodeRequest} → IsAt requests n request → slice_get (request_values requests) n ≡ Some (request_value request)
-at_place {requests} {n} {request} it = slice_get-map request_value requests n ∙ ap (option_map request_value) (slice_get-get_or requests n request it.low ∙ ap (λ (r : CodeRequest). Some r) (sym it.is))
+at_place : {requests : List CodeRequest} {n : ℕ} {request : CodeRequest} → IsAt requests n request
+    → slice_get (request_values requests) n ≡ Some (request_value request)
+at_place {requests} {n} {request} it = slice_get-map request_value requests n
+    ∙ ap (option_map request_value) (slice_get-get_or requests n request it.low
+    ∙ ap (λ (r : CodeRequest). Some r) (sym it.is))
 
-next_at : {requests : List CodeRequest} {n : ℕ} {request : CodeRequest} → IsAt requests n request → Next (request_values requests) n (request_value request)
+next_at : {requests : List CodeRequest} {n : ℕ} {request : CodeRequest} → IsAt requests n request
+    → Next (request_values requests) n (request_value request)
 next_at {requests} {n} {request} it = next (request_values requests) n (request_value request) (at_place it)
 
 -- ---- the beginning
 
 -- as many units as before
 same_count : (units before : Units) → natures_of units ≡ natures_of before → length units ≡ length before
-same_count units before same = sym (length-map units (option_map nature_of)) ∙ ap length same ∙ length-map before (option_map nature_of)
+same_count units before same = sym (length-map units (option_map nature_of)) ∙ ap length same
+    ∙ length-map before (option_map nature_of)
 
-pub underway_start : {start : HostState} {requests : List CodeRequest} {out : List (Option Out)} {answers : List CodeAnswer} → IsDriver start → out ≡ replicate PENDING_LIMIT None → length answers ≡ length requests
+pub underway_start : {start : HostState} {requests : List CodeRequest} {out : List (Option Out)}
+    {answers : List CodeAnswer} → IsDriver start → out ≡ replicate PENDING_LIMIT None
+    → length answers ≡ length requests
     → AreBlank (request_values requests) 0 answers → Underway start requests 0 out answers start
 underway_start {start} {requests} {answers = answers} ready none sized blank =
     let rest = ready.rest in
@@ -92,13 +117,18 @@ underway_start {start} {requests} {answers = answers} ready none sized blank =
     }
 
 -- when all are posted, no more come in the lead
-pub drain_ends : {start host : HostState} (requests : List CodeRequest) {n : ℕ} {out : List (Option Out)} → length requests ≤ n
-    → (l : InLead start (request_values requests) n out host) → lead_from host.credits l.seen (drop n (request_values requests)) ≡ 0
-drain_ends {host = host} requests {n} all l = ap (lead_from host.credits l.seen) (drop_all n (request_values requests) (omega (arith, all, length-map requests request_value))) ∙ lead-none host.credits l.seen
+pub drain_ends : {start host : HostState} (requests : List CodeRequest) {n : ℕ} {out : List (Option Out)}
+    → length requests ≤ n
+    → (l : InLead start (request_values requests) n out host)
+    → lead_from host.credits l.seen (drop n (request_values requests)) ≡ 0
+drain_ends {host = host} requests {n} all l =
+    ap (lead_from host.credits l.seen) (drop_all n (request_values requests)
+    (omega (arith, all, length-map requests request_value))) ∙ lead-none host.credits l.seen
 
 -- ---- the steps
 
-module _ {start : HostState} {requests : List CodeRequest} {n : ℕ} {out : List (Option Out)} {answers : List CodeAnswer} {host : HostState} (U : Underway start requests n out answers host) where
+module _ {start : HostState} {requests : List CodeRequest} {n : ℕ} {out : List (Option Out)}
+    {answers : List CodeAnswer} {host : HostState} (U : Underway start requests n out answers host) where
   room : length (request_values requests) ≤ length (answer_values answers)
   room = omega (arith, length-map requests request_value, length-map answers answer_value, U.sized)
 
@@ -124,20 +154,33 @@ module _ {start : HostState} {requests : List CodeRequest} {n : ℕ} {out : List
 
   -- one that needn't finds a credit and a buffer
   pub credit_left : (r : Request) → must_wait host out r ≡ false → 0 < host.credits
-  credit_left r free = omega (arith, eqb-false host.credits 0 (or_parts (nat_eq host.credits 0) (clashes_with_any r out) free).0)
+  credit_left r free = omega (
+    arith,
+    eqb-false host.credits 0 (or_parts (nat_eq host.credits 0) (clashes_with_any r out) free).0,
+  )
 
   pub buffer_left : (r : Request) → must_wait host out r ≡ false → HasFree out
-  buffer_left r free = some_free out (omega (arith, credit_left r free, all_credits, counted_out U.driving, U.driving.outs.sized))
+  buffer_left r free = some_free out (omega
+      (arith, credit_left r free, all_credits, counted_out U.driving, U.driving.outs.sized))
 
   -- an answer that is told leaves the blanks as they are
-  blank_told : (place : ℕ) (a : CodeAnswer) (told : List CodeAnswer) → place < n → told ≡ slice_set answers place a → AreBlank (request_values requests) n told
-  blank_told place a told low is = λ k r b from stands at. U.blank k r b from stands (sym (slice_get-set_other answers place k a (λ same. omega (arith, same, from, low))) ∙ ap (λ (as' : List CodeAnswer). slice_get as' k) (sym is) ∙ at)
+  blank_told : (place : ℕ) (a : CodeAnswer) (told : List CodeAnswer) → place < n
+      → told ≡ slice_set answers place a → AreBlank (request_values requests) n told
+  blank_told place a told low is = λ k r b from stands at. U.blank k r b from stands
+      (sym (slice_get-set_other answers place k a (λ same. omega (arith, same, from, low)))
+      ∙ ap (λ (as' : List CodeAnswer). slice_get as' k) (sym is) ∙ at)
 
   still_works : {new : HostState} → AddsUp new → AreImages new.units → Turned host new → IsAtWork new
-  still_works adds_up images t = record { begun = omega (arith, U.at_work.begun, t.taken); images = images; adds_up = adds_up }
+  still_works adds_up images t = record {
+    begun = omega (arith, U.at_work.begun, t.taken);
+    images = images;
+    adds_up = adds_up;
+  }
 
-  module _ {new : HostState} {after : List (Option Out)} {told : List CodeAnswer} (adds_up : AddsUp new) (images : AreImages new.units)
-      (ends : (l : InLead start (request_values requests) n out host) → lead_from host.credits l.seen (drop n (request_values requests)) ≡ 0) where
+  module _ {new : HostState} {after : List (Option Out)} {told : List CodeAnswer} (adds_up : AddsUp new)
+      (images : AreImages new.units)
+      (ends : (l : InLead start (request_values requests) n out host)
+      → lead_from host.credits l.seen (drop n (request_values requests)) ≡ 0) where
     -- a turn ends the lead, where no more come in it
     pub underway_step : Steps host out answers new after told → Underway start requests n after told new
     underway_step (TellsNone works out_is answers_are) =
@@ -154,9 +197,11 @@ module _ {start : HostState} {requests : List CodeRequest} {n : ℕ} {out : List
         let t = turned_takes takes in
         let place = tells.done.one.place in
         let low : place < n = (U.driving.fit tells.done.number tells.done.one tells.done.stands).before in
-        let a = answer_of (request_value tells.done.one.request.now).act e (buffer_of (posted_with tells.done.number tells.done.one) new.memory) in
+        let a = answer_of (request_value tells.done.one.request.now).act e
+        (buffer_of (posted_with tells.done.number tells.done.one) new.memory) in
         let values : answer_values told ≡ slice_set (answer_values answers) place a =
-        ap answer_values tells.answers_are ∙ map-set answer_value answers place tells.told ∙ ap (set (answer_values answers) place) tells.told_is in
+        ap answer_values tells.answers_are ∙ map-set answer_value answers place tells.told
+        ∙ ap (set (answer_values answers) place) tells.told_is in
         rw tells.out_is (record {
           driving = rw values (driving_takes U.driving takes room tells.done);
           blank = blank_told place tells.told told low tells.answers_are;
@@ -180,9 +225,12 @@ module _ {start : HostState} {requests : List CodeRequest} {n : ℕ} {out : List
     blank : (d : CodeAnswer) → IsBlank (request_value request) (get_or answers n d)
     blank d = U.blank n (request_value request) _ (omega arith) (at_place it) (here d)
 
-    pub underway_skip : too_long (request_value request) ≡ true → Underway start requests (n + 1) out answers host
+    pub underway_skip : too_long (request_value request) ≡ true
+        → Underway start requests (n + 1) out answers host
     underway_skip long = record {
-      driving = driving_skip U.driving (request_value request) (at_place it) long (slice_get-map answer_value answers n ∙ ap (option_map answer_value) (here CodeTooLong) ∙ ap (λ (a : CodeAnswer). Some (answer_value a)) ((blank CodeTooLong).long long));
+      driving = driving_skip U.driving (request_value request) (at_place it) long
+          (slice_get-map answer_value answers n ∙ ap (option_map answer_value) (here CodeTooLong)
+          ∙ ap (λ (a : CodeAnswer). Some (answer_value a)) ((blank CodeTooLong).long long));
       blank = λ k q a from. U.blank k q a (omega (arith, from));
       sized = U.sized;
       at_work = U.at_work;
@@ -191,16 +239,24 @@ module _ {start : HostState} {requests : List CodeRequest} {n : ℕ} {out : List
     }
 
     -- one that must wait comes in no lead
-    pub wait_ends : must_wait host out (request_value request) ≡ true → too_long (request_value request) ≡ false
-        → (l : InLead start (request_values requests) n out host) → lead_from host.credits l.seen (drop n (request_values requests)) ≡ 0
+    pub wait_ends : must_wait host out (request_value request) ≡ true
+        → too_long (request_value request) ≡ false
+        → (l : InLead start (request_values requests) n out host)
+        → lead_from host.credits l.seen (drop n (request_values requests)) ≡ 0
     wait_ends waits short l =
-        let waits_too = ap (λ (met : Bool). nat_eq host.credits 0 || met) (l.clash_alike (request_value request)) ∙ waits in
-        ap (lead_from host.credits l.seen) w.rest ∙ lead-waits host.credits l.seen (request_value request) (drop (n + 1) (request_values requests)) short waits_too
+        let waits_too = ap (λ (met : Bool). nat_eq host.credits 0 || met)
+        (l.clash_alike (request_value request)) ∙ waits in
+        ap (lead_from host.credits l.seen) w.rest
+        ∙ lead-waits host.credits l.seen (request_value request)
+        (drop (n + 1) (request_values requests)) short waits_too
 
     -- one that needn't is posted
     module _ (free : must_wait host out (request_value request) ≡ false) where
-      pub underway_post : {one : Out} {new : HostState} {after : List (Option Out)} {left : List CodeAnswer} (d : CodeAnswer) → too_long (request_value request) ≡ false → one.place ≡ n → one.request.now ≡ request
-          → one.answer ≡ get_or answers n d → left ≡ slice_set answers n CodeTooLong → PutsOut one host out new after → AddsUp new → Underway start requests (n + 1) after left new
+      pub underway_post : {one : Out} {new : HostState} {after : List (Option Out)} {left : List CodeAnswer}
+          (d : CodeAnswer) → too_long (request_value request) ≡ false → one.place ≡ n
+          → one.request.now ≡ request
+          → one.answer ≡ get_or answers n d → left ≡ slice_set answers n CodeTooLong
+          → PutsOut one host out new after → AddsUp new → Underway start requests (n + 1) after left new
       underway_post {one} {new} {after} {left} d short place is answer_is left_is puts adds_up =
           let rs = request_values requests in
           let request_is = ap request_value is in
@@ -209,17 +265,36 @@ module _ {start : HostState} {requests : List CodeRequest} {n : ℕ} {out : List
             short = ap too_long request_is ∙ short;
             prepared = rw (request_is, answer_is) ((blank d).room short);
           } in
-          let clear = (or_parts (nat_eq host.credits 0) (clashes_with_any (request_value request) out) free).1 in
-          let told_is : answer_values left ≡ slice_set (answer_values answers) one.place TooLong = ap (map answer_value) left_is ∙ map-set answer_value answers n CodeTooLong ∙ ap (λ (k : ℕ). set (answer_values answers) k TooLong) (sym place) in
-          let posted = driving_post U.driving puts fit place (ap (slice_get rs) place ∙ at_place it ∙ ap Some (sym request_is)) (λ number other stands. no_clash_at (request_value one.request.now) out number other (ap (λ (q : Request). clashes_with_any q out) request_is ∙ clear) stands) U.at_work.adds_up.size TooLong in
+          let clear = (or_parts (nat_eq host.credits 0)
+          (clashes_with_any (request_value request) out) free).1 in
+          let told_is : answer_values left ≡ slice_set (answer_values answers) one.place TooLong =
+          ap (map answer_value) left_is ∙ map-set answer_value answers n CodeTooLong
+          ∙ ap (λ (k : ℕ). set (answer_values answers) k TooLong) (sym place) in
+          let posted = driving_post U.driving puts fit place
+          (ap (slice_get rs) place ∙ at_place it ∙ ap Some (sym request_is))
+          (λ number other stands. no_clash_at (request_value one.request.now) out number other
+          (ap (λ (q : Request). clashes_with_any q out) request_is ∙ clear) stands) U.at_work.adds_up.size
+          TooLong in
           let changed = puts.posts.is in
           record {
             driving = rw told_is posted;
-            blank = λ k q a from stands at. U.blank k q a (omega (arith, from)) stands (sym (slice_get-set_other answers n k CodeTooLong (λ same. omega (arith, same, from))) ∙ ap (λ (as' : List CodeAnswer). slice_get as' k) (sym left_is) ∙ at);
+            blank = λ k q a from stands at. U.blank k q a (omega (arith, from)) stands
+                (sym (slice_get-set_other answers n k CodeTooLong (λ same. omega (arith, same, from)))
+                ∙ ap (λ (as' : List CodeAnswer). slice_get as' k) (sym left_is) ∙ at);
             sized = ap length left_is ∙ length-set answers n CodeTooLong ∙ U.sized;
-            at_work = record { begun = rw changed U.at_work.begun; images = rw changed U.at_work.images; adds_up = adds_up };
-            posted = rw changed (omega (arith, U.posted, w.posted short, length_push host.due (posted_command (posted_with puts.number one))));
-            load = rw puts.out_is (load_post w request_is short (credit_left (request_value request) free) clear puts U.load);
+            at_work = record {
+              begun = rw changed U.at_work.begun;
+              images = rw changed U.at_work.images;
+              adds_up = adds_up;
+            };
+            posted = rw changed (omega (
+              arith,
+              U.posted,
+              w.posted short,
+              length_push host.due (posted_command (posted_with puts.number one)),
+            ));
+            load = rw puts.out_is (load_post w request_is short
+                (credit_left (request_value request) free) clear puts U.load);
           }
 
   module _ (ready : IsDriver start) (all : length requests ≤ n) (back : PENDING_LIMIT ≤ host.credits) where
@@ -244,24 +319,55 @@ module _ {start : HostState} {requests : List CodeRequest} {n : ℕ} {out : List
     counted_on =
         let before = ready.adds_up in let after = U.at_work.adds_up in
         let due = ap length ready.rest.idle.none_due in let waiting = ap length ready.rest.idle.none_wait in
-        let fetches : start.fetches ≡ start.taken = omega (arith, before.done_were_fetched, before.fetched_were_posted, due, waiting) in
-        let fetches_now : host.fetches ≡ host.taken = omega (arith, after.done_were_fetched, after.fetched_were_posted, none) in
+        let fetches : start.fetches ≡ start.taken =
+        omega (arith, before.done_were_fetched, before.fetched_were_posted, due, waiting) in
+        let fetches_now : host.fetches ≡ host.taken =
+        omega (arith, after.done_were_fetched, after.fetched_were_posted, none) in
         let p = ap posted_count whole in
-        let taken : host.taken ≡ start.taken + posted_count (request_values requests) = omega (arith, U.posted, none, p) in
+        let taken : host.taken ≡ start.taken + posted_count (request_values requests) =
+        omega (arith, U.posted, none, p) in
         let over = over_from (drain_ends requests all) U.load in
         record {
-          turns = omega (arith, before.turns_are, after.turns_are, fetches, fetches_now, taken, none, waiting);
+          turns = omega (
+            arith,
+            before.turns_are,
+            after.turns_are,
+            fetches,
+            fetches_now,
+            taken,
+            none,
+            waiting,
+          );
           fetches = omega (arith, fetches, fetches_now, taken);
           deliveries = taken;
-          load = omega (arith, over.load, over.within, p, triangle-is (lead (request_values requests)), ap (λ (h : List _). triangle (length h)) none_due);
+          load = omega (
+            arith,
+            over.load,
+            over.within,
+            p,
+            triangle-is (lead (request_values requests)),
+            ap (λ (h : List _). triangle (length h)) none_due,
+          );
         }
 
-    owed : Owes start.units (request_values requests) (answer_values answers) host.units × NoneToCome (request_values requests) (answer_values answers)
-    owed = driving_end U.driving (omega (arith, length-map answers answer_value, length-map requests request_value, U.sized)) (omega (arith, all, length-map requests request_value)) none
+    owed : Owes start.units (request_values requests) (answer_values answers) host.units × NoneToCome
+        (request_values requests) (answer_values answers)
+    owed = driving_end U.driving (omega (
+      arith,
+      length-map answers answer_value,
+      length-map requests request_value,
+      U.sized,
+    ))
+        (omega (arith, all, length-map requests request_value)) none
 
     pub ran : Ran start requests answers host
     ran = record {
-      ready = record { rest = rests; four = same_count host.units start.units owed.0.natures ∙ ready.four; images = U.at_work.images; adds_up = U.at_work.adds_up };
+      ready = record {
+        rest = rests;
+        four = same_count host.units start.units owed.0.natures ∙ ready.four;
+        images = U.at_work.images;
+        adds_up = U.at_work.adds_up;
+      };
       counted = U.sized;
       owes = owed.0;
       none_to_come = owed.1;

@@ -30,8 +30,8 @@ pub record Outs (out : List (Option Out)) (due : List Posted) (ended : List Ende
   pub waits : waiting ≡ map (λ d. d.end) ended
   pub refer : All RefersBack ended
 
--- Of the first n requests some are due, some have ended, and the answers of all others are told. What is due is
--- pending at the host.
+-- Of the first n requests some are due, some have ended, and the answers of all others are told. What is
+-- due is pending at the host.
 pub record Driving (start : Units) (requests : List Request) (n : ℕ) (out : List (Option Out))
     (answers : List Answer) (host : HostState) : Type 0 where
   pub due : List Posted

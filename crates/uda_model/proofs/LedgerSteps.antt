@@ -1,6 +1,6 @@
 -- The steps of the ledger.
 use Rattle.std.proofs.Common.{◌≡◌, ℕ, zero, suc, ◌<◌, Bool, true, false, List, [], ◌∷◌, length, map, set, Some, refl, sym, ap, ◌∙◌, arith, subst}
-use Rattle.std.specs.Prelude.{slice_get, All, AllPairs}
+use Rattle.std.specs.Prelude.{slice_get}
 use Rattle.std.proofs.lemmas.List.{length-map, map-set}
 use Rattle.std.proofs.lemmas.List.Elements.{All-map, All-set}
 use Rattle.std.proofs.lemmas.Option.{slice_get_within, slice_get-map}
@@ -8,12 +8,11 @@ use Rattle.uda_disk.specs.Disk.{Disks}
 use Rattle.uda_disk.specs.Request.{Act, Online, Request}
 use Rattle.uda_disk.specs.Answer.{Answer, TooLong}
 use Rattle.uda_disk.specs.Plain.{Bar, Barred, Free, bar, Outcome, Done, answer_by}
-use Rattle.uda_disk.specs.Order.{passes, NoClash}
 use Rattle.uda_disk.specs.PlainRun.{FixedRequest, requests_of, too_long, step_of, plain_as, FitsRequest, PlainWithLosses}
 use Rattle.uda_disk.specs.Runs.{runs_first}
 use Rattle.uda_disk.proofs.OrderLaw.{request_order_is_free}
 use Rattle.uda_disk.proofs.Slots.{set-itself}
-use Rattle.uda_model.specs.Ledger.{is_to_come, untold, finish, told_by, IsToCome, NoneToCome, GoesBefore, Opens, Closes, CarriesOut}
+use Rattle.uda_model.specs.Ledger.{is_to_come, untold, finish, NoneToCome, GoesBefore, Opens, Closes, CarriesOut}
 
 -- ---- one that may go is done first
 
@@ -24,7 +23,8 @@ Swap y x = (disks : Disks) → runs_first step_of 1 x (y ∷ x ∷ []) disks ≡
 swap : (y x : FixedRequest) → (too_long y.request ≡ false → GoesBefore y.request x.request) → Swap y x
 swap y x may disks = by (too_long y.request) refl
   where
-    by : (b : Bool) → too_long y.request ≡ b → runs_first step_of 1 x (y ∷ x ∷ []) disks ≡ plain_as disks (y ∷ x ∷ [])
+    by : (b : Bool) → too_long y.request ≡ b
+        → runs_first step_of 1 x (y ∷ x ∷ []) disks ≡ plain_as disks (y ∷ x ∷ [])
     by true long = rw long refl
     by false short =
         let goes = may short in
@@ -47,12 +47,14 @@ told-by o _ (Barred refusal) = refl
 told-by o (Online protect) (Free disk) = refl
 told-by o _ (Free disk) = refl
 
-is_told : (x : FixedRequest) (disks : Disks) → too_long x.request ≡ false → is_to_come (step_of x disks).0 ≡ false
+is_told : (x : FixedRequest) (disks : Disks) → too_long x.request ≡ false
+    → is_to_come (step_of x disks).0 ≡ false
 is_told x disks short = rw short (told-by x.outcome x.request.act (bar disks x.request))
 
 goes_first : (xs : List FixedRequest) (told : List Answer) (k : ℕ) (x : FixedRequest) (disks : Disks)
     → k < length xs → slice_get told k ≡ Some TooLong → too_long x.request ≡ false
-    → ((i : ℕ) (y : FixedRequest) → i < k → slice_get xs i ≡ Some y → slice_get told i ≡ Some TooLong → Swap y x)
+    → ((i : ℕ) (y : FixedRequest) → i < k → slice_get xs i ≡ Some y → slice_get told i ≡ Some TooLong
+    → Swap y x)
     → finish xs (set told k (step_of x disks).0) (step_of x disks).1 ≡ finish (set xs k x) told disks
 goes_first [] told k x disks low at short swaps = absurd (omega arith)
 goes_first (y ∷ ys) [] k x disks low at short swaps = absurd (cc)
@@ -87,11 +89,13 @@ ledger_carries_out start requests now k x it may fits h fixed e fit =
       short = short;
       untold = still;
     }))) in
-    subst (λ w. PlainWithLosses start requests w.0 w.1) (sym first) (h all asked (All-set FitsRequest fixed k x fits fit))
+    subst (λ w. PlainWithLosses start requests w.0 w.1) (sym first)
+    (h all asked (All-set FitsRequest fixed k x fits fit))
 
 -- ---- the beginning and the end
 
-opened : (xs : List FixedRequest) (disks : Disks) → finish xs (untold (requests_of xs)) disks ≡ plain_as disks xs
+opened : (xs : List FixedRequest) (disks : Disks)
+    → finish xs (untold (requests_of xs)) disks ≡ plain_as disks xs
 opened [] disks = refl
 opened (x ∷ xs) disks =
     ap (λ (w : List Answer × Disks). ((step_of x disks).0 ∷ w.0, w.1)) (opened xs (step_of x disks).1)
@@ -115,7 +119,8 @@ closed (x ∷ xs) (a ∷ told) disks none =
 
     long_stays : (b : Bool) → too_long x.request ≡ b
         → NoneToCome (requests_of (x ∷ xs)) (TooLong ∷ told)
-        → finish xs told disks ≡ (told, disks) → finish (x ∷ xs) (TooLong ∷ told) disks ≡ (TooLong ∷ told, disks)
+        → finish xs told disks ≡ (told, disks)
+        → finish (x ∷ xs) (TooLong ∷ told) disks ≡ (TooLong ∷ told, disks)
     long_stays true long none rest = rw long (ap (behind TooLong) rest)
     long_stays false short none rest =
         absurd (none 0 x.request (record { stands = refl; short = short; untold = refl }))

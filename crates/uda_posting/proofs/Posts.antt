@@ -30,27 +30,41 @@ pub record BufferAt (act : Act) (address : ℕ) : Type 0 where
   pub low : buffer_start (op_of act address) ≤ address
   pub even : address % 2 ≡ 0 → buffer_start (op_of act address) % 2 ≡ 0
 
-pub buffer-at : (unit : ℕ) (act : Act) (address : ℕ) → too_long (record { unit = unit; act = act }) ≡ false → BufferAt act address
-buffer-at unit (Read first bytes) address short = record { small = grind (arith, nat_tests); here = λ _. refl; low = omega arith; even = λ even. even }
-buffer-at unit (Write first payload) address short = record { small = grind (arith, nat_tests); here = λ _. refl; low = omega arith; even = λ even. even }
-buffer-at unit _ address short = record { small = omega arith; here = λ some. absurd (omega arith); low = zero-le; even = λ _. refl }
+pub buffer-at : (unit : ℕ) (act : Act) (address : ℕ) → too_long (record { unit = unit; act = act }) ≡ false
+    → BufferAt act address
+buffer-at unit (Read first bytes) address short =
+    record { small = grind (arith, nat_tests); here = λ _. refl; low = omega arith; even = λ even. even }
+buffer-at unit (Write first payload) address short =
+    record { small = grind (arith, nat_tests); here = λ _. refl; low = omega arith; even = λ even. even }
+buffer-at unit _ address short = record {
+  small = omega arith;
+  here = λ some. absurd (omega arith);
+  low = zero-le;
+  even = λ _. refl;
+}
 
 -- what a request brings fits its buffer, and once it was put there the command asks the request's act
 pub record BytesFit (act : Act) (address : ℕ) : Type 0 where
   pub fits : length (bytes_brought act) ≤ room_of (op_of act address)
-  pub asks : (memory : List ℕ) → buffer_start (op_of act address) + room_of (op_of act address) ≤ length memory → act_of (op_of act address) (put memory address (bytes_brought act)) ≡ Some act
+  pub asks : (memory : List ℕ) → buffer_start (op_of act address) + room_of
+      (op_of act address) ≤ length memory → act_of (op_of act address)
+      (put memory address (bytes_brought act)) ≡ Some act
 
 pub bytes_fit : (act : Act) (address : ℕ) → BytesFit act address
 bytes_fit (Write first payload) address = record {
   fits = omega arith;
   asks = λ memory within.
-      let there = bytes_at-within (put memory address payload) address (length payload) (omega (arith, length-put memory address payload)) in
-      ap (λ (bytes : List ℕ). Some (Write first bytes)) (there ∙ part-put_at memory address (length payload) payload within refl);
+      let there = bytes_at-within (put memory address payload) address (length payload)
+      (omega (arith, length-put memory address payload)) in
+      ap (λ (bytes : List ℕ). Some (Write first bytes))
+      (there ∙ part-put_at memory address (length payload) payload within refl);
 }
 bytes_fit (Online protect) address = record { fits = omega arith; asks = λ _ _. refl }
 bytes_fit _ address = record { fits = omega arith; asks = λ _ _. refl }
 
-pub ready-put : (p : Posted) (memory : List ℕ) → too_long p.request ≡ false → p.address % 2 ≡ 0 → p.address + transfer_limit ≤ length memory → Ready p (put memory p.address (bytes_brought p.request.act))
+pub ready-put : (p : Posted) (memory : List ℕ) → too_long p.request ≡ false → p.address % 2 ≡ 0
+    → p.address + transfer_limit ≤ length memory
+    → Ready p (put memory p.address (bytes_brought p.request.act))
 ready-put p memory short even room =
     let buffer = buffer-at p.request.unit p.request.act p.address short in
     let size = length-put memory p.address (bytes_brought p.request.act) in
@@ -64,7 +78,8 @@ ready-put p memory short even room =
 -- ---- passing
 
 -- where a command may pass another, its request may pass the other's
-pub passes : (older p : Posted) → may_pass (posted_command older) (posted_command p) ≡ true → disk.passes older.request p.request ≡ true
+pub passes : (older p : Posted) → may_pass (posted_command older) (posted_command p) ≡ true
+    → disk.passes older.request p.request ≡ true
 passes older p may =
     let one = names_same older.request.act older.address in let other = names_same p.request.act p.address in
     rw (one.speaks, other.speaks, one.moving, other.moving) at may

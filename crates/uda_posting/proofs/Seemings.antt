@@ -41,7 +41,8 @@ abbrev bare_bar : Bar → Bar
 bare_bar (Barred refusal) = Barred refusal
 bare_bar (Free d) = Free (bare d)
 
-bar-bare : (act : Act) (slot : Option (Option Disk)) → bar_at act (option_map (option_map bare) slot) ≡ bare_bar (bar_at act slot)
+bar-bare : (act : Act) (slot : Option (Option Disk))
+    → bar_at act (option_map (option_map bare) slot) ≡ bare_bar (bar_at act slot)
 bar-bare act None = refl
 bar-bare act (Some None) = refl
 bar-bare act (Some (Some d)) = by (refusal_on (extent_of act) d.size d.mode)
@@ -50,7 +51,8 @@ bar-bare act (Some (Some d)) = by (refusal_on (extent_of act) d.size d.mode)
     by None = refl
     by (Some refusal) = refl
 
-outline-done : (o : Outcome) (act : Act) (d : Disk) → outline (answer_on o act d) ≡ outline (answer_on Done act (bare d))
+outline-done : (o : Outcome) (act : Act) (d : Disk)
+    → outline (answer_on o act d) ≡ outline (answer_on Done act (bare d))
 outline-done o (Online protect) d = refl
 outline-done o Available d = refl
 outline-done o Status d = refl
@@ -60,27 +62,41 @@ outline-done (Lost k left) _ d = refl
 -- what is seen of it follows from what is seen of the disks
 abbrev glance_by : Request → Bar → Disks → Option Answer × Disks
 glance_by r (Barred refusal) ds = (outline (blank_answer r.act (refusal_status refusal)), ds)
-glance_by r (Free d) ds = (outline (answer_on Done r.act d), slice_set ds r.unit (Some (bare (disk_after Done r.act d))))
+glance_by r (Free d) ds = (
+  outline (answer_on Done r.act d),
+  slice_set ds r.unit (Some (bare (disk_after Done r.act d))),
+)
 
-look-by : (o : Outcome) (r : Request) (b : Bar) (disks : Disks) → look (serve_by o r b disks) ≡ glance_by r (bare_bar b) (bares disks)
+look-by : (o : Outcome) (r : Request) (b : Bar) (disks : Disks)
+    → look (serve_by o r b disks) ≡ glance_by r (bare_bar b) (bares disks)
 look-by o r (Barred refusal) disks = refl
-look-by o r (Free d) disks = ap₂ (λ a ds. (a, ds)) (outline-done o r.act d) (map-set (option_map bare) disks r.unit (Some (disk_after o r.act d)))
+look-by o r (Free d) disks = ap₂ (λ a ds. (a, ds)) (outline-done o r.act d)
+    (map-set (option_map bare) disks r.unit (Some (disk_after o r.act d)))
 
-look-step : (o : Outcome) (r : Request) (disks : Disks) → look (step_as o r disks) ≡ (let ds = bares disks in if too_long r then (Some TooLong, ds) else glance_by r (bar ds r) ds)
+look-step : (o : Outcome) (r : Request) (disks : Disks)
+    → look (step_as o r disks) ≡ (let ds = bares disks in
+    if too_long r then (Some TooLong, ds) else glance_by r (bar ds r) ds)
 look-step o r disks = by (too_long r)
   where
-    by : (b : Bool) → look (if b then (TooLong, disks) else serve_as o r disks) ≡ (if b then (Some TooLong, bares disks) else glance_by r (bar (bares disks) r) (bares disks))
+    by : (b : Bool) → look (if b then (TooLong, disks) else serve_as o r disks) ≡
+        (if b then (Some TooLong, bares disks) else glance_by r (bar (bares disks) r) (bares disks))
     by true = refl
-    by false = look-by o r (bar disks r) disks ∙ ap (λ b. glance_by r b (bares disks)) (sym (ap (bar_at r.act) (slice_get-map (option_map bare) disks r.unit) ∙ bar-bare r.act (slice_get disks r.unit)))
+    by false = look-by o r (bar disks r) disks
+        ∙ ap (λ b. glance_by r b (bares disks))
+        (sym (ap (bar_at r.act) (slice_get-map (option_map bare) disks r.unit)
+        ∙ bar-bare r.act (slice_get disks r.unit)))
 
-pub step_looks : (o p : Outcome) (r : Request) (disks others : Disks) → bares disks ≡ bares others → look (step_as o r disks) ≡ look (step_as p r others)
+pub step_looks : (o p : Outcome) (r : Request) (disks others : Disks) → bares disks ≡ bares others
+    → look (step_as o r disks) ≡ look (step_as p r others)
 step_looks o p r disks others same =
-    let glance : Disks → Option Answer × Disks = λ ds. if too_long r then (Some TooLong, ds) else glance_by r (bar ds r) ds in
+    let glance : Disks → Option Answer × Disks =
+    λ ds. if too_long r then (Some TooLong, ds) else glance_by r (bar ds r) ds in
     look-step o r disks ∙ ap glance same ∙ sym (look-step p r others)
 
 -- ---- a run
 
-pub run_looks : (fixed : List FixedRequest) (disks others : Disks) → bares disks ≡ bares others → outlines (plain_as disks fixed) ≡ outlines (plain others (requests_of fixed))
+pub run_looks : (fixed : List FixedRequest) (disks others : Disks) → bares disks ≡ bares others
+    → outlines (plain_as disks fixed) ≡ outlines (plain others (requests_of fixed))
 run_looks [] disks others same = ap (λ ds. ([], ds)) same
 run_looks (x ∷ xs) disks others same =
     let looks = step_looks x.outcome Done x.request disks others same in
@@ -112,9 +128,12 @@ step_plain r disks = by (too_long r) refl
           clean = error-lost Done r disks short tt (λ lost. absurd (cc));
         }
 
-pub plain_each : (requests : List Request) (disks : Disks) (k : ℕ) (r : Request) (a : Answer) → slice_get requests k ≡ Some r → slice_get (plain disks requests).0 k ≡ Some a → IsPlain r a
+pub plain_each : (requests : List Request) (disks : Disks) (k : ℕ) (r : Request) (a : Answer)
+    → slice_get requests k ≡ Some r → slice_get (plain disks requests).0 k ≡ Some a → IsPlain r a
 plain_each [] disks k r a asked at = absurd (cc)
-plain_each (q ∷ rest) disks zero r a asked at = let one : q ≡ r = cc in let other : (step q disks).0 ≡ a = cc in rw (← one, ← other) (step_plain q disks)
+plain_each (q ∷ rest) disks zero r a asked at =
+    let one : q ≡ r = cc in
+    let other : (step q disks).0 ≡ a = cc in rw (← one, ← other) (step_plain q disks)
 plain_each (q ∷ rest) disks (suc k) r a asked at = plain_each rest (step q disks).1 k r a asked at
 
 -- ---- what an outline tells
@@ -124,27 +143,36 @@ done-begun (Moved status bytes) clean = rw clean (sym (or-false (nat_eq status S
 done-begun (Data status bytes) clean = rw clean (sym (or-false (nat_eq status SUCCESS)))
 done-begun _ clean = refl
 
-pub outline_same : (a b : Answer) → outline a ≡ outline b → (has_begun a ≡ has_begun b) × (has_begun a ≡ false → a ≡ b)
+pub outline_same : (a b : Answer) → outline a ≡ outline b
+    → (has_begun a ≡ has_begun b) × (has_begun a ≡ false → a ≡ b)
 outline_same a b same = by (has_begun a) (has_begun b) refl refl same
   where
-    by : (x y : Bool) → has_begun a ≡ x → has_begun b ≡ y → (let o : Option Answer = if x then None else Some a in o) ≡ (if y then None else Some b) → (has_begun a ≡ has_begun b) × (has_begun a ≡ false → a ≡ b)
+    by : (x y : Bool) → has_begun a ≡ x → has_begun b ≡ y
+        → (let o : Option Answer = if x then None else Some a in o) ≡ (if y then None else Some b)
+        → (has_begun a ≡ has_begun b) × (has_begun a ≡ false → a ≡ b)
     by true true x y e = (x ∙ sym y, λ not. absurd (cc))
     by false false x y e = (x ∙ sym y, λ _. cc)
     by _ _ x y e = absurd (cc)
 
-pub goes_as : (act : Act) (plain told : Answer) → outline told ≡ outline plain → is_error plain ≡ false → (has_begun told ≡ true → TellsTransfer act told) → GoesAs act plain told
+pub goes_as : (act : Act) (plain told : Answer) → outline told ≡ outline plain → is_error plain ≡ false
+    → (has_begun told ≡ true → TellsTransfer act told) → GoesAs act plain told
 goes_as act plain told same clean tells =
     let two = outline_same told plain same in let is = two.0 ∙ sym (done-begun plain clean) in
     record { same = λ undone. two.1 (is ∙ undone); ends = λ done. tells (is ∙ done) }
 
 -- what tells a drive error isn't done
 succeeds : (told : Answer) → status_of told ≡ DRIVE_ERROR → is_done told ≡ true → ⊥
-succeeds (Moved status bytes) is done = let wrong : nat_eq DRIVE_ERROR SUCCESS ≡ true = rw is at done in absurd (cc)
-succeeds (Data status bytes) is done = let wrong : nat_eq DRIVE_ERROR SUCCESS ≡ true = rw is at done in absurd (cc)
+succeeds (Moved status bytes) is done =
+    let wrong : nat_eq DRIVE_ERROR SUCCESS ≡ true = rw is at done in
+    absurd (cc)
+succeeds (Data status bytes) is done =
+    let wrong : nat_eq DRIVE_ERROR SUCCESS ≡ true = rw is at done in
+    absurd (cc)
 succeeds _ is done = absurd (cc)
 
 -- a transfer that was done has all its bytes
-pub done_is_whole : (act : Act) (plain told : Answer) → GoesAs act plain told → is_done told ≡ true → bytes_told told ≡ bytes_named act
+pub done_is_whole : (act : Act) (plain told : Answer) → GoesAs act plain told → is_done told ≡ true
+    → bytes_told told ≡ bytes_named act
 done_is_whole act plain told goes done = by (is_done plain) refl
   where
     tells : (t : TellsTransfer act told) (o : Outcome) → t.outcome ≡ o → bytes_told told ≡ bytes_named act
@@ -158,7 +186,8 @@ done_is_whole act plain told goes done = by (is_done plain) refl
 -- ---- one command
 
 -- units of the same natures and modes are the same but for their blocks
-pub looks_stay : (after units : Units) → natures_of after ≡ natures_of units → modes_of after ≡ modes_of units → bares (disks_of after) ≡ bares (disks_of units)
+pub looks_stay : (after units : Units) → natures_of after ≡ natures_of units → modes_of after ≡ modes_of units
+    → bares (disks_of after) ≡ bares (disks_of units)
 looks_stay [] [] natures modes = refl
 looks_stay (None ∷ after) (None ∷ units) natures modes =
     let rest_natures : natures_of after ≡ natures_of units = cc in
@@ -168,11 +197,16 @@ looks_stay (Some x ∷ after) (Some y ∷ units) natures modes =
     let rest_natures : natures_of after ≡ natures_of units = cc in
     let rest_modes : modes_of after ≡ modes_of units = cc in
     let nature : nature_of x ≡ nature_of y = cc in let mode : x.mode ≡ y.mode = cc in
-    ap₂ (λ d ds. Some d ∷ ds) (ap₂ (λ (n : Nature) (m : Mode). record { blocks = []; size = n.size; mode = m }) nature mode) (looks_stay after units rest_natures rest_modes)
+    ap₂ (λ d ds. Some d ∷ ds) (ap₂ (λ (n : Nature) (m : Mode). record {
+      blocks = [];
+      size = n.size;
+      mode = m;
+    }) nature mode) (looks_stay after units rest_natures rest_modes)
 looks_stay _ _ natures modes = absurd (cc)
 
 -- a transfer leaves disks as they were but for blocks
-disks-still : (r : Request) (disks : Disks) (slot : Option (Option Disk)) → slice_get disks r.unit ≡ slot → is_moving r.act ≡ true → bares (disks_by Done r (bar_at r.act slot) disks) ≡ bares disks
+disks-still : (r : Request) (disks : Disks) (slot : Option (Option Disk)) → slice_get disks r.unit ≡ slot
+    → is_moving r.act ≡ true → bares (disks_by Done r (bar_at r.act slot) disks) ≡ bares disks
 disks-still r disks None here moving = refl
 disks-still r disks (Some None) here moving = refl
 disks-still r disks (Some (Some d)) here moving = by (refusal_on (extent_of r.act) d.size d.mode)
@@ -185,8 +219,10 @@ disks-still r disks (Some (Some d)) here moving = by (refusal_on (extent_of r.ac
     by : (found : Option Refusal) → bares (disks_by Done r (bar_by found d) disks) ≡ bares disks
     by None =
         map-set (option_map bare) disks r.unit (Some (disk_after Done r.act d))
-        ∙ ap (λ (m : Mode). set (bares disks) r.unit (Some (record { blocks = []; size = d.size; mode = m }))) (mode r.act moving)
-        ∙ set-itself (bares disks) r.unit (Some (bare d)) (slice_get-map (option_map bare) disks r.unit ∙ ap (option_map (option_map bare)) here)
+        ∙ ap (λ (m : Mode). set (bares disks) r.unit (Some (record { blocks = []; size = d.size; mode = m })))
+        (mode r.act moving)
+        ∙ set-itself (bares disks) r.unit (Some (bare d))
+        (slice_get-map (option_map bare) disks r.unit ∙ ap (option_map (option_map bare)) here)
     by (Some refusal) = refl
 
 -- a transfer was begun where it is free
@@ -205,7 +241,8 @@ begun-by o Status (Free d) = refl
 begun-by Done _ (Free d) = refl
 begun-by (Lost k left) _ (Free d) = refl
 
-begun-told : (o : Outcome) (act : Act) (e : End) (buffer : List ℕ) → e.status ≡ transfer_status o → has_begun (answer_of act e buffer) ≡ is_moving act
+begun-told : (o : Outcome) (act : Act) (e : End) (buffer : List ℕ) → e.status ≡ transfer_status o
+    → has_begun (answer_of act e buffer) ≡ is_moving act
 begun-told o (Online protect) e buffer is = refl
 begun-told o Available e buffer is = refl
 begun-told o Status e buffer is = refl
@@ -213,7 +250,8 @@ begun-told Done _ e buffer is = rw is refl
 begun-told (Lost k left) _ e buffer is = rw is refl
 
 -- an answer has its act's form, and its end's status
-pub has_form : (act : Act) (e : End) (buffer : List ℕ) → SameForm (blank_answer act 0) (answer_of act e buffer)
+pub has_form : (act : Act) (e : End) (buffer : List ℕ)
+    → SameForm (blank_answer act 0) (answer_of act e buffer)
 has_form (Online protect) e buffer = tt
 has_form _ e buffer = tt
 
@@ -223,10 +261,13 @@ status-told _ e buffer = refl
 
 -- and as many bytes as the end of its transfer
 bytes-told : (act : Act) (a : ℕ) (e : End) (left : List ℕ) (o : Outcome) → is_transfer (op_of act a) ≡ true
-    → bytes_of e.body ≡ bytes_of (plain_body (op_of act a) (transfer_bytes o (bytes_asked (op_of act a)))) → bytes_of e.body ≤ bytes_asked (op_of act a)
+    → bytes_of e.body ≡ bytes_of (plain_body (op_of act a) (transfer_bytes o (bytes_asked (op_of act a))))
+    → bytes_of e.body ≤ bytes_asked (op_of act a)
     → buffer_start (op_of act a) + room_of (op_of act a) ≤ length left
-    → bytes_told (answer_of act e (part left (buffer_start (op_of act a)) (room_of (op_of act a)))) ≡ transfer_bytes o (bytes_named act)
-bytes-told (Read lbn n) a e left o moving told within room = omega (arith, length-take (bytes_of e.body) (part left a n), length-part-le left a n room, told)
+    → bytes_told (answer_of act e (part left (buffer_start (op_of act a)) (room_of (op_of act a))))
+    ≡ transfer_bytes o (bytes_named act)
+bytes-told (Read lbn n) a e left o moving told within room =
+    omega (arith, length-take (bytes_of e.body) (part left a n), length-part-le left a n room, told)
 bytes-told (Access lbn n) a e left o moving told within room = told
 bytes-told (Write lbn payload) a e left o moving told within room = told
 bytes-told (Erase lbn n) a e left o moving told within room = told
@@ -238,7 +279,8 @@ and_false true h = cc
 and_false false h = cc
 
 -- a command that calls a store is a transfer that acts
-calls-moving : (act : Act) (a : ℕ) (acting : Bool) → nat_lt 0 (blocks_asked (op_of act a)) && acting ≡ true → is_transfer (op_of act a) && acting ≡ true
+calls-moving : (act : Act) (a : ℕ) (acting : Bool) → nat_lt 0 (blocks_asked (op_of act a)) && acting ≡ true
+    → is_transfer (op_of act a) && acting ≡ true
 calls-moving act a false h = absurd (and_false _ h)
 calls-moving (Online protect) a true h = absurd (cc)
 calls-moving Available a true h = absurd (cc)
@@ -249,10 +291,12 @@ calls-moving _ a true h = refl
 pub record IsServed (o : Outcome) (p : Posted) (units : Units) (told : Answer) (after : Units) : Type 0 where
   pub is : (told, disks_of after) ≡ step_as o p.request (disks_of units)
   pub lost : is_error told ≡ is_lost o
-  pub failures_are : failures_at (slice_get after p.request.unit) ≡ failures_at (slice_get units p.request.unit) + (if is_lost o then 1 else 0)
+  pub failures_are : failures_at (slice_get after p.request.unit) ≡ failures_at
+      (slice_get units p.request.unit) + (if is_lost o then 1 else 0)
   pub sure : is_sure (slice_get units p.request.unit) ≡ true → o ≡ Done
 
--- a command was done, and this told: but for what a store may leave, the step of its request, and over a faithful store that step
+-- a command was done, and this told: but for what a store may leave, the step of its request, and over a
+-- faithful store that step
 pub record Served (p : Posted) (units : Units) (told : Answer) (after : Units) : Type 0 where
   pub outcome : Outcome
   pub fits : FitsCount (blocks_named p.request.act) outcome
@@ -260,7 +304,8 @@ pub record Served (p : Posted) (units : Units) (told : Answer) (after : Units) :
   pub tells : has_begun told ≡ true → TellsTransfer p.request.act told
   pub faithful : is_faithful (slice_get units p.request.unit) ≡ true → IsServed outcome p units told after
 
-module _ (p : Posted) (units : Units) (memory : List ℕ) (e : End) (after : Units) (left : List ℕ) (ready : Ready p memory) (x : Executes (posted_command p) units memory e after left) where
+module _ (p : Posted) (units : Units) (memory : List ℕ) (e : End) (after : Units) (left : List ℕ)
+    (ready : Ready p memory) (x : Executes (posted_command p) units memory e after left) where
   abbrev told : Answer
   told = answer_of p.request.act e (buffer_of p left)
 
@@ -271,10 +316,12 @@ module _ (p : Posted) (units : Units) (memory : List ℕ) (e : End) (after : Uni
   c = posted_command p
 
   -- it takes effect
-  step_is : (t : TakesEffect c units memory e after left) → (told, disks_of after) ≡ step_as t.outcome p.request (disks_of units)
+  step_is : (t : TakesEffect c units memory e after left)
+      → (told, disks_of after) ≡ step_as t.outcome p.request (disks_of units)
   step_is t = ap (shown_by p) t.effect_is ∙ serves t.outcome p own ready
 
-  taken : TakesEffect c units memory e after left → (has_begun told ≡ true → TellsTransfer p.request.act told) → Served p units told after
+  taken : TakesEffect c units memory e after left → (has_begun told ≡ true → TellsTransfer p.request.act told)
+      → Served p units told after
   taken t begun =
       let r = p.request in let o = t.outcome in let is = step_is t in
       let fits = subst (λ n. FitsCount n o) (names_same r.act p.address).count t.fits.count in
@@ -285,7 +332,9 @@ module _ (p : Posted) (units : Units) (memory : List ℕ) (e : End) (after : Uni
         tells = begun;
         faithful = λ _. record {
           is = is;
-          lost = ap (λ (y : Answer × Disks). is_error y.0) is ∙ error-lost o r (disks_of units) ready.short fits (λ lost. sym (acts-own p own ready) ∙ t.fits.acting lost);
+          lost = ap (λ (y : Answer × Disks). is_error y.0) is
+              ∙ error-lost o r (disks_of units) ready.short fits
+              (λ lost. sym (acts-own p own ready) ∙ t.fits.acting lost);
           failures_are = t.failures_are;
           sure = t.sure;
         };
@@ -300,11 +349,14 @@ module _ (p : Posted) (units : Units) (memory : List ℕ) (e : End) (after : Uni
         fits = subst (λ n. FitsCount n t.outcome) (names_same p.request.act p.address).count t.count;
         form = has_form p.request.act e (buffer_of p left);
         status = status-told p.request.act e (buffer_of p left) ∙ ap (λ (y : End). y.status) t.end_is;
-        bytes = bytes-told p.request.act p.address e left t.outcome moving (ap (λ (y : End). bytes_of y.body) t.end_is) x.answers.body.within (omega (arith, ready.within, size));
+        bytes = bytes-told p.request.act p.address e left t.outcome moving
+            (ap (λ (y : End). bytes_of y.body) t.end_is) x.answers.body.within
+            (omega (arith, ready.within, size));
       }
 
   -- whatever its store made of it
-  moved : is_transfer c.op ≡ true → acts c own ≡ true → is_faithful (slice_get units p.request.unit) ≡ false → Served p units told after
+  moved : is_transfer c.op ≡ true → acts c own ≡ true → is_faithful (slice_get units p.request.unit) ≡ false
+      → Served p units told after
   moved moving acting none =
       let r = p.request in let ds = disks_of units in let t = x.by_acting.ends moving acting in
       let is_moved = sym (names_same r.act p.address).moving ∙ moving in
@@ -312,8 +364,12 @@ module _ (p : Posted) (units : Units) (memory : List ℕ) (e : End) (after : Uni
       record {
         outcome = Done;
         fits = tt;
-        looks = ap₂ (λ a d. (a, d)) (let one = begun-told t.outcome r.act e (buffer_of p left) (ap (λ (y : End). y.status) t.end_is) ∙ is_moved in let other = begun-by Done r.act (bar ds r) ∙ ap₂ (λ m f. m && f) is_moved (sym (acts-own p own ready) ∙ acting) in rw (one, other) refl)
-            (looks_stay after units x.natures_stay (x.modes_stay moving) ∙ sym (disks-still r ds (slice_get ds r.unit) refl is_moved)) ∙ ap look (sym now);
+        looks = ap₂ (λ a d. (a, d)) (let one =
+            begun-told t.outcome r.act e (buffer_of p left) (ap (λ (y : End). y.status) t.end_is)
+            ∙ is_moved in let other = begun-by Done r.act (bar ds r)
+            ∙ ap₂ (λ m f. m && f) is_moved (sym (acts-own p own ready) ∙ acting) in rw (one, other) refl)
+            (looks_stay after units x.natures_stay (x.modes_stay moving)
+            ∙ sym (disks-still r ds (slice_get ds r.unit) refl is_moved)) ∙ ap look (sym now);
         tells = λ _. tells moving t;
         faithful = λ trusted. absurd (cc);
       }
@@ -323,13 +379,21 @@ module _ (p : Posted) (units : Units) (memory : List ℕ) (e : End) (after : Uni
     where
       still : is_transfer c.op && acts c own ≡ false → Served p units told after
       still idle =
-          let t = x.takes_effect (λ calls. absurd (cc (calls-moving p.request.act p.address (acts c own) calls, idle))) in
-          let now : step_as t.outcome p.request (disks_of units) ≡ serve_as t.outcome p.request (disks_of units) = rw ready.short refl in
+          let t = x.takes_effect (λ calls. absurd
+          (cc (calls-moving p.request.act p.address (acts c own) calls, idle))) in
+          let now : step_as t.outcome p.request (disks_of units) ≡ serve_as t.outcome p.request
+          (disks_of units) = rw ready.short refl in
           let none : has_begun told ≡ false =
-          ap (λ (y : Answer × Disks). has_begun y.0) (step_is t ∙ now) ∙ begun-by t.outcome p.request.act (bar (disks_of units) p.request) ∙ ap₂ (λ m f. m && f) (sym (names_same p.request.act p.address).moving) (sym (acts-own p own ready)) ∙ idle in
+          ap (λ (y : Answer × Disks). has_begun y.0) (step_is t ∙ now)
+          ∙ begun-by t.outcome p.request.act (bar (disks_of units) p.request)
+          ∙ ap₂ (λ m f. m && f) (sym (names_same p.request.act p.address).moving)
+          (sym (acts-own p own ready)) ∙ idle in
           taken t (λ begun. absurd (cc))
 
-      by : (moving faithful : Bool) → is_transfer c.op && acts c own ≡ moving → is_faithful (slice_get units p.request.unit) ≡ faithful → Served p units told after
+      by : (moving faithful : Bool) → is_transfer c.op && acts c own ≡ moving
+          → is_faithful (slice_get units p.request.unit) ≡ faithful → Served p units told after
       by false faithful idle is = still idle
-      by true true goes is = let two = and_parts (is_transfer c.op) (acts c own) goes in taken (x.takes_effect (λ _. is)) (λ _. tells two.0 (x.by_acting.ends two.0 two.1))
+      by true true goes is =
+          let two = and_parts (is_transfer c.op) (acts c own) goes in
+          taken (x.takes_effect (λ _. is)) (λ _. tells two.0 (x.by_acting.ends two.0 two.1))
       by true false goes is = let two = and_parts (is_transfer c.op) (acts c own) goes in moved two.0 two.1 is

@@ -1,4 +1,5 @@
--- The command of a request, ready for it, does to the disks what the request does, and its end and its buffer tell the answer.
+-- The command of a request, ready for it, does to the disks what the request does, and its end and its buffer
+-- tell the answer.
 use Rattle.std.proofs.Common.{◌≡◌, ℕ, zero, suc, ◌+◌, ◌-◌, ◌%◌, ◌≤◌, true, false, List, [], ◌∷◌, length, take, drop, Option, refl, sym, ap, ap₂, ◌∙◌, arith, length-take}
 use Rattle.std.specs.Prelude.{not, if◌then◌else◌}
 use Rattle.std.specs.List.{concat}
@@ -20,17 +21,23 @@ use Rattle.uda_posting.specs.Posting.{op_of, command_of, answer_of, Posted, post
 -- nothing is wrong with its buffer
 clean : (b : Bar) → bar_with false false b ≡ b
 clean (Free disk) = refl
-clean (Barred refusal) = elim (comes_first refusal) as (λ first. Barred (if first then refusal else refusal) ≡ Barred refusal) [ true ↦ refl | _ ↦ refl ]
+clean (Barred refusal) = elim (comes_first refusal) as
+    (λ first. Barred (if first then refusal else refusal) ≡ Barred refusal) [ true ↦ refl | _ ↦ refl ]
 
-pub barred-own : (p : Posted) (w : World) → Ready p w.memory → bar_of (posted_command p) p.request.act w ≡ bar w.disks p.request
+pub barred-own : (p : Posted) (w : World) → Ready p w.memory
+    → bar_of (posted_command p) p.request.act w ≡ bar w.disks p.request
 barred-own p w ready =
     let o = (posted_command p).op in
     let even : is_odd (buffer_start o) ≡ false = ap not (eq-eqb (buffer_start o % 2) 0 ready.even) in
-    let present : is_missing (buffer_start o) (room_of o) (length w.memory) ≡ false = le-ltb (length w.memory) (buffer_start o + room_of o) ready.within in
-    ap₂ (λ odd missing. bar_with odd missing (bar w.disks p.request)) even present ∙ clean (bar w.disks p.request)
+    let present : is_missing (buffer_start o) (room_of o) (length w.memory) ≡ false =
+    le-ltb (length w.memory) (buffer_start o + room_of o) ready.within in
+    ap₂ (λ odd missing. bar_with odd missing (bar w.disks p.request)) even present
+    ∙ clean (bar w.disks p.request)
 
-pub acts-own : (p : Posted) (w : World) → Ready p w.memory → acts (posted_command p) w ≡ is_free (bar w.disks p.request)
-acts-own p w ready = ap (λ (a : Option Act). acts_by (posted_command p) a w) ready.asks ∙ ap is_free (barred-own p w ready)
+pub acts-own : (p : Posted) (w : World) → Ready p w.memory
+    → acts (posted_command p) w ≡ is_free (bar w.disks p.request)
+acts-own p w ready = ap (λ (a : Option Act). acts_by (posted_command p) a w) ready.asks
+    ∙ ap is_free (barred-own p w ready)
 
 -- ---- what a Read tells of its buffer are the bytes that it was told
 
@@ -39,19 +46,27 @@ take_told zero ys = refl
 take_told (suc k) [] = refl
 take_told (suc k) (y ∷ ys) = ap (λ (zs : List ℕ). y ∷ zs) (take_told k ys)
 
-read_back : (ys memory : List ℕ) (a n k : ℕ) → a + n ≤ length memory → length ys ≤ n → take (length (take k ys)) (part (put memory a ys) a n) ≡ take k ys
+read_back : (ys memory : List ℕ) (a n k : ℕ) → a + n ≤ length memory → length ys ≤ n
+    → take (length (take k ys)) (part (put memory a ys) a n) ≡ take k ys
 unfolding part
 read_back ys memory a n k room fits =
     let t = length (take k ys) in
     let small : t ≤ length ys = omega (arith, length-take k ys) in
     let none : a - a ≡ 0 = omega arith in
-    take-take t n (drop a (put memory a ys)) (omega arith) ∙ part-put_inside memory a ys a t (omega arith) (omega arith) (omega arith) ∙ ap (λ (i : ℕ). take t (drop i ys)) none ∙ take_told k ys
+    take-take t n (drop a (put memory a ys)) (omega arith)
+    ∙ part-put_inside memory a ys a t (omega arith) (omega arith) (omega arith)
+    ∙ ap (λ (i : ℕ). take t (drop i ys)) none ∙ take_told k ys
 
-answers : (o : Outcome) (act : Act) (unit k a : ℕ) (b : Bar) (memory : List ℕ) → buffer_start (op_of act a) + room_of (op_of act a) ≤ length memory
-    → answer_of act (end_for (command_of (record { unit = unit; act = act }) k a) (answer_by o act b)) (part (memory_by o (op_of act a) act b memory) (buffer_start (op_of act a)) (room_of (op_of act a))) ≡ answer_by o act b
+answers : (o : Outcome) (act : Act) (unit k a : ℕ) (b : Bar) (memory : List ℕ)
+    → buffer_start (op_of act a) + room_of (op_of act a) ≤ length memory
+    → answer_of act (end_for (command_of (record { unit = unit; act = act }) k a) (answer_by o act b))
+    (part (memory_by o (op_of act a) act b memory) (buffer_start (op_of act a)) (room_of (op_of act a)))
+    ≡ answer_by o act b
 answers o (Read first n) unit k a (Free disk) memory room =
     let ys = bytes_on o (Read first n) disk in
-    ap (λ (bytes : List ℕ). Data (transfer_status o) bytes) (read_back ys memory a n (transfer_bytes o n) room (omega (arith, length-take n (concat (blocks_moved o (due (Read first n) disk.blocks))))))
+    ap (λ (bytes : List ℕ). Data (transfer_status o) bytes)
+    (read_back ys memory a n (transfer_bytes o n) room
+    (omega (arith, length-take n (concat (blocks_moved o (due (Read first n) disk.blocks))))))
 answers o (Online protect) unit k a (Barred refusal) memory room = refl
 answers o _ unit k a (Barred refusal) memory room = refl
 answers o (Online protect) unit k a (Free disk) memory room = refl
@@ -64,9 +79,12 @@ abbrev pub shown_by : Posted → End × World → Answer × Disks
 shown_by p x = (answer_of p.request.act x.0 (buffer_of p x.1.memory), x.1.disks)
 
 -- the command of a request, its outcome fixed, tells the answer of the plain step and leaves its disks
-pub serves : (o : Outcome) (p : Posted) (w : World) → Ready p w.memory → shown_by p (effect o (posted_command p) w) ≡ step_as o p.request w.disks
+pub serves : (o : Outcome) (p : Posted) (w : World) → Ready p w.memory
+    → shown_by p (effect o (posted_command p) w) ≡ step_as o p.request w.disks
 serves o p w ready =
     let c = posted_command p in let r = p.request in let b = bar w.disks r in
     let now : step_as o r w.disks ≡ serve_as o r w.disks = rw ready.short refl in
-    let is : effect o c w ≡ does o c r.act b w = ap (λ a. effect_by o c a w) ready.asks ∙ ap (λ x. does o c r.act x w) (barred-own p w ready) in
-    ap (shown_by p) is ∙ ap (λ a. (a, disks_by o r b w.disks)) (answers o r.act r.unit (p.place + 1) p.address b w.memory ready.within) ∙ sym now
+    let is : effect o c w ≡ does o c r.act b w = ap (λ a. effect_by o c a w) ready.asks
+    ∙ ap (λ x. does o c r.act x w) (barred-own p w ready) in
+    ap (shown_by p) is ∙ ap (λ a. (a, disks_by o r b w.disks))
+    (answers o r.act r.unit (p.place + 1) p.address b w.memory ready.within) ∙ sym now

@@ -1,4 +1,4 @@
--- What a driver keeps between two commands, of requests and disks.
+-- The invariant of requests and disks while commands are outstanding.
 use Rattle.std.specs.Prelude.{◌≡◌, ◌≢◌, ℕ, ◌+◌, ◌<◌, ◌≤◌, true, List, ◌++◌, length, map, All, AllPairs, Some}
 use Rattle.std.specs.Prelude.{slice_get}
 use Rattle.uda_mem.specs.Put.{Meet}
@@ -41,8 +41,8 @@ pub record IsDue (requests : List Request) (n : ℕ) (told : List Answer) (p : P
   pub before : p.place < n
   pub to_come : IsToCome requests told p.place p.request
 
--- Of these requests exactly these are due, in the order of their places, of those among the first n that are to
--- come. Of the requests behind them no answer is told.
+-- Of the first n requests exactly those that are due are still to come, and they are due in the order of
+-- their places. Of the other requests no answer is told.
 pub record AreDue (requests : List Request) (n : ℕ) (told : List Answer) (due : List Posted) : Type 0 where
   pub each : All (IsDue requests n told) due
   pub in_order : AllPairs IsEarlier due
@@ -63,8 +63,8 @@ SureNeverFail units units_after =
     (u : ℕ) → is_sure (slice_get units u) ≡ true
     → failures_at (slice_get units_after u) ≡ failures_at (slice_get units u)
 
--- Over faithful stores the run is told as it is, on disks that are the units', each failure was told once, and
--- what never fails has not failed.
+-- Over faithful stores the run is what was told, on the units' disks. Each failure was told once, and a store
+-- that never fails has not failed.
 pub record IsTrue (start : Units) (requests : List Request) (run : List Answer × Disks) (told : List Answer)
     (units : Units) : Type 0 where
   pub same : run ≡ (told, disks_of units)
@@ -72,8 +72,8 @@ pub record IsTrue (start : Units) (requests : List Request) (run : List Answer �
       → failures_at (slice_get units u) ≡ failures_at (slice_get start u) + drive_errors u requests told
   pub sure : SureNeverFail start units
 
--- The answers of these requests that are told. The ledger has a run, which is as told but for what a store may
--- leave of blocks and transfers, and over faithful stores is as told.
+-- The answers of these requests told so far, and the units then. The ledger has a run with the same outlines:
+-- blocks may differ, and what a transfer that began tells. Over faithful stores the run is what was told.
 pub record Owes (start : Units) (requests : List Request) (told : List Answer) (units : Units) : Type 0 where
   pub run : List Answer × Disks
   pub ledger : Ledger (disks_of start) requests run
@@ -104,8 +104,8 @@ EndedNotAt k d = IsNotAt k d.posted
 abbrev pub alive : List Ended → List Posted → List Posted
 alive ended due = map (λ d. d.posted) ended ++ due
 
--- What is owed, where the first n requests were posted or are too long. Of those that were posted some are due,
--- to be done by their commands, and some answers still lie in their ends: the driver has told all others.
+-- The first n requests were posted or are too long. Of those that were posted some are due, and the answers
+-- of some are in end messages that wait. The driver has written all other answers.
 pub record Keeps (start : Units) (requests : List Request) (n : ℕ) (due : List Posted) (ended : List Ended)
     (answers : List Answer) (units : Units) (memory : List ℕ) : Type 0 where
   pub told : List Answer

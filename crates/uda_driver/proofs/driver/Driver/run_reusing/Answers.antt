@@ -34,14 +34,16 @@ returns-clause-losses g c = rw (← c.self.view_is) (λ faithful. record {
 
 pub returns-clause-headline_untold : goal.returns-clause-headline_untold
 returns-clause-headline_untold g c = rw (← c.self.view_is)
-    (λ faithful none. owes_untold c.drive.ensures.owes c.drive.ensures.none_to_come faithful (λ u. untold_errors u _ _ none))
+    (λ faithful none. owes_untold c.drive.ensures.owes c.drive.ensures.none_to_come faithful
+    (λ u. untold_errors u _ _ none))
 
 pub returns-clause-sure : goal.returns-clause-sure
 returns-clause-sure g c = rw (← c.self.view_is) (λ faithful.
     (c.drive.ensures.owes.faithful faithful).sure)
 
 pub returns-clause-seems : goal.returns-clause-seems
-returns-clause-seems g c = rw (← c.self.view_is) (owes_seems c.drive.ensures.owes c.drive.ensures.none_to_come)
+returns-clause-seems g c = rw (← c.self.view_is)
+    (owes_seems c.drive.ensures.owes c.drive.ensures.none_to_come)
 
 pub returns-in_err-answers-clause-too_many : goal.returns-in_err-answers-clause-too_many
 returns-in_err-answers-clause-too_many g c =

@@ -1,8 +1,8 @@
 -- The load of a run, step by step.
-use Rattle.std.proofs.Common.{◌≡◌, ℕ, zero, suc, ◌+◌, ◌-◌, ◌*◌, ◌/◌, ◌<◌, Bool, true, false, List, [], ◌∷◌, ◌++◌, length, take, drop, set, Some, None, refl, sym, ap, ap₂, ◌∙◌, arith, add-one}
+use Rattle.std.proofs.Common.{◌≡◌, ℕ, zero, suc, ◌+◌, ◌-◌, ◌*◌, ◌/◌, ◌<◌, Bool, true, false, List, [], ◌∷◌, length, take, drop, set, Some, None, refl, sym, ap, ap₂, ◌∙◌, arith, add-one}
 use Rattle.std.specs.Prelude.{Option, slice_get, replicate, ◌||◌, not, nat_eq}
 use Rattle.std.specs.List.{list_any}
-use Rattle.std.proofs.lemmas.List.{length-take, length_push, take_more, drop_more}
+use Rattle.std.proofs.lemmas.List.{length_push, drop_more}
 use Rattle.std.proofs.Math.Dec.{eqb-suc-zero}
 use Rattle.std.proofs.lemmas.List.Edits.{length-remove}
 use Rattle.std.proofs.lemmas.List.Sums.{count_by_more_no, count_by_more_yes}
@@ -56,9 +56,7 @@ lead-none (suc room) seen = refl
 -- ---- the request at a place
 
 pub record Next (requests : List Request) (n : ℕ) (r : Request) : Type 0 where
-  pub more : take (n + 1) requests ≡ take n requests ++ r ∷ []
   pub rest : drop n requests ≡ r ∷ drop (n + 1) requests
-  pub counted : length (take n requests) ≡ n
   pub skipped : too_long r ≡ true → posted_count (take (n + 1) requests) ≡ posted_count (take n requests)
   pub posted : too_long r ≡ false → posted_count (take (n + 1) requests) ≡ posted_count (take n requests) + 1
 
@@ -67,9 +65,7 @@ next requests n r stands =
     let within = slice_get_within requests n r stands in
     let here = get_or_from_slice_get requests n r r stands in
     record {
-      more = take_more requests n r within ∙ ap (λ (s : Request). take n requests ++ s ∷ []) here;
       rest = drop_more requests n r within ∙ ap (λ (s : Request). s ∷ drop (n + 1) requests) here;
-      counted = omega (arith, length-take n requests);
       skipped = λ long. count_by_more_no is_short requests n r within (ap is_short here ∙ ap not long);
       posted = λ short. count_by_more_yes is_short requests n r within (ap is_short here ∙ ap not short);
     }

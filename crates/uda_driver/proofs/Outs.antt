@@ -11,10 +11,11 @@ use Rattle.uda_packet.specs.declared.end.End.{End}
 use Rattle.uda_exec.specs.Disks.{PENDING_LIMIT}
 use Rattle.uda_disk.proofs.Slots.{slice_get-set_same, slice_get-set_other}
 use Rattle.uda_posting.specs.Posting.{Posted}
-use Rattle.uda_posting.specs.Keeping.{Ended, RefersBack, AreTwo}
+use Rattle.uda_posting.specs.Keeping.{Ended, RefersBack, Apart, alive}
+use Rattle.uda_posting.proofs.Owing.{apart_turned}
 use Rattle.uda_disk.proofs.Lists.{All-remove, All-at, pairs_first, pairs_rest, pairs_others}
 use Rattle.uda_driver.specs.Out.{posted_with, IsOut}
-use Rattle.uda_driver.specs.Underway.{alive, Outs}
+use Rattle.uda_driver.specs.Underway.{Outs}
 use Rattle.uda_driver.specs.declared.buffers.Out.{Out}
 use Rattle.uda_driver.proofs.Slots.{set_at, freed_at, count-taken, count-freed}
 
@@ -30,9 +31,6 @@ module _ {A : Type 0} (ys : List A) (j : ℕ) (a : A) (stands : slice_get ys j �
       AllPairs-cons R a (remove ys j) (pairs_others R R (λ x y two. (two, turned x y two)) ys j a pairs stands) (all_pairs_remove R ys j (slice_get_within ys j a stands) pairs)
   pairs_moved R turned (x ∷ xs) pairs =
       AllPairs-cons R x (xs ++ a ∷ remove ys j) (all_moved (R x) xs (pairs_first R x (xs ++ ys) pairs)) (pairs_moved R turned xs (pairs_rest R x (xs ++ ys) pairs))
-
-are_two_turned : (p q : Posted) → AreTwo p q → AreTwo q p
-are_two_turned p q two same = two (sym same)
 
 -- ---- nothing is out
 
@@ -50,7 +48,7 @@ outs_none out waiting is none = subst₂ (λ (o : List (Option Out)) (w : List E
   counted = refl;
   own_places = λ i k one other stands there same. absurd (none_at PENDING_LIMIT i one stands);
   are_out = All-nil (IsOut (replicate PENDING_LIMIT None));
-  are_two = λ i j d before within. absurd (omega arith);
+  apart = λ i j d before within. absurd (omega arith);
   waits = refl;
   refer = All-nil RefersBack;
 })
@@ -67,7 +65,7 @@ module _ {out : List (Option Out)} {due : List Posted} {ended : List Ended} {wai
   still_out number slot p it other = record { number = it.number; one = it.one; stands = slice_get-set_other out number it.number slot other ∙ it.stands; is = it.is }
 
   pub outs_post : (number : ℕ) (one : Out) → slice_get out number ≡ Some None
-      → ((k : ℕ) (other : Out) → slice_get out k ≡ Some (Some other) → other.place ≢ one.place) → Outs (set out number (Some one)) (due ++ posted_with number one ∷ []) ended waiting
+      → ((k : ℕ) (other : Out) → slice_get out k ≡ Some (Some other) → Apart (posted_with k other) (posted_with number one)) → Outs (set out number (Some one)) (due ++ posted_with number one ∷ []) ended waiting
   outs_post number one free apart =
       let p = posted_with number one in
       let within = slice_get_within out number None free in
@@ -80,7 +78,7 @@ module _ {out : List (Option Out)} {due : List Posted} {ended : List Ended} {wai
         counted = omega (arith, count-taken out number one free, outs.counted, ap length more, length_push (alive ended due) p);
         own_places = λ i k a b at_i at_k same. own i k a b same (set_at out number i (Some one) (Some a) within at_i) (set_at out number k (Some one) (Some b) within at_k);
         are_out = subst (All (IsOut after)) (sym more) (All-push (IsOut after) (alive ended due) p (λ k d low. still _ (outs.are_out k d low)) here);
-        are_two = subst (AllPairs AreTwo) (sym more) (all_pairs_push AreTwo (alive ended due) p outs.are_two (of_alive (λ q. AreTwo q p) apart));
+        apart = subst (AllPairs Apart) (sym more) (all_pairs_push Apart (alive ended due) p outs.apart (of_alive (λ q. Apart q p) apart));
         waits = outs.waits;
         refer = outs.refer;
       }
@@ -90,8 +88,8 @@ module _ {out : List (Option Out)} {due : List Posted} {ended : List Ended} {wai
 
       own : (i k : ℕ) (a b : Out) → a.place ≡ b.place → Now i a → Now k b → i ≡ k
       own i k a b same (inl x) (inl y) = x.0 ∙ sym y.0
-      own i k a b same (inl x) (inr y) = let s = x.1 in let is : one ≡ a = cc in absurd (apart k b y.1 (sym same ∙ ap (λ (o : Out). o.place) (sym is)))
-      own i k a b same (inr x) (inl y) = let s = y.1 in let is : one ≡ b = cc in absurd (apart i a x.1 (same ∙ ap (λ (o : Out). o.place) (sym is)))
+      own i k a b same (inl x) (inr y) = let s = x.1 in let is : one ≡ a = cc in absurd ((apart k b y.1).two (sym same ∙ ap (λ (o : Out). o.place) (sym is)))
+      own i k a b same (inr x) (inl y) = let s = y.1 in let is : one ≡ b = cc in absurd ((apart i a x.1).two (same ∙ ap (λ (o : Out). o.place) (sym is)))
       own i k a b same (inr x) (inr y) = outs.own_places i k a b x.1 y.1 same
 
   -- a command that was due has ended
@@ -106,7 +104,7 @@ module _ {out : List (Option Out)} {due : List Posted} {ended : List Ended} {wai
         counted = omega (arith, outs.counted, ap length moved, length-append before due, length-append before (p ∷ remove due j), length-remove due j (slice_get_within due j p stands), slice_get_within due j p stands);
         own_places = outs.own_places;
         are_out = subst (All (IsOut out)) (sym moved) (all_moved due j p stands (IsOut out) before outs.are_out);
-        are_two = subst (AllPairs AreTwo) (sym moved) (pairs_moved due j p stands AreTwo are_two_turned before outs.are_two);
+        apart = subst (AllPairs Apart) (sym moved) (pairs_moved due j p stands Apart apart_turned before outs.apart);
         waits = ap (λ (es : List End). es ++ e ∷ []) outs.waits ∙ sym (map_push (λ (d : Ended). d.end) ended new);
         refer = All-push RefersBack ended new outs.refer refers;
       }
@@ -131,7 +129,7 @@ module _ {out : List (Option Out)} {due : List Posted} {first : Ended} {ended : 
       let index : number ≡ own.number = outs.own_places number own.number one own.one stands own.stands place in
       let here : Some (Some one) ≡ Some (Some own.one) = sym stands ∙ ap (slice_get out) index ∙ own.stands in
       let is : one ≡ own.one = cc in
-      let others = pairs_first AreTwo first.posted (alive ended due) outs.are_two in
+      let others = pairs_first Apart first.posted (alive ended due) outs.apart in
       let was : (k : ℕ) (other : Out) → slice_get (set out number None) k ≡ Some (Some other) → slice_get out k ≡ Some (Some other) = λ k other there. (freed_at out number k other (slice_get_within out number _ stands) there).1 in
       let was_all = All-tail (IsOut out) first.posted (alive ended due) outs.are_out in
       let waited = outs.waits in
@@ -143,9 +141,9 @@ module _ {out : List (Option Out)} {due : List Posted} {first : Ended} {ended : 
           own_places = λ i k a b at_i at_k. outs.own_places i k a b (was i a at_i) (was k b at_k);
           are_out = λ k d low.
               let it = was_all k d low in
-              let two = others k d low in
+              let two = (others k d low).two in
               still_out outs number None _ it (λ same. two (sym (ap (λ (p : Posted). p.place) own.is) ∙ sym place ∙ (let both : Some (Some it.one) ≡ Some (Some one) = sym it.stands ∙ ap (slice_get out) same ∙ stands in let one_is : it.one ≡ one = cc in sym (ap (λ (o : Out). o.place) one_is)) ∙ ap (λ (p : Posted). p.place) it.is));
-          are_two = pairs_rest AreTwo first.posted (alive ended due) outs.are_two;
+          apart = pairs_rest Apart first.posted (alive ended due) outs.apart;
           waits = cc;
           refer = All-tail RefersBack first ended outs.refer;
         };

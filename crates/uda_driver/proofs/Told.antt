@@ -1,6 +1,6 @@
 -- Answers of which none tells a drive error.
-use Rattle.std.proofs.Common.{◌≡◌, ℕ, Bool, true, false, List, [], ◌∷◌, refl, ap, arith}
-use Rattle.std.specs.Prelude.{nat_eq, ◌&&◌, ◌||◌, if◌then◌else◌}
+use Rattle.std.proofs.Common.{◌≡◌, ℕ, Bool, false, List, [], ◌∷◌, refl, ap, arith}
+use Rattle.std.specs.Prelude.{◌||◌}
 use Rattle.std.proofs.lemmas.Bool.{or_parts}
 use Rattle.uda_disk.specs.Request.{Request}
 use Rattle.uda_disk.specs.Answer.{Answer}
@@ -8,19 +8,15 @@ use Rattle.uda_disk.specs.PlainRun.{tells_error, drive_errors}
 use Rattle.std.specs.List.{list_any}
 use Rattle.uda_disk.specs.Values.{answer_value, answer_values}
 use Rattle.uda_disk.specs.declared.answer.Answer.{Answer as CodeAnswer}
+use Rattle.uda_posting.proofs.Owing.{none_told}
 use Rattle.uda_driver.specs.Run.{is_drive_error, tells_drive_error}
-
-no_error : (own told : Bool) → told ≡ false → (let n : ℕ = if own && told then 1 else 0 in n) ≡ 0
-no_error true true h = absurd (cc)
-no_error true false h = refl
-no_error false told h = refl
 
 pub untold_errors : (u : ℕ) (requests : List Request) (told : List Answer) → tells_drive_error told ≡ false → drive_errors u requests told ≡ 0
 untold_errors u [] told h = refl
 untold_errors u (r ∷ rest) [] h = refl
 untold_errors u (r ∷ rest) (answer ∷ later) h =
     let parts = or_parts (is_drive_error answer) (tells_drive_error later) h in
-    let first : tells_error u r answer ≡ 0 = no_error (nat_eq r.unit u) (is_drive_error answer) parts.0 in
+    let first : tells_error u r answer ≡ 0 = none_told u r.unit (is_drive_error answer) (λ _. parts.0) in
     omega (arith, first, untold_errors u rest later parts.1)
 
 -- the answers of the code tell it as what contracts see of them

@@ -1,10 +1,10 @@
 -- The steps of a run of requests.
-use Rattle.std.proofs.Common.{◌≡◌, ℕ, ◌+◌, ◌<◌, ◌≤◌, inl, inr, Bool, true, false, List, [], ◌∷◌, ◌++◌, length, map, take, drop, set, get_or, nat_eq, Option, Some, None, refl, sym, ap, ◌∙◌, arith, subst}
+use Rattle.std.proofs.Common.{◌≡◌, ℕ, ◌+◌, ◌<◌, ◌≤◌, inl, inr, Bool, true, false, List, [], ◌∷◌, length, map, take, drop, set, get_or, nat_eq, Option, Some, None, refl, sym, ap, ◌∙◌, arith}
 use Rattle.std.specs.Prelude.{slice_get, slice_set, option_map, replicate, ◌||◌}
-use Rattle.std.proofs.lemmas.List.{length-map, length-take, length-set, length_push, map-set, take_all, drop_all, nil_from_length}
+use Rattle.std.proofs.lemmas.List.{length-map, length-set, length_push, map-set, take_all, drop_all, nil_from_length}
 use Rattle.std.proofs.lemmas.List.Edits.{length-remove}
 use Rattle.std.proofs.lemmas.Bool.{eqb-true, eqb-false, or_cases, or_parts}
-use Rattle.std.proofs.lemmas.Option.{slice_get-map, slice_get-get_or}
+use Rattle.std.proofs.lemmas.Option.{slice_get_within, slice_get-map, slice_get-get_or}
 use Rattle.uda_packet.specs.declared.end.End.{End}
 use Rattle.uda_disk.specs.Units.{Units, AreImages, nature_of, natures_of}
 use Rattle.uda_exec.specs.Disks.{PENDING_LIMIT}
@@ -14,6 +14,7 @@ use Rattle.uda_disk.specs.PlainRun.{too_long, posted_count}
 use Rattle.uda_disk.specs.Answer.{TooLong}
 use Rattle.uda_disk.specs.Order.{lead, lead_from}
 use Rattle.uda_posting.specs.Posting.{posted_command, answer_of, buffer_of}
+use Rattle.uda_model.specs.Ledger.{NoneToCome}
 use Rattle.uda_posting.specs.Keeping.{Owes}
 use Rattle.uda_disk.specs.Values.{request_value, answer_value, request_values, answer_values}
 use Rattle.uda_disk.specs.declared.request.Request.{Request as CodeRequest}
@@ -22,11 +23,11 @@ use Rattle.uda_disk.specs.declared.answer.Answer.TheVariants.{TooLong as CodeToo
 use Rattle.uda_host.specs.Host.{HostState, out_of, turns_left, Works, OneFetched, OneDone, TakesEnd, AddsUp}
 use Rattle.uda_driver.specs.Run.{CountsOn}
 use Rattle.uda_driver.specs.Driver.{IsAtRest, IsDriver}
-use Rattle.uda_driver.specs.Blank.{AreBlank}
+use Rattle.uda_driver.specs.Blank.{IsBlank, AreBlank}
 use Rattle.uda_driver.specs.Out.{posted_with, clashes_with_any, must_wait, IsFit}
 use Rattle.uda_driver.specs.Steps.{HasFree, PutsOut, Steps, TellsNone, TellsOne}
 use Rattle.uda_driver.specs.Load.{triangle, InLead, IsOver}
-use Rattle.uda_driver.specs.Underway.{Driving, IsAtWork, Underway}
+use Rattle.uda_driver.specs.Underway.{IsAtWork, Underway}
 use Rattle.uda_driver.specs.Drive.{IsDriving, Ran}
 use Rattle.uda_driver.specs.declared.buffers.Out.{Out}
 use Rattle.uda_driver.proofs.Slots.{some_free, clashing_out, no_clash_at}
@@ -58,14 +59,58 @@ turned (TellsOne e takes tells) = turned_takes takes
 pub steps_less : {host new : HostState} {out after : List (Option Out)} {answers told : List CodeAnswer} → AddsUp host → 0 < out_of host → Steps host out answers new after told → turns_left new < turns_left host
 steps_less adds_up some steps = let t = turned steps in omega (arith, t.all, t.turns, adds_up.turns_are, adds_up.fetched_were_posted, some)
 
--- ---- while requests are out
+-- ---- the next request
+
+-- it stands at place n of the list
+pub record IsAt (requests : List CodeRequest) (n : ℕ) (request : CodeRequest) : Type 0 where
+  pub low : n < length requests
+  pub is : request ≡ get_or requests n request
+
+at_place : {requests : List CodeRequest} {n : ℕ} {request : CodeRequest} → IsAt requests n request → slice_get (request_values requests) n ≡ Some (request_value request)
+at_place {requests} {n} {request} it = slice_get-map request_value requests n ∙ ap (option_map request_value) (slice_get-get_or requests n request it.low ∙ ap (λ (r : CodeRequest). Some r) (sym it.is))
+
+next_at : {requests : List CodeRequest} {n : ℕ} {request : CodeRequest} → IsAt requests n request → Next (request_values requests) n (request_value request)
+next_at {requests} {n} {request} it = next (request_values requests) n (request_value request) (at_place it)
+
+-- ---- the beginning
+
+-- as many units as before
+same_count : (units before : Units) → natures_of units ≡ natures_of before → length units ≡ length before
+same_count units before same = sym (length-map units (option_map nature_of)) ∙ ap length same ∙ length-map before (option_map nature_of)
+
+pub underway_start : {start : HostState} {requests : List CodeRequest} {out : List (Option Out)} {answers : List CodeAnswer} → IsDriver start → out ≡ replicate PENDING_LIMIT None → length answers ≡ length requests
+    → AreBlank (request_values requests) 0 answers → Underway start requests 0 out answers start
+underway_start {start} {requests} {answers = answers} ready none sized blank =
+    let rest = ready.rest in
+    record {
+      driving = driving_start (request_values requests) (answer_values answers) rest.idle none;
+      blank = blank;
+      sized = sized;
+      at_work = record { begun = rest.begun; images = ready.images; adds_up = ready.adds_up };
+      posted = omega (arith, ap length rest.idle.none_due, ap length rest.idle.none_wait);
+      load = load_start (request_values requests) none rest.idle.none_due rest.credits_are;
+    }
+
+-- when all are posted, no more come in the lead
+pub drain_ends : {start host : HostState} (requests : List CodeRequest) {n : ℕ} {out : List (Option Out)} → length requests ≤ n
+    → (l : InLead start (request_values requests) n out host) → lead_from host.credits l.seen (drop n (request_values requests)) ≡ 0
+drain_ends {host = host} requests {n} all l = ap (lead_from host.credits l.seen) (drop_all n (request_values requests) (omega (arith, all, length-map requests request_value))) ∙ lead-none host.credits l.seen
+
+-- ---- the steps
 
 module _ {start : HostState} {requests : List CodeRequest} {n : ℕ} {out : List (Option Out)} {answers : List CodeAnswer} {host : HostState} (U : Underway start requests n out answers host) where
-  room : length (take n (request_values requests)) ≤ length (answer_values answers)
-  room = omega (arith, length-take n (request_values requests), length-map requests request_value, length-map answers answer_value, U.sized)
+  room : length (request_values requests) ≤ length (answer_values answers)
+  room = omega (arith, length-map requests request_value, length-map answers answer_value, U.sized)
 
-  pub is_driving : IsDriving out answers host
-  is_driving = record { start = start.units; requests = take n (request_values requests); driving = U.driving; room = omega (arith, room, length-map answers answer_value) }
+  pub is_driving : n ≤ length requests → IsDriving out answers host
+  is_driving low = record {
+    start = start.units;
+    requests = request_values requests;
+    n = n;
+    driving = U.driving;
+    room = omega (arith, room, length-map answers answer_value);
+    low = omega (arith, low, length-map requests request_value);
+  }
 
   pub all_credits : host.credits + out_of host ≡ PENDING_LIMIT
   all_credits = U.at_work.adds_up.credits_are U.at_work.begun
@@ -108,7 +153,7 @@ module _ {start : HostState} {requests : List CodeRequest} {n : ℕ} {out : List
     underway_step (TellsOne e takes tells) =
         let t = turned_takes takes in
         let place = tells.done.one.place in
-        let low : place < n = omega (arith, (U.driving.fit tells.done.number tells.done.one tells.done.stands).before, length-take n (request_values requests)) in
+        let low : place < n = (U.driving.fit tells.done.number tells.done.one tells.done.stands).before in
         let a = answer_of (request_value tells.done.one.request.now).act e (buffer_of (posted_with tells.done.number tells.done.one) new.memory) in
         let values : answer_values told ≡ slice_set (answer_values answers) place a =
         ap answer_values tells.answers_are ∙ map-set answer_value answers place tells.told ∙ ap (set (answer_values answers) place) tells.told_is in
@@ -121,144 +166,104 @@ module _ {start : HostState} {requests : List CodeRequest} {n : ℕ} {out : List
           load = IsOver (over_takes (over_from ends U.load) takes);
         })
 
--- ---- the next request
+  module _ {request : CodeRequest} (it : IsAt requests n request) where
+    r : Request
+    r = request_value request
 
--- it stands at place n of the list
-pub record IsAt (requests : List CodeRequest) (n : ℕ) (request : CodeRequest) : Type 0 where
-  pub low : n < length requests
-  pub is : request ≡ get_or requests n request
+    w : Next (request_values requests) n (request_value request)
+    w = next_at it
 
-at_place : {requests : List CodeRequest} {n : ℕ} {request : CodeRequest} → IsAt requests n request → slice_get (request_values requests) n ≡ Some (request_value request)
-at_place {requests} {n} {request} it = slice_get-map request_value requests n ∙ ap (option_map request_value) (slice_get-get_or requests n request it.low ∙ ap (λ (r : CodeRequest). Some r) (sym it.is))
+    -- an answer stands there, which is blank
+    here : (d : CodeAnswer) → slice_get answers n ≡ Some (get_or answers n d)
+    here d = slice_get-get_or answers n d (omega (arith, it.low, U.sized))
 
-next_at : {requests : List CodeRequest} {n : ℕ} {request : CodeRequest} → IsAt requests n request → Next (request_values requests) n (request_value request)
-next_at {requests} {n} {request} it = next (request_values requests) n (request_value request) (at_place it)
+    blank : (d : CodeAnswer) → IsBlank (request_value request) (get_or answers n d)
+    blank d = U.blank n (request_value request) _ (omega arith) (at_place it) (here d)
 
-module _ {start : HostState} {requests : List CodeRequest} {n : ℕ} {out : List (Option Out)} {answers : List CodeAnswer} {host : HostState} {request : CodeRequest} (U : Underway start requests n out answers host) (it : IsAt requests n request) where
-  r : Request
-  r = request_value request
-
-  w : Next (request_values requests) n (request_value request)
-  w = next_at it
-
-  blank_here : slice_get answers n ≡ Some (get_or answers n CodeTooLong)
-  blank_here = slice_get-get_or answers n CodeTooLong (omega (arith, it.low, U.sized))
-
-  pub underway_skip : too_long (request_value request) ≡ true → Underway start requests (n + 1) out answers host
-  underway_skip long =
-      let own = U.blank n (request_value request) (get_or answers n CodeTooLong) (omega arith) (at_place it) blank_here in
-      let here = slice_get-map answer_value answers n ∙ ap (option_map answer_value) (blank_here ∙ ap (λ (a : CodeAnswer). Some a) (own.long long)) in
-      let blank = ap (slice_get (answer_values answers)) w.counted ∙ here in
-      record {
-        driving = subst (λ (rs : List Request). Driving start.units rs out (answer_values answers) host) (sym w.more) (driving_skip U.driving (request_value request) long blank);
-        blank = λ k q a from. U.blank k q a (omega (arith, from));
-        sized = U.sized;
-        at_work = U.at_work;
-        posted = omega (arith, U.posted, w.skipped long);
-        load = load_skip w long U.load;
-      }
-
-  -- one that must wait comes in no lead
-  pub wait_ends : must_wait host out (request_value request) ≡ true → too_long (request_value request) ≡ false
-      → (l : InLead start (request_values requests) n out host) → lead_from host.credits l.seen (drop n (request_values requests)) ≡ 0
-  wait_ends waits short l =
-      let waits_too = ap (λ (met : Bool). nat_eq host.credits 0 || met) (l.clash_alike (request_value request)) ∙ waits in
-      ap (lead_from host.credits l.seen) w.rest ∙ lead-waits host.credits l.seen (request_value request) (drop (n + 1) (request_values requests)) short waits_too
-
-  -- one that needn't is posted
-  module _ (free : must_wait host out (request_value request) ≡ false) where
-    pub underway_post : {one : Out} {new : HostState} {after : List (Option Out)} {left : List CodeAnswer} (d : CodeAnswer) → too_long (request_value request) ≡ false → one.place ≡ n → one.request.now ≡ request
-        → one.answer ≡ get_or answers n d → left ≡ slice_set answers n CodeTooLong → PutsOut one host out new after → AddsUp new → Underway start requests (n + 1) after left new
-    underway_post {one} {new} {after} {left} d short place is answer_is left_is puts adds_up =
-        let rs = request_values requests in
-        let request_is = ap request_value is in
-        let own = U.blank n (request_value request) one.answer (omega arith) (at_place it)
-        (slice_get-get_or answers n d (omega (arith, it.low, U.sized)) ∙ ap (λ (a : CodeAnswer). Some a) (sym answer_is)) in
-        let fit : IsFit (length (take n rs) + 1) one = record {
-          before = omega (arith, place, w.counted);
-          short = ap too_long request_is ∙ short;
-          prepared = rw request_is (own.room short);
-        } in
-        let clear = (or_parts (nat_eq host.credits 0) (clashes_with_any (request_value request) out) free).1 in
-        let told_is : answer_values left ≡ slice_set (answer_values answers) (length (take n rs)) TooLong = ap (map answer_value) left_is ∙ map-set answer_value answers n CodeTooLong ∙ ap (λ (k : ℕ). set (answer_values answers) k TooLong) (sym w.counted) in
-        let posted = driving_post U.driving puts fit (place ∙ sym w.counted) (λ number other stands. no_clash_at (request_value one.request.now) out number other (ap (λ (q : Request). clashes_with_any q out) request_is ∙ clear) stands) U.at_work.adds_up.size TooLong in
-        let more : take n rs ++ request_value one.request.now ∷ [] ≡ take (n + 1) rs = ap (λ (q : Request). take n rs ++ q ∷ []) request_is ∙ sym w.more in
-        let changed = puts.posts.is in
-        record {
-          driving = rw (← more, told_is) posted;
-          blank = λ k q a from stands at. U.blank k q a (omega (arith, from)) stands (sym (slice_get-set_other answers n k CodeTooLong (λ same. omega (arith, same, from))) ∙ ap (λ (as' : List CodeAnswer). slice_get as' k) (sym left_is) ∙ at);
-          sized = ap length left_is ∙ length-set answers n CodeTooLong ∙ U.sized;
-          at_work = record { begun = rw changed U.at_work.begun; images = rw changed U.at_work.images; adds_up = adds_up };
-          posted = rw changed (omega (arith, U.posted, w.posted short, length_push host.due (posted_command (posted_with puts.number one))));
-          load = rw puts.out_is (load_post w request_is short (credit_left U (request_value request) free) clear puts U.load);
-        }
-
--- ---- the beginning and the end
-
--- as many units as before
-same_count : (units before : Units) → natures_of units ≡ natures_of before → length units ≡ length before
-same_count units before same = sym (length-map units (option_map nature_of)) ∙ ap length same ∙ length-map before (option_map nature_of)
-
-pub underway_start : {start : HostState} {requests : List CodeRequest} {out : List (Option Out)} {answers : List CodeAnswer} → IsDriver start → out ≡ replicate PENDING_LIMIT None → length answers ≡ length requests
-    → AreBlank (request_values requests) 0 answers → Underway start requests 0 out answers start
-underway_start {start} {requests} {answers = answers} ready none sized blank =
-    let rest = ready.rest in
-    record {
-      driving = driving_start (answer_values answers) rest.idle none;
-      blank = blank;
-      sized = sized;
-      at_work = record { begun = rest.begun; images = ready.images; adds_up = ready.adds_up };
-      posted = omega (arith, ap length rest.idle.none_due, ap length rest.idle.none_wait);
-      load = load_start (request_values requests) none rest.idle.none_due rest.credits_are;
+    pub underway_skip : too_long (request_value request) ≡ true → Underway start requests (n + 1) out answers host
+    underway_skip long = record {
+      driving = driving_skip U.driving (request_value request) (at_place it) long (slice_get-map answer_value answers n ∙ ap (option_map answer_value) (here CodeTooLong) ∙ ap (λ (a : CodeAnswer). Some (answer_value a)) ((blank CodeTooLong).long long));
+      blank = λ k q a from. U.blank k q a (omega (arith, from));
+      sized = U.sized;
+      at_work = U.at_work;
+      posted = omega (arith, U.posted, w.skipped long);
+      load = load_skip w long U.load;
     }
 
--- when all are posted, no more come in the lead
-pub drain_ends : {start host : HostState} (requests : List CodeRequest) {n : ℕ} {out : List (Option Out)} → length requests ≤ n
-    → (l : InLead start (request_values requests) n out host) → lead_from host.credits l.seen (drop n (request_values requests)) ≡ 0
-drain_ends {host = host} requests {n} all l = ap (lead_from host.credits l.seen) (drop_all n (request_values requests) (omega (arith, all, length-map requests request_value))) ∙ lead-none host.credits l.seen
+    -- one that must wait comes in no lead
+    pub wait_ends : must_wait host out (request_value request) ≡ true → too_long (request_value request) ≡ false
+        → (l : InLead start (request_values requests) n out host) → lead_from host.credits l.seen (drop n (request_values requests)) ≡ 0
+    wait_ends waits short l =
+        let waits_too = ap (λ (met : Bool). nat_eq host.credits 0 || met) (l.clash_alike (request_value request)) ∙ waits in
+        ap (lead_from host.credits l.seen) w.rest ∙ lead-waits host.credits l.seen (request_value request) (drop (n + 1) (request_values requests)) short waits_too
 
-module _ {start : HostState} {requests : List CodeRequest} {n : ℕ} {out : List (Option Out)} {answers : List CodeAnswer} {host : HostState} (ready : IsDriver start) (all : length requests ≤ n) (back : PENDING_LIMIT ≤ host.credits)
-    (U : Underway start requests n out answers host) where
-  whole : take n (request_values requests) ≡ request_values requests
-  whole = take_all n (request_values requests) (omega (arith, all, length-map requests request_value))
+    -- one that needn't is posted
+    module _ (free : must_wait host out (request_value request) ≡ false) where
+      pub underway_post : {one : Out} {new : HostState} {after : List (Option Out)} {left : List CodeAnswer} (d : CodeAnswer) → too_long (request_value request) ≡ false → one.place ≡ n → one.request.now ≡ request
+          → one.answer ≡ get_or answers n d → left ≡ slice_set answers n CodeTooLong → PutsOut one host out new after → AddsUp new → Underway start requests (n + 1) after left new
+      underway_post {one} {new} {after} {left} d short place is answer_is left_is puts adds_up =
+          let rs = request_values requests in
+          let request_is = ap request_value is in
+          let fit : IsFit (n + 1) one = record {
+            before = omega (arith, place);
+            short = ap too_long request_is ∙ short;
+            prepared = rw (request_is, answer_is) ((blank d).room short);
+          } in
+          let clear = (or_parts (nat_eq host.credits 0) (clashes_with_any (request_value request) out) free).1 in
+          let told_is : answer_values left ≡ slice_set (answer_values answers) one.place TooLong = ap (map answer_value) left_is ∙ map-set answer_value answers n CodeTooLong ∙ ap (λ (k : ℕ). set (answer_values answers) k TooLong) (sym place) in
+          let posted = driving_post U.driving puts fit place (ap (slice_get rs) place ∙ at_place it ∙ ap Some (sym request_is)) (λ number other stands. no_clash_at (request_value one.request.now) out number other (ap (λ (q : Request). clashes_with_any q out) request_is ∙ clear) stands) U.at_work.adds_up.size TooLong in
+          let changed = puts.posts.is in
+          record {
+            driving = rw told_is posted;
+            blank = λ k q a from stands at. U.blank k q a (omega (arith, from)) stands (sym (slice_get-set_other answers n k CodeTooLong (λ same. omega (arith, same, from))) ∙ ap (λ (as' : List CodeAnswer). slice_get as' k) (sym left_is) ∙ at);
+            sized = ap length left_is ∙ length-set answers n CodeTooLong ∙ U.sized;
+            at_work = record { begun = rw changed U.at_work.begun; images = rw changed U.at_work.images; adds_up = adds_up };
+            posted = rw changed (omega (arith, U.posted, w.posted short, length_push host.due (posted_command (posted_with puts.number one))));
+            load = rw puts.out_is (load_post w request_is short (credit_left (request_value request) free) clear puts U.load);
+          }
 
-  none : out_of host ≡ 0
-  none = omega (arith, all_credits U, back)
+  module _ (ready : IsDriver start) (all : length requests ≤ n) (back : PENDING_LIMIT ≤ host.credits) where
+    whole : take n (request_values requests) ≡ request_values requests
+    whole = take_all n (request_values requests) (omega (arith, all, length-map requests request_value))
 
-  none_due : host.due ≡ []
-  none_due = nil_from_length host.due (omega (arith, none))
+    none : out_of host ≡ 0
+    none = omega (arith, all_credits, back)
 
-  rests : IsAtRest host
-  rests = record {
-    runs = U.at_work.adds_up.runs;
-    idle = record { none_due = none_due; none_wait = nil_from_length host.waiting (omega (arith, none)) };
-    credits_are = omega (arith, all_credits U, none);
-    begun = U.at_work.begun;
-  }
+    none_due : host.due ≡ []
+    none_due = nil_from_length host.due (omega (arith, none))
 
-  counted_on : CountsOn (request_values requests) start host
-  counted_on =
-      let before = ready.adds_up in let after = U.at_work.adds_up in
-      let due = ap length ready.rest.idle.none_due in let waiting = ap length ready.rest.idle.none_wait in
-      let fetches : start.fetches ≡ start.taken = omega (arith, before.done_were_fetched, before.fetched_were_posted, due, waiting) in
-      let fetches_now : host.fetches ≡ host.taken = omega (arith, after.done_were_fetched, after.fetched_were_posted, none) in
-      let p = ap posted_count whole in
-      let taken : host.taken ≡ start.taken + posted_count (request_values requests) = omega (arith, U.posted, none, p) in
-      let over = over_from (drain_ends requests all) U.load in
-      record {
-        turns = omega (arith, before.turns_are, after.turns_are, fetches, fetches_now, taken, none, waiting);
-        fetches = omega (arith, fetches, fetches_now, taken);
-        deliveries = taken;
-        load = omega (arith, over.load, over.within, p, triangle-is (lead (request_values requests)), ap (λ (h : List _). triangle (length h)) none_due);
-      }
+    rests : IsAtRest host
+    rests = record {
+      runs = U.at_work.adds_up.runs;
+      idle = record { none_due = none_due; none_wait = nil_from_length host.waiting (omega (arith, none)) };
+      credits_are = omega (arith, all_credits, none);
+      begun = U.at_work.begun;
+    }
 
-  owed : Owes start.units (request_values requests) [] (answer_values answers) host.units host.memory
-  owed = driving_end (omega (arith, length-map answers answer_value, length-map requests request_value, U.sized)) none (subst (λ (qs : List Request). Driving start.units qs out (answer_values answers) host) whole U.driving)
+    counted_on : CountsOn (request_values requests) start host
+    counted_on =
+        let before = ready.adds_up in let after = U.at_work.adds_up in
+        let due = ap length ready.rest.idle.none_due in let waiting = ap length ready.rest.idle.none_wait in
+        let fetches : start.fetches ≡ start.taken = omega (arith, before.done_were_fetched, before.fetched_were_posted, due, waiting) in
+        let fetches_now : host.fetches ≡ host.taken = omega (arith, after.done_were_fetched, after.fetched_were_posted, none) in
+        let p = ap posted_count whole in
+        let taken : host.taken ≡ start.taken + posted_count (request_values requests) = omega (arith, U.posted, none, p) in
+        let over = over_from (drain_ends requests all) U.load in
+        record {
+          turns = omega (arith, before.turns_are, after.turns_are, fetches, fetches_now, taken, none, waiting);
+          fetches = omega (arith, fetches, fetches_now, taken);
+          deliveries = taken;
+          load = omega (arith, over.load, over.within, p, triangle-is (lead (request_values requests)), ap (λ (h : List _). triangle (length h)) none_due);
+        }
 
-  pub ran : Ran start requests answers host
-  ran = record {
-    ready = record { rest = rests; four = same_count host.units start.units owed.natures ∙ ready.four; images = U.at_work.images; adds_up = U.at_work.adds_up };
-    counted = U.sized;
-    owes = owed;
-    counts = counted_on;
-  }
+    owed : Owes start.units (request_values requests) (answer_values answers) host.units × NoneToCome (request_values requests) (answer_values answers)
+    owed = driving_end U.driving (omega (arith, length-map answers answer_value, length-map requests request_value, U.sized)) (omega (arith, all, length-map requests request_value)) none
+
+    pub ran : Ran start requests answers host
+    ran = record {
+      ready = record { rest = rests; four = same_count host.units start.units owed.0.natures ∙ ready.four; images = U.at_work.images; adds_up = U.at_work.adds_up };
+      counted = U.sized;
+      owes = owed.0;
+      none_to_come = owed.1;
+      counts = counted_on;
+    }

@@ -1,191 +1,142 @@
 -- The steps of the ledger.
-use Rattle.std.proofs.Common.{◌≡◌, ◌≢◌, ℕ, zero, suc, ◌-◌, ◌<◌, ◌≤◌, true, List, [], ◌∷◌, ◌++◌, length, map, set, Some, refl, sym, ap, ap₂, ◌∙◌, arith, subst, subst₂}
-use Rattle.std.specs.Prelude.{slice_get, slice_set, insert, remove, All, AllPairs}
-use Rattle.std.proofs.lemmas.List.{length-map, length-set, map_push, set_comm, set-append_left, set-append_right}
-use Rattle.std.proofs.lemmas.List.Edits.{length-remove}
-use Rattle.std.proofs.lemmas.List.Elements.{All-nil, All-cons, All-head, All-tail, All-push}
-use Rattle.std.proofs.lemmas.Option.{slice_get_within, get_or_from_slice_get}
+use Rattle.std.proofs.Common.{◌≡◌, ℕ, zero, suc, ◌<◌, Bool, true, false, List, [], ◌∷◌, length, map, set, Some, refl, sym, ap, ◌∙◌, arith, subst}
+use Rattle.std.specs.Prelude.{slice_get, All, AllPairs}
+use Rattle.std.proofs.lemmas.List.{length-map, map-set}
+use Rattle.std.proofs.lemmas.List.Elements.{All-map, All-set}
+use Rattle.std.proofs.lemmas.Option.{slice_get_within, slice_get-map}
 use Rattle.uda_disk.specs.Disk.{Disks}
-use Rattle.uda_disk.specs.Request.{Request, blocks_named}
+use Rattle.uda_disk.specs.Request.{Act, Online, Request}
 use Rattle.uda_disk.specs.Answer.{Answer, TooLong}
-use Rattle.uda_disk.specs.Plain.{Outcome, Done, FitsCount}
-use Rattle.uda_disk.specs.Order.{NoClash, PassesOlder}
-use Rattle.uda_disk.specs.PlainRun.{FixedRequest, requests_of, too_long, step_as, step_of, plain_as, FitsRequest, PlainWithLosses}
-use Rattle.uda_disk.proofs.Runs.{runs-push, length-runs}
+use Rattle.uda_disk.specs.Plain.{Bar, Barred, Free, bar, Outcome, Done, answer_by}
+use Rattle.uda_disk.specs.Order.{passes, NoClash}
+use Rattle.uda_disk.specs.PlainRun.{FixedRequest, requests_of, too_long, step_of, plain_as, FitsRequest, PlainWithLosses}
+use Rattle.uda_disk.specs.Runs.{runs_first}
 use Rattle.uda_disk.proofs.OrderLaw.{request_order_is_free}
-use Rattle.uda_model.specs.Ledger.{Due, requests_due, FixedDue, dues_in, fixed_request, with_answers, ComesBefore, Opens, Closes, Skips, TakesIn, CarriesOut}
-use Rattle.uda_disk.proofs.Lists.{map-insert, put_back, put_in, All-insert, pairs_first, pairs_rest}
+use Rattle.uda_disk.proofs.Slots.{set-itself}
+use Rattle.uda_model.specs.Ledger.{is_to_come, untold, finish, told_by, IsToCome, NoneToCome, GoesBefore, Opens, Closes, CarriesOut}
 
--- a request that is too long
-step-long : (o : Outcome) (disks : Disks) (r : Request) → too_long r ≡ true → step_as o r disks ≡ (TooLong, disks)
-step-long o disks r h = rw h refl
+-- ---- one that may go is done first
 
-losses-push : (start : Disks) (requests : List Request) (answers : List Answer) (left : Disks) (r : Request) (o : Outcome) → FitsCount (blocks_named r.act) o → PlainWithLosses start requests answers left
-    → PlainWithLosses start (requests ++ r ∷ []) (answers ++ (step_as o r left).0 ∷ []) (step_as o r left).1
-losses-push start requests answers left r o f h =
-    let d : FixedRequest = record { request = r; outcome = o } in
-    let more : List Answer × Disks → List Answer × Disks = λ x. (x.0 ++ (step_of d x.1).0 ∷ [], (step_of d x.1).1) in
-    record {
-      fixed = h.fixed ++ d ∷ [];
-      are_requests = map_push (λ (x : FixedRequest). x.request) h.fixed d ∙ ap (λ (rs : List Request). rs ++ r ∷ []) h.are_requests;
-      fit = All-push FitsRequest h.fixed d h.fit f;
-      gives = runs-push step_of h.fixed d start ∙ ap more h.gives;
-    }
+-- two requests leave the same in either order
+abbrev Swap : FixedRequest → FixedRequest → Type 0
+Swap y x = (disks : Disks) → runs_first step_of 1 x (y ∷ x ∷ []) disks ≡ plain_as disks (y ∷ x ∷ [])
 
--- ---- answers in their places
+swap : (y x : FixedRequest) → (too_long y.request ≡ false → GoesBefore y.request x.request) → Swap y x
+swap y x may disks = by (too_long y.request) refl
+  where
+    by : (b : Bool) → too_long y.request ≡ b → runs_first step_of 1 x (y ∷ x ∷ []) disks ≡ plain_as disks (y ∷ x ∷ [])
+    by true long = rw long refl
+    by false short =
+        let goes = may short in
+        request_order_is_free (y ∷ x ∷ []) 1 x disks
+        (λ i j d before within.
+        let first : i ≡ 0 = omega arith in let second : j ≡ 1 = omega arith in rw (first, second) goes.clear)
+        (record {
+          stands = omega arith;
+          passes_each = λ i older r below at_i at_j.
+              let first : i ≡ 0 = omega arith in
+              let one : Some y.request ≡ Some older = rw first at at_i in
+              let y_is : y.request ≡ older = cc in let x_is : x.request ≡ r = cc in
+              rw (← y_is, ← x_is) goes.passes;
+        }) refl
 
-abbrev IsBelow : ℕ → Due → Type 0
-IsBelow n p = p.place < n
+-- a request that isn't too long is told another answer than TooLong
+told-by : (o : Outcome) (act : Act) (b : Bar) → is_to_come (answer_by o act b) ≡ false
+told-by o (Online protect) (Barred refusal) = refl
+told-by o _ (Barred refusal) = refl
+told-by o (Online protect) (Free disk) = refl
+told-by o _ (Free disk) = refl
 
-with_answers-behind : (told : List Answer) (x : Answer) (due : List Due) (later : List Answer) → All (IsBelow (length told)) due → with_answers (told ++ x ∷ []) due later ≡ with_answers told due later ++ x ∷ []
-with_answers-behind told x [] later h = refl
-with_answers-behind told x (q ∷ qs) [] h = refl
-with_answers-behind told x (q ∷ qs) (b ∷ bs) h =
-    let here : q.place < length told = All-head (IsBelow (length told)) q qs h in
-    let size : length (set told q.place b) ≡ length told = length-set told q.place b in
-    ap (λ (t : List Answer). with_answers t qs bs) (set-append_left told (x ∷ []) q.place b here)
-    ∙ with_answers-behind (set told q.place b) x qs bs (subst (λ (n : ℕ). All (IsBelow n) qs) (sym size) (All-tail (IsBelow (length told)) q qs h))
+is_told : (x : FixedRequest) (disks : Disks) → too_long x.request ≡ false → is_to_come (step_of x disks).0 ≡ false
+is_told x disks short = rw short (told-by x.outcome x.request.act (bar disks x.request))
 
-with_answers-push : (told : List Answer) (x : Answer) (due : List Due) (p : Due) (later : List Answer) (a : Answer) → All (IsBelow (length told)) due → p.place ≡ length told → length later ≡ length due
-    → with_answers (told ++ x ∷ []) (due ++ p ∷ []) (later ++ a ∷ []) ≡ with_answers told due later ++ a ∷ []
-with_answers-push told x [] p [] a h at n =
-    let first : p.place - length told ≡ 0 = omega arith in
-    set-append_right told (x ∷ []) (length told) p.place a refl (omega arith) ∙ ap (λ (i : ℕ). told ++ set (x ∷ []) i a) first
-with_answers-push told x [] p (b ∷ bs) a h at n = absurd (omega arith)
-with_answers-push told x (q ∷ qs) p [] a h at n = absurd (omega arith)
-with_answers-push told x (q ∷ qs) p (b ∷ bs) a h at n =
-    let here : q.place < length told = All-head (IsBelow (length told)) q qs h in
-    let size : length (set told q.place b) ≡ length told = length-set told q.place b in
-    ap (λ (t : List Answer). with_answers t (qs ++ p ∷ []) (bs ++ a ∷ [])) (set-append_left told (x ∷ []) q.place b here)
-    ∙ with_answers-push (set told q.place b) x qs p bs a (subst (λ (m : ℕ). All (IsBelow m) qs) (sym size) (All-tail (IsBelow (length told)) q qs h)) (at ∙ sym size) (omega arith)
+goes_first : (xs : List FixedRequest) (told : List Answer) (k : ℕ) (x : FixedRequest) (disks : Disks)
+    → k < length xs → slice_get told k ≡ Some TooLong → too_long x.request ≡ false
+    → ((i : ℕ) (y : FixedRequest) → i < k → slice_get xs i ≡ Some y → slice_get told i ≡ Some TooLong → Swap y x)
+    → finish xs (set told k (step_of x disks).0) (step_of x disks).1 ≡ finish (set xs k x) told disks
+goes_first [] told k x disks low at short swaps = absurd (omega arith)
+goes_first (y ∷ ys) [] k x disks low at short swaps = absurd (cc)
+goes_first (y ∷ ys) (a ∷ told) zero x disks low at short swaps =
+    let is : a ≡ TooLong = cc in rw (is_told x disks short, is) refl
+goes_first (y ∷ ys) (TooLong ∷ told) (suc k) x disks low at short swaps =
+    let joined : List Answer × Disks → List Answer × Disks = λ w. seam y ys told k w.0 w.1 in
+    ap joined (swaps 0 y (omega arith) refl refl disks)
+    ∙ ap (λ (w : List Answer × Disks). ((step_of y disks).0 ∷ w.0, w.1))
+    (goes_first ys told k x (step_of y disks).1 (omega arith) at short
+    (λ i z below there still. swaps (suc i) z (omega arith) there still))
+  where
+    -- both answers, each told, and the others on the disks that the two leave
+    seam : FixedRequest → List FixedRequest → List Answer → ℕ → List Answer → Disks → List Answer × Disks
+    seam y ys told k (a ∷ b ∷ rest) w = let later = finish ys (set told k b) w in (a ∷ later.0, later.1)
+    seam y ys told k answers w = (answers, w)
+goes_first (y ∷ ys) (a ∷ told) (suc k) x disks low at short swaps =
+    ap (λ (w : List Answer × Disks). (a ∷ w.0, w.1))
+    (goes_first ys told k x disks (omega arith) at short
+    (λ i z below there still. swaps (suc i) z (omega arith) there still))
 
-with_answers-insert : (told : List Answer) (due : List Due) (j : ℕ) (p : Due) (later : List Answer) (a : Answer) → AllPairs ComesBefore due → slice_get due j ≡ Some p → length later ≡ length (remove due j)
-    → with_answers told due (insert later j a) ≡ with_answers (slice_set told p.place a) (remove due j) later
-with_answers-insert told [] j p later a rising at n = absurd (cc)
-with_answers-insert told (q ∷ qs) zero p later a rising at n = let same : q ≡ p = cc in ap (λ (x : Due). with_answers (set told x.place a) qs later) same
-with_answers-insert told (q ∷ qs) (suc j) p [] a rising at n = absurd (omega arith)
-with_answers-insert told (q ∷ qs) (suc j) p (b ∷ bs) a rising at n =
-    let earlier : q.place < p.place = subst (ComesBefore q) (get_or_from_slice_get qs j p p at) (pairs_first ComesBefore q qs rising j p (slice_get_within qs j p at)) in
-    let other : q.place ≢ p.place = λ e. omega arith in
-    with_answers-insert (set told q.place b) qs j p bs a (pairs_rest ComesBefore q qs rising) at (omega arith)
-    ∙ ap (λ (t : List Answer). with_answers t (remove qs j) bs) (set_comm told q.place p.place b a other)
-
--- ---- the steps
-
--- nothing was posted
-pub ledger_opens : Opens
-ledger_opens start [] e fit = record { fixed = []; are_requests = refl; fit = All-nil FitsRequest; gives = refl }
-ledger_opens start (f ∷ fs) e fit = absurd (cc)
-
--- a request that is too long is answered at once
-pub ledger_skips : Skips
-ledger_skips start requests due told disks r long below h fixed e fit =
-    let later = plain_as disks (map fixed_request fixed) in
-    let is : step_as Done r later.1 ≡ (TooLong, later.1) = step-long Done later.1 r long in
-    let more = losses-push start requests (with_answers told due later.0) later.1 r Done tt (h fixed e fit) in
-    let P : List Answer → Disks → Type 0 = λ answers left. PlainWithLosses start (requests ++ r ∷ []) answers left in
-    subst₂ P (ap (λ (x : Answer × Disks). with_answers told due later.0 ++ x.0 ∷ []) is ∙ sym (with_answers-behind told TooLong due later.0 below)) (ap (λ (x : Answer × Disks). x.1) is) more
-
--- a list that ends with y when it is mapped ends with some z
-record Ends (fixed : List FixedDue) (due : List Due) (p : Due) : Type 0 where
-  front : List FixedDue
-  last : FixedDue
-  whole : fixed ≡ front ++ last ∷ []
-  front_is : dues_in front ≡ due
-  last_is : last.due ≡ p
-
-ends : (fixed : List FixedDue) (due : List Due) (p : Due) → dues_in fixed ≡ due ++ p ∷ [] → Ends fixed due p
-ends [] [] p e = absurd (cc)
-ends [] (q ∷ qs) p e = absurd (cc)
-ends (f ∷ []) [] p e = let same : f.due ≡ p = cc in record { front = []; last = f; whole = refl; front_is = refl; last_is = same }
-ends (f ∷ g ∷ fs) [] p e = absurd (cc)
-ends (f ∷ fs) (q ∷ qs) p e =
-    let tail : dues_in fs ≡ qs ++ p ∷ [] = cc in
-    let head : f.due ≡ q = cc in
-    let rest = ends fs qs p tail in
-    let cons : Due → List Due → List Due = λ x xs. x ∷ xs in
-    record { front = f ∷ rest.front; last = rest.last; whole = ap (λ (xs : List FixedDue). f ∷ xs) rest.whole; front_is = ap₂ cons head rest.front_is; last_is = rest.last_is }
-
-fits_front : (front : List FixedDue) (f : FixedDue) → All FitsRequest (map fixed_request (front ++ f ∷ [])) → All FitsRequest (map fixed_request front) × FitsRequest (fixed_request f)
-fits_front [] f fit = (All-nil FitsRequest, All-head FitsRequest (fixed_request f) [] fit)
-fits_front (x ∷ xs) f fit =
-    let rest = fits_front xs f (All-tail FitsRequest (fixed_request x) (map fixed_request (xs ++ f ∷ [])) fit) in
-    (All-cons FitsRequest (fixed_request x) (map fixed_request xs) (All-head FitsRequest (fixed_request x) (map fixed_request (xs ++ f ∷ [])) fit) rest.0, rest.1)
-
--- a request is posted
-pub ledger_takes_in : TakesIn
-ledger_takes_in start requests due told disks p below at h fixed e fit =
-    let split = ends fixed due p e in
-    let f = split.last in
-    let fits = fits_front split.front f (subst (λ (xs : List FixedDue). All FitsRequest (map fixed_request xs)) split.whole fit) in
-    let later = plain_as disks (map fixed_request split.front) in
-    let d : FixedRequest = record { request = p.request; outcome = f.outcome } in
-    let is_d : fixed_request f ≡ d = ap (λ (q : Due). record { request = q.request; outcome = f.outcome }) split.last_is in
-    let now = step_of d later.1 in
-    let more = losses-push start requests (with_answers told due later.0) later.1 p.request f.outcome (subst FitsRequest is_d fits.1) (h split.front split.front_is fits.0) in
-    let requests_are : map fixed_request fixed ≡ map fixed_request split.front ++ d ∷ [] =
-    ap (map fixed_request) split.whole ∙ map_push fixed_request split.front f ∙ ap (λ (x : FixedRequest). map fixed_request split.front ++ x ∷ []) is_d in
-    let all : plain_as disks (map fixed_request fixed) ≡ (later.0 ++ now.0 ∷ [], now.1) = ap (plain_as disks) requests_are ∙ runs-push step_of (map fixed_request split.front) d disks in
-    let size : length later.0 ≡ length due =
-    length-runs step_of (map fixed_request split.front) disks ∙ length-map split.front fixed_request ∙ sym (length-map split.front (λ (x : FixedDue). x.due)) ∙ ap length split.front_is in
-    let P : List Answer → Disks → Type 0 = λ answers left. PlainWithLosses start (requests ++ p.request ∷ []) answers left in
-    subst₂ P
-    (sym (ap (λ (x : List Answer × Disks). with_answers (told ++ TooLong ∷ []) (due ++ p ∷ []) x.0) all ∙ with_answers-push told TooLong due p later.0 now.0 below at size))
-    (sym (ap (λ (x : List Answer × Disks). x.1) all)) more
-
-requests-same : (fixed : List FixedDue) → requests_of (map fixed_request fixed) ≡ requests_due (dues_in fixed)
-requests-same [] = refl
-requests-same (f ∷ fs) = ap (λ (rs : List Request). f.due.request ∷ rs) (requests-same fs)
-
--- a request that is taken out, with its outcome, among those that were left: all again, in their places
-module _ (due : List Due) (j : ℕ) (p : Due) (o : Outcome) (at : slice_get due j ≡ Some p) (fixed : List FixedDue) (e : dues_in fixed ≡ remove due j) where
-  abbrev pub all_fixed : List FixedDue
-  all_fixed = insert fixed j (record { due = p; outcome = o })
-
-  abbrev pub fixed_here : FixedRequest
-  fixed_here = fixed_request (record { due = p; outcome = o })
-
-  size : length fixed ≡ length (remove due j)
-  size = sym (length-map fixed (λ (x : FixedDue). x.due)) ∙ ap length e
-
-  inserted : map fixed_request all_fixed ≡ insert (map fixed_request fixed) j fixed_here
-  inserted = map-insert fixed_request fixed j (record { due = p; outcome = o })
-
-  dues_are : dues_in all_fixed ≡ due
-  dues_are = map-insert (λ (x : FixedDue). x.due) fixed j (record { due = p; outcome = o }) ∙ ap (λ (ps : List Due). insert ps j p) e ∙ put_back due j p at
-
-  requests_are : requests_of (map fixed_request all_fixed) ≡ requests_due due
-  requests_are = requests-same all_fixed ∙ ap requests_due dues_are
-
-  there : (slice_get (insert (map fixed_request fixed) j fixed_here) j ≡ Some fixed_here) × (remove (insert (map fixed_request fixed) j fixed_here) j ≡ map fixed_request fixed)
-  there = put_in (map fixed_request fixed) j fixed_here (omega (arith, size, length-remove due j (slice_get_within due j p at), slice_get_within due j p at, length-map fixed fixed_request))
-
-  stands : slice_get (map fixed_request all_fixed) j ≡ Some fixed_here
-  stands = ap (λ (ys : List FixedRequest). slice_get ys j) inserted ∙ there.0
-
-  others : remove (map fixed_request all_fixed) j ≡ map fixed_request fixed
-  others = ap (λ (ys : List FixedRequest). remove ys j) inserted ∙ there.1
-
--- a request that may go is done
 pub ledger_carries_out : CarriesOut
-ledger_carries_out start requests due told disks j p o clear rising goes at f h fixed e fit =
-    let all = all_fixed due j p o at fixed e in
-    let xs = map fixed_request all in
-    let x = fixed_here due j p o at fixed e in
-    let asked = requests_are due j p o at fixed e in
-    let all_fit : All FitsRequest xs = subst (All FitsRequest) (sym (inserted due j p o at fixed e)) (All-insert FitsRequest (map fixed_request fixed) j x f fit) in
-    let law = request_order_is_free xs j x disks (subst (AllPairs NoClash) (sym asked) clear) (subst (λ (rs : List Request). PassesOlder rs j) (sym asked) goes) (stands due j p o at fixed e) in
-    let now = step_as o p.request disks in
-    let later = plain_as now.1 (map fixed_request fixed) in
-    let first : (insert later.0 j now.0, later.1) ≡ plain_as disks xs =
-    ap (λ (ys : List FixedRequest). let l = plain_as now.1 ys in (insert l.0 j now.0, l.1)) (sym (others due j p o at fixed e)) ∙ law in
-    let n : length later.0 ≡ length (remove due j) = length-runs step_of (map fixed_request fixed) now.1 ∙ length-map fixed fixed_request ∙ size due j p o at fixed e in
-    let P : List Answer → Disks → Type 0 = λ answers left. PlainWithLosses start requests answers left in
-    subst₂ P
-    (sym (ap (λ (x : List Answer × Disks). with_answers told due x.0) first) ∙ with_answers-insert told due j p later.0 now.0 rising at n)
-    (sym (ap (λ (x : List Answer × Disks). x.1) first))
-    (h all (dues_are due j p o at fixed e) all_fit)
+ledger_carries_out start requests now k x it may fits h fixed e fit =
+    let request : FixedRequest → Request = λ y. y.request in
+    let low = slice_get_within requests k x.request it.stands in
+    let all = set fixed k x in
+    let asked : requests_of all ≡ requests =
+    map-set request fixed k x ∙ ap (λ rs. set rs k x.request) e ∙ set-itself requests k x.request it.stands in
+    let first = goes_first fixed now.0 k x now.1 (omega (arith, length-map fixed request, ap length e, low))
+    it.untold it.short (λ i y below at_i still. swap y x (λ short. may i y.request below (record {
+      stands = ap (λ rs. slice_get rs i) (sym e) ∙ slice_get-map request fixed i ∙ rw at_i refl;
+      short = short;
+      untold = still;
+    }))) in
+    subst (λ w. PlainWithLosses start requests w.0 w.1) (sym first) (h all asked (All-set FitsRequest fixed k x fits fit))
 
--- nothing is due
+-- ---- the beginning and the end
+
+opened : (xs : List FixedRequest) (disks : Disks) → finish xs (untold (requests_of xs)) disks ≡ plain_as disks xs
+opened [] disks = refl
+opened (x ∷ xs) disks =
+    ap (λ (w : List Answer × Disks). ((step_of x disks).0 ∷ w.0, w.1)) (opened xs (step_of x disks).1)
+
+pub ledger_opens : Opens
+ledger_opens start requests fixed e fit =
+    let is = opened fixed start in
+    let gives = sym (rw e at is) in
+    record { fixed = fixed; are_requests = e; fit = fit; gives = gives }
+
+closed : (xs : List FixedRequest) (told : List Answer) (disks : Disks)
+    → NoneToCome (requests_of xs) told → finish xs told disks ≡ (told, disks)
+closed [] told disks none = refl
+closed (x ∷ xs) [] disks none = refl
+closed (x ∷ xs) (a ∷ told) disks none =
+    by a none (closed xs told disks
+    (λ k r it. none (suc k) r (record { stands = it.stands; short = it.short; untold = it.untold })))
+  where
+    behind : Answer → List Answer × Disks → List Answer × Disks
+    behind a w = (a ∷ w.0, w.1)
+
+    long_stays : (b : Bool) → too_long x.request ≡ b
+        → NoneToCome (requests_of (x ∷ xs)) (TooLong ∷ told)
+        → finish xs told disks ≡ (told, disks) → finish (x ∷ xs) (TooLong ∷ told) disks ≡ (TooLong ∷ told, disks)
+    long_stays true long none rest = rw long (ap (behind TooLong) rest)
+    long_stays false short none rest =
+        absurd (none 0 x.request (record { stands = refl; short = short; untold = refl }))
+
+    by : (a : Answer) → NoneToCome (requests_of (x ∷ xs)) (a ∷ told)
+        → finish xs told disks ≡ (told, disks) → finish (x ∷ xs) (a ∷ told) disks ≡ (a ∷ told, disks)
+    by TooLong none rest = long_stays (too_long x.request) refl none rest
+    by a none rest = ap (behind a) rest
+
+-- a request whose outcome is that it is done
+abbrev done : Request → FixedRequest
+done r = record { request = r; outcome = Done }
+
+done-asks : (requests : List Request) → requests_of (map done requests) ≡ requests
+done-asks [] = refl
+done-asks (r ∷ rest) = ap (λ rs. r ∷ rs) (done-asks rest)
+
 pub ledger_closes : Closes
-ledger_closes start requests told disks h = h [] refl (All-nil FitsRequest)
+ledger_closes start requests now none h =
+    let xs = map done requests in
+    let asked = done-asks requests in
+    subst (λ w. PlainWithLosses start requests w.0 w.1)
+    (closed xs now.0 now.1 (subst (λ rs. NoneToCome rs now.0) (sym asked) none))
+    (h xs asked (All-map FitsRequest done requests (λ i r low. tt)))

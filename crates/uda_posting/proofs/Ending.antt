@@ -1,168 +1,205 @@
 -- What a driver keeps, as requests are posted, their commands done, and later their ends taken.
-use Rattle.std.proofs.Common.{◌≡◌, ◌≢◌, true, ℕ, ◌+◌, ◌<◌, ◌≤◌, inl, inr, List, [], ◌∷◌, ◌++◌, length, set, get_or, Option, Some, sym, ap, ◌∙◌, arith, subst, length-append}
-use Rattle.std.specs.Prelude.{slice_get, slice_set, option_map, remove, All}
-use Rattle.std.proofs.lemmas.List.{map_push, ext_get_or}
+use Rattle.std.proofs.Common.{◌≡◌, ◌≢◌, Bool, true, false, ℕ, suc, min, max, ◌+◌, ◌<◌, ◌≤◌, ◌⊎◌, inl, inr, List, [], ◌∷◌, ◌++◌, length, set, get_or, Some, refl, sym, ap, ◌∙◌, arith, subst}
+use Rattle.std.specs.Prelude.{slice_get, slice_set, option_map, map, remove, nat_eq, All, AllPairs}
+use Rattle.std.proofs.Math.Bool.{and_comm, or_comm}
+use Rattle.std.proofs.lemmas.Bool.Decides.{nat_tests}
+use Rattle.std.proofs.lemmas.List.{length-map, ext_get_or}
 use Rattle.std.proofs.lemmas.List.Elements.{All-nil, All-cons, All-head, All-tail, All-push}
-use Rattle.std.proofs.lemmas.Bool.{cases_eq}
+use Rattle.std.proofs.lemmas.Bool.{cases_eq, cases_lt}
+use Rattle.std.proofs.lemmas.List.Quantifiers.{all_pairs_push, all_pairs_remove}
 use Rattle.std.proofs.lemmas.Option.{slice_get_within, slice_get-map, slice_get-get_or}
 use Rattle.uda_mem.specs.Put.{part, put}
-use Rattle.uda_mem.proofs.PutLaws.{length-part, part-put_apart}
+use Rattle.uda_mem.proofs.PutLaws.{length-part, length-put, part-put_apart}
 use Rattle.uda_packet.specs.declared.command.Command.{Command}
 use Rattle.uda_packet.specs.declared.end.End.{End}
 use Rattle.uda_exec.specs.Disks.{ExecState}
-use Rattle.uda_exec.specs.Commands.{buffer_start, room_of, landing_of}
+use Rattle.uda_exec.specs.Commands.{buffer_start, landing_of}
 use Rattle.uda_exec.specs.Transfers.{ChangesAt}
-use Rattle.uda_exec.specs.Execution.{ExecutesAt}
+use Rattle.uda_exec.specs.Execution.{Executes, ExecutesAt}
+use Rattle.uda_exec.specs.Order.{MayGo}
 use Rattle.uda_exec.proofs.Changes.{landing-le}
-use Rattle.uda_disk.specs.Request.{Act, Request, Online}
+use Rattle.uda_exec.proofs.Requests.{act_of-put}
+use Rattle.uda_disk.specs.Request.{Act, Online, Available, Request, is_moving, is_writing, lbn_of, blocks_named}
+use Rattle.uda_disk.specs.Order.{clash}
 use Rattle.uda_disk.specs.Answer.{Answer, TooLong}
-use Rattle.uda_disk.specs.Order.{NoClash}
 use Rattle.uda_disk.specs.PlainRun.{too_long}
 use Rattle.uda_disk.proofs.Slots.{slice_get-set_same, slice_get-set_other}
-use Rattle.uda_posting.specs.Posting.{answer_of, Posted, posted_command, commands_in, requests_posted, buffer_of, Ready}
+use Rattle.uda_disk.proofs.Lists.{map-remove, put_back, All-remove, All-insert, All-at, All-front, slice_get-last, pairs_first, pairs_rest, pairs_others}
 use Rattle.uda_disk.specs.Units.{Units}
-use Rattle.uda_posting.specs.Keeping.{Misses, Beside, IsUntold, IsNotAt, IsNotDue, Owes, Ended, answer_now, Tells, IsLeftBy, EndedNotAt, Keeps}
-use Rattle.uda_disk.proofs.Lists.{map-remove, put_back, All-remove, All-insert, All-at, All-front, slice_get-append, slice_get-last, slice_get-before}
-use Rattle.uda_posting.proofs.Posts.{beside_others}
-use Rattle.uda_posting.proofs.Owing.{owes_skip, owes_post, owes_put, owes_execute, Executed}
+use Rattle.uda_model.specs.Ledger.{untold, NoneToCome}
+use Rattle.uda_posting.specs.Posting.{answer_of, Posted, posted_command, commands_in, buffer_of, Ready}
+use Rattle.uda_posting.specs.Keeping.{Misses, Beside, IsReadyIn, IsNotAt, Apart, Owes, Ended, answer_now, Tells, EndedNotAt, alive, Keeps}
+use Rattle.uda_posting.proofs.Owing.{apart_others, is_told, due_start, due_skip, due_post, due_before, due_back, due_done, due_none, owes_start, owes_done}
 
--- ---- an answer that lies in an end
+-- ---- memory
 
--- it stays while the buffer does
-still_tells : (told : List Answer) (memory after : List ℕ) (d : Ended) → buffer_of d.posted after ≡ buffer_of d.posted memory → Tells told memory d → Tells told after d
-still_tells told memory after d same tells = tells ∙ ap (λ (buffer : List ℕ). Some (answer_of d.posted.request.act d.end buffer)) (sym same)
+-- a command that is ready stays so, and its buffer as it was
+record IsLeft (p : Posted) (memory after : List ℕ) : Type 0 where
+  ready : Ready p memory → Ready p after
+  buffer : buffer_of p after ≡ buffer_of p memory
 
--- and so it does while a command is done beside it
-buffer_left : (p : Posted) (c : Command) (memory after : List ℕ) → ChangesAt memory (buffer_start c.op) (landing_of c.op) after → Beside (posted_command p) c → buffer_of p after ≡ buffer_of p memory
-buffer_left p c memory after changes beside =
-    let at = buffer_start c.op in let new = part after at (landing_of c.op) in let op = (posted_command p).op in
-    let size = length-part after at (landing_of c.op) in let small = landing-le c.op in
-    ap (λ (m : List ℕ). part m (buffer_start op) (room_of op)) changes ∙ part-put_apart memory at new (buffer_start op) (room_of op) (λ meet. beside (omega arith))
+-- by bytes that its buffer has not
+left_put : (p : Posted) (memory : List ℕ) (at : ℕ) (bytes : List ℕ) → Misses at (length bytes) (posted_command p) → IsLeft p memory (put memory at bytes)
+left_put p memory at bytes misses = record {
+  ready = λ r. record { short = r.short; even = r.even; within = omega (arith, r.within, length-put memory at bytes); asks = act_of-put (posted_command p).op memory at bytes misses ∙ r.asks };
+  buffer = part-put_apart memory at bytes _ _ misses;
+}
 
--- it is never the one that stands for an answer still to come
-is_told : (act : Act) (e : End) (buffer : List ℕ) → answer_of act e buffer ≢ TooLong
-is_told (Online protect) e buffer same = cc
-is_told _ e buffer same = cc
+-- and by a command beside it
+left_beside : (p : Posted) (c : Command) (memory after : List ℕ) → ChangesAt memory (buffer_start c.op) (landing_of c.op) after → Beside c (posted_command p) → IsLeft p memory after
+left_beside p c memory after changes beside =
+    let at = buffer_start c.op in let size = length-part after at (landing_of c.op) in let small = landing-le c.op in
+    subst (IsLeft p memory) (sym changes) (left_put p memory at (part after at (landing_of c.op)) (λ meet. beside (omega arith)))
 
-told_elsewhere : (told : List Answer) (memory : List ℕ) (d : Ended) (p : Posted) → Tells told memory d → IsUntold told p → d.posted.place ≢ p.place
-told_elsewhere told memory d p tells untold same =
-    let both : Some (answer_now memory d) ≡ Some TooLong = sym tells ∙ ap (slice_get told) same ∙ untold in
-    is_told d.posted.request.act d.end (buffer_of d.posted memory) cc
+-- an answer that lies in an end stays with its buffer
+still_tells : (told : List Answer) (memory after : List ℕ) (d : Ended) → IsLeft d.posted memory after → Tells told memory d → Tells told after d
+still_tells told memory after d left tells = tells ∙ ap (λ buffer. Some (answer_of d.posted.request.act d.end buffer)) (sym left.buffer)
+
+-- ---- those that are out
+
+all_behind : {A : Type 0} (P : A → Type 0) (xs ys : List A) → All P (xs ++ ys) → All P ys
+all_behind P [] ys all = all
+all_behind P (x ∷ xs) ys all = all_behind P xs ys (All-tail P x (xs ++ ys) all)
+
+all_ended : (P : Posted → Type 0) (ended : List Ended) (due : List Posted) → All P (alive ended due) → All (λ d. P d.posted) ended
+all_ended P [] due all = All-nil (λ (d : Ended). P d.posted)
+all_ended P (e ∷ ended) due all = All-cons (λ (d : Ended). P d.posted) e ended (All-head P e.posted (alive ended due) all) (all_ended P ended due (All-tail P e.posted (alive ended due) all))
+
+-- one that is due is apart from those that have ended, and so are those that are due among them
+ended_apart : (ended : List Ended) (due : List Posted) (j : ℕ) (p : Posted) → AllPairs Apart (alive ended due) → slice_get due j ≡ Some p → All (λ d. Apart d.posted p) ended × AllPairs Apart due
+ended_apart [] due j p apart at = (All-nil (λ (d : Ended). Apart d.posted p), apart)
+ended_apart (d ∷ rest) due j p apart at =
+    let others = ended_apart rest due j p (pairs_rest Apart d.posted (alive rest due) apart) at in
+    let own = All-at (Apart d.posted) due j p (all_behind (Apart d.posted) (map (λ (e : Ended). e.posted) rest) due (pairs_first Apart d.posted (alive rest due) apart)) at in
+    (All-cons (λ (e : Ended). Apart e.posted p) d rest own others.0, others.1)
 
 -- ---- the steps
 
-pub record Ends (start : Units) (requests : List Request) (due : List Posted) (ended : List Ended) (answers : List Answer) (j : ℕ) (e : End) (new : ExecState) (memory : List ℕ) : Type 0 where
+pub keeps_start : (units : Units) (requests : List Request) (answers : List Answer) (memory : List ℕ) → Keeps units requests 0 [] [] answers units memory
+keeps_start units requests answers memory = record {
+  told = untold requests;
+  owes = owes_start units requests;
+  are_due = due_start requests;
+  ready = All-nil (IsReadyIn memory);
+  tell = All-nil (λ (d : Ended). Tells (untold requests) memory d);
+  shown = λ k low. absurd (omega arith);
+}
+
+pub record Ends (start : Units) (requests : List Request) (n : ℕ) (due : List Posted) (ended : List Ended) (answers : List Answer) (j : ℕ) (e : End) (new : ExecState) (memory : List ℕ) : Type 0 where
   pub posted : Posted
   pub stands : slice_get due j ≡ Some posted
   pub reference : e.reference ≡ posted.place + 1
-  pub keeps : Keeps start requests (remove due j) (ended ++ record { posted = posted; end = e } ∷ []) answers new.units memory
+  pub keeps : Keeps start requests n (remove due j) (ended ++ record { posted = posted; end = e } ∷ []) answers new.units memory
   pub pending : new.pending ≡ commands_in (remove due j)
 
-module _ {start : Units} {requests : List Request} {due : List Posted} {ended : List Ended} {answers : List Answer} {units : Units} {memory : List ℕ} (keeps : Keeps start requests due ended answers units memory) where
-  pub keeps_put : (at : ℕ) (bytes : List ℕ) → All (Misses at (length bytes)) (commands_in due) → All (λ d. Misses at (length bytes) (posted_command d.posted)) ended → Keeps start requests due ended answers units (put memory at bytes)
-  keeps_put at bytes misses_due misses_ended = record {
+module _ {start : Units} {requests : List Request} {n : ℕ} {due : List Posted} {ended : List Ended} {answers : List Answer} {units : Units} {memory : List ℕ} (keeps : Keeps start requests n due ended answers units memory) where
+  pub keeps_put : (at : ℕ) (bytes : List ℕ) → All (λ p. Misses at (length bytes) (posted_command p)) (alive ended due) → Keeps start requests n due ended answers units (put memory at bytes)
+  keeps_put at bytes misses =
+      let left : All (λ p. IsLeft p memory (put memory at bytes)) (alive ended due) = λ k d l. left_put _ memory at bytes (misses k d l) in
+      record {
+        told = keeps.told;
+        owes = keeps.owes;
+        ready = λ k d l. (all_behind (λ p. IsLeft p memory (put memory at bytes)) (map (λ d. d.posted) ended) due left k d l).ready (keeps.ready k d l);
+        are_due = keeps.are_due;
+        tell = λ k d l. still_tells keeps.told memory _ (get_or ended k d) (all_ended (λ p. IsLeft p memory (put memory at bytes)) ended due left k d l) (keeps.tell k d l);
+        shown = keeps.shown;
+      }
+
+  -- the next request is too long, and so its answer says
+  pub keeps_skip : (r : Request) → slice_get requests n ≡ Some r → too_long r ≡ true → slice_get answers n ≡ Some TooLong → Keeps start requests (n + 1) due ended answers units memory
+  keeps_skip r asked long blank = record {
     told = keeps.told;
-    owes = owes_put keeps.owes at bytes misses_due;
-    tell = λ k d l. still_tells keeps.told memory (put memory at bytes) (get_or ended k d) (part-put_apart memory at bytes _ _ (misses_ended k d l)) (keeps.tell k d l);
-    left = keeps.left;
-    shown = keeps.shown;
-  }
-
-  -- ends tell the same where one more answer is to come
-  one_more_to_come : All (Tells (keeps.told ++ TooLong ∷ []) memory) ended
-  one_more_to_come k d l = slice_get-append keeps.told (TooLong ∷ []) _ _ (keeps.tell k d l)
-
-  shown_before : (k : ℕ) → k < length requests → IsNotDue k due → All (EndedNotAt k) ended → slice_get answers k ≡ slice_get (keeps.told ++ TooLong ∷ []) k
-  shown_before k low not_due not_ended = keeps.shown k low not_due not_ended ∙ sym (slice_get-before keeps.told TooLong k (omega (arith, keeps.owes.counted)))
-
-  pub keeps_skip : (r : Request) → too_long r ≡ true → slice_get answers (length requests) ≡ Some TooLong → Keeps start (requests ++ r ∷ []) due ended answers units memory
-  keeps_skip r long blank = record {
-    told = keeps.told ++ TooLong ∷ [];
-    owes = owes_skip keeps.owes r long;
-    tell = one_more_to_come;
-    left = keeps.left;
-    shown = λ k within not_due not_ended. elim (cases_eq k (length requests)) [
-      | inl last ↦ ap (slice_get answers) last ∙ blank ∙ sym (slice_get-last keeps.told k TooLong (last ∙ sym keeps.owes.counted))
-      | inr other ↦ shown_before k (omega (arith, length-append requests (r ∷ []))) not_due not_ended
+    owes = keeps.owes;
+    are_due = due_skip keeps.are_due r asked long;
+    ready = keeps.ready;
+    tell = keeps.tell;
+    shown = λ k low not_due not_ended. elim (cases_eq k n) [
+      | inl same ↦ rw same (blank ∙ sym (keeps.are_due.untold n (omega arith) (slice_get_within requests n r asked)))
+      | inr other ↦ keeps.shown k (omega arith) not_due not_ended
     ];
   }
 
-  pub keeps_post : (p : Posted) → p.place ≡ length requests → Ready p memory → All (λ c. Beside c (posted_command p)) (commands_in due) → All (λ r. NoClash r p.request) (requests_posted due) → All (λ d. Beside (posted_command d.posted) (posted_command p)) ended
-      → Keeps start (requests ++ p.request ∷ []) (due ++ p ∷ []) ended answers units memory
-  keeps_post p last ready apart clear beside =
-      let c = posted_command p in
-      record {
-        told = keeps.told ++ TooLong ∷ [];
-        owes = owes_post keeps.owes p last ready apart clear;
-        tell = one_more_to_come;
-        left = λ k d l. let B = Beside (posted_command (get_or ended k d).posted) in subst (All B) (sym (map_push posted_command due p)) (All-push B (commands_in due) c (keeps.left k d l) (beside k d l));
-        shown = λ k within not_due not_ended.
-            let other = All-at (IsNotAt k) (due ++ p ∷ []) (length due) p not_due (slice_get-last due (length due) p (omega arith)) in
-            shown_before k (omega (arith, length-append requests (p.request ∷ []), last)) (All-front (IsNotAt k) due (p ∷ []) not_due) not_ended;
-      }
+  -- the next request is posted; what stands at its place among the answers is not told
+  pub keeps_post : (p : Posted) (left : Answer) → p.place ≡ n → slice_get requests p.place ≡ Some p.request → Ready p memory → Keeps start requests (n + 1) (due ++ p ∷ []) ended (slice_set answers p.place left) units memory
+  keeps_post p left place asked ready = record {
+    told = keeps.told;
+    owes = keeps.owes;
+    are_due = due_post keeps.are_due p place asked ready.short;
+    ready = All-push (IsReadyIn memory) due p keeps.ready ready;
+    tell = keeps.tell;
+    shown = λ k low not_due not_ended.
+        let other : p.place ≢ k = All-at (IsNotAt k) (due ++ p ∷ []) (length due) p not_due (slice_get-last due (length due) p refl) in
+        slice_get-set_other answers p.place k left (λ same. other (sym same)) ∙ keeps.shown k (omega (arith, other, place)) (All-front (IsNotAt k) due (p ∷ []) not_due) not_ended;
+  }
 
-  -- a command that was due has ended
-  ended_one : {after : Units} {left : List ℕ} (j : ℕ) (p : Posted) (e : End) → slice_get due j ≡ Some p → ChangesAt memory (buffer_start (posted_command p).op) (landing_of (posted_command p).op) left
-      → Owes start requests (remove due j) (slice_set keeps.told p.place (answer_of p.request.act e (buffer_of p left))) after left
-      → Keeps start requests (remove due j) (ended ++ record { posted = p; end = e } ∷ []) answers after left
-  ended_one {left = left} j p e stands changes owes =
-      let c = posted_command p in
-      let new : Ended = record { posted = p; end = e } in
-      let a = answer_now left new in
-      let told = slice_set keeps.told p.place a in
-      let untold = All-at (IsUntold keeps.told) due j p keeps.owes.untold stands in
-      let c_stands : slice_get (commands_in due) j ≡ Some c = slice_get-map posted_command due j ∙ ap (λ (o : Option Posted). option_map posted_command o) stands in
-      let names : remove (commands_in due) j ≡ commands_in (remove due j) = sym (map-remove posted_command due j) in
+  -- a command is done among those that are pending
+  pub keeps_execute : {j : ℕ} {old new : ExecState} {e : End} {left : List ℕ} → old.pending ≡ commands_in due → old.units ≡ units → AllPairs Apart (alive ended due)
+      → ExecutesAt j old memory e new left → Ends start requests n due ended answers j e new left
+  keeps_execute {j} {old} {new} {e} {left} waits are apart x =
+      let may : MayGo (commands_in due) j = subst (λ (cs : List Command). MayGo cs j) waits x.taken.may in
+      let within : j < length due = omega (arith, may.stands, length-map due posted_command) in
+      let blank : Posted = record { place = 0; address = 0; request = record { unit = 0; act = Available } } in
+      let p = get_or due j blank in let c = posted_command p in let i = p.place in
+      let at_p = slice_get-get_or due j blank within in
+      let both : Some x.command ≡ Some c = sym x.taken.stands ∙ ap (λ cs. slice_get cs j) waits ∙ slice_get-map posted_command due j ∙ ap (option_map posted_command) at_p in let is : x.command ≡ c = cc in
+      let it : Executes c units memory e new.units left = rw (← are) (subst (λ (c : Command). Executes c old.units memory e new.units left) is x.executes) in
+      let two = ended_apart ended due j p apart at_p in
+      let own = keeps.are_due.each j blank within in
+      let new_end : Ended = record { posted = p; end = e } in
+      let a = answer_now left new_end in let told = keeps.told in
+      let others = apart_others due j p two.1 at_p in
       record {
-        told = told;
-        owes = owes;
-        tell = All-push (Tells told left) ended new
-            (λ k d l.
-            let it = get_or ended k d in
-            let beside = All-at (Beside (posted_command it.posted)) (commands_in due) j c (keeps.left k d l) c_stands in
-            slice_get-set_other keeps.told p.place it.posted.place a (told_elsewhere keeps.told memory it p (keeps.tell k d l) untold) ∙ still_tells keeps.told memory left it (buffer_left it.posted c memory left changes beside) (keeps.tell k d l))
-            (slice_get-set_same keeps.told p.place a (slice_get_within keeps.told p.place TooLong untold));
-        left = All-push (IsLeftBy (remove due j)) ended new
-            (λ k d l. let B = Beside (posted_command (get_or ended k d).posted) in subst (All B) names (All-remove B (commands_in due) j (keeps.left k d l)))
-            (subst (All (Beside c)) names (beside_others (commands_in due) j c keeps.owes.beside c_stands));
-        shown = λ k within not_due not_ended.
-            let other : p.place ≢ k = All-at (EndedNotAt k) (ended ++ new ∷ []) (length ended) new not_ended (slice_get-last ended (length ended) new (omega arith)) in
-            let was_not = subst (IsNotDue k) (put_back due j p stands) (All-insert (IsNotAt k) (remove due j) j p other not_due) in
-            keeps.shown k within was_not (All-front (EndedNotAt k) ended (new ∷ []) not_ended) ∙ sym (slice_get-set_other keeps.told p.place k a (λ same. other (sym same)));
+        posted = p;
+        stands = at_p;
+        reference = it.answers.reference;
+        keeps = record {
+          told = slice_set told i a;
+          owes = owes_done keeps.owes p own.to_come (due_before keeps.are_due j blank within two.1 may) (keeps.ready j blank within) it;
+          are_due = due_done keeps.are_due j blank within a (is_told p.request.act e (buffer_of p left)) two.1;
+          ready = λ k d l. (left_beside _ c memory left it.memory_stays (others k d l).beside).ready (All-remove (IsReadyIn memory) due j keeps.ready k d l);
+          tell = All-push (Tells (slice_set told i a) left) ended new_end
+              (λ k d l.
+              let it_was = get_or ended k d in let own = two.0 k d l in
+              slice_get-set_other told i it_was.posted.place a own.two ∙ still_tells told memory left it_was (left_beside it_was.posted c memory left it.memory_stays (λ meet. own.beside (omega arith))) (keeps.tell k d l))
+              (slice_get-set_same told i a (slice_get_within told i TooLong own.to_come.untold));
+          shown = λ k low not_due not_ended.
+              let other : i ≢ k = All-at (EndedNotAt k) (ended ++ new_end ∷ []) (length ended) new_end not_ended (slice_get-last ended (length ended) new_end refl) in
+              keeps.shown k low (due_back due j k blank within other not_due) (All-front (EndedNotAt k) ended (new_end ∷ []) not_ended) ∙ sym (slice_get-set_other told i k a (λ same. other (sym same)));
+        };
+        pending = x.taken.taken ∙ ap (λ (cs : List Command). remove cs j) waits ∙ sym (map-remove posted_command due j);
       }
-
--- a command is done among those that are pending
-pub keeps_execute : {start : Units} {requests : List Request} {due : List Posted} {ended : List Ended} {answers : List Answer} {j : ℕ} {old new : ExecState} {e : End} {memory left : List ℕ}
-    → old.pending ≡ commands_in due → ExecutesAt j old memory e new left → Keeps start requests due ended answers old.units memory → Ends start requests due ended answers j e new left
-keeps_execute {start} {requests} {due} {j = j} {new = new} {e} {memory} {left} waits x keeps =
-    let t : Executed start requests due keeps.told j e new memory left = owes_execute waits x keeps.owes in
-    record { posted = t.posted; stands = t.stands; reference = t.reference; keeps = ended_one keeps j t.posted e t.stands t.changed t.owes; pending = t.pending }
 
 -- the first end is taken, and its answer told
-pub keeps_deliver : {start : Units} {requests : List Request} {due : List Posted} {d : Ended} {ended : List Ended} {answers : List Answer} {units : Units} {memory : List ℕ}
-    → length requests ≤ length answers → Keeps start requests due (d ∷ ended) answers units memory
-    → Keeps start requests due ended (slice_set answers d.posted.place (answer_now memory d)) units memory
-keeps_deliver {due = due} {d} {ended} {answers} {memory = memory} room keeps =
+pub keeps_deliver : {start : Units} {requests : List Request} {n : ℕ} {due : List Posted} {d : Ended} {ended : List Ended} {answers : List Answer} {units : Units} {memory : List ℕ}
+    → length requests ≤ length answers → Keeps start requests n due (d ∷ ended) answers units memory
+    → Keeps start requests n due ended (slice_set answers d.posted.place (answer_now memory d)) units memory
+keeps_deliver {d = d} {ended} {answers} {memory = memory} room keeps =
     let i = d.posted.place in let a = answer_now memory d in
+    let own = All-head (Tells keeps.told memory) d ended keeps.tell in
+    let low : i < length answers = omega (arith, slice_get_within keeps.told i a own, keeps.owes.counted, room) in
     record {
       told = keeps.told;
       owes = keeps.owes;
+      are_due = keeps.are_due;
+      ready = keeps.ready;
       tell = All-tail (Tells keeps.told memory) d ended keeps.tell;
-      left = All-tail (IsLeftBy due) d ended keeps.left;
-      shown = λ k within not_due not_ended. elim (cases_eq k i) [
-        | inl own ↦ ap (slice_get (set answers i a)) own ∙ slice_get-set_same answers i a (omega arith) ∙ sym (All-head (Tells keeps.told memory) d ended keeps.tell) ∙ ap (slice_get keeps.told) (sym own)
-        | inr other ↦ slice_get-set_other answers i k a other ∙ keeps.shown k within not_due (All-cons (EndedNotAt k) d ended (λ same. other (sym same)) not_ended)
+      shown = λ k before not_due not_ended. elim (cases_eq k i) [
+        | inl same ↦ rw same (slice_get-set_same answers i a low ∙ sym own)
+        | inr other ↦
+            slice_get-set_other answers i k a other
+            ∙ keeps.shown k before not_due (All-cons (EndedNotAt k) d ended (λ same. other (sym same)) not_ended)
       ];
     }
 
 -- nothing is due and no end waits: all answers are told
-pub keeps_end : {start : Units} {requests : List Request} {answers : List Answer} {units : Units} {memory : List ℕ}
-    → length answers ≡ length requests → Keeps start requests [] [] answers units memory → Owes start requests [] answers units memory
-keeps_end {start} {requests} {answers} {units} {memory} size keeps =
-    let all : answers ≡ keeps.told = ext_get_or TooLong answers keeps.told (size ∙ sym keeps.owes.counted) (λ k low.
+pub keeps_end : {start : Units} {requests : List Request} {n : ℕ} {answers : List Answer} {units : Units} {memory : List ℕ}
+    → length answers ≡ length requests → length requests ≤ n → Keeps start requests n [] [] answers units memory → Owes start requests answers units × NoneToCome requests answers
+keeps_end {start} {requests} {n} {answers} {units} {memory} size all keeps =
+    let none = due_none requests n keeps.told all keeps.are_due in
+    let same : answers ≡ keeps.told = ext_get_or TooLong answers keeps.told (size ∙ sym keeps.owes.counted) (λ k low.
     let shown = keeps.shown k (omega arith) (All-nil (IsNotAt k)) (All-nil (EndedNotAt k)) in
     let here = slice_get-get_or answers k TooLong low in
     let there = slice_get-get_or keeps.told k TooLong (omega (arith, keeps.owes.counted)) in
     let same : Some (get_or answers k TooLong) ≡ Some (get_or keeps.told k TooLong) = sym here ∙ shown ∙ there in
     cc) in
-    subst (λ (told : List Answer). Owes start requests [] told units memory) (sym all) keeps.owes
+    subst (λ (told : List Answer). Owes start requests told units × NoneToCome requests told) (sym same) (keeps.owes, none)

@@ -1,4 +1,3 @@
-pub mod Dues
 pub mod Serving
 pub mod Seemings
 pub mod Posts

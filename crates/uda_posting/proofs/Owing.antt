@@ -1,102 +1,36 @@
--- What is owed, as a request is answered at once, posted, or done by its command.
-use Rattle.std.proofs.Common.{◌≡◌, ◌≢◌, ℕ, zero, suc, ◌+◌, ◌<◌, inl, inr, Bool, true, false, List, [], ◌∷◌, ◌++◌, length, get_or, Some, refl, sym, ap, ◌∙◌, arith, subst, subst₂, length-append}
-use Rattle.std.specs.Prelude.{slice_get, slice_set, option_map, remove, All, AllPairs, nat_eq, ◌&&◌, if◌then◌else◌}
-use Rattle.std.proofs.lemmas.List.{length-set, length-map, map_push}
-use Rattle.std.proofs.lemmas.List.Elements.{All-nil, All-cons, All-head, All-tail, All-push}
+-- What is owed and what is due, as requests are posted and done by their commands.
+use Rattle.std.proofs.Common.{◌≡◌, ◌≢◌, ℕ, suc, min, max, ◌+◌, ◌<◌, ◌≤◌, ◌⊎◌, inl, inr, Bool, true, false, List, [], ◌∷◌, ◌++◌, length, set, get_or, Option, None, Some, refl, sym, ap, ap₂, ◌∙◌, arith, subst, subst₂}
+use Rattle.std.specs.Prelude.{slice_get, slice_set, option_map, map, remove, All, AllPairs, nat_eq, ◌&&◌, if◌then◌else◌}
+use Rattle.std.proofs.Math.Bool.{and_comm, or_comm}
+use Rattle.std.proofs.lemmas.List.{length-set, length-map, map-set}
+use Rattle.std.proofs.lemmas.List.Elements.{All-nil, All-cons, All-push}
 use Rattle.std.proofs.lemmas.List.Quantifiers.{all_pairs_push, all_pairs_remove}
-use Rattle.std.proofs.lemmas.Bool.{cases_eq, eq-eqb, ne_eqb}
+use Rattle.std.proofs.lemmas.Bool.{cases_eq, cases_lt, eq-eqb, ne_eqb}
+use Rattle.std.proofs.lemmas.Bool.Decides.{nat_tests}
 use Rattle.std.proofs.lemmas.Option.{slice_get_within, slice_get-map, slice_get-get_or}
-use Rattle.uda_mem.specs.Put.{part, put}
-use Rattle.uda_mem.proofs.PutLaws.{length-put, length-part}
-use Rattle.uda_packet.specs.declared.command.Command.{Command}
 use Rattle.uda_packet.specs.declared.end.End.{End}
 use Rattle.uda_disk.specs.Disk.{Disks}
-use Rattle.uda_disk.specs.Request.{Act, Request, Online, blocks_named}
-use Rattle.uda_disk.specs.Answer.{Answer, TooLong, blank_answer}
-use Rattle.uda_disk.specs.Plain.{Outcome, Done, is_lost, FitsCount}
-use Rattle.uda_disk.specs.Order.{NoClash, PassesOlder}
-use Rattle.uda_disk.specs.PlainRun.{too_long, step_as, plain, PlainWithLosses, tells_error, drive_errors}
-use Rattle.uda_disk.specs.Form.{SameForm, IsAnswerOf}
+use Rattle.uda_disk.specs.Request.{Act, Online, Available, Request, is_moving, is_writing, lbn_of, blocks_named}
+use Rattle.uda_disk.specs.Order.{clash}
+use Rattle.uda_disk.specs.Answer.{Answer, TooLong}
+use Rattle.uda_disk.specs.Plain.{Done, is_lost}
+use Rattle.uda_disk.specs.PlainRun.{too_long, FixedRequest, step_of, step, plain, PlainWithLosses, tells_error, drive_errors}
+use Rattle.uda_disk.specs.Form.{IsAnswerOf}
 use Rattle.uda_disk.proofs.Slots.{slice_get-set_same, slice_get-set_other}
-use Rattle.uda_exec.specs.Disks.{ExecState}
-use Rattle.uda_disk.specs.Units.{disks_of, AreImages, failures_at, Units, AllFaithful, is_sure}
-use Rattle.uda_exec.specs.Commands.{buffer_start, landing_of, act_of}
-use Rattle.uda_exec.specs.Effect.{World}
-use Rattle.uda_exec.specs.Transfers.{ChangesAt}
+use Rattle.uda_disk.proofs.Runs.{length-runs}
+use Rattle.uda_disk.proofs.Lists.{put_back, All-remove, All-insert, All-at, All-front, slice_get-last, pairs_others}
+use Rattle.uda_disk.proofs.Errors.{is_error, losses_told, errors-set}
+use Rattle.uda_disk.specs.Units.{disks_of, failures_at, Units, AllFaithful, is_sure}
+use Rattle.uda_exec.specs.Execution.{Executes}
 use Rattle.uda_exec.specs.Order.{MayGo}
-use Rattle.uda_exec.specs.Execution.{world_of, Executes, ExecutesAt}
-use Rattle.uda_exec.proofs.Changes.{landing-le}
-use Rattle.uda_exec.proofs.Requests.{act_of-put}
 use Rattle.uda_exec.proofs.Units.{faithful_stays, sure_stays}
-use Rattle.uda_posting.specs.Posting.{answer_of, Posted, posted_command, commands_in, due_of, dues_of, requests_posted, buffer_of, Ready}
-use Rattle.uda_model.specs.Ledger.{Due, requests_due, Ledger}
-use Rattle.uda_posting.specs.Keeping.{Misses, Beside, IsReadyIn, StandsIn, IsUntold, IsBefore, IsEarlier, IsNotAt, IsNotDue, Sound, Owes}
-use Rattle.uda_disk.proofs.Lists.{map-remove, put_back, All-insert, All-remove, All-at, All-front, pairs_others, slice_get-append, slice_get-last, slice_get-before}
-use Rattle.uda_posting.proofs.Dues.{dues_below, dues_rising, dues_ask}
-use Rattle.uda_posting.specs.Seeming.{bares, is_done, GoesAs, AllGoAs, SeemsPlain, Seems}
-use Rattle.uda_posting.proofs.Serving.{acts-own, serves}
-use Rattle.uda_posting.proofs.Seemings.{has_form, as_plain, step_seems}
-use Rattle.uda_posting.proofs.Posts.{names_same, beside_others, goes-request}
-use Rattle.uda_model.proofs.LedgerSteps.{ledger_opens, ledger_skips, ledger_takes_in, ledger_carries_out, ledger_closes}
-use Rattle.uda_disk.proofs.Errors.{is_error, losses_told, errors-set, errors-push}
-use Rattle.uda_disk.proofs.Outcomes.{error-lost}
-
--- ---- before the first request
-
-pub owes_start : (units : Units) (memory : List ℕ) → Owes units [] [] [] units memory
-owes_start units memory = record {
-  counted = refl;
-  stand = All-nil (StandsIn []);
-  untold = All-nil (IsUntold []);
-  in_order = λ i j d before within. absurd (omega arith);
-  ready = All-nil (IsReadyIn memory);
-  beside = λ i j d before within. absurd (omega arith);
-  clear = λ i j d before within. absurd (omega arith);
-  formed = λ k r answer stands. absurd (cc);
-  natures = refl;
-  sound = λ faithful images. record { ledger = ledger_opens (disks_of units); errors = λ u. omega arith; sure = λ u never. refl };
-  seems = record { disks = disks_of units; shown = []; ledger = ledger_opens (disks_of units); errors = λ u. omega arith; alike = refl; counted = refl; go_as = λ k r done now asked here there. absurd (cc) };
-}
-
--- ---- forms
-
--- no act's answer is TooLong
-not_long : (act : Act) → SameForm (blank_answer act 0) TooLong → ⊥
-not_long (Online protect) form = form
-not_long _ form = form
-
--- so where that stands, the plain run's is still to come
-goes_untold : (act : Act) (plain : Answer) → GoesAs act plain TooLong → TooLong ≡ plain
-goes_untold act plain goes = by (is_done plain) refl
-  where
-    by : (b : Bool) → is_done plain ≡ b → TooLong ≡ plain
-    by true done = absurd (not_long act (goes.ends done).form)
-    by false done = goes.same done
-
--- what is said of the request and the answer at a place is said of any that stand there
-formed_there : {q r : Request} {a b : Answer} (requests : List Request) (told : List Answer) (k : ℕ) → slice_get requests k ≡ Some q → slice_get told k ≡ Some a → IsAnswerOf q a
-    → slice_get requests k ≡ Some r → slice_get told k ≡ Some b → IsAnswerOf r b
-formed_there {q} {r} {a} {b} requests told k own_request own_answer formed at_k told_k = let one : q ≡ r = cc in let same : a ≡ b = cc in subst₂ IsAnswerOf one same formed
-
--- ---- memory
-
-ready-in : (p : Posted) (memory other : List ℕ) → length other ≡ length memory → act_of (posted_command p).op other ≡ act_of (posted_command p).op memory → Ready p memory → Ready p other
-ready-in p memory other size same r = record { short = r.short; even = r.even; within = omega (arith, r.within, size); asks = same ∙ r.asks }
-
--- bytes that no buffer has, of those that are due, leave all ready
-ready_past : (due : List Posted) (memory : List ℕ) (at : ℕ) (bytes : List ℕ) → All (Misses at (length bytes)) (commands_in due) → All (IsReadyIn memory) due → All (IsReadyIn (put memory at bytes)) due
-ready_past [] memory at bytes misses ready = All-nil (IsReadyIn (put memory at bytes))
-ready_past (p ∷ rest) memory at bytes misses ready =
-    let M = Misses at (length bytes) in let c = posted_command p in
-    let own = act_of-put c.op memory at bytes (All-head M c (commands_in rest) misses) in
-    All-cons (IsReadyIn (put memory at bytes)) p rest (ready-in p memory _ (length-put memory at bytes) own (All-head (IsReadyIn memory) p rest ready))
-    (ready_past rest memory at bytes (All-tail M c (commands_in rest) misses) (All-tail (IsReadyIn memory) p rest ready))
-
--- so does what a command beside them changed
-ready_beside : (c : Command) (memory left : List ℕ) (due : List Posted) → ChangesAt memory (buffer_start c.op) (landing_of c.op) left → All (Beside c) (commands_in due) → All (IsReadyIn memory) due → All (IsReadyIn left) due
-ready_beside c memory left due changes beside ready =
-    let at = buffer_start c.op in let size = length-part left at (landing_of c.op) in let small = landing-le c.op in
-    subst (λ (m : List ℕ). All (IsReadyIn m) due) (sym changes) (ready_past due memory at (part left at (landing_of c.op)) (λ k d l meet. beside k d l (omega arith)) ready)
+use Rattle.uda_model.specs.Ledger.{untold, told_by, IsToCome, NoneToCome, GoesBefore}
+use Rattle.uda_model.proofs.LedgerSteps.{ledger_opens, ledger_carries_out, ledger_closes}
+use Rattle.uda_posting.specs.Posting.{answer_of, Posted, posted_command, commands_in, buffer_of, Ready}
+use Rattle.uda_posting.specs.Keeping.{IsEarlier, IsNotAt, IsDue, AreDue, Apart, Owes}
+use Rattle.uda_posting.specs.Seeming.{bares, is_done, has_begun, outline, outlines, TellsTransfer, GoesAs, AllGoAs, SeemsPlain}
+use Rattle.uda_posting.proofs.Posts.{passes}
+use Rattle.uda_posting.proofs.Seemings.{look, step_looks, run_looks, plain_each, outline_same, goes_as, IsServed, served}
 
 -- ---- failures
 
@@ -109,300 +43,291 @@ one_failure u unit told lost units after same stay grows = elim (cases_eq u unit
   | inr other ↦ let is_not : nat_eq unit u ≡ false = ne_eqb unit u (λ e. other (sym e)) in rw is_not (ap failures_at (stay u other) ∙ omega arith)
 ]
 
--- one that never fails has not failed, where a command of its unit is lost only if its store may fail
-sure_done : (u unit : ℕ) (o : Outcome) (units after : Units) → is_sure (slice_get units u) ≡ true → (is_sure (slice_get units unit) ≡ true → o ≡ Done) → ((v : ℕ) → v ≢ unit → slice_get after v ≡ slice_get units v)
-    → failures_at (slice_get after unit) ≡ failures_at (slice_get units unit) + (let k : ℕ = if is_lost o then 1 else 0 in k)
-    → failures_at (slice_get after u) ≡ failures_at (slice_get units u)
-sure_done u unit o units after never done stay grows = elim (cases_eq u unit) [
-  | inl own ↦
-      let is : o ≡ Done = done (ap (λ (v : ℕ). is_sure (slice_get units v)) (sym own) ∙ never) in
-      let none : failures_at (slice_get after unit) ≡ failures_at (slice_get units unit) + 0 = rw is at grows in
-      rw own (omega (arith, none))
-  | inr other ↦ ap failures_at (stay u other)
+-- and no drive error is told of one that told none
+pub none_told : (u unit : ℕ) (told : Bool) → (u ≡ unit → told ≡ false) → (let k : ℕ = if nat_eq unit u && told then 1 else 0 in k) ≡ 0
+none_told u unit told none = elim (cases_eq u unit) [
+  | inl own ↦ rw (none own) (by (nat_eq unit u))
+  | inr other ↦ let is_not : nat_eq unit u ≡ false = ne_eqb unit u (λ e. other (sym e)) in rw is_not refl
+]
+  where
+    by : (b : Bool) → (let k : ℕ = if b && false then 1 else 0 in k) ≡ 0
+    by true = refl
+    by false = refl
+
+told_none : (u : ℕ) (requests : List Request) → drive_errors u requests (untold requests) ≡ 0
+told_none u [] = refl
+told_none u (r ∷ rest) = omega (arith, none_told u r.unit false (λ _. refl), told_none u rest)
+
+-- ---- before the first request
+
+pub untold_at : (requests : List Request) (k : ℕ) (r : Request) → slice_get requests k ≡ Some r → slice_get (untold requests) k ≡ Some TooLong
+untold_at requests k r asked = slice_get-map (λ (_ : Request). TooLong) requests k ∙ ap (option_map (λ (_ : Request). TooLong)) asked
+
+pub owes_start : (units : Units) (requests : List Request) → Owes units requests (untold requests) units
+owes_start units requests = record {
+  run = (untold requests, disks_of units);
+  ledger = ledger_opens (disks_of units) requests;
+  looks = refl;
+  faithful = λ _. record {
+    same = refl;
+    errors = λ u. omega (arith, told_none u requests);
+    sure = λ u never. refl;
+  };
+  tell = λ k r a asked at begun.
+      let both : Some TooLong ≡ Some a = sym (untold_at requests k r asked) ∙ at in
+      let is : TooLong ≡ a = cc in absurd (cc (begun, ap has_begun is));
+  counted = length-map requests (λ (_ : Request). TooLong);
+  natures = refl;
+}
+
+-- ---- a request is done
+
+outlines-set : (w : List Answer) (i : ℕ) (x : Answer × Disks) → outlines (slice_set w i x.0, x.1) ≡ (set (map outline w) i (look x).0, (look x).1)
+outlines-set w i x = ap (λ l. (l, bares x.1)) (map-set outline w i x.0)
+
+-- what has one outline is still to come alike
+to_come_alike : (requests : List Request) (w v : List Answer × Disks) → outlines w ≡ outlines v
+    → (k : ℕ) (r : Request) → IsToCome requests w.0 k r → IsToCome requests v.0 k r
+to_come_alike requests w v same k r it = record { stands = it.stands; short = it.short; untold = by (slice_get v.0 k) refl }
+  where
+    looks : option_map outline (slice_get v.0 k) ≡ Some (Some TooLong)
+    looks = sym (slice_get-map outline v.0 k) ∙ ap (λ l. slice_get l.0 k) (sym same) ∙ slice_get-map outline w.0 k ∙ ap (option_map outline) it.untold
+
+    by : (x : Option Answer) → slice_get v.0 k ≡ x → slice_get v.0 k ≡ Some TooLong
+    by None is = let none : option_map outline None ≡ Some (Some TooLong) = ap (option_map outline) (sym is) ∙ looks in absurd (cc)
+    by (Some a) is =
+        let both : Some (outline a) ≡ Some (Some TooLong) = ap (option_map outline) (sym is) ∙ looks in
+        let look : outline a ≡ outline TooLong = cc in let two = outline_same a TooLong look in
+        is ∙ ap Some (two.1 two.0)
+
+-- a command is done whose request may go before each older one that is still to come
+pub owes_done : {start : Units} {requests : List Request} {told : List Answer} {units after : Units} {memory left : List ℕ} {e : End} (owes : Owes start requests told units) (p : Posted)
+    → IsToCome requests told p.place p.request → ((i : ℕ) (older : Request) → i < p.place → IsToCome requests told i older → GoesBefore older p.request) → Ready p memory
+    → Executes (posted_command p) units memory e after left → Owes start requests (slice_set told p.place (answer_of p.request.act e (buffer_of p left))) after
+owes_done {start} {requests} {told} {units} {after} {memory} {left} {e} owes p own may ready x =
+    let r = p.request in let i = p.place in let run = owes.run in
+    let now : List Answer × Disks = (told, disks_of units) in
+    let a = answer_of r.act e (buffer_of p left) in
+    let s = served p units memory e after left ready x in
+    let f : FixedRequest = record { request = r; outcome = s.outcome } in
+    let more = λ (it : IsServed s.outcome p units a after) (u : ℕ). one_failure u r.unit (is_error a) (is_lost s.outcome) units after it.lost x.others_stay it.failures_are in
+    record {
+      run = told_by i f run;
+      ledger = ledger_carries_out (disks_of start) requests run i f (to_come_alike requests now run (sym owes.looks) i r own)
+          (λ k older below it. may k older below (to_come_alike requests run now owes.looks k older it)) s.fits owes.ledger;
+      looks =
+          let seen = step_looks s.outcome Done r run.1 (disks_of units) (ap (λ w. w.1) owes.looks) ∙ sym s.looks in
+          outlines-set run.0 i (step_of f run.1) ∙ ap₂ (λ l x. (set l i x.0, x.1)) (ap (λ w. w.0) owes.looks) seen ∙ sym (outlines-set told i (a, disks_of after));
+      faithful = λ trusted.
+          let before = owes.faithful trusted in
+          let it = s.faithful (faithful_stays start units owes.natures r.unit ∙ trusted r.unit) in
+          record {
+            same = ap (told_by i f) before.same ∙ ap (λ x. (set told i x.0, x.1)) (sym it.is);
+            errors = λ u. omega (arith, before.errors u, more it u, errors-set u requests told i r a own.stands own.untold);
+            sure = λ u never.
+                let none : tells_error u r a ≡ 0 = none_told u r.unit (is_error a)
+                (λ own. it.lost ∙ ap is_lost (it.sure (ap (λ v. is_sure (slice_get units v)) (sym own) ∙ sure_stays start units owes.natures u ∙ never))) in
+                omega (arith, before.sure u never, more it u, none);
+          };
+      tell = λ k q b asked at begun. elim (cases_eq k i) [
+        | inl same ↦
+            let one : Some r ≡ Some q = sym own.stands ∙ ap (slice_get requests) (sym same) ∙ asked in
+            let other : Some a ≡ Some b = sym (slice_get-set_same told i a (slice_get_within told i TooLong own.untold)) ∙ ap (slice_get (set told i a)) (sym same) ∙ at in
+            let one_is : r ≡ q = cc in let other_is : a ≡ b = cc in subst₂ (λ (q : Request) (b : Answer). TellsTransfer q.act b) one_is other_is (s.tells (ap has_begun other_is ∙ begun))
+        | inr other ↦ owes.tell k q b asked (sym (slice_get-set_other told i k a other) ∙ at) begun
+      ];
+      counted = length-set told i a ∙ owes.counted;
+      natures = x.natures_stay ∙ owes.natures;
+    }
+
+-- ---- two that are out
+
+-- two requests clash either way
+pub clash_turned : (r s : Request) → clash r s ≡ false → clash s r ≡ false
+clash_turned r s h =
+    let units : nat_eq s.unit r.unit ≡ nat_eq r.unit s.unit = grind (arith, nat_tests) in
+    let starts : max (lbn_of s.act) (lbn_of r.act) ≡ max (lbn_of r.act) (lbn_of s.act) = omega arith in
+    let ends : min (lbn_of s.act + blocks_named s.act) (lbn_of r.act + blocks_named r.act) ≡ min (lbn_of r.act + blocks_named r.act) (lbn_of s.act + blocks_named s.act) = omega arith in
+    rw (and_comm (is_moving s.act) (is_moving r.act), units, or_comm (is_writing s.act) (is_writing r.act), starts, ends) h
+
+pub apart_turned : (p q : Posted) → Apart p q → Apart q p
+apart_turned p q apart = record { two = λ same. apart.two (sym same); beside = λ meet. apart.beside (omega arith); clear = clash_turned p.request q.request apart.clear }
+
+pub apart_others : (due : List Posted) (j : ℕ) (p : Posted) → AllPairs Apart due → slice_get due j ≡ Some p → All (Apart p) (remove due j)
+apart_others due j p apart at = pairs_others Apart Apart (λ y z two. (two, apart_turned y z two)) due j p apart at
+
+-- ---- what is still to come
+
+pub is_told : (act : Act) (e : End) (buffer : List ℕ) → answer_of act e buffer ≢ TooLong
+is_told (Online protect) e buffer same = cc
+is_told _ e buffer same = cc
+
+-- where another answer is told, the same is still to come
+pub told_at : (requests : List Request) (told : List Answer) (i k : ℕ) (a : Answer) (r : Request) → k ≢ i → IsToCome requests told k r → IsToCome requests (slice_set told i a) k r
+told_at requests told i k a r other it = record { stands = it.stands; short = it.short; untold = slice_get-set_other told i k a other ∙ it.untold }
+
+-- and what is still to come was so before
+was_to_come : (requests : List Request) (told : List Answer) (i k : ℕ) (a : Answer) (r : Request) → i < length told → a ≢ TooLong → IsToCome requests (slice_set told i a) k r → (k ≢ i) × IsToCome requests told k r
+was_to_come requests told i k a r low new it = elim (cases_eq k i) [
+  | inl same ↦
+      let both : Some a ≡ Some TooLong = sym (slice_get-set_same told i a low) ∙ ap (slice_get (set told i a)) (sym same) ∙ it.untold in
+      let is : a ≡ TooLong = cc in absurd (new is)
+  | inr other ↦ (other, record { stands = it.stands; short = it.short; untold = sym (slice_get-set_other told i k a other) ∙ it.untold })
 ]
 
--- what tells no drive error adds none
-tells_none : (u : ℕ) (r : Request) (a : Answer) → is_error a ≡ false → tells_error u r a ≡ 0
-tells_none u r a clean = by (nat_eq r.unit u) (is_error a) clean
-  where
-    by : (own told : Bool) → told ≡ false → (let k : ℕ = if own && told then 1 else 0 in k) ≡ 0
-    by true true h = absurd (cc)
-    by true false h = refl
-    by false told h = refl
+-- ---- what is due
 
--- ---- the steps
+-- one of these is at place k
+record StandsAt (due : List Posted) (d : Posted) (k : ℕ) : Type 0 where
+  index : ℕ
+  low : index < length due
+  place : (get_or due index d).place ≡ k
 
-module _ {start : Units} {requests : List Request} {due : List Posted} {told : List Answer} {units : Units} {memory : List ℕ} (owes : Owes start requests due told units memory) where
-  pub owes_put : (at : ℕ) (bytes : List ℕ) → All (Misses at (length bytes)) (commands_in due) → Owes start requests due told units (put memory at bytes)
-  owes_put at bytes misses = record {
-    counted = owes.counted;
-    stand = owes.stand;
-    untold = owes.untold;
-    in_order = owes.in_order;
-    ready = ready_past due memory at bytes misses owes.ready;
-    beside = owes.beside;
-    clear = owes.clear;
-    formed = owes.formed;
-    natures = owes.natures;
-    sound = owes.sound;
-    seems = owes.seems;
+find : (due : List Posted) (d : Posted) (k : ℕ) → StandsAt due d k ⊎ All (IsNotAt k) due
+find [] d k = inr (All-nil (IsNotAt k))
+find (p ∷ rest) d k = elim (cases_eq p.place k) [
+  | inl same ↦ inl (record { index = 0; low = omega arith; place = same })
+  | inr other ↦ (elim (find rest d k) [
+      | inl it ↦ inl (record { index = suc it.index; low = omega (arith, it.low); place = it.place })
+      | inr none ↦ inr (All-cons (IsNotAt k) p rest other none)
+    ])
+]
+
+pub due_start : (requests : List Request) → AreDue requests 0 (untold requests) []
+due_start requests = record {
+  each = All-nil (IsDue requests 0 (untold requests));
+  in_order = λ i j d before within. absurd (omega arith);
+  no_other = λ k r it none. omega arith;
+  untold = λ k le low. untold_at requests k _ (slice_get-get_or requests k (record { unit = 0; act = Available }) low);
+}
+
+-- another place than that of one, where none of the others is, is no place of any
+pub due_back : (due : List Posted) (j k : ℕ) (d : Posted) → j < length due → (get_or due j d).place ≢ k → All (IsNotAt k) (remove due j) → All (IsNotAt k) due
+due_back due j k d low other none = let p = get_or due j d in subst (All (IsNotAt k)) (put_back due j p (slice_get-get_or due j d low)) (All-insert (IsNotAt k) (remove due j) j p other none)
+
+module _ {requests : List Request} {n : ℕ} {told : List Answer} {due : List Posted} (D : AreDue requests n told due) where
+  -- one of the first n is one of the first n + 1
+  still_due : All (IsDue requests (n + 1) told) due
+  still_due k d l = let it = D.each k d l in record { before = omega (arith, it.before); to_come = it.to_come }
+
+  -- the next request is too long
+  pub due_skip : (r : Request) → slice_get requests n ≡ Some r → too_long r ≡ true → AreDue requests (n + 1) told due
+  due_skip r asked long = record {
+    each = still_due;
+    in_order = D.in_order;
+    no_other = λ k s it none. elim (cases_eq k n) [
+      | inl same ↦
+          (let both : Some r ≡ Some s = sym asked ∙ ap (slice_get requests) (sym same) ∙ it.stands in
+          let is : r ≡ s = cc in absurd (cc (long, it.short, ap too_long is)))
+      | inr other ↦ omega (arith, D.no_other k s it none)
+    ];
+    untold = λ k le. D.untold k (omega arith);
   }
 
-  -- one more, whose answer is still to come
-  more_seems : {due_after : List Posted} (r : Request) → Ledger (disks_of start) (requests ++ r ∷ []) (dues_of due_after) (owes.seems.shown ++ TooLong ∷ []) owes.seems.disks
-      → Seems start (requests ++ r ∷ []) due_after (told ++ TooLong ∷ []) units
-  more_seems r ledger =
-      let s = owes.seems in
-      record {
-        disks = s.disks;
-        shown = s.shown ++ TooLong ∷ [];
-        ledger = ledger;
-        errors = λ u. errors-push u requests s.shown r s.counted ∙ s.errors u;
-        alike = s.alike;
-        counted = omega (arith, s.counted, length-append requests (r ∷ []), length-append s.shown (TooLong ∷ []));
-        go_as = λ k q done now asked here there. elim (cases_eq k (length requests)) [
-          | inl last ↦
-              let one : Some done ≡ Some TooLong = sym here ∙ slice_get-last s.shown k TooLong (last ∙ sym s.counted) in
-              let two : Some now ≡ Some TooLong = sym there ∙ slice_get-last told k TooLong (last ∙ sym owes.counted) in
-              let first : TooLong ≡ done = cc in let second : TooLong ≡ now = cc in
-              subst₂ (GoesAs q.act) first second (as_plain q.act TooLong TooLong refl refl)
-          | inr other ↦
-              let low : k < length requests = omega (arith, slice_get_within (s.shown ++ TooLong ∷ []) k done here, s.counted, length-append s.shown (TooLong ∷ [])) in
-              s.go_as k q done now (sym (slice_get-before requests r k low) ∙ asked) (sym (slice_get-before s.shown TooLong k (omega (arith, low, s.counted))) ∙ here) (sym (slice_get-before told TooLong k (omega (arith, low, owes.counted))) ∙ there)
-        ];
-      }
+  -- the next request is posted
+  pub due_post : (p : Posted) → p.place ≡ n → slice_get requests p.place ≡ Some p.request → too_long p.request ≡ false → AreDue requests (n + 1) told (due ++ p ∷ [])
+  due_post p place asked short = record {
+    each = All-push (IsDue requests (n + 1) told) due p still_due (record {
+      before = omega (arith, place);
+      to_come = record { stands = asked; short = short; untold = D.untold p.place (omega arith) (slice_get_within requests p.place p.request asked) };
+    });
+    in_order = all_pairs_push IsEarlier due p D.in_order (λ k d l. omega (arith, (D.each k d l).before, place));
+    no_other = λ k r it none.
+        let other : p.place ≢ k = All-at (IsNotAt k) (due ++ p ∷ []) (length due) p none (slice_get-last due (length due) p refl) in
+        omega (arith, D.no_other k r it (All-front (IsNotAt k) due (p ∷ []) none), other, place);
+    untold = λ k le. D.untold k (omega arith);
+  }
 
-  -- one more request, of these that are then due; it is due itself, or it is too long
-  one_more : (r : Request) (due_after : List Posted) → All (StandsIn (requests ++ r ∷ [])) due_after → All (IsUntold (told ++ TooLong ∷ [])) due_after → AllPairs IsEarlier due_after
-      → All (IsReadyIn memory) due_after → AllPairs Beside (commands_in due_after) → AllPairs NoClash (requests_posted due_after) → ((k : ℕ) → IsNotDue k due_after → IsNotDue k due) → (IsNotDue (length requests) due_after → too_long r ≡ true)
-      → ((answers : List Answer) (disks : Disks) → length answers ≡ length told → Ledger (disks_of start) requests (dues_of due) answers disks → Ledger (disks_of start) (requests ++ r ∷ []) (dues_of due_after) (answers ++ TooLong ∷ []) disks)
-      → Owes start (requests ++ r ∷ []) due_after (told ++ TooLong ∷ []) units memory
-  one_more r due_after stand untold in_order ready beside clear none long ledger =
-      let size = length-append requests (r ∷ []) in
-      record {
-        counted = omega (arith, owes.counted, size, length-append told (TooLong ∷ []));
-        stand = stand;
-        untold = untold;
-        in_order = in_order;
-        ready = ready;
-        beside = beside;
-        clear = clear;
-        formed = λ k q answer at_k told_k not_due. elim (cases_eq k (length requests)) [
-          | inl last ↦
-              let is_long = long (subst (λ (i : ℕ). IsNotDue i due_after) last not_due) in
-              formed_there (requests ++ r ∷ []) (told ++ TooLong ∷ []) k (slice_get-last requests k r last) (slice_get-last told k TooLong (last ∙ sym owes.counted)) (record { long = λ _. refl; short = λ short. absurd (cc) }) at_k told_k
-          | inr other ↦
-              let low : k < length requests = omega (arith, slice_get_within (requests ++ r ∷ []) k q at_k) in
-              owes.formed k q answer (sym (slice_get-before requests r k low) ∙ at_k) (sym (slice_get-before told TooLong k (omega (arith, owes.counted))) ∙ told_k) (none k not_due)
-        ];
-        natures = owes.natures;
-        sound = λ faithful images.
-            let before = owes.sound faithful images in
-            record {
-              ledger = ledger told (disks_of units) refl before.ledger;
-              errors = λ u. omega (arith, before.errors u, errors-push u requests told r owes.counted);
-              sure = before.sure;
-            };
-        seems = more_seems r (ledger owes.seems.shown owes.seems.disks (owes.seems.counted ∙ sym owes.counted) owes.seems.ledger);
-      }
+  module _ (j : ℕ) (d : Posted) (low : j < length due) where
+    abbrev p : Posted
+    p = get_or due j d
 
-  still_stand : (r : Request) → All (StandsIn (requests ++ r ∷ [])) due
-  still_stand r k d l = slice_get-append requests (r ∷ []) _ _ (owes.stand k d l)
+    at_p : slice_get due j ≡ Some p
+    at_p = slice_get-get_or due j d low
 
-  still_untold : All (IsUntold (told ++ TooLong ∷ [])) due
-  still_untold k d l = slice_get-append told (TooLong ∷ []) _ _ (owes.untold k d l)
+    -- one that may go goes before each older one that is to come
+    pub due_before : AllPairs Apart due → MayGo (commands_in due) j → (k : ℕ) (older : Request) → k < p.place → IsToCome requests told k older → GoesBefore older p.request
+    due_before apart may k older below it = elim (find due d k) [
+      | inl found ↦
+          (let m = found.index in let q = get_or due m d in
+          let first : m < j = elim (cases_lt m j) [
+            | inl low ↦ low
+            | inr past ↦ (elim (cases_eq m j) [
+                | inl same ↦ absurd (omega (arith, ap (λ at. (get_or due at d).place) same, found.place))
+                | inr other ↦ absurd (omega (arith, D.in_order j m d (omega arith) found.low, found.place))
+              ])
+          ] in
+          let asked : Some q.request ≡ Some older = sym (D.each m d found.low).to_come.stands ∙ ap (slice_get requests) found.place ∙ it.stands in
+          let is : q.request ≡ older = cc in
+          subst (λ r. GoesBefore r p.request) is (record {
+            passes = passes q p (may.passes m (posted_command q) (posted_command p) first (command_at m found.low) (command_at j low));
+            clear = (apart m j d first low).clear;
+          }))
+      | inr none ↦ absurd (omega (arith, D.no_other k older it none, (D.each j d low).before))
+    ]
+      where
+        command_at : (m : ℕ) → m < length due → slice_get (commands_in due) m ≡ Some (posted_command (get_or due m d))
+        command_at m low = slice_get-map posted_command due m ∙ ap (option_map posted_command) (slice_get-get_or due m d low)
 
-  low : All (IsBefore (length told)) due
-  low k d l = slice_get_within told _ TooLong (owes.untold k d l)
-
-  -- it is too long, and is answered at once
-  pub owes_skip : (r : Request) → too_long r ≡ true → Owes start (requests ++ r ∷ []) due (told ++ TooLong ∷ []) units memory
-  owes_skip r long =
-      one_more r due (still_stand r) still_untold owes.in_order owes.ready owes.beside owes.clear (λ k not_due. not_due) (λ _. long)
-      (λ answers disks same. ledger_skips (disks_of start) requests (dues_of due) answers disks r long (dues_below (length answers) due (λ k d l. omega (arith, low k d l, same))))
-
-  pub owes_post : (p : Posted) → p.place ≡ length requests → Ready p memory → All (λ c. Beside c (posted_command p)) (commands_in due) → All (λ r. NoClash r p.request) (requests_posted due)
-      → Owes start (requests ++ p.request ∷ []) (due ++ p ∷ []) (told ++ TooLong ∷ []) units memory
-  owes_post p last ready beside clear =
-      let r = p.request in let more = due ++ p ∷ [] in let answers = told ++ TooLong ∷ [] in
-      let at : p.place ≡ length told = last ∙ sym owes.counted in
-      let taken = λ (as' : List Answer) (disks : Disks) (same : length as' ≡ length told) (ledger : Ledger (disks_of start) requests (dues_of due) as' disks).
-      subst (λ (ds : List Due). Ledger (disks_of start) (requests ++ r ∷ []) ds (as' ++ TooLong ∷ []) disks) (sym (map_push due_of due p))
-      (ledger_takes_in (disks_of start) requests (dues_of due) as' disks (due_of p) (dues_below (length as') due (λ k d l. omega (arith, low k d l, same))) (at ∙ sym same) ledger) in
-      one_more r more (All-push (StandsIn (requests ++ r ∷ [])) due p (still_stand r) (slice_get-last requests p.place r last)) (All-push (IsUntold answers) due p still_untold (slice_get-last told p.place TooLong at))
-      (all_pairs_push IsEarlier due p owes.in_order (λ k d l. omega (arith, low k d l, at))) (All-push (IsReadyIn memory) due p owes.ready ready)
-      (subst (AllPairs Beside) (sym (map_push posted_command due p)) (all_pairs_push Beside (commands_in due) (posted_command p) owes.beside beside))
-      (subst (AllPairs NoClash) (sym (map_push (λ (q : Posted). q.request) due p)) (all_pairs_push NoClash (requests_posted due) r owes.clear clear)) (λ k. All-front (IsNotAt k) due (p ∷ []))
-      (λ not_due. absurd (All-at (IsNotAt (length requests)) more (length due) p not_due (slice_get-last due (length due) p refl) last)) taken
-
-  -- a command is done that is due and may go
-  module _ {after : Units} {left : List ℕ} {e : End} (j : ℕ) (p : Posted) (stands : slice_get due j ≡ Some p) (goes : MayGo (commands_in due) j) (x : Executes (posted_command p) units memory e after left) where
-    own_ready : Ready p memory
-    own_ready = All-at (IsReadyIn memory) due j p owes.ready stands
-
-    own_request : StandsIn requests p
-    own_request = All-at (StandsIn requests) due j p owes.stand stands
-
-    own_blank : IsUntold told p
-    own_blank = All-at (IsUntold told) due j p owes.untold stands
-
-    -- among what is due it is done
-    done_in_ledger : (answers : List Answer) (disks : Disks) (o : Outcome) → FitsCount (blocks_named p.request.act) o → Ledger (disks_of start) requests (dues_of due) answers disks
-        → Ledger (disks_of start) requests (dues_of (remove due j)) (slice_set answers p.place (step_as o p.request disks).0) (step_as o p.request disks).1
-    done_in_ledger answers disks o fits ledger =
-        let now = step_as o p.request disks in
-        let asks : requests_posted due ≡ requests_due (dues_of due) = sym (dues_ask due) in
-        let clear = subst (AllPairs NoClash) asks owes.clear in
-        let may = subst (λ (rs : List Request). PassesOlder rs j) asks (goes-request due j goes) in
-        let stands_due : slice_get (dues_of due) j ≡ Some (due_of p) = slice_get-map due_of due j ∙ ap (option_map due_of) stands in
-        subst (λ (ds : List Due). Ledger (disks_of start) requests ds (slice_set answers p.place now.0) now.1) (sym (map-remove due_of due j))
-        (ledger_carries_out (disks_of start) requests (dues_of due) answers disks j (due_of p) o clear (dues_rising due owes.in_order) may stands_due fits ledger)
-
-    sound_done : AllFaithful start → AreImages start → Sound start requests (remove due j) (slice_set told p.place (answer_of p.request.act e (buffer_of p left))) after
-    sound_done faithful images =
-        let r = p.request in let c = posted_command p in
-        let a = answer_of r.act e (buffer_of p left) in
-        let w : World = world_of units memory in
-        let before = owes.sound faithful images in
-        let t = x.takes_effect (λ calls. faithful_stays start units owes.natures c.unit ∙ faithful c.unit) in
-        let o = t.outcome in
-        let fits : FitsCount (blocks_named r.act) o = subst (λ (n : ℕ). FitsCount n o) (names_same r.act p.address).count t.fits.count in
-        let s = serves o p w own_ready in
-        let disks_are : disks_of after ≡ (step_as o r w.disks).1 = ap (λ (y : End × World). y.1.disks) t.effect_is ∙ s.disks in
-        let answer_is : a ≡ (step_as o r w.disks).0 = ap (λ (y : End × World). answer_of r.act y.0 (buffer_of p y.1.memory)) t.effect_is ∙ s.answer in
-        let lost : is_error a ≡ is_lost o = ap is_error answer_is ∙ error-lost o r w.disks own_ready.short fits (λ lost. sym (acts-own p w own_ready) ∙ t.fits.acting lost) in
+    -- it is done
+    pub due_done : (a : Answer) → a ≢ TooLong → AllPairs Apart due → AreDue requests n (slice_set told p.place a) (remove due j)
+    due_done a new apart =
+        let own = D.each j d low in
+        let others = apart_others due j p apart at_p in
         record {
-          ledger = subst₂ (λ (answer : Answer) (disks : Disks). Ledger (disks_of start) requests (dues_of (remove due j)) (slice_set told p.place answer) disks) (sym answer_is) (sym disks_are)
-              (done_in_ledger told w.disks o fits before.ledger);
-          errors = λ u.
-              let more : failures_at (slice_get after u) ≡ failures_at (slice_get units u) + tells_error u r a = one_failure u r.unit (is_error a) (is_lost o) units after lost x.others_stay t.failures_are in
-              omega (arith, before.errors u, errors-set u requests told p.place r a own_request own_blank);
-          sure = λ u never. sure_done u c.unit o units after (sure_stays start units owes.natures u ∙ never) t.sure x.others_stay t.failures_are ∙ before.sure u never;
+          each = λ k q l.
+              let was = All-remove (IsDue requests n told) due j D.each k q l in
+              record { before = was.before; to_come = told_at requests told p.place _ a _ (λ same. (others k q l).two (sym same)) was.to_come };
+          in_order = all_pairs_remove IsEarlier due j low D.in_order;
+          no_other = λ k r it none.
+              let was = was_to_come requests told p.place k a r (slice_get_within told p.place TooLong own.to_come.untold) new it in
+              D.no_other k r was.1 (due_back due j k d low (λ same. was.0 (sym same)) none);
+          untold = λ k le within. slice_get-set_other told p.place k a (λ same. omega (arith, own.before, same)) ∙ D.untold k le within;
         }
 
-    -- what is shown of it is still to come
-    own_unshown : slice_get owes.seems.shown p.place ≡ Some TooLong
-    own_unshown =
-        let s = owes.seems in
-        let low : p.place < length s.shown = omega (arith, slice_get_within told p.place TooLong own_blank, owes.counted, s.counted) in
-        let here = slice_get-get_or s.shown p.place TooLong low in
-        let goes = s.go_as p.place p.request (get_or s.shown p.place TooLong) TooLong own_request here own_blank in
-        here ∙ ap (λ (a : Answer). Some a) (sym (goes_untold p.request.act (get_or s.shown p.place TooLong) goes))
+-- where nothing is due, no answer is to come
+pub due_none : (requests : List Request) (n : ℕ) (told : List Answer) → length requests ≤ n → AreDue requests n told [] → NoneToCome requests told
+due_none requests n told all D k r it = omega (arith, D.no_other k r it (All-nil (IsNotAt k)), slice_get_within requests k r it.stands, all)
 
-    seems_done : Seems start requests (remove due j) (slice_set told p.place (answer_of p.request.act e (buffer_of p left))) after
-    seems_done =
-        let s = owes.seems in let r = p.request in
-        let a = answer_of r.act e (buffer_of p left) in
-        let now = step_as Done r s.disks in
-        let step = step_seems p s.disks units memory e after left own_ready s.alike x in
-        let clean : is_error now.0 ≡ false = error-lost Done r s.disks own_ready.short tt (λ lost. absurd (cc)) in
-        record {
-          disks = now.1;
-          shown = slice_set s.shown p.place now.0;
-          ledger = done_in_ledger s.shown s.disks Done tt s.ledger;
-          errors = λ u. omega (arith, s.errors u, errors-set u requests s.shown p.place r now.0 own_request own_unshown, tells_none u r now.0 clean);
-          alike = step.alike;
-          counted = length-set s.shown p.place now.0 ∙ s.counted;
-          go_as = λ k q done told_now asked here there. elim (cases_eq k p.place) [
-            | inl own ↦
-                let mine = slice_get-set_same s.shown p.place now.0 (slice_get_within s.shown p.place TooLong own_unshown) in
-                let his = slice_get-set_same told p.place a (slice_get_within told p.place TooLong own_blank) in
-                let one : Some now.0 ≡ Some done = sym mine ∙ ap (slice_get (slice_set s.shown p.place now.0)) (sym own) ∙ here in
-                let two : Some a ≡ Some told_now = sym his ∙ ap (slice_get (slice_set told p.place a)) (sym own) ∙ there in
-                let first : now.0 ≡ done = cc in let second : a ≡ told_now = cc in
-                let third : Some r ≡ Some q = sym own_request ∙ ap (slice_get requests) (sym own) ∙ asked in
-                let fourth : r ≡ q = cc in
-                subst (λ (x : Request). GoesAs x.act done told_now) fourth (subst₂ (GoesAs r.act) first second step.goes)
-            | inr other ↦ s.go_as k q done told_now asked (sym (slice_get-set_other s.shown p.place k now.0 other) ∙ here) (sym (slice_get-set_other told p.place k a other) ∙ there)
-          ];
-        }
+-- ---- nothing is still to come
 
-    owes_done : Owes start requests (remove due j) (slice_set told p.place (answer_of p.request.act e (buffer_of p left))) after left
-    owes_done =
-        let c = posted_command p in
-        let a = answer_of p.request.act e (buffer_of p left) in
-        let c_stands : slice_get (commands_in due) j ≡ Some c = slice_get-map posted_command due j ∙ ap (option_map posted_command) stands in
-        let names : remove (commands_in due) j ≡ commands_in (remove due j) = sym (map-remove posted_command due j) in
-        let beside : All (Beside c) (commands_in (remove due j)) = subst (All (Beside c)) names (beside_others (commands_in due) j c owes.beside c_stands) in
-        let others = pairs_others IsEarlier (λ p q. q.place ≢ p.place) (λ y z before. (λ same. omega arith, λ same. omega arith)) due j p owes.in_order stands in
-        record {
-          counted = length-set told p.place a ∙ owes.counted;
-          stand = All-remove (StandsIn requests) due j owes.stand;
-          untold = λ k d l. slice_get-set_other told p.place _ a (others k d l) ∙ All-remove (IsUntold told) due j owes.untold k d l;
-          in_order = all_pairs_remove IsEarlier due j (slice_get_within due j p stands) owes.in_order;
-          ready = ready_beside c memory left (remove due j) x.memory_stays beside (All-remove (IsReadyIn memory) due j owes.ready);
-          beside = subst (AllPairs Beside) names (all_pairs_remove Beside (commands_in due) j (slice_get_within (commands_in due) j c c_stands) owes.beside);
-          clear = subst (AllPairs NoClash) (sym (map-remove (λ (q : Posted). q.request) due j)) (all_pairs_remove NoClash (requests_posted due) j (omega (arith, slice_get_within due j p stands, length-map due (λ (q : Posted). q.request))) owes.clear);
-          formed = λ k r b at_k told_k not_due. elim (cases_eq k p.place) [
-            | inl here ↦
-                let there = slice_get-set_same told p.place a (slice_get_within told p.place TooLong own_blank) in
-                formed_there requests (slice_set told p.place a) p.place own_request there (record { long = λ long. absurd (cc (own_ready.short)); short = λ _. has_form p.request.act e (buffer_of p left) })
-                (ap (slice_get requests) (sym here) ∙ at_k) (ap (slice_get (slice_set told p.place a)) (sym here) ∙ told_k)
-            | inr other ↦
-                let was_not : IsNotDue k due = subst (IsNotDue k) (put_back due j p stands) (All-insert (IsNotAt k) (remove due j) j p (λ same. other (sym same)) not_due) in
-                owes.formed k r b at_k (sym (slice_get-set_other told p.place k a other) ∙ told_k) was_not
-          ];
-          natures = x.natures_stay ∙ owes.natures;
-          sound = sound_done;
-          seems = seems_done;
-        }
+module _ {start : Units} {requests : List Request} {told : List Answer} {units : Units} (owes : Owes start requests told units) (none : NoneToCome requests told) where
+  ran : PlainWithLosses (disks_of start) requests owes.run.0 owes.run.1
+  ran = ledger_closes (disks_of start) requests owes.run (λ k r it. none k r (to_come_alike requests owes.run (told, disks_of units) owes.looks k r it)) owes.ledger
 
--- ---- an execution
+  pub owes_end : AllFaithful start → PlainWithLosses (disks_of start) requests told (disks_of units)
+  owes_end trusted = subst (λ (w : List Answer × Disks). PlainWithLosses (disks_of start) requests w.0 w.1) (owes.faithful trusted).same ran
 
--- the request of a command that is due
-record RequestOf (due : List Posted) (j : ℕ) (c : Command) : Type 0 where
-  posted : Posted
-  stands : slice_get due j ≡ Some posted
-  is : posted_command posted ≡ c
+  -- where no answer tells a drive error, it is the plain run
+  pub owes_untold : AllFaithful start → ((u : ℕ) → drive_errors u requests told ≡ 0) → (told, disks_of units) ≡ plain (disks_of start) requests
+  owes_untold trusted none = losses_told (disks_of start) requests told (disks_of units) (owes_end trusted) none
 
-request_of : (due : List Posted) (j : ℕ) (c : Command) → slice_get (commands_in due) j ≡ Some c → RequestOf due j c
-request_of [] j c at = absurd (cc)
-request_of (p ∷ rest) zero c at = record { posted = p; stands = refl; is = cc }
-request_of (p ∷ rest) (suc j) c at = let found = request_of rest j c at in record { posted = found.posted; stands = found.stands; is = found.is }
+  -- and where no store failed, too
+  pub owes_plain : AllFaithful start → ((u : ℕ) → failures_at (slice_get units u) ≡ failures_at (slice_get start u)) → (told, disks_of units) ≡ plain (disks_of start) requests
+  owes_plain trusted none = owes_untold trusted (λ u. omega (arith, (owes.faithful trusted).errors u, none u))
 
-pub record Executed (start : Units) (requests : List Request) (due : List Posted) (told : List Answer) (j : ℕ) (e : End) (new : ExecState) (old_memory memory : List ℕ) : Type 0 where
-  pub posted : Posted
-  pub stands : slice_get due j ≡ Some posted
-  pub changed : ChangesAt old_memory (buffer_start (posted_command posted).op) (landing_of (posted_command posted).op) memory
-  pub reference : e.reference ≡ posted.place + 1
-  pub owes : Owes start requests (remove due j) (slice_set told posted.place (answer_of posted.request.act e (buffer_of posted memory))) new.units memory
-  pub pending : new.pending ≡ commands_in (remove due j)
+  -- whatever the stores, its outlines are the plain run's
+  looks : outlines (told, disks_of units) ≡ outlines (plain (disks_of start) requests)
+  looks = sym owes.looks ∙ ap outlines (sym ran.gives) ∙ run_looks ran.fixed (disks_of start) (disks_of start) refl ∙ ap (λ rs. outlines (plain (disks_of start) rs)) ran.are_requests
 
-pub owes_execute : {start : Units} {requests : List Request} {due : List Posted} {told : List Answer} {j : ℕ} {old new : ExecState} {e : End} {memory left : List ℕ}
-    → old.pending ≡ commands_in due → ExecutesAt j old memory e new left → Owes start requests due told old.units memory → Executed start requests due told j e new memory left
-owes_execute {due = due} {j} {old} {new} {e} {memory} {left} waits x owes =
-    let found = request_of due j x.command (ap (λ (cs : List Command). slice_get cs j) (sym waits) ∙ x.taken.stands) in
-    let it : Executes (posted_command found.posted) old.units memory e new.units left = subst (λ (c : Command). Executes c old.units memory e new.units left) (sym found.is) x.executes in
-    record {
-      posted = found.posted;
-      stands = found.stands;
-      changed = it.memory_stays;
-      reference = it.answers.reference;
-      owes = owes_done owes j found.posted found.stands (subst (λ (cs : List Command). MayGo cs j) waits x.taken.may) it;
-      pending = x.taken.taken ∙ ap (λ (cs : List Command). remove cs j) waits ∙ sym (map-remove posted_command due j);
-    }
+  -- and so each answer goes as its
+  answered : AllGoAs requests (plain (disks_of start) requests).0 told
+  answered k r b a asked there here =
+      let same : Some (outline a) ≡ Some (outline b) =
+      sym (slice_get-map outline told k ∙ ap (option_map outline) here) ∙ ap (λ w. slice_get w.0 k) looks ∙ slice_get-map outline (plain (disks_of start) requests).0 k ∙ ap (option_map outline) there in
+      goes_as r.act b a (let one : outline a ≡ outline b = cc in one) (plain_each requests (disks_of start) k r b asked there).clean (owes.tell k r a asked here)
 
--- ---- nothing is due
+  pub owes_seems : SeemsPlain start requests told units
+  owes_seems = record { left = ap (λ w. w.1) looks; answered = answered }
 
-module _ {start : Units} {requests : List Request} {told : List Answer} {units : Units} {memory : List ℕ} (faithful : AllFaithful start) (images : AreImages start) (owes : Owes start requests [] told units memory) where
-  pub owes_end : PlainWithLosses (disks_of start) requests told (disks_of units)
-  owes_end = ledger_closes (disks_of start) requests told (disks_of units) (owes.sound faithful images).ledger
-
-  -- where no store failed, it is the plain run
-  pub owes_plain : ((u : ℕ) → failures_at (slice_get units u) ≡ failures_at (slice_get start u)) → (told, disks_of units) ≡ plain (disks_of start) requests
-  owes_plain none = losses_told (disks_of start) requests told (disks_of units) owes_end (λ u. omega (arith, (owes.sound faithful images).errors u, none u))
-
-  -- and where no answer tells a drive error, too
-  pub owes_untold : ((u : ℕ) → drive_errors u requests told ≡ 0) → (told, disks_of units) ≡ plain (disks_of start) requests
-  owes_untold none = losses_told (disks_of start) requests told (disks_of units) owes_end none
-
--- whatever the stores, it seems the plain run
-pub owes_seems : {start : Units} {requests : List Request} {told : List Answer} {units : Units} {memory : List ℕ} → Owes start requests [] told units memory → SeemsPlain start requests told units
-owes_seems {start} {requests} {told} {units} owes =
-    let s = owes.seems in
-    let is : (s.shown, s.disks) ≡ plain (disks_of start) requests =
-    losses_told (disks_of start) requests s.shown s.disks (ledger_closes (disks_of start) requests s.shown s.disks s.ledger) s.errors in
-    record {
-      left = sym s.alike ∙ ap (λ (x : List Answer × Disks). bares x.1) is;
-      answered = subst (λ (x : List Answer × Disks). AllGoAs requests x.0 told) is s.go_as;
-    }
+  -- and has its request's form
+  pub owes_formed : (k : ℕ) (r : Request) (a : Answer) → slice_get requests k ≡ Some r → slice_get told k ≡ Some a → IsAnswerOf r a
+  owes_formed k r a asked here =
+      let answers = (plain (disks_of start) requests).0 in let b = get_or answers k TooLong in
+      let there = slice_get-get_or answers k TooLong (omega (arith, length-runs step requests (disks_of start), slice_get_within requests k r asked)) in
+      let goes = answered k r b a asked there here in let is = (plain_each requests (disks_of start) k r b asked there).formed in
+      by b goes is (is_done b) refl
+    where
+      by : (b : Answer) → GoesAs r.act b a → IsAnswerOf r b → (done : Bool) → is_done b ≡ done → IsAnswerOf r a
+      by b goes is false undone = let same : b ≡ a = sym (goes.same undone) in subst (IsAnswerOf r) same is
+      by b goes is true done = record { long = λ long. absurd (cc (done, ap is_done (is.long long))); short = λ _. (goes.ends done).form }

@@ -1,20 +1,15 @@
 -- The command of a request: its buffer, what it asks, and which may pass which.
-use Rattle.std.proofs.Common.{◌≡◌, ℕ, zero, suc, ◌+◌, ◌%◌, ◌<◌, ◌≤◌, zero-le, false, true, List, [], ◌∷◌, length, Some, refl, ap, ◌∙◌, arith, subst₂}
-use Rattle.std.specs.Prelude.{slice_get, remove, All, AllPairs}
+use Rattle.std.proofs.Common.{◌≡◌, ℕ, ◌+◌, ◌%◌, ◌<◌, ◌≤◌, zero-le, false, true, List, length, Some, refl, ap, ◌∙◌, arith}
 use Rattle.std.proofs.lemmas.Bool.Decides.{nat_tests}
-use Rattle.std.proofs.lemmas.List.{length-map}
 use Rattle.uda_mem.specs.Put.{put}
 use Rattle.uda_mem.proofs.PutLaws.{length-put, part-put_at}
-use Rattle.uda_packet.specs.declared.command.Command.{Command}
-use Rattle.uda_disk.specs.Request.{Act, Online, Read, Write, Request, is_moving, blocks_named}
+use Rattle.uda_disk.specs.Request.{Act, Online, Read, Write, is_moving, blocks_named}
 use Rattle.uda_disk.specs.Order as disk
 use Rattle.uda_disk.specs.PlainRun.{transfer_limit, too_long}
 use Rattle.uda_exec.specs.Commands.{is_controller, is_transfer, buffer_start, room_of, blocks_asked, act_of}
-use Rattle.uda_exec.specs.Order.{may_pass, MayGo}
+use Rattle.uda_exec.specs.Order.{may_pass}
 use Rattle.uda_exec.proofs.Blocks.{bytes_at-within}
-use Rattle.uda_posting.specs.Posting.{op_of, bytes_brought, Posted, posted_command, commands_in, requests_posted, Ready}
-use Rattle.uda_posting.specs.Keeping.{Beside}
-use Rattle.uda_disk.proofs.Lists.{pairs_others}
+use Rattle.uda_posting.specs.Posting.{op_of, bytes_brought, Posted, posted_command, Ready}
 
 -- what an act names, its command names
 pub record NamesSame (act : Act) (address : ℕ) : Type 0 where
@@ -66,27 +61,10 @@ ready-put p memory short even room =
       asks = (bytes_fit p.request.act p.address).asks memory (omega (arith, buffer.small, buffer.low));
     }
 
--- one command of a list is beside all others
-pub beside_others : (cs : List Command) (j : ℕ) (c : Command) → AllPairs Beside cs → slice_get cs j ≡ Some c → All (Beside c) (remove cs j)
-beside_others cs j c h at = pairs_others Beside Beside (λ x y r. (r, λ meet. r (omega arith))) cs j c h at
-
 -- ---- passing
 
 -- where a command may pass another, its request may pass the other's
-passes : (older p : Posted) → may_pass (posted_command older) (posted_command p) ≡ true → disk.passes older.request p.request ≡ true
+pub passes : (older p : Posted) → may_pass (posted_command older) (posted_command p) ≡ true → disk.passes older.request p.request ≡ true
 passes older p may =
     let one = names_same older.request.act older.address in let other = names_same p.request.act p.address in
     rw (one.speaks, other.speaks, one.moving, other.moving) at may
-
-pub posted_at : (due : List Posted) (j : ℕ) (r : Request) → slice_get (requests_posted due) j ≡ Some r → (p : Posted) × (slice_get (commands_in due) j ≡ Some (posted_command p)) × (p.request ≡ r)
-posted_at [] j r at = absurd (cc)
-posted_at (p ∷ rest) zero r at = (p, refl, cc)
-posted_at (p ∷ rest) (suc j) r at = posted_at rest j r at
-
-pub goes-request : (due : List Posted) (j : ℕ) → MayGo (commands_in due) j → disk.PassesOlder (requests_posted due) j
-goes-request due j goes = record {
-  stands = omega (arith, goes.stands, length-map due posted_command, length-map due (λ (p : Posted). p.request));
-  passes_each = λ i older r below at_i at_j.
-      let p = posted_at due i older at_i in let q = posted_at due j r at_j in
-      subst₂ (λ (x y : Request). disk.passes x y ≡ true) p.2 q.2 (passes p.0 q.0 (goes.passes i (posted_command p.0) (posted_command q.0) below p.1 q.1));
-}

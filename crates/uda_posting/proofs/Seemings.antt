@@ -1,113 +1,147 @@
--- One command's step of a run as it seems whatever the stores.
-use Rattle.std.proofs.Common.{◌≡◌, ℕ, ◌+◌, ◌≤◌, Bool, true, false, List, [], ◌∷◌, length, set, Option, Some, None, refl, sym, ap, ◌∙◌, arith, subst, length-take}
-use Rattle.std.specs.Prelude.{slice_get, slice_set, option_map, nat_lt, nat_eq, ◌&&◌}
+-- What is so of a run whatever the stores: its outlines are the plain run's.
+use Rattle.std.proofs.Common.{◌≡◌, ℕ, zero, suc, ◌+◌, ◌≤◌, Bool, true, false, List, [], ◌∷◌, length, set, Option, Some, None, refl, sym, ap, ap₂, ◌∙◌, arith, subst, length-take}
+use Rattle.std.specs.Prelude.{slice_get, slice_set, option_map, nat_lt, nat_eq, ◌&&◌, if◌then◌else◌}
+use Rattle.std.proofs.Math.Bool.{or-false}
+use Rattle.std.proofs.lemmas.Bool.{and_parts}
 use Rattle.std.proofs.lemmas.List.{map-set}
 use Rattle.std.proofs.lemmas.Option.{slice_get-map}
+use Rattle.uda_packet.specs.declared.command.Command.{Command}
 use Rattle.uda_packet.specs.declared.end.End.{End}
 use Rattle.uda_disk.specs.declared.mode.Mode.{Mode}
 use Rattle.uda_disk.specs.declared.refusal.Refusal.{Refusal}
-use Rattle.uda_disk.specs.declared.refusal.Refusal.TheVariants.{UnitUnknown, NoVolume}
+use Rattle.uda_disk.specs.declared.refusal.Refusal.TheVariants.{UnitUnknown}
 use Rattle.uda_disk.specs.Disk.{Disk, Disks}
 use Rattle.uda_disk.specs.Status.{SUCCESS, DRIVE_ERROR}
-use Rattle.uda_disk.specs.Request.{Act, Online, Available, Status, Read, Access, Write, Erase, Request, extent_of}
-use Rattle.uda_disk.specs.Answer.{Answer, Moved, Data, blank_answer, status_of}
-use Rattle.uda_disk.specs.Form.{SameForm}
-use Rattle.uda_disk.specs.Plain.{Bar, Barred, Free, bar, bar_at, bar_by, refusal_on, refusal_status, is_free, Outcome, Done, Lost, FitsCount, answer_by, answer_on, transfer_status, transfer_bytes, disks_by, disk_after, mode_after, serve_as}
-use Rattle.uda_disk.specs.PlainRun.{step_as}
-use Rattle.uda_disk.specs.Units.{Units, disk_of, disks_of, nature_of, natures_of, modes_of}
+use Rattle.uda_disk.specs.Request.{Act, Online, Available, Status, Read, Access, Write, Erase, Request, is_moving, extent_of, blocks_named}
+use Rattle.uda_disk.specs.Answer.{Answer, TooLong, Moved, Data, blank_answer, status_of}
+use Rattle.uda_disk.specs.Form.{SameForm, IsAnswerOf}
+use Rattle.uda_disk.specs.Plain.{Bar, Barred, Free, bar, bar_at, bar_by, refusal_on, refusal_status, is_free, Outcome, Done, Lost, is_lost, FitsCount, answer_by, answer_on, transfer_status, transfer_bytes, disks_by, disk_after, mode_after, serve_by, serve_as}
+use Rattle.uda_disk.specs.PlainRun.{FixedRequest, requests_of, too_long, step_as, step, plain, plain_as}
+use Rattle.uda_disk.specs.Units.{Units, disks_of, is_faithful, failures_at, is_sure, Nature, nature_of, natures_of, modes_of}
 use Rattle.uda_disk.proofs.Slots.{set-itself}
+use Rattle.uda_disk.proofs.Errors.{is_error}
+use Rattle.uda_disk.proofs.Outcomes.{error-lost}
 use Rattle.uda_exec.specs.Commands.{is_transfer, blocks_asked, bytes_asked, buffer_start, room_of, landing_of}
-use Rattle.uda_exec.specs.Effect.{World, acts, effect, plain_body}
-use Rattle.uda_exec.specs.Execution.{world_of, bytes_of, Executes, EndsTransfer}
+use Rattle.uda_exec.specs.Effect.{World, acts, plain_body}
+use Rattle.uda_exec.specs.Execution.{world_of, bytes_of, Executes, TakesEffect, EndsTransfer}
 use Rattle.uda_exec.proofs.Changes.{length-changes}
 use Rattle.uda_mem.specs.Put.{part}
 use Rattle.uda_mem.proofs.PutLaws.{length-part-le}
 use Rattle.uda_posting.specs.Posting.{op_of, answer_of, Posted, posted_command, buffer_of, Ready}
-use Rattle.uda_posting.specs.Seeming.{bare, bares, is_done, bytes_told, bytes_named, TellsTransfer, GoesAs}
-use Rattle.uda_posting.proofs.Serving.{acts-own, serves}
+use Rattle.uda_posting.specs.Seeming.{bare, bares, is_done, bytes_told, bytes_named, TellsTransfer, GoesAs, is_begun, has_begun, outline, outlines}
+use Rattle.uda_posting.proofs.Serving.{acts-own, shown_by, serves}
 use Rattle.uda_posting.proofs.Posts.{names_same}
 
--- ---- what bars a request
+-- ---- one request, of which only outlines are seen
 
--- disks that differ in blocks alone bar alike
-pub data BarAlike (x y : Option (Option Disk)) (a b : Bar) : Type 0 where
-  BothBarred : (refusal : Refusal) → a ≡ Barred refusal → b ≡ Barred refusal → BarAlike x y a b
-  BothFree : (d e : Disk) → x ≡ Some (Some d) → a ≡ Free d → y ≡ Some (Some e) → b ≡ Free e → bare d ≡ bare e → BarAlike x y a b
+abbrev pub look : Answer × Disks → Option Answer × Disks
+look x = (outline x.0, bares x.1)
 
-bar_disk : (act : Act) (d e : Disk) → bare d ≡ bare e → (found : Option Refusal) → refusal_on (extent_of act) d.size d.mode ≡ found
-    → BarAlike (Some (Some d)) (Some (Some e)) (bar_at act (Some (Some d))) (bar_at act (Some (Some e)))
-bar_disk act d e same found is =
-    let other : refusal_on (extent_of act) e.size e.mode ≡ found = sym (ap (λ (k : Disk). refusal_on (extent_of act) k.size k.mode) same) ∙ is in
-    by found (ap (λ (f : Option Refusal). bar_by f d) is) (ap (λ (f : Option Refusal). bar_by f e) other)
+abbrev bare_bar : Bar → Bar
+bare_bar (Barred refusal) = Barred refusal
+bare_bar (Free d) = Free (bare d)
+
+bar-bare : (act : Act) (slot : Option (Option Disk)) → bar_at act (option_map (option_map bare) slot) ≡ bare_bar (bar_at act slot)
+bar-bare act None = refl
+bar-bare act (Some None) = refl
+bar-bare act (Some (Some d)) = by (refusal_on (extent_of act) d.size d.mode)
   where
-    by : (f : Option Refusal) → bar_at act (Some (Some d)) ≡ bar_by f d → bar_at act (Some (Some e)) ≡ bar_by f e → BarAlike (Some (Some d)) (Some (Some e)) (bar_at act (Some (Some d))) (bar_at act (Some (Some e)))
-    by None one two = BothFree d e refl one refl two same
-    by (Some refusal) one two = BothBarred refusal one two
+    by : (found : Option Refusal) → bar_by found (bare d) ≡ bare_bar (bar_by found d)
+    by None = refl
+    by (Some refusal) = refl
 
-bar_slots : (act : Act) (x y : Option (Option Disk)) → option_map (option_map bare) x ≡ option_map (option_map bare) y → BarAlike x y (bar_at act x) (bar_at act y)
-bar_slots act None None same = BothBarred UnitUnknown refl refl
-bar_slots act (Some None) (Some None) same = BothBarred NoVolume refl refl
-bar_slots act (Some (Some d)) (Some (Some e)) same =
-    let alike : bare d ≡ bare e = cc in
-    bar_disk act d e alike (refusal_on (extent_of act) d.size d.mode) refl
-bar_slots act _ _ same = absurd (cc)
+outline-done : (o : Outcome) (act : Act) (d : Disk) → outline (answer_on o act d) ≡ outline (answer_on Done act (bare d))
+outline-done o (Online protect) d = refl
+outline-done o Available d = refl
+outline-done o Status d = refl
+outline-done Done _ d = refl
+outline-done (Lost k left) _ d = refl
 
-pub bar_alike : (r : Request) (disks others : Disks) → bares disks ≡ bares others → BarAlike (slice_get disks r.unit) (slice_get others r.unit) (bar disks r) (bar others r)
-bar_alike r disks others same =
-    bar_slots r.act (slice_get disks r.unit) (slice_get others r.unit)
-    (sym (slice_get-map (option_map bare) disks r.unit) ∙ ap (λ (ds : Disks). slice_get ds r.unit) same ∙ slice_get-map (option_map bare) others r.unit)
+-- what is seen of it follows from what is seen of the disks
+abbrev glance_by : Request → Bar → Disks → Option Answer × Disks
+glance_by r (Barred refusal) ds = (outline (blank_answer r.act (refusal_status refusal)), ds)
+glance_by r (Free d) ds = (outline (answer_on Done r.act d), slice_set ds r.unit (Some (bare (disk_after Done r.act d))))
 
--- ---- what is left
+look-by : (o : Outcome) (r : Request) (b : Bar) (disks : Disks) → look (serve_by o r b disks) ≡ glance_by r (bare_bar b) (bares disks)
+look-by o r (Barred refusal) disks = refl
+look-by o r (Free d) disks = ap₂ (λ a ds. (a, ds)) (outline-done o r.act d) (map-set (option_map bare) disks r.unit (Some (disk_after o r.act d)))
 
--- what an act leaves of disks that differ in blocks alone differs in blocks alone
-bares_after : (o p : Outcome) (act : Act) (u : ℕ) (disks others : Disks) (d e : Disk) → bares disks ≡ bares others → bare d ≡ bare e
-    → bares (slice_set disks u (Some (disk_after o act d))) ≡ bares (slice_set others u (Some (disk_after p act e)))
-bares_after o p act u disks others d e same alike =
-    let left : Disk → Disk = λ k. record { blocks = []; size = k.size; mode = mode_after act k.mode } in
-    map-set (option_map bare) disks u (Some (disk_after o act d)) ∙ ap (λ (ds : Disks). set ds u (Some (left d))) same
-    ∙ ap (λ (k : Disk). set (bares others) u (Some (left k))) alike ∙ sym (map-set (option_map bare) others u (Some (disk_after p act e)))
+look-step : (o : Outcome) (r : Request) (disks : Disks) → look (step_as o r disks) ≡ (let ds = bares disks in if too_long r then (Some TooLong, ds) else glance_by r (bar ds r) ds)
+look-step o r disks = by (too_long r)
+  where
+    by : (b : Bool) → look (if b then (TooLong, disks) else serve_as o r disks) ≡ (if b then (Some TooLong, bares disks) else glance_by r (bar (bares disks) r) (bares disks))
+    by true = refl
+    by false = look-by o r (bar disks r) disks ∙ ap (λ b. glance_by r b (bares disks)) (sym (ap (bar_at r.act) (slice_get-map (option_map bare) disks r.unit) ∙ bar-bare r.act (slice_get disks r.unit)))
 
--- an act that leaves the mode changes blocks alone
-bares_stay : (o : Outcome) (act : Act) (u : ℕ) (disks : Disks) (d : Disk) → slice_get disks u ≡ Some (Some d) → mode_after act d.mode ≡ d.mode
-    → bares (slice_set disks u (Some (disk_after o act d))) ≡ bares disks
-bares_stay o act u disks d here stays =
-    map-set (option_map bare) disks u (Some (disk_after o act d))
-    ∙ ap (λ (m : Mode). set (bares disks) u (Some (record { blocks = []; size = d.size; mode = m }))) stays
-    ∙ set-itself (bares disks) u (Some (bare d)) (slice_get-map (option_map bare) disks u ∙ ap (option_map (option_map bare)) here)
+pub step_looks : (o p : Outcome) (r : Request) (disks others : Disks) → bares disks ≡ bares others → look (step_as o r disks) ≡ look (step_as p r others)
+step_looks o p r disks others same =
+    let glance : Disks → Option Answer × Disks = λ ds. if too_long r then (Some TooLong, ds) else glance_by r (bar ds r) ds in
+    look-step o r disks ∙ ap glance same ∙ sym (look-step p r others)
 
--- units of the same natures and modes are the same but for their blocks
-pub looks_stay : (after units : Units) → natures_of after ≡ natures_of units → modes_of after ≡ modes_of units → bares (disks_of after) ≡ bares (disks_of units)
-looks_stay [] [] natures modes = refl
-looks_stay (None ∷ after) (None ∷ units) natures modes =
-    let rest_natures : natures_of after ≡ natures_of units = cc in
-    let rest_modes : modes_of after ≡ modes_of units = cc in
-    ap (λ (ds : Disks). None ∷ ds) (looks_stay after units rest_natures rest_modes)
-looks_stay (Some x ∷ after) (Some y ∷ units) natures modes =
-    let rest_natures : natures_of after ≡ natures_of units = cc in
-    let rest_modes : modes_of after ≡ modes_of units = cc in
-    let nature : nature_of x ≡ nature_of y = cc in
-    let mode : x.mode ≡ y.mode = cc in
-    let size : x.store.size ≡ y.store.size = ap (λ n. n.size) nature in
-    let first : bare (disk_of x) ≡ bare (disk_of y) =
-    ap (λ (n : ℕ). record { blocks = []; size = n; mode = x.mode }) size ∙ ap (λ (m : Mode). record { blocks = []; size = y.store.size; mode = m }) mode in
-    ap (λ (d : Disk). Some d ∷ bares (disks_of after)) first ∙ ap (λ (ds : Disks). Some (bare (disk_of y)) ∷ ds) (looks_stay after units rest_natures rest_modes)
-looks_stay _ _ natures modes = absurd (cc)
+-- ---- a run
 
--- ---- one command
+pub run_looks : (fixed : List FixedRequest) (disks others : Disks) → bares disks ≡ bares others → outlines (plain_as disks fixed) ≡ outlines (plain others (requests_of fixed))
+run_looks [] disks others same = ap (λ ds. ([], ds)) same
+run_looks (x ∷ xs) disks others same =
+    let looks = step_looks x.outcome Done x.request disks others same in
+    ap₂ (λ (l : Option Answer × Disks) (later : List (Option Answer) × Disks). (l.0 ∷ later.0, later.1)) looks
+    (run_looks xs (step_as x.outcome x.request disks).1 (step x.request others).1 (ap (λ l. l.1) looks))
 
--- what is shown of a request on disks that differ from the units' in blocks alone, beside its command's answer
-pub record StepSeems (p : Posted) (disks : Disks) (after : Units) (told : Answer) : Type 0 where
-  pub alike : bares (step_as Done p.request disks).1 ≡ bares (disks_of after)
-  pub goes : GoesAs p.request.act (step_as Done p.request disks).0 told
+-- an answer of the plain run has its request's form, and tells no drive error
+pub record IsPlain (r : Request) (answer : Answer) : Type 0 where
+  pub formed : IsAnswerOf r answer
+  pub clean : is_error answer ≡ false
+
+form-by : (act : Act) (b : Bar) → SameForm (blank_answer act 0) (answer_by Done act b)
+form-by (Online protect) (Barred refusal) = tt
+form-by _ (Barred refusal) = tt
+form-by (Online protect) (Free d) = tt
+form-by _ (Free d) = tt
+
+step_plain : (r : Request) (disks : Disks) → IsPlain r (step r disks).0
+step_plain r disks = by (too_long r) refl
+  where
+    by : (b : Bool) → too_long r ≡ b → IsPlain r (step r disks).0
+    by true long =
+        let is : step r disks ≡ (TooLong, disks) = rw long refl in
+        rw is (record { formed = record { long = λ _. refl; short = λ short. absurd (cc) }; clean = refl })
+    by false short =
+        let is : step r disks ≡ serve_as Done r disks = rw short refl in
+        record {
+          formed = record { long = λ long. absurd (cc); short = λ _. rw is (form-by r.act (bar disks r)) };
+          clean = error-lost Done r disks short tt (λ lost. absurd (cc));
+        }
+
+pub plain_each : (requests : List Request) (disks : Disks) (k : ℕ) (r : Request) (a : Answer) → slice_get requests k ≡ Some r → slice_get (plain disks requests).0 k ≡ Some a → IsPlain r a
+plain_each [] disks k r a asked at = absurd (cc)
+plain_each (q ∷ rest) disks zero r a asked at = let one : q ≡ r = cc in let other : (step q disks).0 ≡ a = cc in rw (← one, ← other) (step_plain q disks)
+plain_each (q ∷ rest) disks (suc k) r a asked at = plain_each rest (step q disks).1 k r a asked at
+
+-- ---- what an outline tells
+
+pub done-begun : (a : Answer) → is_error a ≡ false → is_done a ≡ has_begun a
+done-begun (Moved status bytes) clean = rw clean (sym (or-false (nat_eq status SUCCESS)))
+done-begun (Data status bytes) clean = rw clean (sym (or-false (nat_eq status SUCCESS)))
+done-begun _ clean = refl
+
+pub outline_same : (a b : Answer) → outline a ≡ outline b → (has_begun a ≡ has_begun b) × (has_begun a ≡ false → a ≡ b)
+outline_same a b same = by (has_begun a) (has_begun b) refl refl same
+  where
+    by : (x y : Bool) → has_begun a ≡ x → has_begun b ≡ y → (let o : Option Answer = if x then None else Some a in o) ≡ (if y then None else Some b) → (has_begun a ≡ has_begun b) × (has_begun a ≡ false → a ≡ b)
+    by true true x y e = (x ∙ sym y, λ not. absurd (cc))
+    by false false x y e = (x ∙ sym y, λ _. cc)
+    by _ _ x y e = absurd (cc)
+
+pub goes_as : (act : Act) (plain told : Answer) → outline told ≡ outline plain → is_error plain ≡ false → (has_begun told ≡ true → TellsTransfer act told) → GoesAs act plain told
+goes_as act plain told same clean tells =
+    let two = outline_same told plain same in let is = two.0 ∙ sym (done-begun plain clean) in
+    record { same = λ undone. two.1 (is ∙ undone); ends = λ done. tells (is ∙ done) }
 
 -- what tells a drive error isn't done
 succeeds : (told : Answer) → status_of told ≡ DRIVE_ERROR → is_done told ≡ true → ⊥
 succeeds (Moved status bytes) is done = let wrong : nat_eq DRIVE_ERROR SUCCESS ≡ true = rw is at done in absurd (cc)
 succeeds (Data status bytes) is done = let wrong : nat_eq DRIVE_ERROR SUCCESS ≡ true = rw is at done in absurd (cc)
 succeeds _ is done = absurd (cc)
-
-pub as_plain : (act : Act) (plain told : Answer) → told ≡ plain → is_done plain ≡ false → GoesAs act plain told
-as_plain act plain told is undone = record { same = λ _. is; ends = λ done. absurd (cc) }
 
 -- a transfer that was done has all its bytes
 pub done_is_whole : (act : Act) (plain told : Answer) → GoesAs act plain told → is_done told ≡ true → bytes_told told ≡ bytes_named act
@@ -121,18 +155,62 @@ done_is_whole act plain told goes done = by (is_done plain) refl
     by true there = let t = goes.ends there in tells t t.outcome refl
     by false undone = let same : is_done told ≡ is_done plain = ap is_done (goes.same undone) in absurd (cc)
 
--- a refusal is no transfer that was done
-refused : (refusal : Refusal) → nat_eq (refusal_status refusal) SUCCESS ≡ false
+-- ---- one command
+
+-- units of the same natures and modes are the same but for their blocks
+pub looks_stay : (after units : Units) → natures_of after ≡ natures_of units → modes_of after ≡ modes_of units → bares (disks_of after) ≡ bares (disks_of units)
+looks_stay [] [] natures modes = refl
+looks_stay (None ∷ after) (None ∷ units) natures modes =
+    let rest_natures : natures_of after ≡ natures_of units = cc in
+    let rest_modes : modes_of after ≡ modes_of units = cc in
+    ap (λ (ds : Disks). None ∷ ds) (looks_stay after units rest_natures rest_modes)
+looks_stay (Some x ∷ after) (Some y ∷ units) natures modes =
+    let rest_natures : natures_of after ≡ natures_of units = cc in
+    let rest_modes : modes_of after ≡ modes_of units = cc in
+    let nature : nature_of x ≡ nature_of y = cc in let mode : x.mode ≡ y.mode = cc in
+    ap₂ (λ d ds. Some d ∷ ds) (ap₂ (λ (n : Nature) (m : Mode). record { blocks = []; size = n.size; mode = m }) nature mode) (looks_stay after units rest_natures rest_modes)
+looks_stay _ _ natures modes = absurd (cc)
+
+-- a transfer leaves disks as they were but for blocks
+disks-still : (r : Request) (disks : Disks) (slot : Option (Option Disk)) → slice_get disks r.unit ≡ slot → is_moving r.act ≡ true → bares (disks_by Done r (bar_at r.act slot) disks) ≡ bares disks
+disks-still r disks None here moving = refl
+disks-still r disks (Some None) here moving = refl
+disks-still r disks (Some (Some d)) here moving = by (refusal_on (extent_of r.act) d.size d.mode)
+  where
+    mode : (act : Act) → is_moving act ≡ true → mode_after act d.mode ≡ d.mode
+    mode (Online protect) moves = absurd (cc)
+    mode Available moves = absurd (cc)
+    mode _ moves = refl
+
+    by : (found : Option Refusal) → bares (disks_by Done r (bar_by found d) disks) ≡ bares disks
+    by None =
+        map-set (option_map bare) disks r.unit (Some (disk_after Done r.act d))
+        ∙ ap (λ (m : Mode). set (bares disks) r.unit (Some (record { blocks = []; size = d.size; mode = m }))) (mode r.act moving)
+        ∙ set-itself (bares disks) r.unit (Some (bare d)) (slice_get-map (option_map bare) disks r.unit ∙ ap (option_map (option_map bare)) here)
+    by (Some refusal) = refl
+
+-- a transfer was begun where it is free
+refused : (refusal : Refusal) → is_begun (refusal_status refusal) ≡ false
 refused UnitUnknown = refl
 refused _ = refl
 
-barred-undone : (act : Act) (refusal : Refusal) → is_done (answer_by Done act (Barred refusal)) ≡ false
-barred-undone (Read lbn n) refusal = refused refusal
-barred-undone (Access lbn n) refusal = refused refusal
-barred-undone (Write lbn payload) refusal = refused refusal
-barred-undone (Erase lbn n) refusal = refused refusal
-barred-undone (Online protect) refusal = refl
-barred-undone _ refusal = refl
+begun-by : (o : Outcome) (act : Act) (b : Bar) → has_begun (answer_by o act b) ≡ is_moving act && is_free b
+begun-by o (Online protect) (Barred refusal) = refl
+begun-by o Available (Barred refusal) = refl
+begun-by o Status (Barred refusal) = refl
+begun-by o _ (Barred refusal) = refused refusal
+begun-by o (Online protect) (Free d) = refl
+begun-by o Available (Free d) = refl
+begun-by o Status (Free d) = refl
+begun-by Done _ (Free d) = refl
+begun-by (Lost k left) _ (Free d) = refl
+
+begun-told : (o : Outcome) (act : Act) (e : End) (buffer : List ℕ) → e.status ≡ transfer_status o → has_begun (answer_of act e buffer) ≡ is_moving act
+begun-told o (Online protect) e buffer is = refl
+begun-told o Available e buffer is = refl
+begun-told o Status e buffer is = refl
+begun-told Done _ e buffer is = rw is refl
+begun-told (Lost k left) _ e buffer is = rw is refl
 
 -- an answer has its act's form, and its end's status
 pub has_form : (act : Act) (e : End) (buffer : List ℕ) → SameForm (blank_answer act 0) (answer_of act e buffer)
@@ -159,95 +237,99 @@ and_false : (b : Bool) → b && false ≡ true → ⊥
 and_false true h = cc
 and_false false h = cc
 
-module _ (p : Posted) (disks : Disks) (units : Units) (memory : List ℕ) (e : End) (after : Units) (left : List ℕ)
-    (ready : Ready p memory) (same : bares disks ≡ bares (disks_of units)) (x : Executes (posted_command p) units memory e after left) where
+-- a command that calls a store is a transfer that acts
+calls-moving : (act : Act) (a : ℕ) (acting : Bool) → nat_lt 0 (blocks_asked (op_of act a)) && acting ≡ true → is_transfer (op_of act a) && acting ≡ true
+calls-moving act a false h = absurd (and_false _ h)
+calls-moving (Online protect) a true h = absurd (cc)
+calls-moving Available a true h = absurd (cc)
+calls-moving Status a true h = absurd (cc)
+calls-moving _ a true h = refl
+
+-- it is as the step of its request, with this outcome
+pub record IsServed (o : Outcome) (p : Posted) (units : Units) (told : Answer) (after : Units) : Type 0 where
+  pub is : (told, disks_of after) ≡ step_as o p.request (disks_of units)
+  pub lost : is_error told ≡ is_lost o
+  pub failures_are : failures_at (slice_get after p.request.unit) ≡ failures_at (slice_get units p.request.unit) + (if is_lost o then 1 else 0)
+  pub sure : is_sure (slice_get units p.request.unit) ≡ true → o ≡ Done
+
+-- a command was done, and this told: but for what a store may leave, the step of its request, and over a faithful store that step
+pub record Served (p : Posted) (units : Units) (told : Answer) (after : Units) : Type 0 where
+  pub outcome : Outcome
+  pub fits : FitsCount (blocks_named p.request.act) outcome
+  pub looks : look (told, disks_of after) ≡ look (step_as Done p.request (disks_of units))
+  pub tells : has_begun told ≡ true → TellsTransfer p.request.act told
+  pub faithful : is_faithful (slice_get units p.request.unit) ≡ true → IsServed outcome p units told after
+
+module _ (p : Posted) (units : Units) (memory : List ℕ) (e : End) (after : Units) (left : List ℕ) (ready : Ready p memory) (x : Executes (posted_command p) units memory e after left) where
   abbrev told : Answer
   told = answer_of p.request.act e (buffer_of p left)
 
   abbrev own : World
   own = world_of units memory
 
-  plainly : (o : Outcome) (ds : Disks) → step_as o p.request ds ≡ serve_as o p.request ds
-  plainly o ds = rw ready.short refl
+  abbrev c : Command
+  c = posted_command p
 
-  -- a command that takes effect tells what the plain step tells
-  told_is : (o : Outcome) → (e, world_of after left) ≡ effect o (posted_command p) own → told ≡ (step_as o p.request (disks_of units)).0
-  told_is o is = ap (λ (y : End × World). answer_of p.request.act y.0 (buffer_of p y.1.memory)) is ∙ (serves o p own ready).answer
+  -- it takes effect
+  step_is : (t : TakesEffect c units memory e after left) → (told, disks_of after) ≡ step_as t.outcome p.request (disks_of units)
+  step_is t = ap (shown_by p) t.effect_is ∙ serves t.outcome p own ready
 
-  left_is : (o : Outcome) → (e, world_of after left) ≡ effect o (posted_command p) own → disks_of after ≡ (step_as o p.request (disks_of units)).1
-  left_is o is = ap (λ (y : End × World). y.1.disks) is ∙ (serves o p own ready).disks
-
-  barred : (refusal : Refusal) → bar disks p.request ≡ Barred refusal → bar (disks_of units) p.request ≡ Barred refusal → StepSeems p disks after told
-  barred refusal here there =
-      let idle : acts (posted_command p) own ≡ false = acts-own p own ready ∙ ap is_free there in
-      let t = x.takes_effect (λ calls. absurd (and_false _ (ap (λ (b : Bool). nat_lt 0 (blocks_asked (posted_command p).op) && b) (sym idle) ∙ calls))) in
-      let stays : after ≡ units = x.by_acting.idle idle in
-      let now : step_as Done p.request disks ≡ (answer_by Done p.request.act (Barred refusal), disks) =
-      plainly Done disks ∙ ap (λ (b : Bar). (answer_by Done p.request.act b, disks_by Done p.request b disks)) here in
-      let plainly_there : (step_as t.outcome p.request (disks_of units)).0 ≡ answer_by Done p.request.act (Barred refusal) =
-      ap (λ (y : Answer × Disks). y.0) (plainly t.outcome (disks_of units)) ∙ ap (answer_by t.outcome p.request.act) there in
+  taken : TakesEffect c units memory e after left → (has_begun told ≡ true → TellsTransfer p.request.act told) → Served p units told after
+  taken t begun =
+      let r = p.request in let o = t.outcome in let is = step_is t in
+      let fits = subst (λ n. FitsCount n o) (names_same r.act p.address).count t.fits.count in
       record {
-        alike = ap (λ (y : Answer × Disks). bares y.1) now ∙ same ∙ ap (λ (us : Units). bares (disks_of us)) (sym stays);
-        goes = as_plain p.request.act _ _ (told_is t.outcome t.effect_is ∙ plainly_there ∙ sym (ap (λ (y : Answer × Disks). y.0) now))
-            (ap (λ (y : Answer × Disks). is_done y.0) now ∙ barred-undone p.request.act refusal);
+        outcome = o;
+        fits = fits;
+        looks = ap look is ∙ step_looks o Done r (disks_of units) (disks_of units) refl;
+        tells = begun;
+        faithful = λ _. record {
+          is = is;
+          lost = ap (λ (y : Answer × Disks). is_error y.0) is ∙ error-lost o r (disks_of units) ready.short fits (λ lost. sym (acts-own p own ready) ∙ t.fits.acting lost);
+          failures_are = t.failures_are;
+          sure = t.sure;
+        };
       }
 
-  module _ (d k : Disk) (at_own : slice_get disks p.request.unit ≡ Some (Some d)) (here : bar disks p.request ≡ Free d) (there : bar (disks_of units) p.request ≡ Free k) (one : bare d ≡ bare k) where
-    acting : acts (posted_command p) own ≡ true
-    acting = acts-own p own ready ∙ ap is_free there
+  -- a transfer is done or lost, and its answer tells that
+  tells : is_transfer c.op ≡ true → EndsTransfer c e → TellsTransfer p.request.act told
+  tells moving t =
+      let size = length-changes memory left (buffer_start c.op) (landing_of c.op) x.memory_stays in
+      record {
+        outcome = t.outcome;
+        fits = subst (λ n. FitsCount n t.outcome) (names_same p.request.act p.address).count t.count;
+        form = has_form p.request.act e (buffer_of p left);
+        status = status-told p.request.act e (buffer_of p left) ∙ ap (λ (y : End). y.status) t.end_is;
+        bytes = bytes-told p.request.act p.address e left t.outcome moving (ap (λ (y : End). bytes_of y.body) t.end_is) x.answers.body.within (omega (arith, ready.within, size));
+      }
 
-    now : step_as Done p.request disks ≡ (answer_by Done p.request.act (Free d), disks_by Done p.request (Free d) disks)
-    now = plainly Done disks ∙ ap (λ (b : Bar). (answer_by Done p.request.act b, disks_by Done p.request b disks)) here
+  -- whatever its store made of it
+  moved : is_transfer c.op ≡ true → acts c own ≡ true → is_faithful (slice_get units p.request.unit) ≡ false → Served p units told after
+  moved moving acting none =
+      let r = p.request in let ds = disks_of units in let t = x.by_acting.ends moving acting in
+      let is_moved = sym (names_same r.act p.address).moving ∙ moving in
+      let now : step_as Done r ds ≡ serve_as Done r ds = rw ready.short refl in
+      record {
+        outcome = Done;
+        fits = tt;
+        looks = ap₂ (λ a d. (a, d)) (let one = begun-told t.outcome r.act e (buffer_of p left) (ap (λ (y : End). y.status) t.end_is) ∙ is_moved in let other = begun-by Done r.act (bar ds r) ∙ ap₂ (λ m f. m && f) is_moved (sym (acts-own p own ready) ∙ acting) in rw (one, other) refl)
+            (looks_stay after units x.natures_stay (x.modes_stay moving) ∙ sym (disks-still r ds (slice_get ds r.unit) refl is_moved)) ∙ ap look (sym now);
+        tells = λ _. tells moving t;
+        faithful = λ trusted. absurd (cc);
+      }
 
-    there_now : (o : Outcome) → step_as o p.request (disks_of units) ≡ (answer_by o p.request.act (Free k), disks_by o p.request (Free k) (disks_of units))
-    there_now o = plainly o (disks_of units) ∙ ap (λ (b : Bar). (answer_by o p.request.act b, disks_by o p.request b (disks_of units))) there
+  pub served : Served p units told after
+  served = by (is_transfer c.op && acts c own) (is_faithful (slice_get units p.request.unit)) refl refl
+    where
+      still : is_transfer c.op && acts c own ≡ false → Served p units told after
+      still idle =
+          let t = x.takes_effect (λ calls. absurd (cc (calls-moving p.request.act p.address (acts c own) calls, idle))) in
+          let now : step_as t.outcome p.request (disks_of units) ≡ serve_as t.outcome p.request (disks_of units) = rw ready.short refl in
+          let none : has_begun told ≡ false =
+          ap (λ (y : Answer × Disks). has_begun y.0) (step_is t ∙ now) ∙ begun-by t.outcome p.request.act (bar (disks_of units) p.request) ∙ ap₂ (λ m f. m && f) (sym (names_same p.request.act p.address).moving) (sym (acts-own p own ready)) ∙ idle in
+          taken t (λ begun. absurd (cc))
 
-    -- one that moves no blocks takes effect whatever its store
-    still : blocks_asked (posted_command p).op ≡ 0 → is_done (answer_by Done p.request.act (Free d)) ≡ false
-        → ((o : Outcome) → answer_by o p.request.act (Free k) ≡ answer_by Done p.request.act (Free d)) → StepSeems p disks after told
-    still none undone tells =
-        let calls_none : (nat_lt 0 (blocks_asked (posted_command p).op) && acts (posted_command p) own ≡ true) → ⊥ = λ calls. (let no : false ≡ true = rw none at calls in absurd (cc)) in
-        let t = x.takes_effect (λ calls. absurd (calls_none calls)) in
-        record {
-          alike = ap (λ (y : Answer × Disks). bares y.1) now ∙ bares_after Done t.outcome p.request.act p.request.unit disks (disks_of units) d k same one
-              ∙ sym (ap (λ (y : Answer × Disks). bares y.1) (there_now t.outcome)) ∙ sym (ap bares (left_is t.outcome t.effect_is));
-          goes = as_plain p.request.act _ _ (told_is t.outcome t.effect_is ∙ ap (λ (y : Answer × Disks). y.0) (there_now t.outcome) ∙ tells t.outcome ∙ sym (ap (λ (y : Answer × Disks). y.0) now))
-              (ap (λ (y : Answer × Disks). is_done y.0) now ∙ undone);
-        }
-
-    -- a transfer is done or lost, and its answer tells that
-    tells : is_transfer (posted_command p).op ≡ true → EndsTransfer (posted_command p) e → TellsTransfer p.request.act told
-    tells moving t =
-        let size = length-changes memory left (buffer_start (posted_command p).op) (landing_of (posted_command p).op) x.memory_stays in
-        record {
-          outcome = t.outcome;
-          fits = subst (λ (n : ℕ). FitsCount n t.outcome) (names_same p.request.act p.address).count t.count;
-          form = has_form p.request.act e (buffer_of p left);
-          status = status-told p.request.act e (buffer_of p left) ∙ ap (λ (y : End). y.status) t.end_is;
-          bytes = bytes-told p.request.act p.address e left t.outcome moving (ap (λ (y : End). bytes_of y.body) t.end_is) x.answers.body.within (omega (arith, ready.within, size));
-        }
-
-    moves : is_transfer (posted_command p).op ≡ true → mode_after p.request.act d.mode ≡ d.mode → is_done (answer_by Done p.request.act (Free d)) ≡ true → StepSeems p disks after told
-    moves moving stays done = record {
-      alike = ap (λ (y : Answer × Disks). bares y.1) now ∙ bares_stay Done p.request.act p.request.unit disks d at_own stays
-          ∙ same ∙ sym (looks_stay after units x.natures_stay (x.modes_stay moving));
-      goes = record {
-        same = λ undone. absurd (cc (done, ap (λ (y : Answer × Disks). is_done y.0) now));
-        ends = λ _. tells moving (x.by_acting.ends moving acting);
-      };
-    }
-
-    free : (act : Act) → p.request.act ≡ act → StepSeems p disks after told
-    free (Online protect) is = still (rw is refl) (rw is refl) (λ o. rw is (sym (ap (answer_on Done (Online protect)) one)))
-    free Available is = still (rw is refl) (rw is refl) (λ o. rw is refl)
-    free Status is = still (rw is refl) (rw is refl) (λ o. rw is (sym (ap (answer_on Done Status) one)))
-    free (Read lbn n) is = moves (rw is refl) (rw is refl) (rw is refl)
-    free (Access lbn n) is = moves (rw is refl) (rw is refl) (rw is refl)
-    free (Write lbn payload) is = moves (rw is refl) (rw is refl) (rw is refl)
-    free (Erase lbn n) is = moves (rw is refl) (rw is refl) (rw is refl)
-
-  pub step_seems : StepSeems p disks after told
-  step_seems = elim (bar_alike p.request disks (disks_of units) same) [
-    | BothBarred refusal here there ↦ barred refusal here there
-    | BothFree d k at_own here at_other there one ↦ free d k at_own here there one p.request.act refl
-  ]
+      by : (moving faithful : Bool) → is_transfer c.op && acts c own ≡ moving → is_faithful (slice_get units p.request.unit) ≡ faithful → Served p units told after
+      by false faithful idle is = still idle
+      by true true goes is = let two = and_parts (is_transfer c.op) (acts c own) goes in taken (x.takes_effect (λ _. is)) (λ _. tells two.0 (x.by_acting.ends two.0 two.1))
+      by true false goes is = let two = and_parts (is_transfer c.op) (acts c own) goes in moved two.0 two.1 is

@@ -9,7 +9,7 @@ use Rattle.uda_mem.proofs.PutLaws.{part-put_inside}
 use Rattle.uda_disk.specs.Disk.{Disks}
 use Rattle.uda_disk.specs.Request.{Act, Online, Read}
 use Rattle.uda_disk.specs.Answer.{Answer, Data}
-use Rattle.uda_disk.specs.Plain.{Bar, Barred, Free, bar, Outcome, blocks_moved, due, bytes_on, transfer_bytes, transfer_status, answer_by, serve_as, is_free}
+use Rattle.uda_disk.specs.Plain.{Bar, Barred, Free, bar, Outcome, blocks_moved, due, bytes_on, transfer_bytes, transfer_status, answer_by, serve_as, disks_by, is_free}
 use Rattle.uda_disk.specs.PlainRun.{step_as}
 use Rattle.uda_packet.specs.declared.end.End.{End}
 use Rattle.uda_exec.specs.Commands.{buffer_start, room_of}
@@ -59,17 +59,14 @@ answers o _ unit k a (Free disk) memory room = refl
 
 -- ---- one request
 
--- the command of a request, its outcome fixed, leaves the disks and tells the answer of the plain step
-pub record Serves (o : Outcome) (p : Posted) (w : World) : Type 0 where
-  pub disks : (effect o (posted_command p) w).1.disks ≡ (step_as o p.request w.disks).1
-  pub answer : answer_of p.request.act (effect o (posted_command p) w).0 (buffer_of p (effect o (posted_command p) w).1.memory) ≡ (step_as o p.request w.disks).0
+-- the answer that is told where this is what a command did, and the disks
+abbrev pub shown_by : Posted → End × World → Answer × Disks
+shown_by p x = (answer_of p.request.act x.0 (buffer_of p x.1.memory), x.1.disks)
 
-pub serves : (o : Outcome) (p : Posted) (w : World) → Ready p w.memory → Serves o p w
+-- the command of a request, its outcome fixed, tells the answer of the plain step and leaves its disks
+pub serves : (o : Outcome) (p : Posted) (w : World) → Ready p w.memory → shown_by p (effect o (posted_command p) w) ≡ step_as o p.request w.disks
 serves o p w ready =
-    let c = posted_command p in let r = p.request in
+    let c = posted_command p in let r = p.request in let b = bar w.disks r in
     let now : step_as o r w.disks ≡ serve_as o r w.disks = rw ready.short refl in
-    let is : effect o c w ≡ does o c r.act (bar w.disks r) w = ap (λ (a : Option Act). effect_by o c a w) ready.asks ∙ ap (λ (b : Bar). does o c r.act b w) (barred-own p w ready) in
-    record {
-      disks = ap (λ (x : End × World). x.1.disks) is ∙ sym (ap (λ (x : Answer × Disks). x.1) now);
-      answer = ap (λ (x : End × World). answer_of r.act x.0 (buffer_of p x.1.memory)) is ∙ answers o r.act r.unit (p.place + 1) p.address (bar w.disks r) w.memory ready.within ∙ sym (ap (λ (x : Answer × Disks). x.0) now);
-    }
+    let is : effect o c w ≡ does o c r.act b w = ap (λ a. effect_by o c a w) ready.asks ∙ ap (λ x. does o c r.act x w) (barred-own p w ready) in
+    ap (shown_by p) is ∙ ap (λ a. (a, disks_by o r b w.disks)) (answers o r.act r.unit (p.place + 1) p.address b w.memory ready.within) ∙ sym now

@@ -1,20 +1,19 @@
 -- What a driver keeps between two commands, of requests and disks.
-use Rattle.std.specs.Prelude.{◌≡◌, ◌≢◌, ℕ, ◌+◌, ◌<◌, true, List, length, All, AllPairs, Some, slice_get}
+use Rattle.std.specs.Prelude.{◌≡◌, ◌≢◌, ℕ, ◌+◌, ◌<◌, ◌≤◌, true, List, ◌++◌, length, map, All, AllPairs, Some}
+use Rattle.std.specs.Prelude.{slice_get}
 use Rattle.uda_mem.specs.Put.{Meet}
 use Rattle.uda_packet.specs.declared.command.Command.{Command}
 use Rattle.uda_packet.specs.declared.end.End.{End}
 use Rattle.uda_exec.specs.Commands.{buffer_start, room_of}
-use Rattle.uda_disk.specs.Units.{Units, AllFaithful, disks_of, AreImages, failures_at, natures_of}
-use Rattle.uda_disk.specs.Units.{is_sure}
+use Rattle.uda_disk.specs.Disk.{Disks}
+use Rattle.uda_disk.specs.Units.{Units, AllFaithful, disks_of, failures_at, natures_of, is_sure}
 use Rattle.uda_disk.specs.Request.{Request}
 use Rattle.uda_disk.specs.Answer.{Answer, TooLong}
 use Rattle.uda_disk.specs.Order.{NoClash}
-use Rattle.uda_disk.specs.Form.{IsAnswerOf}
 use Rattle.uda_disk.specs.PlainRun.{drive_errors}
-use Rattle.uda_posting.specs.Posting.{Posted, posted_command, commands_in, dues_of, requests_posted}
-use Rattle.uda_posting.specs.Posting.{answer_of, buffer_of, Ready}
-use Rattle.uda_posting.specs.Seeming.{Seems}
-use Rattle.uda_model.specs.Ledger.{Ledger}
+use Rattle.uda_posting.specs.Posting.{Posted, posted_command, answer_of, buffer_of, Ready}
+use Rattle.uda_posting.specs.Seeming.{outlines, AllTell}
+use Rattle.uda_model.specs.Ledger.{IsToCome, Ledger}
 
 -- ---- memory
 
@@ -31,27 +30,30 @@ IsReadyIn memory p = Ready p memory
 
 -- ---- places in the list of requests
 
--- it is the request at its place
-abbrev pub StandsIn : List Request → Posted → Type 0
-StandsIn requests p = slice_get requests p.place ≡ Some p.request
-
--- its answer is still to come
-abbrev pub IsUntold : List Answer → Posted → Type 0
-IsUntold told p = slice_get told p.place ≡ Some TooLong
-
--- it is one of the first so many requests
-abbrev pub IsBefore : ℕ → Posted → Type 0
-IsBefore n p = p.place < n
-
 abbrev pub IsEarlier : Posted → Posted → Type 0
 IsEarlier p q = p.place < q.place
 
 abbrev pub IsNotAt : ℕ → Posted → Type 0
 IsNotAt k p = p.place ≢ k
 
--- none of these is the request at place k
-abbrev pub IsNotDue : ℕ → List Posted → Type 0
-IsNotDue k due = All (IsNotAt k) due
+-- one of the first n requests was posted, and its answer is still to come
+pub record IsDue (requests : List Request) (n : ℕ) (told : List Answer) (p : Posted) : Type 0 where
+  pub before : p.place < n
+  pub to_come : IsToCome requests told p.place p.request
+
+-- Of these requests exactly these are due, in the order of their places, of those among the first n that are to
+-- come. Of the requests behind them no answer is told.
+pub record AreDue (requests : List Request) (n : ℕ) (told : List Answer) (due : List Posted) : Type 0 where
+  pub each : All (IsDue requests n told) due
+  pub in_order : AllPairs IsEarlier due
+  pub no_other : (k : ℕ) (r : Request) → IsToCome requests told k r → All (IsNotAt k) due → n ≤ k
+  pub untold : (k : ℕ) → n ≤ k → k < length requests → slice_get told k ≡ Some TooLong
+
+-- two that are out have places and buffers of their own, and don't clash
+pub record Apart (p q : Posted) : Type 0 where
+  pub two : p.place ≢ q.place
+  pub beside : Beside (posted_command p) (posted_command q)
+  pub clear : NoClash p.request q.request
 
 -- ---- what is owed
 
@@ -61,31 +63,25 @@ SureNeverFail units units_after =
     (u : ℕ) → is_sure (slice_get units u) ≡ true
     → failures_at (slice_get units_after u) ≡ failures_at (slice_get units u)
 
--- Over faithful stores: what the commands that are due will make of what was told, each failure was told
--- once, and what never fails has not failed.
-pub record Sound (start : Units) (requests : List Request) (due : List Posted) (told : List Answer)
+-- Over faithful stores the run is told as it is, on disks that are the units', each failure was told once, and
+-- what never fails has not failed.
+pub record IsTrue (start : Units) (requests : List Request) (run : List Answer × Disks) (told : List Answer)
     (units : Units) : Type 0 where
-  pub ledger : Ledger (disks_of start) requests (dues_of due) told (disks_of units)
+  pub same : run ≡ (told, disks_of units)
   pub errors : (u : ℕ)
       → failures_at (slice_get units u) ≡ failures_at (slice_get start u) + drive_errors u requests told
   pub sure : SureNeverFail start units
 
--- Of these requests, posted or answered at once, these are still to be done by their commands; all others
--- have their answers.
-pub record Owes (start : Units) (requests : List Request) (due : List Posted) (told : List Answer)
-    (units : Units) (memory : List ℕ) : Type 0 where
+-- The answers of these requests that are told. The ledger has a run, which is as told but for what a store may
+-- leave of blocks and transfers, and over faithful stores is as told.
+pub record Owes (start : Units) (requests : List Request) (told : List Answer) (units : Units) : Type 0 where
+  pub run : List Answer × Disks
+  pub ledger : Ledger (disks_of start) requests run
+  pub looks : outlines run ≡ outlines (told, disks_of units)
+  pub faithful : AllFaithful start → IsTrue start requests run told units
+  pub tell : AllTell requests told
   pub counted : length told ≡ length requests
-  pub stand : All (StandsIn requests) due
-  pub untold : All (IsUntold told) due
-  pub in_order : AllPairs IsEarlier due
-  pub ready : All (IsReadyIn memory) due
-  pub beside : AllPairs Beside (commands_in due)
-  pub clear : AllPairs NoClash (requests_posted due)
-  pub formed : (k : ℕ) (r : Request) (answer : Answer) → slice_get requests k ≡ Some r
-      → slice_get told k ≡ Some answer → IsNotDue k due → IsAnswerOf r answer
   pub natures : natures_of units ≡ natures_of start
-  pub sound : AllFaithful start → AreImages start → Sound start requests due told units
-  pub seems : Seems start requests due told units
 
 -- ---- what has ended
 
@@ -101,28 +97,25 @@ answer_now memory d = answer_of d.posted.request.act d.end (buffer_of d.posted m
 abbrev pub Tells : List Answer → List ℕ → Ended → Type 0
 Tells told memory d = slice_get told d.posted.place ≡ Some (answer_now memory d)
 
--- no command that is due touches its buffer
-abbrev pub IsLeftBy : List Posted → Ended → Type 0
-IsLeftBy due d = All (Beside (posted_command d.posted)) (commands_in due)
-
 abbrev pub EndedNotAt : ℕ → Ended → Type 0
 EndedNotAt k d = IsNotAt k d.posted
 
--- What is owed, where some answers still lie in their ends: the driver has told all others.
-pub record Keeps (start : Units) (requests : List Request) (due : List Posted) (ended : List Ended)
+-- those that have ended, the next end first, and those that are due
+abbrev pub alive : List Ended → List Posted → List Posted
+alive ended due = map (λ d. d.posted) ended ++ due
+
+-- What is owed, where the first n requests were posted or are too long. Of those that were posted some are due,
+-- to be done by their commands, and some answers still lie in their ends: the driver has told all others.
+pub record Keeps (start : Units) (requests : List Request) (n : ℕ) (due : List Posted) (ended : List Ended)
     (answers : List Answer) (units : Units) (memory : List ℕ) : Type 0 where
   pub told : List Answer
-  pub owes : Owes start requests due told units memory
+  pub owes : Owes start requests told units
+  pub ready : All (IsReadyIn memory) due
+  pub are_due : AreDue requests n told due
   pub tell : All (Tells told memory) ended
-  pub left : All (IsLeftBy due) ended
-  pub shown : (k : ℕ) → k < length requests → IsNotDue k due → All (EndedNotAt k) ended
+  pub shown : (k : ℕ) → k < n → All (IsNotAt k) due → All (EndedNotAt k) ended
       → slice_get answers k ≡ slice_get told k
-
--- ---- what is out
 
 -- the end gives the request by its place, counted from 1
 abbrev pub RefersBack : Ended → Type 0
 RefersBack d = d.end.reference ≡ d.posted.place + 1
-
-abbrev pub AreTwo : Posted → Posted → Type 0
-AreTwo p q = p.place ≢ q.place

@@ -12,7 +12,6 @@ use Rattle.uda_disk.specs.Request.{Act, Online, Available, Status, Read, Access,
 use Rattle.uda_disk.specs.Answer as tell
 use Rattle.uda_disk.specs.Answer.{Answer}
 use Rattle.uda_disk.specs.PlainRun.{too_long}
-use Rattle.uda_model.specs.Ledger.{Due}
 use Rattle.uda_exec.specs.Commands.{buffer_start, room_of, act_of}
 use Rattle.uda_exec.specs.Execution.{bytes_of}
 
@@ -64,16 +63,6 @@ posted_command p = command_of p.request (p.place + 1) p.address
 
 abbrev pub commands_in : List Posted → List Command
 commands_in out = map posted_command out
-
--- as the ledger sees it
-abbrev pub due_of : Posted → Due
-due_of p = record { place = p.place; request = p.request }
-
-abbrev pub dues_of : List Posted → List Due
-dues_of out = map due_of out
-
-abbrev pub requests_posted : List Posted → List Request
-requests_posted out = map (λ p. p.request) out
 
 -- the bytes of its buffer
 abbrev pub buffer_of : Posted → List ℕ → List ℕ

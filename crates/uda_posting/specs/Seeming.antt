@@ -1,19 +1,17 @@
 -- How a run goes whatever the stores: as the plain run does, but for the bytes of blocks and for transfers
 -- that a store loses.
 -- MSCP Basic Disk Functions Manual: status and event codes, unit states, write protection.
-use Rattle.std.specs.Prelude.{◌≡◌, ℕ, Bool, true, false, nat_eq, List, [], length, map, option_map, Some}
-use Rattle.std.specs.Prelude.{slice_get}
+use Rattle.std.specs.Prelude.{◌≡◌, ℕ, Bool, true, false, nat_eq, ◌||◌, List, [], length, map, option_map}
+use Rattle.std.specs.Prelude.{Option, Some, None, slice_get, if◌then◌else◌}
 use Rattle.std.specs.Option.{option_map_or}
 use Rattle.uda_disk.specs.Disk.{Disk, Disks}
-use Rattle.uda_disk.specs.Status.{SUCCESS}
+use Rattle.uda_disk.specs.Status.{SUCCESS, DRIVE_ERROR}
 use Rattle.uda_disk.specs.Request.{Act, Request, extent_of, blocks_named}
 use Rattle.uda_disk.specs.Answer.{Answer, Moved, Data, blank_answer, status_of}
 use Rattle.uda_disk.specs.Form.{SameForm}
 use Rattle.uda_disk.specs.Plain.{Outcome, FitsCount, transfer_status, transfer_bytes}
-use Rattle.uda_disk.specs.PlainRun.{plain, drive_errors}
+use Rattle.uda_disk.specs.PlainRun.{plain}
 use Rattle.uda_disk.specs.Units.{Units, disks_of}
-use Rattle.uda_model.specs.Ledger.{Ledger}
-use Rattle.uda_posting.specs.Posting.{Posted, dues_of}
 
 -- a disk but for its blocks: its size and its mode are left
 abbrev pub bare : Disk → Disk
@@ -64,14 +62,28 @@ pub record SeemsPlain (units : Units) (requests : List Request) (answers : List 
   pub left : bares (disks_of units_after) ≡ bares (plain (disks_of units) requests).1
   pub answered : AllGoAs requests (plain (disks_of units) requests).0 answers
 
--- The same while some are due: of disks that differ from the units' in blocks alone, and of the answers that
--- those tell there, which tell no drive error.
-pub record Seems (start : Units) (requests : List Request) (due : List Posted) (told : List Answer)
-    (units : Units) : Type 0 where
-  pub disks : Disks
-  pub shown : List Answer
-  pub ledger : Ledger (disks_of start) requests (dues_of due) shown disks
-  pub errors : (u : ℕ) → drive_errors u requests shown ≡ 0
-  pub alike : bares disks ≡ bares (disks_of units)
-  pub counted : length shown ≡ length requests
-  pub go_as : AllGoAs requests shown told
+-- ---- what any store leaves as it is
+
+-- a transfer with this status was begun: it was done or lost
+abbrev pub is_begun : ℕ → Bool
+is_begun status = nat_eq status SUCCESS || nat_eq status DRIVE_ERROR
+
+abbrev pub has_begun : Answer → Bool
+has_begun (Moved status bytes) = is_begun status
+has_begun (Data status bytes) = is_begun status
+has_begun _ = false
+
+-- an answer but for one of a transfer that was begun
+abbrev pub outline : Answer → Option Answer
+outline answer = if has_begun answer then None else Some answer
+
+-- answers and disks but for those, and for blocks
+abbrev pub outlines : List Answer × Disks → List (Option Answer) × Disks
+outlines w = (map outline w.0, bares w.1)
+
+-- each transfer that was begun tells that
+abbrev pub AllTell : List Request → List Answer → Type 0
+AllTell requests told =
+    (k : ℕ) (r : Request) (answer : Answer)
+    → slice_get requests k ≡ Some r → slice_get told k ≡ Some answer
+    → has_begun answer ≡ true → TellsTransfer r.act answer

@@ -1,102 +1,56 @@
 -- Runs over disks that differ only in their blocks.
-use Rattle.std.proofs.Common.{◌≡◌, ℕ, zero, suc, Bool, true, false, List, [], ◌∷◌, ◌++◌, length, set, Option, Some, refl, sym, ap, ◌∙◌, arith, subst}
-use Rattle.std.specs.Prelude.{slice_set, option_map, if◌then◌else◌}
-use Rattle.std.proofs.lemmas.List.{map-set}
-use Rattle.uda_disk.specs.Disk.{Disk, Disks}
-use Rattle.uda_disk.specs.Request.{Act, Online, Available, Status, Read, Access, Write, Erase, Request}
+use Rattle.std.proofs.Common.{◌≡◌, ℕ, ◌<◌, zero, suc, false, List, [], ◌∷◌, ◌++◌, length, get_or, Option, Some, refl, sym, ap, ap₂, ◌∙◌, arith, subst}
+use Rattle.std.specs.Prelude.{slice_get, option_map}
+use Rattle.std.proofs.lemmas.Option.{slice_get_within, slice_get-map, slice_get-get_or}
+use Rattle.uda_disk.specs.Disk.{Disks}
+use Rattle.uda_disk.specs.Request.{Act, Request}
 use Rattle.uda_disk.specs.Answer.{Answer, TooLong}
-use Rattle.uda_disk.specs.Plain.{Bar, bar, Done, answer_on, disk_after, mode_after, serve_by}
-use Rattle.uda_disk.specs.PlainRun.{step, plain, too_long}
+use Rattle.uda_disk.specs.Plain.{Done}
+use Rattle.uda_disk.specs.PlainRun.{step, plain}
+use Rattle.uda_disk.proofs.Errors.{is_error}
 use Rattle.uda_disk.specs.Units.{Units, disks_of}
 use Rattle.uda_disk.proofs.Runs.{length-runs}
-use Rattle.uda_posting.specs.Seeming.{bare, bares, is_done, GoesAs, AllGoAs, SeemsPlain}
-use Rattle.uda_posting.proofs.Seemings.{BarAlike, BothBarred, BothFree, bar_alike}
+use Rattle.uda_posting.specs.Seeming.{bares, outline, outlines, GoesAs, AllGoAs, SeemsPlain}
+use Rattle.uda_posting.proofs.Seemings.{step_looks, plain_each, done-begun, outline_same}
 use Rattle.uda_script_run.proofs.Appends.{runs-append}
 
--- if disks differ only in their blocks, an act leaves disks that differ only in their blocks
-bares_after : (act : Act) (u : ℕ) (disks others : Disks) (d e : Disk) → bares disks ≡ bares others
-    → bare d ≡ bare e
-    → bares (slice_set disks u (Some (disk_after Done act d))) ≡ bares
-    (slice_set others u (Some (disk_after Done act e)))
-bares_after act u disks others d e same alike =
-    let left : Disk → Disk = λ k. record { blocks = []; size = k.size; mode = mode_after act k.mode } in
-    map-set (option_map bare) disks u (Some (disk_after Done act d))
-    ∙ ap (λ (ds : Disks). set ds u (Some (left d))) same
-    ∙ ap (λ (k : Disk). set (bares others) u (Some (left k))) alike
-    ∙ sym (map-set (option_map bare) others u (Some (disk_after Done act e)))
+-- in-order runs over disks that differ only in their blocks have the same outlines
+plain_looks : (requests : List Request) (disks others : Disks) → bares disks ≡ bares others
+    → outlines (plain disks requests) ≡ outlines (plain others requests)
+plain_looks [] disks others same = ap (λ ds. ([], ds)) same
+plain_looks (r ∷ rest) disks others same =
+    let looks = step_looks Done Done r disks others same in
+    ap₂ (λ (l : Option Answer × Disks) (later : List (Option Answer) × Disks). (l.0 ∷ later.0, later.1))
+    looks (plain_looks rest (step r disks).1 (step r others).1 (ap (λ l. l.1) looks))
 
--- two answers that are the same except for the bytes of a Read that succeeded
-pub record Alike (one other : Answer) : Type 0 where
-  pub done : is_done one ≡ is_done other
-  pub same : is_done one ≡ false → other ≡ one
-
-alike_same : (one other : Answer) → one ≡ other → Alike one other
-alike_same one other is = record { done = ap is_done is; same = λ _. sym is }
-
-alike_on : (act : Act) (d e : Disk) → bare d ≡ bare e → Alike (answer_on Done act d) (answer_on Done act e)
-alike_on (Online protect) d e same = alike_same _ _
-    (ap (λ (k : Disk). answer_on Done (Online protect) k) same)
-alike_on Available d e same = alike_same _ _ refl
-alike_on Status d e same = alike_same _ _ (ap (λ (k : Disk). answer_on Done Status k) same)
-alike_on (Read lbn bytes) d e same = record { done = refl; same = λ undone. absurd (cc) }
-alike_on (Access lbn bytes) d e same = alike_same _ _ refl
-alike_on (Write lbn payload) d e same = alike_same _ _ refl
-alike_on (Erase lbn bytes) d e same = alike_same _ _ refl
-
--- the answer to a request and the disks after it, for disks that differ only in their blocks
-pub record StepAlike (one other : Answer × Disks) : Type 0 where
-  pub left : bares one.1 ≡ bares other.1
-  pub told : Alike one.0 other.0
-
-serve_alike : (r : Request) (disks others : Disks) (x y : Option (Option Disk)) (a b : Bar)
-    → bares disks ≡ bares others → BarAlike x y a b
-    → StepAlike (serve_by Done r a disks) (serve_by Done r b others)
-serve_alike r disks others x y a b same (BothBarred refusal one two) = rw (one, two)
-    (record { left = same; told = alike_same _ _ refl })
-serve_alike r disks others x y a b same (BothFree d e here one there two alike) =
-    rw (one, two) (record {
-      left = bares_after r.act r.unit disks others d e same alike;
-      told = alike_on
-          r.act d e alike;
-    })
-
-pub step_alike : (r : Request) (disks others : Disks) → bares disks ≡ bares others
-    → StepAlike (step r disks) (step r others)
-step_alike r disks others same = by (too_long r)
-  where
-    by : (long : Bool) → StepAlike (if long then (TooLong, disks) else serve_by Done r (bar disks r) disks)
-        (if long then (TooLong, others) else serve_by Done r (bar others r) others)
-    by true = record { left = same; told = alike_same TooLong TooLong refl }
-    by false = serve_alike r disks others _ _ (bar disks r) (bar others r) same
-        (bar_alike r disks others same)
-
-pub left_alike : (requests : List Request) (disks others : Disks) → bares disks ≡ bares others
-    → bares (plain disks requests).1 ≡ bares (plain others requests).1
-left_alike [] disks others same = same
-left_alike (r ∷ rest) disks others same = left_alike rest (step r disks).1 (step r others).1
-    (step_alike r disks others same).left
-
-goes_alike : (act : Act) (one other told : Answer) → Alike one other → GoesAs act other told
-    → GoesAs act one told
-goes_alike act one other told alike goes = record {
-  same = λ undone. goes.same (sym alike.done ∙ undone) ∙ alike.same undone;
-  ends = λ done. goes.ends (sym alike.done ∙ done);
-}
+goes_alike : (act : Act) (one other told : Answer) → outline one ≡ outline other → is_error one ≡ false
+    → is_error other ≡ false → GoesAs act other told → GoesAs act one told
+goes_alike act one other told same clean clean_other goes =
+    let two = outline_same one other same in
+    let is = done-begun other clean_other ∙ sym two.0 in
+    let done = is ∙ sym (done-begun one clean) in
+    record {
+      same = λ undone. goes.same (done ∙ undone) ∙ sym (two.1 (sym (done-begun one clean) ∙ undone));
+      ends = λ it. goes.ends (done ∙ it);
+    }
 
 -- what matches the in-order run over some disks matches that over disks that differ only in their blocks
-pub go_alike : (requests : List Request) (disks others : Disks) (told : List Answer)
+go_alike : (requests : List Request) (disks others : Disks) (told : List Answer)
     → bares disks ≡ bares others → AllGoAs requests (plain others requests).0 told
     → AllGoAs requests (plain disks requests).0 told
-go_alike [] disks others told same go k q done now at_r at_done at_now = absurd (cc)
-go_alike (r ∷ rest) disks others [] same go k q done now at_r at_done at_now = absurd (cc)
-go_alike (r ∷ rest) disks others (t ∷ told) same go zero q done now at_r at_done at_now =
-    let first : (step r disks).0 ≡ done = cc in
-    subst (λ (x : Answer). GoesAs q.act x now) first
-    (goes_alike q.act (step r disks).0 (step r others).0 now (step_alike r disks others same).told
-    (go zero q (step r others).0 now at_r refl at_now))
-go_alike (r ∷ rest) disks others (t ∷ told) same go (suc k) q done now at_r at_done at_now =
-    go_alike rest (step r disks).1 (step r others).1 told (step_alike r disks others same).left
-    (λ j. go (suc j)) k q done now at_r at_done at_now
+go_alike requests disks others told same go k r one now at_r at_one at_now =
+    let answers = (plain others requests).0 in
+    let other = get_or answers k TooLong in
+    let within : k < length answers =
+        omega (arith, length-runs step requests others, slice_get_within requests k r at_r) in
+    let at_other = slice_get-get_or answers k TooLong within in
+    let looks : Some (outline one) ≡ Some (outline other) =
+        sym (slice_get-map outline (plain disks requests).0 k ∙ ap (option_map outline) at_one)
+        ∙ ap (λ w. slice_get w.0 k) (plain_looks requests disks others same)
+        ∙ slice_get-map outline answers k ∙ ap (option_map outline) at_other in
+    let same_look : outline one ≡ outline other = cc in
+    goes_alike r.act one other now same_look (plain_each requests disks k r one at_r at_one).clean
+    (plain_each requests others k r other at_r at_other).clean (go k r other now at_r at_other at_now)
 
 pub go-both : (a b : List Request) (plain later told more : List Answer) → length plain ≡ length a
     → length told ≡ length a → AllGoAs a plain told → AllGoAs b later more
@@ -120,7 +74,7 @@ seems-both units between after a b told later size one two =
     let both = runs-append step a b (disks_of units) in
     let same : bares first.1 ≡ bares (disks_of between) = sym one.left in
     record {
-      left = two.left ∙ sym (left_alike b first.1 (disks_of between) same)
+      left = two.left ∙ sym (ap (λ w. w.1) (plain_looks b first.1 (disks_of between) same))
           ∙ sym (ap (λ (x : List Answer × Disks). bares x.1) both);
       answered = subst (λ (x : List Answer × Disks). AllGoAs (a ++ b) x.0 (told ++ later)) (sym both)
           (go-both a b first.0 (plain first.1 b).0 told later

@@ -13,7 +13,7 @@ loop-n-init g c = underway_start c.requires.ready c.none_out-out.ensures c.requi
 pub step-requires : goal.step-requires
 step-requires g c =
     let now = c.loop-host.invariant in
-    (search rules, (wait_some now _ (sym c.loop-host-test.ensures.waits), is_driving now))
+    (search rules, (wait_some now _ (sym c.loop-host-test.ensures.waits), is_driving now (omega (arith, c.loop-n-test.true))))
 
 pub loop-host-smaller : goal.loop-host-smaller
 loop-host-smaller g c =
@@ -58,7 +58,7 @@ loop-host-2-init g c =
 pub step-requires-in-loop-host-2 : goal.step-requires-in-loop-host-2
 step-requires-in-loop-host-2 g c =
     let now = c.loop-host-2.invariant in
-    (search rules, (omega (arith, all_credits now, c.loop-host-2-test.true, c.credits.ensures.credits), is_driving now))
+    (search rules, (omega (arith, all_credits now, c.loop-host-2-test.true, c.credits.ensures.credits), is_driving now (omega arith)))
 
 pub loop-host-2-smaller : goal.loop-host-2-smaller
 loop-host-2-smaller g c =
@@ -71,4 +71,5 @@ loop-host-2-preserved g c =
     underway_step c.loop-host-2.invariant step.adds_up step.images (drain_ends c.args.requests.now (omega arith)) step.steps
 
 pub returns : goal.returns
-returns g c = ran c.requires.ready (omega arith) (omega (arith, c.loop-host-2-test.false, c.credits.ensures.credits)) c.loop-host-2.invariant
+returns g c = ran c.loop-host-2.invariant c.requires.ready (omega arith)
+    (omega (arith, c.loop-host-2-test.false, c.credits.ensures.credits))

@@ -1,5 +1,6 @@
-use Rattle.std.proofs.Common.{refl, rules, subst}
+use Rattle.std.proofs.Common.{refl, rules, subst, length, arith}
 use Rattle.uda_host.specs.Host.{TakesEnd, HostGoes, Works}
+use Rattle.uda_driver.specs.Out.{AreFit}
 use Rattle.uda_driver.specs.Steps.{TellsNone, TellsOne}
 use Rattle.uda_driver.proofs.Drivings.{still_fit, end_refers}
 use Rattle.uda_driver.proofs.serve.step.Goals as goal
@@ -9,17 +10,11 @@ tell-requires g c =
     let known = c.requires.driving in
     let turn = c.step_traced-turn in
     let taken : TakesEnd c.args.host.now c.in-Some.end turn.new.self =
-    subst (λ end. HostGoes c.args.host.now end turn.new.self) c.in-Some.is turn.ensures.goes in (
-      search rules,
-      (
-        known.driving.outs.sized,
-        (
-          (λ number one stands.
-              still_fit known.room (known.driving.fit number one stands)),
-          end_refers known.driving taken,
-        ),
-      ),
-    )
+    subst (λ end. HostGoes c.args.host.now end turn.new.self) c.in-Some.is turn.ensures.goes in
+    let fit : AreFit (length c.args.answers.now.items) c.args.out.now =
+    λ number one stands.
+    still_fit (omega (arith, known.room, known.low)) (known.driving.fit number one stands) in
+    (search rules, (known.driving.outs.sized, (fit, end_refers known.driving taken)))
 
 pub returns-in-Some-clause-steps : goal.returns-in-Some-clause-steps
 returns-in-Some-clause-steps g c =

@@ -1,9 +1,8 @@
 use Rattle.std.proofs.lemmas.Result.{err_from_is_err_and}
-use Rattle.std.proofs.lemmas.List.Elements.{All-nil}
-use Rattle.std.proofs.Common.{◌≢◌, sym, ◌∙◌, rules}
+use Rattle.std.proofs.Common.{sym, ◌∙◌, rules}
 use Rattle.std.proofs.lemmas.List.{length-map}
 use Rattle.uda_disk.specs.Values.{request_value, answer_value}
-use Rattle.uda_posting.proofs.Owing.{owes_end, owes_plain, owes_untold, owes_seems}
+use Rattle.uda_posting.proofs.Owing.{owes_end, owes_plain, owes_untold, owes_seems, owes_formed}
 use Rattle.uda_driver.proofs.Told.{untold_errors}
 use Rattle.uda_driver.proofs.driver.Driver.run_reusing.Goals as goal
 
@@ -19,31 +18,30 @@ pub returns-clause-shape : goal.returns-clause-shape
 returns-clause-shape g c = record {
   counted = length-map c.drive.result.items answer_value ∙ c.drive.ensures.counted
       ∙ sym (length-map c.args.requests.now request_value);
-  formed = λ k r a at told. c.drive.ensures.owes.formed k r a at told (All-nil (λ p. p.place ≢ k));
+  formed = owes_formed c.drive.ensures.owes c.drive.ensures.none_to_come;
 }
 
 pub returns-clause-headline : goal.returns-clause-headline
 returns-clause-headline g c = rw (← c.self.view_is)
-    (λ faithful none. owes_plain faithful c.self.invariant.images c.drive.ensures.owes none)
+    (λ faithful none. owes_plain c.drive.ensures.owes c.drive.ensures.none_to_come faithful none)
 
 pub returns-clause-losses : goal.returns-clause-losses
 returns-clause-losses g c = rw (← c.self.view_is) (λ faithful. record {
-  run = owes_end faithful c.self.invariant.images c.drive.ensures.owes;
-  told = (c.drive.ensures.owes.sound faithful c.self.invariant.images).errors;
-  sure = (c.drive.ensures.owes.sound faithful c.self.invariant.images).sure;
+  run = owes_end c.drive.ensures.owes c.drive.ensures.none_to_come faithful;
+  told = (c.drive.ensures.owes.faithful faithful).errors;
+  sure = (c.drive.ensures.owes.faithful faithful).sure;
 })
 
 pub returns-clause-headline_untold : goal.returns-clause-headline_untold
 returns-clause-headline_untold g c = rw (← c.self.view_is)
-    (λ faithful none. owes_untold faithful c.self.invariant.images c.drive.ensures.owes
-    (λ u. untold_errors u _ _ none))
+    (λ faithful none. owes_untold c.drive.ensures.owes c.drive.ensures.none_to_come faithful (λ u. untold_errors u _ _ none))
 
 pub returns-clause-sure : goal.returns-clause-sure
 returns-clause-sure g c = rw (← c.self.view_is) (λ faithful.
-    (c.drive.ensures.owes.sound faithful c.self.invariant.images).sure)
+    (c.drive.ensures.owes.faithful faithful).sure)
 
 pub returns-clause-seems : goal.returns-clause-seems
-returns-clause-seems g c = rw (← c.self.view_is) (owes_seems c.drive.ensures.owes)
+returns-clause-seems g c = rw (← c.self.view_is) (owes_seems c.drive.ensures.owes c.drive.ensures.none_to_come)
 
 pub returns-in_err-answers-clause-too_many : goal.returns-in_err-answers-clause-too_many
 returns-in_err-answers-clause-too_many g c =

@@ -188,9 +188,9 @@ find [] d k = inr (All-nil (IsNotAt k))
 find (p ∷ rest) d k = elim (cases_eq p.place k) [
   | inl same ↦ inl (record { index = 0; low = omega arith; place = same })
   | inr other ↦ (elim (find rest d k) [
-      | inl it ↦ inl (record { index = suc it.index; low = omega (arith, it.low); place = it.place })
-      | inr none ↦ inr (All-cons (IsNotAt k) p rest other none)
-    ])
+    | inl it ↦ inl (record { index = suc it.index; low = omega (arith, it.low); place = it.place })
+    | inr none ↦ inr (All-cons (IsNotAt k) p rest other none)
+  ])
 ]
 
 pub due_start : (requests : List Request) → AreDue requests 0 (untold requests) []
@@ -253,9 +253,9 @@ module _ {requests : List Request} {n : ℕ} {told : List Answer} {due : List Po
           let first : m < j = elim (cases_lt m j) [
             | inl low ↦ low
             | inr past ↦ (elim (cases_eq m j) [
-                | inl same ↦ absurd (omega (arith, ap (λ at. (get_or due at d).place) same, found.place))
-                | inr other ↦ absurd (omega (arith, D.in_order j m d (omega arith) found.low, found.place))
-              ])
+              | inl same ↦ absurd (omega (arith, ap (λ at. (get_or due at d).place) same, found.place))
+              | inr other ↦ absurd (omega (arith, D.in_order j m d (omega arith) found.low, found.place))
+            ])
           ] in
           let asked : Some q.request ≡ Some older = sym (D.each m d found.low).to_come.stands ∙ ap (slice_get requests) found.place ∙ it.stands in
           let is : q.request ≡ older = cc in

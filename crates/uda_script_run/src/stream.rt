@@ -23,7 +23,8 @@ const MOST_BATCHES: u64 = 1 << 56;
 /// Their requests are executed in batches of 64. After each batch `out` gets the bytes that it read, and
 /// `report` its lines. In the plain style both get, over all batches, the bytes that
 /// [`run_script`](crate::run_script) writes for the same requests. Answers and disks are those of one in-order
-/// run of all of them. `watch` sees each turn of the port. The text is read byte by byte, so it should be a buffered reader.
+/// run of all of them. `watch` sees each turn of the port. The text is read byte by byte, so it should be a
+/// buffered reader.
 ///
 /// # Errors
 ///

@@ -26,7 +26,8 @@ pub(crate) fn grammar<'w>(alloc: Global, drives: &'w [&'w str]) -> Result<Comman
         .subcommand(info_grammar(alloc)?)?
         .subcommand(dump_grammar(alloc)?)?
         .subcommand(create_grammar(alloc, drives)?)?
-        .subcommand(decode_grammar(alloc)?)
+        .subcommand(decode_grammar(alloc)?)?
+        .subcommand(trace_grammar(alloc)?)
 }
 
 fn run_grammar<'w>(alloc: Global) -> Result<Command<'w>, AllocError> {
@@ -128,7 +129,14 @@ fn decode_grammar<'w>(alloc: Global) -> Result<Command<'w>, AllocError> {
         )
 }
 
-// The script of `run`.
+fn trace_grammar<'w>(alloc: Global) -> Result<Command<'w>, AllocError> {
+    Command::new(alloc, "trace")
+        .about("Executes a script, and prints each turn of the controller's port")
+        .arg(script(alloc))?
+        .arg(units(alloc))
+}
+
+// The script of `run` and `trace`.
 fn script<'w>(alloc: Global) -> Arg<'w> {
     one(
         alloc,
@@ -137,7 +145,7 @@ fn script<'w>(alloc: Global) -> Arg<'w> {
     )
 }
 
-// The images of `run`.
+// The images of `run` and `trace`.
 fn units<'w>(alloc: Global) -> Arg<'w> {
     Arg::new(alloc, "IMAGE")
         .required(true)

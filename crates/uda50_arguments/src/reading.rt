@@ -74,6 +74,10 @@ fn read<'w>(
         }),
         "dump" => Ok(read_dump(found)),
         "create" => Ok(read_create(found)),
+        "trace" => Ok(Task::Trace {
+            script: text(found, "SCRIPT"),
+            units: units(alloc, found)?,
+        }),
         _ => Ok(Task::Decode {
             file: text(found, "FILE"),
         }),

@@ -24,6 +24,13 @@ pub enum Task<'w> {
         /// The file with the packets, `-` for standard input.
         file: &'w str,
     },
+    /// `trace`: executes a script, and prints each turn of the port.
+    Trace {
+        /// The file with the script, `-` for standard input.
+        script: &'w str,
+        /// The images of units 0 to 3; `None` for no drive.
+        units: Vec<Option<ImageName<'w>>>,
+    },
 }
 
 /// The arguments of `run`.

@@ -6,7 +6,7 @@ use std::alloc::Global;
 use std::mem;
 use std::ops::Range;
 use uda_disk::{Answer, Request, status};
-use uda_driver::Driver;
+use uda_driver::{Driver, Unwatched};
 use uda_image::BlockStore;
 
 /// The most blocks that one run of the driver copies: those of 64 requests.
@@ -96,7 +96,7 @@ impl<S: BlockStore + Drop> Copier<S> {
         let requests = reads(self.alloc, &[Side::Source], blocks, PIECE)?;
         let room = mem::replace(&mut self.room, Vec::new(self.alloc));
         let mut writes = Vec::with_capacity(self.alloc, requests.len())?;
-        for answer in self.driver.run_reusing(&requests, room)? {
+        for answer in self.driver.run_reusing(&requests, room, &mut Unwatched)? {
             let stop = end.min(lbn.saturating_add(PIECE));
             match reading_of(Side::Source, answer)? {
                 Reading::Bytes(payload) => add(&mut writes, write(lbn, payload))?,
@@ -149,7 +149,7 @@ impl<S: BlockStore + Drop> Copier<S> {
         let mut lbn = blocks.start;
         let requests = reads(self.alloc, &[Side::Source, Side::Target], blocks, PIECE)?;
         let room = mem::replace(&mut self.room, Vec::new(self.alloc));
-        let answers = self.driver.run_reusing(&requests, room)?;
+        let answers = self.driver.run_reusing(&requests, room, &mut Unwatched)?;
         for pair in answers.chunks(2) {
             let stop = end.min(lbn.saturating_add(PIECE));
             if !are_equal(pair) {

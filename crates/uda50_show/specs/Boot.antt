@@ -32,7 +32,8 @@ is_vax_boot block =
 -- the sum of the area's first four bytes, which is 0xFF if the fourth is the complement of the others' sum
 abbrev pub area_sum : List ℕ → ℕ
 area_sum block = let area = area_of block in
-    (byte_at area block + byte_at (area + 1) block + byte_at (area + 2) block + byte_at (area + 3) block) % 256
+    (byte_at area block + byte_at (area + 1) block
+    + byte_at (area + 2) block + byte_at (area + 3) block) % 256
 
 -- what block 0 shows of a bootstrap for a VAX
 abbrev pub vax_boot : List ℕ → BootBlock

@@ -14,12 +14,14 @@ partitions_of block = word_at 202 block
 -- the exclusive or of all its words, the checksum among them, is 0
 abbrev pub bsd_checksum : List ℕ → Checksum
 bsd_checksum block =
-    checksum_of (nat_le (partitions_of block) 18 && (word_parity 64 (74 + 8 * partitions_of block) block == 0))
+    checksum_of (nat_le (partitions_of block) 18
+    && (word_parity 64 (74 + 8 * partitions_of block) block == 0))
 
 -- a PDP-11's label begins block 1, with its number's halves exchanged, and has it again
 abbrev pub has_bsd211_label : List ℕ → Bool
 has_bsd211_label block =
-    (long_at 0 block == 0x45578256) && ((long_at 108 block == 0x45578256) || (long_at 132 block == 0x45578256))
+    (long_at 0 block == 0x45578256)
+    && ((long_at 108 block == 0x45578256) || (long_at 132 block == 0x45578256))
 
 -- Ultrix has its partition table in the last 72 bytes of block 31, and 1 for a valid one
 abbrev pub has_ultrix_table : List ℕ → Bool

@@ -11,6 +11,7 @@ use crate::info::info;
 use crate::outcome::Outcome;
 use crate::run::run;
 use crate::streams::fill_closed_streams;
+use crate::trace::trace;
 use clap::Error;
 use clap::error::ErrorKind as UsageError;
 use std::io;
@@ -109,6 +110,7 @@ fn perform_with<'w, W: Write>(
         Task::Create(asked) => create(rt, asked),
         Task::Decode { file } => decode(rt, file, out),
         Task::Run(asked) => run(rt, asked),
+        Task::Trace { script, units } => trace(rt, script, units.as_slice(), out),
         Task::Copy(asked) => copy(rt, asked),
     }
 }

@@ -12,8 +12,10 @@ mod info;
 mod outcome;
 mod progress;
 mod run;
+mod script;
 mod streams;
 mod target;
+mod trace;
 
 pub use entry::{program, unreadable_arguments};
 pub use fault::{Fault, Reason};

@@ -1,5 +1,7 @@
 //! How a verb ended.
 
+use uda_script_run::Outcome as ScriptOutcome;
+
 /// How a verb ended that met no fault of its own.
 #[derive(Clone, Copy, Debug, PartialEq, Eq)]
 pub enum Outcome {
@@ -12,8 +14,19 @@ pub enum Outcome {
 }
 
 impl Outcome {
-    ghost use Rattle.std.specs.Prelude.{◌≡◌};
+    ghost use Rattle.std.specs.Prelude.{◌≡◌, ◌↔◌};
     ghost use Rattle.uda50_verbs.specs.Statuses.{exit_status};
+
+    /// Returns the outcome of a script.
+    pub(crate) fn of_script(outcome: ScriptOutcome) -> Outcome
+        ensures failed { (result ≡ Outcome.Failed) ↔ (outcome ≡ ScriptOutcome.SomeFailed) }
+        ensures done { (result ≡ Outcome.Done) ↔ (outcome ≡ ScriptOutcome.AllSucceeded) }
+    {
+        match outcome {
+            ScriptOutcome::AllSucceeded => Outcome::Done,
+            ScriptOutcome::SomeFailed => Outcome::Failed,
+        }
+    }
 
     /// Returns the exit status.
     pub fn status(self) -> u8

@@ -11,6 +11,7 @@ ghost use Rattle.uda_driver.specs.Driver.{IsAtRest};
 use crate::answers::blanks;
 use crate::errors::StartError;
 use crate::serve::drive;
+use crate::watch::{Unwatched, Watch};
 use std::alloc::Global;
 use std::marker::Model;
 use uda_disk::{Answer, Request};
@@ -120,17 +121,18 @@ impl<S: BlockStore> Driver<S> {
         ensures counts { IfOk result (λ _.
             CountsOn (request_values requests.now) self.old self.new) }
     {
-        self.run_reusing(requests, Vec::new(self.alloc))
+        self.run_reusing(requests, Vec::new(self.alloc), &mut Unwatched)
     }
 
     /// Executes the requests as [`run`](Driver::run) does, and reuses the memory of earlier answers.
     ///
     /// The bytes of a Read go into an earlier answer's memory if it has room for them. The contents of the
-    /// earlier answers are lost.
-    pub fn run_reusing(
+    /// earlier answers are lost. Each turn of the port is shown to `watch`, which can't change the run.
+    pub fn run_reusing<W: Watch>(
         &mut self,
         requests: &[Request],
         used: Vec<Answer>,
+        watch: &mut W,
     ) -> Result<Vec<Answer>, RunError>
         ensures too_many { (result ≡ Err RunError.TooMany) ↔ (request_limit < length requests.now) }
         ensures unchanged { IfErr result (λ _. self.new ≡ self.old) }
@@ -162,7 +164,7 @@ impl<S: BlockStore> Driver<S> {
             CountsOn (request_values requests.now) self.old self.new) }
     {
         let answers = prepare(self.alloc, requests, used)?;
-        Ok(drive(&mut self.host, requests, answers))
+        Ok(drive(&mut self.host, requests, answers, watch))
     }
 
     /// The drives as the last run left them, hardware protection too. No store is called.

@@ -9,8 +9,11 @@ mod driver;
 mod errors;
 mod losses;
 mod serve;
+mod watch;
 
 pub use driver::{Driver, REQUEST_LIMIT, RunError};
 pub use errors::StartError;
 pub use losses::tells_drive_error;
 pub use uda_disk::{Answer, Mode, Refusal, Request, UnitFlags, laws};
+pub use uda_port::Trace;
+pub use watch::{Unwatched, Watch};

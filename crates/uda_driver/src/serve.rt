@@ -14,6 +14,7 @@ ghost use Rattle.uda_driver.specs.Drive.{IsDriving, Ran};
 
 use crate::answers::answer_for;
 use crate::buffers::{Out, clashes_with_any, free_buffer, none_out, put_out, take_out};
+use crate::watch::Watch;
 use uda_disk::{Answer, Request};
 use uda_exec::PENDING;
 use uda_host::{Host, buffer_address};
@@ -22,12 +23,13 @@ use uda_packet::End;
 use uda_port::CREDITS;
 use uda_posting::{bytes_brought, command_of};
 
-/// Has the requests done, and tells their answers in place of the blanks. Nothing is taken from memory
-/// once a command is posted.
-pub(crate) fn drive<S: BlockStore>(
+/// Executes the requests, and writes their answers in place of the blanks. Each turn is shown to `watch`.
+/// Nothing is allocated once a command is posted.
+pub(crate) fn drive<S: BlockStore, W: Watch>(
     host: &mut Host<S>,
     requests: &[Request],
     mut answers: Vec<Answer>,
+    watch: &mut W,
 ) -> Vec<Answer>
     requires ready { IsDriver host.old }
     requires few { length requests.now ≤ request_limit }
@@ -40,7 +42,7 @@ pub(crate) fn drive<S: BlockStore>(
         let request = &requests[n];
         if !request.is_too_long() {
             while must_wait(host, &out, request) {
-                step(host, &mut out, &mut answers);
+                step(host, &mut out, &mut answers, watch);
             }
             let answer = std::mem::replace(&mut answers[n], Answer::TooLong);
             let one = Out {
@@ -52,7 +54,7 @@ pub(crate) fn drive<S: BlockStore>(
         }
     }
     while host.credits() < CREDITS as u32 {
-        step(host, &mut out, &mut answers);
+        step(host, &mut out, &mut answers, watch);
     }
     answers
 }
@@ -87,11 +89,12 @@ fn post<'a, S: BlockStore>(host: &mut Host<S>, out: &mut [Option<Out<'a>>; PENDI
     put_out(out, number, one);
 }
 
-// Takes a turn, and tells the answer of the end that it brings.
-fn step<S: BlockStore>(
+// Takes a turn, shows it to the watcher, and writes the answer of the end message that it brings.
+fn step<S: BlockStore, W: Watch>(
     host: &mut Host<S>,
     out: &mut [Option<Out<'_>>; PENDING],
     answers: &mut Vec<Answer>,
+    watch: &mut W,
 )
     requires some { 0 < out_of host.old }
     requires driving { IsDriving out.old answers.old.items host.old }
@@ -99,7 +102,9 @@ fn step<S: BlockStore>(
     ensures adds_up { AddsUp host.new }
     ensures images { AreImages host.new.units }
 {
-    if let Some(end) = host.step() {
+    let turn = host.step_traced();
+    watch.see(&turn.trace, host.credits());
+    if let Some(end) = turn.end {
         tell(host, out, answers, end);
     }
 }

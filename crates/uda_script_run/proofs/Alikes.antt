@@ -42,12 +42,12 @@ go_alike requests disks others told same go k r one now at_r at_one at_now =
     let answers = (plain others requests).0 in
     let other = get_or answers k TooLong in
     let within : k < length answers =
-        omega (arith, length-runs step requests others, slice_get_within requests k r at_r) in
+    omega (arith, length-runs step requests others, slice_get_within requests k r at_r) in
     let at_other = slice_get-get_or answers k TooLong within in
     let looks : Some (outline one) ≡ Some (outline other) =
-        sym (slice_get-map outline (plain disks requests).0 k ∙ ap (option_map outline) at_one)
-        ∙ ap (λ w. slice_get w.0 k) (plain_looks requests disks others same)
-        ∙ slice_get-map outline answers k ∙ ap (option_map outline) at_other in
+    sym (slice_get-map outline (plain disks requests).0 k ∙ ap (option_map outline) at_one)
+    ∙ ap (λ w. slice_get w.0 k) (plain_looks requests disks others same)
+    ∙ slice_get-map outline answers k ∙ ap (option_map outline) at_other in
     let same_look : outline one ≡ outline other = cc in
     goes_alike r.act one other now same_look (plain_each requests disks k r one at_r at_one).clean
     (plain_each requests others k r other at_r at_other).clean (go k r other now at_r at_other at_now)

@@ -13,7 +13,7 @@ use crate::style::{Outcome, ReportPart, ReportStyle};
 use std::alloc::Global;
 use std::io::{Read, Write};
 use uda_disk::Answer;
-use uda_driver::Driver;
+use uda_driver::{Driver, Watch};
 use uda_grammar::{Line, ScriptError};
 use uda_image::BlockStore;
 
@@ -43,11 +43,11 @@ impl Progress {
 }
 
 /// Executes the requests of these lines, and writes the bytes and the report of their answers.
-pub(crate) fn run_batch<S: BlockStore, R: Read, W: Write, V: Write>(
+pub(crate) fn run_batch<S: BlockStore, R: Read, W: Write, V: Write, H: Watch>(
     alloc: Global,
     lines: &[Line],
     progress: Progress,
-    channels: &mut Channels<R, W, V>,
+    channels: &mut Channels<R, W, V, H>,
     driver: &mut Driver<S>,
 ) -> Result<Progress, ScriptError>
     requires few { length lines.now ≤ request_limit }
@@ -72,7 +72,7 @@ pub(crate) fn run_batch<S: BlockStore, R: Read, W: Write, V: Write>(
         answers,
     } = progress;
     let requests = read_requests(alloc, lines, &mut channels.input)?;
-    let answers = serve(driver, &requests, answers)?;
+    let answers = serve(driver, &requests, answers, &mut channels.watch)?;
     print(&mut channels.out, &mut channels.report, part, &answers)?;
     Ok(Progress {
         part: part.after(answers.len()),

@@ -15,7 +15,7 @@ use crate::texts::{put_out, put_report};
 use std::alloc::Global;
 use std::io::{Read, Write};
 use uda_disk::{Answer, Request};
-use uda_driver::{Driver, RunError};
+use uda_driver::{Driver, RunError, Unwatched, Watch};
 use uda_grammar::{Script, ScriptError};
 use uda_image::BlockStore;
 
@@ -51,7 +51,7 @@ pub fn run_script<S: BlockStore, R: Read, W: Write, V: Write>(
     ensures natures { natures_of (units_of driver.new) ≡ natures_of (units_of driver.old) }
 {
     let requests = read_requests(alloc, script.lines(), input)?;
-    let answers = serve(driver, &requests, Vec::new(alloc))?;
+    let answers = serve(driver, &requests, Vec::new(alloc), &mut Unwatched)?;
     let part = ReportPart {
         style: ReportStyle::PLAIN,
         first: 1,
@@ -61,10 +61,11 @@ pub fn run_script<S: BlockStore, R: Read, W: Write, V: Write>(
 
 /// Executes the requests, of which there are no more than one run may have. The answers reuse the memory of
 /// earlier ones.
-pub(crate) fn serve<S: BlockStore>(
+pub(crate) fn serve<S: BlockStore, H: Watch>(
     driver: &mut Driver<S>,
     requests: &[Request],
     used: Vec<Answer>,
+    watch: &mut H,
 ) -> Result<Vec<Answer>, ScriptError>
     requires few { length requests.now ≤ request_limit }
     ensures answers { IfOk result (λ answers. Serves (request_values requests.now)
@@ -73,7 +74,7 @@ pub(crate) fn serve<S: BlockStore>(
     ensures error { IfErr result (λ e. e ≡ ScriptError.NoMemory) }
     ensures natures { natures_of (units_of driver.new) ≡ natures_of (units_of driver.old) }
 {
-    match driver.run_reusing(requests, used) {
+    match driver.run_reusing(requests, used, watch) {
         Ok(answers) => Ok(answers),
         Err(RunError::NoMemory) => Err(ScriptError::NoMemory),
         Err(RunError::TooMany) => Err(ScriptError::TooManyLines),

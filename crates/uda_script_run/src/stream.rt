@@ -11,7 +11,7 @@ use crate::style::{Outcome, ReportStyle};
 use crate::text_error::TextError;
 use std::alloc::Global;
 use std::io::{BufRead, Read, Write};
-use uda_driver::Driver;
+use uda_driver::{Driver, Watch};
 use uda_image::BlockStore;
 
 /// More batches than any text has. So the numbers of requests stay within 64 bits.
@@ -23,7 +23,8 @@ const MOST_BATCHES: u64 = 1 << 56;
 /// Their requests are executed in batches of 64. After each batch `out` gets the bytes that it read, and
 /// `report` its lines. In the plain style both get, over all batches, the bytes that
 /// [`run_script`](crate::run_script) writes for the same requests. Answers and disks are those of one in-order
-/// run of all of them. The text is read byte by byte, so it should be a buffered reader.
+/// run of all of them. `watch` sees each turn of the port. The text is read byte by byte, so it should be a
+/// buffered reader.
 ///
 /// # Errors
 ///
@@ -34,11 +35,11 @@ const MOST_BATCHES: u64 = 1 << 56;
 /// - `Script(ShortData)`, `Script(Read)` and `Script(NoMemory)`: as `Unreadable`. `ShortData` names the first
 ///   line whose bytes the data does not hold.
 /// - `Script(Write)`: one more batch was executed, and only a beginning of its texts was written.
-pub fn run_text<S: BlockStore, T: BufRead + Drop, R: Read, W: Write, V: Write>(
+pub fn run_text<S: BlockStore, T: BufRead + Drop, R: Read, W: Write, V: Write, H: Watch>(
     alloc: Global,
     style: ReportStyle,
     text: T,
-    channels: &mut Channels<R, W, V>,
+    channels: &mut Channels<R, W, V, H>,
     driver: &mut Driver<S>,
 ) -> Result<Outcome, TextError>
     ensures whole { IfOk result (λ outcome. RanText style (T.remaining text) outcome

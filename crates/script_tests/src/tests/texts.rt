@@ -3,7 +3,7 @@ use super::batches::{driver_of, left_in};
 use super::streams::{Manner, Sink, Source};
 use std::alloc::Global;
 use std::test::Fail;
-use uda_driver::Driver;
+use uda_driver::{Driver, Unwatched};
 use uda_grammar::{Expected, Part, ScriptError, explain};
 use uda_image::MemImage;
 use uda_script_run::{Channels, Outcome, ReportStyle, TextError, run_text};
@@ -220,6 +220,7 @@ impl Text {
             input: Source::new(Manner::Halting(1_000), &data),
             out: Sink::new(alloc, self.out),
             report: Sink::new(alloc, Manner::Whole),
+            watch: Unwatched,
         };
         let done = run_text(alloc, self.style, script.as_slice(), &mut channels, driver);
         let unread = channels.input.left.len();

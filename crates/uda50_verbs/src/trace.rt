@@ -1,0 +1,96 @@
+//! `uda50 trace`: each turn of the port.
+
+use crate::fault::Fault;
+use crate::outcome::Outcome;
+use crate::run::script_name;
+use crate::script::{Drives, Job, execute, open_drives};
+use std::fs::{File, OpenFile};
+use std::io;
+use std::io::{BufRead, BufReader, Read, Write};
+use uda_driver::{Trace, Watch};
+use uda_packet::status;
+use uda_script_run::{Channels, ReportStyle};
+use uda50_arguments::ImageName;
+
+/// Executes a script on images as `run` does, and prints each turn of the port: what it fetched, executed or
+/// delivered, and how many credits are left. The blocks that the script reads are not printed.
+pub(crate) fn trace<'w, W: Write>(
+    rt: &HostRuntime,
+    script: &'w str,
+    units: &[Option<ImageName<'w>>],
+    out: &mut W,
+) -> Result<Outcome, Fault<'w>> {
+    let drives = open_drives(rt, units)?;
+    if script == "-" {
+        let no_data: &[u8] = &[];
+        let text = BufReader::new(rt.alloc(), rt.stdin())?;
+        return trace_job(rt, job(script, units, text), no_data, drives, out);
+    }
+    let file = File::open(rt, script).map_err(|error| Fault::system(script, error))?;
+    let text = BufReader::new(rt.alloc(), file)?;
+    trace_job(rt, job(script, units, text), rt.stdin(), drives, out)
+}
+
+fn job<'j, 'w, T>(script: &'w str, units: &'j [Option<ImageName<'w>>], text: T) -> Job<'j, 'w, T> {
+    Job {
+        name: script_name(script),
+        text,
+        units,
+        style: ReportStyle::PLAIN,
+    }
+}
+
+// Executes a script, and prints the turns.
+fn trace_job<'w, T: BufRead + Drop, R: Read + Drop, W: Write>(
+    rt: &HostRuntime,
+    job: Job<'_, 'w, T>,
+    input: R,
+    drives: Drives,
+    out: &mut W,
+) -> Result<Outcome, Fault<'w>> {
+    let mut channels = Channels {
+        input,
+        out: io::sink(),
+        report: io::sink(),
+        watch: Printer {
+            out,
+            turns: 0,
+            printed: Ok(()),
+        },
+    };
+    let done = execute(rt, job, drives, &mut channels);
+    let Channels { watch, .. } = channels;
+    let outcome = done?;
+    watch.printed?;
+    Ok(Outcome::of_script(outcome))
+}
+
+// Prints turns until it can't.
+#[derive(Drop)]
+struct Printer<'o, W> {
+    out: &'o mut W,
+    turns: u64,
+    printed: io::Result<()>,
+}
+
+impl<'o, W: Write> Printer<'o, W> {
+    fn print(&mut self, trace: &Trace, credits: u32) -> io::Result<()> {
+        let turn = self.turns;
+        write!(self.out, "turn {turn}: {trace}")?;
+        if let Trace::Executed(end) | Trace::Delivered(end) | Trace::Refused(end) = trace {
+            let name = status::name(end.status);
+            write!(self.out, " ({name})")?;
+        }
+        let word = if credits == 1 { "credit" } else { "credits" };
+        writeln!(self.out, ", {credits} {word}")
+    }
+}
+
+impl<'o, W: Write> Watch for Printer<'o, W> {
+    fn see(&mut self, trace: &Trace, credits: u32) {
+        self.turns = self.turns.saturating_add(1);
+        if self.printed.is_ok() {
+            self.printed = self.print(trace, credits);
+        }
+    }
+}

@@ -48,7 +48,7 @@ one_failure u unit told lost units after same stay grows = elim (cases_eq u unit
 ]
 
 -- and no drive error is told of one that told none
-none_told : (u unit : ℕ) (told : Bool) → (u ≡ unit → told ≡ false)
+pub none_told : (u unit : ℕ) (told : Bool) → (u ≡ unit → told ≡ false)
     → (let k : ℕ = if nat_eq unit u && told then 1 else 0 in k) ≡ 0
 none_told u unit told none = elim (cases_eq u unit) [
   | inl own ↦ rw (none own) (by (nat_eq unit u))

@@ -14,7 +14,7 @@ use Rattle.uda_disk.specs.Answer.{Answer, TooLong}
 use Rattle.uda_posting.specs.Posting.{Posted, posted_command, answer_of, buffer_of, bytes_brought}
 use Rattle.uda_disk.specs.Values.{request_value}
 use Rattle.uda_disk.specs.Units.{Units}
-use Rattle.uda_posting.specs.Keeping.{Misses, Beside, Apart, Owes, Ended, answer_now, alive, Keeps}
+use Rattle.uda_posting.specs.Keeping.{Misses, Beside, AreSeparate, Owes, Ended, answer_now, alive, Keeps}
 use Rattle.uda_model.specs.Ledger.{NoneToCome}
 use Rattle.uda_posting.proofs.Posts.{buffer-at, bytes_fit, ready-put}
 use Rattle.uda_posting.proofs.Owing.{clash_turned}
@@ -152,7 +152,7 @@ module _ {start : Units} {requests : List Request} {n : ℕ} {out : List (Option
   driving_works {new} (OneDone x) =
       let t : Ends start requests n D.due D.ended answers x.place x.end
       (record { units = new.units; pending = new.due }) new.memory =
-      keeps_execute D.keeps D.are_due refl D.outs.apart x.executes in
+      keeps_execute D.keeps D.are_due refl D.outs.separate x.executes in
       rw x.is (record {
         due = remove D.due x.place;
         ended = D.ended ++ record { posted = t.posted; end = x.end } ∷ [];
@@ -236,8 +236,9 @@ module _ {start : Units} {requests : List Request} {n : ℕ} {out : List (Option
         let both : Some (Some other) ≡ Some None = sym stands ∙ ap (slice_get out) (omega (arith, same))
         ∙ puts.free in cc
 
-    apart : (k : ℕ) (other : Out) → slice_get out k ≡ Some (Some other) → Apart (posted_with k other) now
-    apart k other stands = record {
+    separate : (k : ℕ) (other : Out) → slice_get out k ≡ Some (Some other)
+        → AreSeparate (posted_with k other) now
+    separate k other stands = record {
       two = λ same. omega (arith, (D.fit k other stands).before, place);
       beside = beside_from now (posted_with k other) now_buffered
           (has_buffer out D.outs.sized D.fit k other stands) (other_buffer k other stands);
@@ -254,7 +255,7 @@ module _ {start : Units} {requests : List Request} {n : ℕ} {out : List (Option
         let ready = ready-put now host.memory fit.short (omega arith)
         (omega (arith, slice_get_within out puts.number None puts.free, D.outs.sized, size)) in
         let misses = of_alive D.outs (λ q. Misses now.address (length brought) (posted_command q))
-        (λ k other stands meet. (apart k other stands).beside
+        (λ k other stands meet. (separate k other stands).beside
         (omega (arith, fits, buffer.here (omega (arith, fits))))) in
         keeps_post (keeps_put D.keeps now.address brought misses) now left place asked ready
 
@@ -268,7 +269,7 @@ module _ {start : Units} {requests : List Request} {n : ℕ} {out : List (Option
     -- what it brings stands in its buffer, and its command is posted
     pub driving_post : Driving start requests (n + 1) after (slice_set answers now.place left) new
     driving_post =
-        let outs = outs_post D.outs puts.number one puts.free apart in
+        let outs = outs_post D.outs puts.number one puts.free separate in
         let kept = stay_kept (of_alive outs IsBuffered
         (has_buffer (set out puts.number (Some one)) outs.sized fit_after)) puts.posts.buffers
         kept_brought in

@@ -11,8 +11,8 @@ use Rattle.uda_packet.specs.declared.end.End.{End}
 use Rattle.uda_exec.specs.Disks.{PENDING_LIMIT}
 use Rattle.uda_disk.proofs.Slots.{slice_get-set_same, slice_get-set_other}
 use Rattle.uda_posting.specs.Posting.{Posted}
-use Rattle.uda_posting.specs.Keeping.{Ended, RefersBack, Apart, alive}
-use Rattle.uda_posting.proofs.Owing.{apart_turned}
+use Rattle.uda_posting.specs.Keeping.{Ended, RefersBack, AreSeparate, alive}
+use Rattle.uda_posting.proofs.Owing.{separate_turned}
 use Rattle.uda_disk.proofs.Lists.{All-remove, All-at, pairs_first, pairs_rest, pairs_others}
 use Rattle.uda_driver.specs.Out.{posted_with, IsOut}
 use Rattle.uda_driver.specs.Underway.{Outs}
@@ -55,7 +55,7 @@ outs_none out waiting is none = subst₂ (λ (o : List (Option Out)) (w : List E
       counted = refl;
       own_places = λ i k one other stands there same. absurd (none_at PENDING_LIMIT i one stands);
       are_out = All-nil (IsOut (replicate PENDING_LIMIT None));
-      apart = λ i j d before within. absurd (omega arith);
+      separate = λ i j d before within. absurd (omega arith);
       waits = refl;
       refer = All-nil RefersBack;
     })
@@ -81,9 +81,9 @@ module _ {out : List (Option Out)} {due : List Posted} {ended : List Ended} {wai
 
   pub outs_post : (number : ℕ) (one : Out) → slice_get out number ≡ Some None
       → ((k : ℕ) (other : Out) → slice_get out k ≡ Some (Some other)
-      → Apart (posted_with k other) (posted_with number one))
+      → AreSeparate (posted_with k other) (posted_with number one))
       → Outs (set out number (Some one)) (due ++ posted_with number one ∷ []) ended waiting
-  outs_post number one free apart =
+  outs_post number one free separate =
       let p = posted_with number one in
       let within = slice_get_within out number None free in
       let after = set out number (Some one) in
@@ -113,8 +113,9 @@ module _ {out : List (Option Out)} {due : List Posted} {ended : List Ended} {wai
             (set_at out number k (Some one) (Some b) within at_k);
         are_out = subst (All (IsOut after)) (sym more)
             (All-push (IsOut after) (alive ended due) p (λ k d low. still _ (outs.are_out k d low)) here);
-        apart = subst (AllPairs Apart) (sym more)
-            (all_pairs_push Apart (alive ended due) p outs.apart (of_alive (λ q. Apart q p) apart));
+        separate = subst (AllPairs AreSeparate) (sym more)
+            (all_pairs_push AreSeparate (alive ended due) p outs.separate
+            (of_alive (λ q. AreSeparate q p) separate));
         waits = outs.waits;
         refer = outs.refer;
       }
@@ -126,10 +127,10 @@ module _ {out : List (Option Out)} {due : List Posted} {ended : List Ended} {wai
       own i k a b same (inl x) (inl y) = x.0 ∙ sym y.0
       own i k a b same (inl x) (inr y) =
           let s = x.1 in let is : one ≡ a = cc in
-          absurd ((apart k b y.1).two (sym same ∙ ap (λ (o : Out). o.place) (sym is)))
+          absurd ((separate k b y.1).two (sym same ∙ ap (λ (o : Out). o.place) (sym is)))
       own i k a b same (inr x) (inl y) =
           let s = y.1 in let is : one ≡ b = cc in
-          absurd ((apart i a x.1).two (same ∙ ap (λ (o : Out). o.place) (sym is)))
+          absurd ((separate i a x.1).two (same ∙ ap (λ (o : Out). o.place) (sym is)))
       own i k a b same (inr x) (inr y) = outs.own_places i k a b x.1 y.1 same
 
   -- a command that was due has ended
@@ -155,8 +156,8 @@ module _ {out : List (Option Out)} {due : List Posted} {ended : List Ended} {wai
         own_places = outs.own_places;
         are_out = subst (All (IsOut out)) (sym moved)
             (all_moved due j p stands (IsOut out) before outs.are_out);
-        apart = subst (AllPairs Apart) (sym moved)
-            (pairs_moved due j p stands Apart apart_turned before outs.apart);
+        separate = subst (AllPairs AreSeparate) (sym moved)
+            (pairs_moved due j p stands AreSeparate separate_turned before outs.separate);
         waits = ap (λ (es : List End). es ++ e ∷ []) outs.waits
             ∙ sym (map_push (λ (d : Ended). d.end) ended new);
         refer = All-push RefersBack ended new outs.refer refers;
@@ -191,7 +192,7 @@ module _ {out : List (Option Out)} {due : List Posted} {first : Ended} {ended : 
       place in
       let here : Some (Some one) ≡ Some (Some own.one) = sym stands ∙ ap (slice_get out) index ∙ own.stands in
       let is : one ≡ own.one = cc in
-      let others = pairs_first Apart first.posted (alive ended due) outs.apart in
+      let others = pairs_first AreSeparate first.posted (alive ended due) outs.separate in
       let was : (k : ℕ) (other : Out) → slice_get (set out number None) k ≡ Some (Some other)
       → slice_get out k ≡ Some (Some other) =
       λ k other there. (freed_at out number k other (slice_get_within out number _ stands) there).1 in
@@ -211,7 +212,7 @@ module _ {out : List (Option Out)} {due : List Posted} {first : Ended} {ended : 
               ∙ (let both : Some (Some it.one) ≡ Some (Some one) = sym it.stands ∙ ap (slice_get out) same
               ∙ stands in let one_is : it.one ≡ one = cc in sym (ap (λ (o : Out). o.place) one_is))
               ∙ ap (λ (p : Posted). p.place) it.is));
-          apart = pairs_rest Apart first.posted (alive ended due) outs.apart;
+          separate = pairs_rest AreSeparate first.posted (alive ended due) outs.separate;
           waits = cc;
           refer = All-tail RefersBack first ended outs.refer;
         };

@@ -8,7 +8,7 @@ use Rattle.uda_disk.specs.Request.{Request}
 use Rattle.uda_disk.specs.Answer.{Answer}
 use Rattle.uda_disk.specs.PlainRun.{posted_count}
 use Rattle.uda_posting.specs.Posting.{Posted, commands_in}
-use Rattle.uda_posting.specs.Keeping.{Ended, Keeps, RefersBack, Apart, alive}
+use Rattle.uda_posting.specs.Keeping.{Ended, Keeps, RefersBack, AreSeparate, alive}
 use Rattle.uda_disk.specs.Values.{request_values, answer_values}
 use Rattle.uda_disk.specs.declared.request.Request.{Request as CodeRequest}
 use Rattle.uda_disk.specs.declared.answer.Answer.{Answer as CodeAnswer}
@@ -26,7 +26,7 @@ pub record Outs (out : List (Option Out)) (due : List Posted) (ended : List Ende
   pub counted : count_out out ≡ length (alive ended due)
   pub own_places : HaveOwnPlaces out
   pub are_out : All (IsOut out) (alive ended due)
-  pub apart : AllPairs Apart (alive ended due)
+  pub separate : AllPairs AreSeparate (alive ended due)
   pub waits : waiting ≡ map (λ d. d.end) ended
   pub refer : All RefersBack ended
 

@@ -24,8 +24,8 @@ use Rattle.uda_disk.proofs.Lists.{map-remove, All-remove, All-at, All-front, sli
 use Rattle.uda_disk.specs.Units.{Units}
 use Rattle.uda_model.specs.Ledger.{untold, NoneToCome}
 use Rattle.uda_posting.specs.Posting.{answer_of, Posted, posted_command, commands_in, buffer_of, Ready}
-use Rattle.uda_posting.specs.Keeping.{Misses, Beside, IsReadyIn, IsNotAt, Apart, Owes, Ended, answer_now, Tells, EndedNotAt, alive, Keeps}
-use Rattle.uda_posting.proofs.Owing.{apart_others, is_told, due_start, due_skip, due_post, due_before, due_back, due_done, due_none, owes_start, owes_done}
+use Rattle.uda_posting.specs.Keeping.{Misses, Beside, IsReadyIn, IsNotAt, AreSeparate, Owes, Ended, answer_now, Tells, EndedNotAt, alive, Keeps}
+use Rattle.uda_posting.proofs.Owing.{separate_others, is_told, due_start, due_skip, due_post, due_before, due_back, due_done, due_none, owes_start, owes_done}
 
 -- ---- memory
 
@@ -76,16 +76,17 @@ all_ended P (e ∷ ended) due all = All-cons (λ (d : Ended). P d.posted) e ende
     (All-head P e.posted (alive ended due) all)
     (all_ended P ended due (All-tail P e.posted (alive ended due) all))
 
--- one that is due is apart from those that have ended, and so are those that are due among them
-ended_apart : (ended : List Ended) (due : List Posted) (j : ℕ) (p : Posted) → AllPairs Apart (alive ended due)
-    → slice_get due j ≡ Some p → All (λ d. Apart d.posted p) ended × AllPairs Apart due
-ended_apart [] due j p apart at = (All-nil (λ (d : Ended). Apart d.posted p), apart)
-ended_apart (d ∷ rest) due j p apart at =
-    let others = ended_apart rest due j p (pairs_rest Apart d.posted (alive rest due) apart) at in
-    let own = All-at (Apart d.posted) due j p
-    (all_behind (Apart d.posted) (map (λ (e : Ended). e.posted) rest) due
-    (pairs_first Apart d.posted (alive rest due) apart)) at in
-    (All-cons (λ (e : Ended). Apart e.posted p) d rest own others.0, others.1)
+-- one that is due is separate from those that have ended, and so are those that are due among them
+ended_separate : (ended : List Ended) (due : List Posted) (j : ℕ) (p : Posted)
+    → AllPairs AreSeparate (alive ended due)
+    → slice_get due j ≡ Some p → All (λ d. AreSeparate d.posted p) ended × AllPairs AreSeparate due
+ended_separate [] due j p separate at = (All-nil (λ (d : Ended). AreSeparate d.posted p), separate)
+ended_separate (d ∷ rest) due j p separate at =
+    let others = ended_separate rest due j p (pairs_rest AreSeparate d.posted (alive rest due) separate) at in
+    let own = All-at (AreSeparate d.posted) due j p
+    (all_behind (AreSeparate d.posted) (map (λ (e : Ended). e.posted) rest) due
+    (pairs_first AreSeparate d.posted (alive rest due) separate)) at in
+    (All-cons (λ (e : Ended). AreSeparate e.posted p) d rest own others.0, others.1)
 
 -- ---- the steps
 
@@ -165,9 +166,9 @@ module _ {start : Units} {requests : List Request} {n : ℕ} {due : List Posted}
 
   -- a command is done among those that are pending
   pub keeps_execute : {j : ℕ} {old new : ExecState} {e : End} {left : List ℕ} → old.pending ≡ commands_in due
-      → old.units ≡ units → AllPairs Apart (alive ended due)
+      → old.units ≡ units → AllPairs AreSeparate (alive ended due)
       → ExecutesAt j old memory e new left → Ends start requests n due ended answers j e new left
-  keeps_execute {j} {old} {new} {e} {left} waits are apart x =
+  keeps_execute {j} {old} {new} {e} {left} waits are separate x =
       let may : MayGo (commands_in due) j = subst (λ (cs : List Command). MayGo cs j) waits x.taken.may in
       let within : j < length due = omega (arith, may.stands, length-map due posted_command) in
       let blank : Posted = record {
@@ -182,11 +183,11 @@ module _ {start : Units} {requests : List Request} {n : ℕ} {due : List Posted}
       let is : x.command ≡ c = cc in
       let it : Executes c units memory e new.units left =
       rw (← are) (subst (λ (c : Command). Executes c old.units memory e new.units left) is x.executes) in
-      let two = ended_apart ended due j p apart at_p in
+      let two = ended_separate ended due j p separate at_p in
       let own = keeps.are_due.each j blank within in
       let new_end : Ended = record { posted = p; end = e } in
       let a = answer_now left new_end in let told = keeps.told in
-      let others = apart_others due j p two.1 at_p in
+      let others = separate_others due j p two.1 at_p in
       record {
         posted = p;
         stands = at_p;

@@ -27,7 +27,7 @@ use Rattle.uda_exec.proofs.Units.{faithful_stays, sure_stays}
 use Rattle.uda_model.specs.Ledger.{untold, told_by, IsToCome, NoneToCome, GoesBefore}
 use Rattle.uda_model.proofs.LedgerSteps.{ledger_opens, ledger_carries_out, ledger_closes}
 use Rattle.uda_posting.specs.Posting.{answer_of, Posted, posted_command, commands_in, buffer_of, Ready}
-use Rattle.uda_posting.specs.Keeping.{IsEarlier, IsNotAt, IsDue, AreDue, Apart, Owes}
+use Rattle.uda_posting.specs.Keeping.{IsEarlier, IsNotAt, IsDue, AreDue, AreSeparate, Owes}
 use Rattle.uda_posting.specs.Seeming.{bares, is_done, has_begun, outline, outlines, TellsTransfer, GoesAs, AllGoAs, SeemsPlain}
 use Rattle.uda_posting.proofs.Posts.{passes}
 use Rattle.uda_posting.proofs.Seemings.{look, step_looks, run_looks, plain_each, outline_same, goes_as, IsServed, served}
@@ -189,17 +189,18 @@ clash_turned r s h =
       ends,
     ) h
 
-pub apart_turned : (p q : Posted) → Apart p q → Apart q p
-apart_turned p q apart = record {
-  two = λ same. apart.two (sym same);
-  beside = λ meet. apart.beside (omega arith);
-  clear = clash_turned p.request q.request apart.clear;
+pub separate_turned : (p q : Posted) → AreSeparate p q → AreSeparate q p
+separate_turned p q separate = record {
+  two = λ same. separate.two (sym same);
+  beside = λ meet. separate.beside (omega arith);
+  clear = clash_turned p.request q.request separate.clear;
 }
 
-pub apart_others : (due : List Posted) (j : ℕ) (p : Posted) → AllPairs Apart due → slice_get due j ≡ Some p
-    → All (Apart p) (remove due j)
-apart_others due j p apart at = pairs_others Apart Apart
-    (λ y z two. (two, apart_turned y z two)) due j p apart at
+pub separate_others : (due : List Posted) (j : ℕ) (p : Posted) → AllPairs AreSeparate due
+    → slice_get due j ≡ Some p
+    → All (AreSeparate p) (remove due j)
+separate_others due j p separate at = pairs_others AreSeparate AreSeparate
+    (λ y z two. (two, separate_turned y z two)) due j p separate at
 
 -- ---- what is still to come
 
@@ -319,9 +320,10 @@ module _ {requests : List Request} {n : ℕ} {told : List Answer} {due : List Po
     at_p = slice_get-get_or due j d low
 
     -- one that may go goes before each older one that is to come
-    pub due_before : AllPairs Apart due → MayGo (commands_in due) j → (k : ℕ) (older : Request) → k < p.place
+    pub due_before : AllPairs AreSeparate due → MayGo (commands_in due) j → (k : ℕ) (older : Request)
+        → k < p.place
         → IsToCome requests told k older → GoesBefore older p.request
-    due_before apart may k older below it = elim (find due d k) [
+    due_before separate may k older below it = elim (find due d k) [
       | inl found ↦
           (let m = found.index in let q = get_or due m d in
           let first : m < j = elim (cases_lt m j) [
@@ -337,7 +339,7 @@ module _ {requests : List Request} {n : ℕ} {told : List Answer} {due : List Po
           subst (λ r. GoesBefore r p.request) is (record {
             passes = passes q p (may.passes m (posted_command q) (posted_command p) first
                 (command_at m found.low) (command_at j low));
-            clear = (apart m j d first low).clear;
+            clear = (separate m j d first low).clear;
           }))
       | inr none ↦ absurd (omega (arith, D.no_other k older it none, (D.each j d low).before))
     ]
@@ -348,11 +350,11 @@ module _ {requests : List Request} {n : ℕ} {told : List Answer} {due : List Po
             ∙ ap (option_map posted_command) (slice_get-get_or due m d low)
 
     -- it is done
-    pub due_done : (a : Answer) → a ≢ TooLong → AllPairs Apart due
+    pub due_done : (a : Answer) → a ≢ TooLong → AllPairs AreSeparate due
         → AreDue requests n (slice_set told p.place a) (remove due j)
-    due_done a new apart =
+    due_done a new separate =
         let own = D.each j d low in
-        let others = apart_others due j p apart at_p in
+        let others = separate_others due j p separate at_p in
         record {
           each = λ k q l.
               let was = All-remove (IsDue requests n told) due j D.each k q l in

@@ -50,7 +50,7 @@ pub record AreDue (requests : List Request) (n : ℕ) (told : List Answer) (due 
   pub untold : (k : ℕ) → n ≤ k → k < length requests → slice_get told k ≡ Some TooLong
 
 -- two that are out have places and buffers of their own, and don't clash
-pub record Apart (p q : Posted) : Type 0 where
+pub record AreSeparate (p q : Posted) : Type 0 where
   pub two : p.place ≢ q.place
   pub beside : Beside (posted_command p) (posted_command q)
   pub clear : NoClash p.request q.request
@@ -65,7 +65,7 @@ SureNeverFail units units_after =
 
 -- Over faithful stores the run is what was told, on the units' disks. Each failure was told once, and a store
 -- that never fails has not failed.
-pub record IsTrue (start : Units) (requests : List Request) (run : List Answer × Disks) (told : List Answer)
+pub record IsExact (start : Units) (requests : List Request) (run : List Answer × Disks) (told : List Answer)
     (units : Units) : Type 0 where
   pub same : run ≡ (told, disks_of units)
   pub errors : (u : ℕ)
@@ -78,7 +78,7 @@ pub record Owes (start : Units) (requests : List Request) (told : List Answer) (
   pub run : List Answer × Disks
   pub ledger : Ledger (disks_of start) requests run
   pub looks : outlines run ≡ outlines (told, disks_of units)
-  pub faithful : AllFaithful start → IsTrue start requests run told units
+  pub faithful : AllFaithful start → IsExact start requests run told units
   pub tell : AllTell requests told
   pub counted : length told ≡ length requests
   pub natures : natures_of units ≡ natures_of start

@@ -1,4 +1,4 @@
--- What requests that aren't done yet will make of the disks and of the answers.
+-- The effect on answers and disks of executing requests out of order.
 use Rattle.std.specs.Prelude.{◌≡◌, ℕ, ◌<◌, Bool, true, false, List, [], ◌∷◌, map, All, if◌then◌else◌}
 use Rattle.std.specs.Prelude.{Some, slice_get, slice_set}
 use Rattle.uda_disk.specs.Disk.{Disks}
@@ -7,7 +7,7 @@ use Rattle.uda_disk.specs.Answer.{Answer, TooLong}
 use Rattle.uda_disk.specs.PlainRun.{too_long, FixedRequest, requests_of, FitsRequest, step_of, PlainWithLosses}
 use Rattle.uda_disk.specs.Order.{NoClash, passes}
 
--- Where an answer is still to come, TooLong stands in its place. So it does where the request is too long.
+-- TooLong stands where an answer is still to come. It is also the answer of a request that is too long.
 abbrev pub is_to_come : Answer → Bool
 is_to_come TooLong = true
 is_to_come _ = false
@@ -15,7 +15,7 @@ is_to_come _ = false
 abbrev pub untold : List Request → List Answer
 untold requests = map (λ _. TooLong) requests
 
--- the requests whose answers are still to come are done, in their order
+-- the requests whose answers are still to come are executed in their order, from these disks
 abbrev pub finish : List FixedRequest → List Answer → Disks → List Answer × Disks
 finish [] told disks = (told, disks)
 finish (x ∷ rest) [] disks = ([], disks)
@@ -23,8 +23,8 @@ finish (x ∷ rest) (answer ∷ told) disks =
     let now = (if is_to_come answer then step_of x disks else (answer, disks)) in
     let later = finish rest told now.1 in (now.0 ∷ later.0, later.1)
 
--- However the requests end whose answers are still to come, doing them in their order from the disks as they
--- are now makes a plain run of all requests from the start.
+-- However the requests end whose answers are still to come, executing them in their order from the disks as
+-- they are now completes an in-order run of all requests from the start.
 abbrev pub Ledger : Disks → List Request → List Answer × Disks → Type 0
 Ledger start requests now =
     (fixed : List FixedRequest) → requests_of fixed ≡ requests → All FitsRequest fixed
@@ -36,16 +36,16 @@ Ledger start requests now =
 abbrev pub Opens : Type 0
 Opens = (start : Disks) (requests : List Request) → Ledger start requests (untold requests, start)
 
--- a request may be done before an older one: it may pass it, and they don't clash
+-- a request may be executed before an older one: it may pass it, and they don't clash
 pub record GoesBefore (older r : Request) : Type 0 where
   pub passes : passes older r ≡ true
   pub clear : NoClash older r
 
--- the request at place k is done, and its answer told
+-- the request at place k is executed, and its answer told
 abbrev pub told_by : ℕ → FixedRequest → List Answer × Disks → List Answer × Disks
 told_by k x w = let now = step_of x w.1 in (slice_set w.0 k now.0, now.1)
 
--- the answer of the request at place k is still to come
+-- it is the request at place k, and its answer is still to come
 pub record IsToCome (requests : List Request) (told : List Answer) (k : ℕ) (r : Request) : Type 0 where
   pub stands : slice_get requests k ≡ Some r
   pub short : too_long r ≡ false
@@ -54,7 +54,7 @@ pub record IsToCome (requests : List Request) (told : List Answer) (k : ℕ) (r 
 abbrev pub NoneToCome : List Request → List Answer → Type 0
 NoneToCome requests told = (k : ℕ) (r : Request) → IsToCome requests told k r → ⊥
 
--- one that may go before each older one whose answer is still to come is done
+-- a request is executed that may go before each older one whose answer is still to come
 abbrev pub CarriesOut : Type 0
 CarriesOut =
     (start : Disks) (requests : List Request) (now : List Answer × Disks) (k : ℕ) (x : FixedRequest)
@@ -62,7 +62,7 @@ CarriesOut =
     → ((i : ℕ) (older : Request) → i < k → IsToCome requests now.0 i older → GoesBefore older x.request)
     → FitsRequest x → Ledger start requests now → Ledger start requests (told_by k x now)
 
--- at last all answers are told but those of requests that are too long
+-- at the end only requests that are too long are left
 abbrev pub Closes : Type 0
 Closes =
     (start : Disks) (requests : List Request) (now : List Answer × Disks)

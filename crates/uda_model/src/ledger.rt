@@ -1,17 +1,19 @@
-//! The steps of the ledger.
+//! The laws of the ledger.
 ghost use Rattle.uda_model.specs.Ledger.{Opens, CarriesOut, Closes};
 
-/// Before the first is done all requests are due that aren't too long, and the disks are those of the start.
+/// Proves that the ledger holds at the start, when no answer is told.
 pub fn opens()
     ensures law { Opens }
 {}
 
-/// A request that is due and may go is done, and its answer told at its place.
+/// Proves that the ledger still holds after a request is executed that may go before each older one
+/// whose answer is still to come.
 pub fn carries_out()
     ensures law { CarriesOut }
 {}
 
-/// Where nothing is due any more, what was told is a plain run, with losses, of all requests.
+/// Proves that at the end, when only requests that are too long are left, the ledger is an in-order run
+/// with losses.
 pub fn closes()
     ensures law { Closes }
 {}

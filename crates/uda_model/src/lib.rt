@@ -1,11 +1,9 @@
-//! The ledger: what requests that are done in another order than they were asked in make of disks and
-//! answers.
+//! The ledger: the effect on answers and disks of executing requests out of order.
 //!
-//! Nothing here knows an image, a memory or a command. All requests of a list are due at first, but those that
-//! are too long, and they are done in whatever order they may go. The ledger (`specs/Ledger.antt`) says
-//! throughout that, however those that are due end, all of them together make a plain run, with losses, of
-//! the requests in their order. Its steps are laws, each the contract of a function of `ledger` that does
-//! nothing.
+//! Nothing here knows an image, a memory or a command. The ledger (`specs/Ledger.antt`) is a statement about the
+//! answers told so far and the disks as they are now. It says that executing the other requests in their order
+//! completes an in-order run, with losses, of all requests, however those requests end. Its steps are laws. Each
+//! is the contract of a function of `ledger` with an empty body.
 //!
 //! MSCP Basic Disk Functions Manual: command ordering.
 #![tactic(auto)]

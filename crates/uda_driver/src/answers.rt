@@ -71,7 +71,7 @@ pub(crate) fn answer_for(blank: Answer, request: &Request, end: End, buffer: &[u
         EndBody::Status { flags } => (flags, 0, 0),
         EndBody::Online { flags, size } => (flags, size, 0),
         EndBody::Moved { kind: _, bytes } => (0, 0, bytes),
-        _ => (0, 0, 0),
+        EndBody::Invalid | EndBody::Controller | EndBody::Available => (0, 0, 0),
     };
     let status = end.status;
     match request {

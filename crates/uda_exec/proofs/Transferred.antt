@@ -78,11 +78,7 @@ still_if _ none = absurd (cc)
 
 -- what it asks does not depend on memory
 pub act_of-same : (o : Op) (memory : List ℕ) → transfer_of o ≡ None → act_of o memory ≡ act_of o []
-act_of-same op.Controller memory none = refl
-act_of-same op.Status memory none = refl
-act_of-same op.Available memory none = refl
-act_of-same (op.Online soft) memory none = refl
-act_of-same _ memory none = absurd (cc)
+act_of-same o memory none = rw none refl
 
 pub bar-with_buffer : (odd missing : Bool) (found : Option Refusal) (disk : Disk) → bar_with odd missing (bar_by found disk) ≡ bar_by (with_buffer odd missing found) disk
 bar-with_buffer odd missing None disk = refl
@@ -176,14 +172,7 @@ told_there (Lost k left) n bs h e f =
 
 -- what a transfer asks, by its kind
 asks-transfer : (o : Op) (t : Transfer) (memory : List ℕ) → transfer_of o ≡ Some t → act_of o memory ≡ Some (asks_by t.kind t memory)
-asks-transfer op.Controller t memory is = absurd (cc)
-asks-transfer op.Status t memory is = absurd (cc)
-asks-transfer op.Available t memory is = absurd (cc)
-asks-transfer (op.Online soft) t memory is = absurd (cc)
-asks-transfer (op.Access bytes lbn) t memory is = let same : record { kind = kind.Access; bytes = bytes; lbn = lbn; buffer = 0 } ≡ t = cc in ap (λ (x : Transfer). Some (asks_by x.kind x memory)) same
-asks-transfer (op.Erase bytes lbn) t memory is = let same : record { kind = kind.Erase; bytes = bytes; lbn = lbn; buffer = 0 } ≡ t = cc in ap (λ (x : Transfer). Some (asks_by x.kind x memory)) same
-asks-transfer (op.Read bytes address lbn) t memory is = let same : record { kind = kind.Read; bytes = bytes; lbn = lbn; buffer = address } ≡ t = cc in ap (λ (x : Transfer). Some (asks_by x.kind x memory)) same
-asks-transfer (op.Write bytes address lbn) t memory is = let same : record { kind = kind.Write; bytes = bytes; lbn = lbn; buffer = address } ≡ t = cc in ap (λ (x : Transfer). Some (asks_by x.kind x memory)) same
+asks-transfer o t memory is = rw is refl
 
 module _ (t : Transfer) (memory : List ℕ) where
   pub extent-asks : (k : Kind) → extent_of (asks_by k t memory) ≡ Some (record { lbn = t.lbn; bytes = t.bytes; writes = changes_blocks k })

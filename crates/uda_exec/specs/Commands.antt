@@ -6,7 +6,7 @@ use Rattle.std.specs.Prelude.{option_map, unwrap_or, is_some, if◌then◌else�
 use Rattle.std.specs.Option.{option_map_or}
 use Rattle.uda_packet.specs.declared.command.Command.{Command}
 use Rattle.uda_packet.specs.declared.command.Op.{Op}
-use Rattle.uda_packet.specs.declared.command.Op.TheVariants.{Status, Controller, Available, Online}
+use Rattle.uda_packet.specs.declared.command.Op.TheVariants as op
 use Rattle.uda_packet.specs.declared.end.Kind.{Kind}
 use Rattle.uda_packet.specs.declared.end.Kind.TheVariants.{Access, Erase, Read, Write}
 use Rattle.uda_packet.specs.declared.transfer.Transfer.{Transfer}
@@ -29,28 +29,28 @@ changes_memory _ = false
 
 -- Set Controller Characteristics speaks of no unit
 abbrev pub is_controller : Op → Bool
-is_controller Controller = true
+is_controller op.Controller = true
 is_controller _ = false
 
 -- the same of any command: an operation that is no transfer names nothing
 abbrev pub is_transfer : Op → Bool
-is_transfer op = is_some (transfer_of op)
+is_transfer o = is_some (transfer_of o)
 
 abbrev pub bytes_asked : Op → ℕ
-bytes_asked op = option_map_or (λ t. t.bytes) (transfer_of op) 0
+bytes_asked o = option_map_or (λ t. t.bytes) (transfer_of o) 0
 
 abbrev pub blocks_asked : Op → ℕ
-blocks_asked op = option_map_or block_count (transfer_of op) 0
+blocks_asked o = option_map_or block_count (transfer_of o) 0
 
 abbrev pub buffer_start : Op → ℕ
-buffer_start op = option_map_or (λ t. t.buffer) (transfer_of op) 0
+buffer_start o = option_map_or (λ t. t.buffer) (transfer_of o) 0
 
 abbrev pub room_of : Op → ℕ
-room_of op = option_map_or room_in (transfer_of op) 0
+room_of o = option_map_or room_in (transfer_of o) 0
 
 -- how much of its buffer a command may change
 abbrev pub landing_of : Op → ℕ
-landing_of op = option_map_or (λ t. if changes_memory t.kind then t.bytes else 0) (transfer_of op) 0
+landing_of o = option_map_or (λ t. if changes_memory t.kind then t.bytes else 0) (transfer_of o) 0
 
 -- ---- the request that a command stands for
 
@@ -64,14 +64,24 @@ asks_by Erase t memory = ask.Erase t.lbn t.bytes
 asks_by Read t memory = ask.Read t.lbn t.bytes
 asks_by Write t memory = ask.Write t.lbn (bytes_at memory t.buffer t.bytes)
 
--- what a command asks of its unit: a Write brings its buffer's bytes; Set Controller Characteristics asks
--- nothing of one
+-- what a command that moves no blocks asks of its unit; Set Controller Characteristics asks nothing of one
+abbrev pub still_act : Op → Option Act
+still_act op.Controller = None
+still_act op.Status = Some ask.Status
+still_act op.Available = Some ask.Available
+still_act (op.Online soft) = Some (ask.Online (unwrap_or soft false))
+still_act (op.Access bytes lbn) = None
+still_act (op.Erase bytes lbn) = None
+still_act (op.Read bytes address lbn) = None
+still_act (op.Write bytes address lbn) = None
+
+abbrev pub act_by : Option Transfer → Op → List ℕ → Option Act
+act_by None o memory = still_act o
+act_by (Some t) o memory = Some (asks_by t.kind t memory)
+
+-- what a command asks of its unit: a Write brings its buffer's bytes
 abbrev pub act_of : Op → List ℕ → Option Act
-act_of Controller memory = None
-act_of Status memory = Some ask.Status
-act_of Available memory = Some ask.Available
-act_of (Online soft) memory = Some (ask.Online (unwrap_or soft false))
-act_of op memory = option_map (λ t. asks_by t.kind t memory) (transfer_of op)
+act_of o memory = act_by (transfer_of o) o memory
 
 abbrev pub request_asked : Command → List ℕ → Option Request
 request_asked c memory = option_map (λ act. record { unit = c.unit; act = act }) (act_of c.op memory)

@@ -12,7 +12,7 @@ use Rattle.uda_packet.specs.Opcode.{blank_body}
 use Rattle.uda_disk.specs.Status.{SUCCESS}
 use Rattle.uda_disk.specs.Disk.{Disk, Disks}
 use Rattle.uda_disk.specs.Request.{Act}
-use Rattle.uda_disk.specs.Answer.{Answer, Online, Status, Moved, Data, status_of}
+use Rattle.uda_disk.specs.Answer.{Answer, TooLong, Plain, Online, Status, Moved, Data, status_of}
 use Rattle.uda_disk.specs.Plain.{Bar, Barred, Free, bar_at, Outcome, is_lost, FitsCount, bytes_on, answer_by}
 use Rattle.uda_disk.specs.Plain.{disks_by, is_free}
 use Rattle.uda_exec.specs.Commands.{act_of, buffer_start, room_of}
@@ -43,7 +43,8 @@ body_for op (Online status flags size) = body.Online flags size
 body_for op (Status status flags) = body.Status flags
 body_for op (Moved status bytes) = plain_body op bytes
 body_for op (Data status bytes) = plain_body op (length bytes)
-body_for op _ = blank_body op
+body_for op (Plain status) = blank_body op
+body_for op TooLong = blank_body op
 
 abbrev pub end_for : Command → Answer → End
 end_for c answer = reply c (status_of answer) (body_for c.op answer)

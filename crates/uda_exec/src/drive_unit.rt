@@ -145,7 +145,7 @@ impl<S: BlockStore> DriveUnit<S> {
                 let (flags, size) = (self.mode.flags(), self.store.size());
                 reply(command, status, EndBody::Online { flags, size })
             }
-            _ => {
+            Op::Status => {
                 let status = if was_online {
                     status::SUCCESS
                 } else {
@@ -154,6 +154,11 @@ impl<S: BlockStore> DriveUnit<S> {
                 let flags = self.mode.flags();
                 reply(command, status, EndBody::Status { flags })
             }
+            Op::Controller
+            | Op::Access { .. }
+            | Op::Erase { .. }
+            | Op::Read { .. }
+            | Op::Write { .. } => unreachable!(),
         }
     }
 

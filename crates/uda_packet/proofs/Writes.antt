@@ -10,7 +10,9 @@ pub put_number : (place width n : ℕ) (text new : List ℕ) → place + width �
     → new ≡ little_bytes width n ++ drop width (mid_of place (48 - place) text)
     → put_mid place (48 - place) text new ≡ with_number (field place width) n text
 put_number place width n text new room long e =
-    let whole : take (48 - place) (drop place text) ≡ drop place text = take_all (48 - place) (drop place text) (omega (arith, length-drop place text)) in
-    let past : drop (48 - place) (drop place text) ≡ [] = drop_all (48 - place) (drop place text) (omega (arith, length-drop place text)) in
+    let fits : length (drop place text) ≤ 48 - place = omega (arith, length-drop place text) in
+    let whole : take (48 - place) (drop place text) ≡ drop place text =
+    take_all (48 - place) (drop place text) fits in
+    let past : drop (48 - place) (drop place text) ≡ [] = drop_all (48 - place) (drop place text) fits in
     let later : drop width (drop place text) ≡ drop (place + width) text = drop-drop width place text in
     rw (e, whole, past, append-nil, later) refl

@@ -8,37 +8,20 @@ use Rattle.uda_packet.specs.declared.command.Command.{Command}
 use Rattle.uda_packet.specs.declared.command.Op.{Op}
 use Rattle.uda_packet.specs.declared.end.End.{End}
 use Rattle.uda_packet.specs.declared.end.EndBody.{EndBody}
-use Rattle.uda_packet.specs.declared.end.EndBody.TheVariants as body
-use Rattle.uda_packet.specs.declared.end.Kind.{Kind}
-use Rattle.uda_packet.specs.declared.end.Kind.TheVariants as kind
 use Rattle.uda_packet.specs.declared.transfer.Transfer.{Transfer}
+use Rattle.uda_packet.specs.Commands.{body_row}
 use Rattle.uda_packet.specs.Opcode.{blank_body}
 use Rattle.uda_packet.specs.Transfer.{transfer_of}
 use Rattle.uda_disk.specs.Status.{status_name}
 use Rattle.uda_disk.specs.Display.{word_digits}
 
-abbrev pub kind_display : Kind → List ℕ
-kind_display kind.Access = codes "Access"
-kind_display kind.Erase = codes "Erase"
-kind_display kind.Read = codes "Read"
-kind_display kind.Write = codes "Write"
-
 -- what the command is called that a body answers
 abbrev pub body_name : EndBody → List ℕ
-body_name body.Invalid = codes "invalid command"
-body_name (body.Status flags) = codes "Get Unit Status"
-body_name body.Controller = codes "Set Controller Characteristics"
-body_name body.Available = codes "Available"
-body_name (body.Online flags size) = codes "Online"
-body_name (body.Moved which bytes) = kind_display which
+body_name b = (body_row b).name
 
 -- the numbers that it tells
 abbrev pub body_numbers : EndBody → List ℕ
-body_numbers (body.Status flags) = codes ", flags 0x" ++ word_digits flags
-body_numbers (body.Online flags size) =
-    codes ", flags 0x" ++ word_digits flags ++ codes ", " ++ decimal size ++ codes " blocks"
-body_numbers (body.Moved which bytes) = codes ", " ++ decimal bytes ++ codes " bytes"
-body_numbers _ = []
+body_numbers b = (body_row b).numbers
 
 abbrev pub body_display : EndBody → List ℕ
 body_display b = body_name b ++ body_numbers b

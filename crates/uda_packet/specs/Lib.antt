@@ -1,6 +1,7 @@
 pub mod Field
-pub mod Opcode
 pub mod Flags
+pub mod Commands
+pub mod Opcode
 pub mod Text
 pub mod Written
 pub mod Reading

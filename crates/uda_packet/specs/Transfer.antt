@@ -1,23 +1,15 @@
 -- What a transfer names. MSCP Basic Disk Functions Manual: transfer commands.
-use Rattle.std.specs.Prelude.{Bool, true, false, Option, Some, None}
+use Rattle.std.specs.Prelude.{Bool, true, false, Option}
 use Rattle.uda_packet.specs.declared.command.Op.{Op}
-use Rattle.uda_packet.specs.declared.command.Op.TheVariants as op
 use Rattle.uda_packet.specs.declared.end.Kind.{Kind}
 use Rattle.uda_packet.specs.declared.end.Kind.TheVariants as kind
 use Rattle.uda_packet.specs.declared.transfer.Transfer.{Transfer}
+use Rattle.uda_packet.specs.Commands.{row_of}
 
 -- an operation as a transfer, where it is one: an Access and an Erase have no buffer, which 0
 -- stands for
 abbrev pub transfer_of : Op → Option Transfer
-transfer_of (op.Access bytes lbn) =
-    Some (record { kind = kind.Access; bytes = bytes; lbn = lbn; buffer = 0 })
-transfer_of (op.Erase bytes lbn) =
-    Some (record { kind = kind.Erase; bytes = bytes; lbn = lbn; buffer = 0 })
-transfer_of (op.Read bytes address lbn) =
-    Some (record { kind = kind.Read; bytes = bytes; lbn = lbn; buffer = address })
-transfer_of (op.Write bytes address lbn) =
-    Some (record { kind = kind.Write; bytes = bytes; lbn = lbn; buffer = address })
-transfer_of _ = None
+transfer_of o = (row_of o).transfer
 
 -- an Erase and a Write change blocks
 abbrev pub changes_blocks : Kind → Bool

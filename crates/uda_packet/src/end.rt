@@ -1,14 +1,34 @@
 //! End messages.
 
-ghost use Rattle.std.specs.Prelude.{◌≡◌, Some};
+ghost use Rattle.std.specs.Prelude.{◌≡◌, ◌<◌, ◌≤◌, Some};
 ghost use Rattle.uda_packet.specs.Bad.{other_length_end};
-ghost use Rattle.uda_packet.specs.Opcode.{end_code};
-ghost use Rattle.uda_packet.specs.Display.{end_display, body_display, body_name, kind_display};
+ghost use Rattle.uda_packet.specs.Commands.{BodyFits, answer_entries, unit_entries, kind_display};
+ghost use Rattle.uda_packet.specs.Commands.{controller_entries, tells_status, tells_online};
+ghost use Rattle.uda_packet.specs.Commands.{transfer_opcode};
+ghost use Rattle.uda_packet.specs.Field.{with_entries};
+ghost use Rattle.uda_packet.specs.Opcode.{end_code, end_length, answered_opcode, body_named};
+ghost use Rattle.uda_packet.specs.Display.{end_display, body_display, body_name};
 
-use crate::field::{REFERENCE, UNIT};
-use crate::opcode::{END_CODE, Opcode};
+use crate::field::{
+    BYTE_COUNT, IDENTIFIER, MEDIA_TYPE, REFERENCE, Text, UNIT, UNIT_FLAGS, UNIT_SIZE,
+};
 use crate::status;
+use crate::status::{ALREADY_ONLINE, AVAILABLE, SUCCESS};
 use std::fmt;
+
+// An end code is the opcode that it answers with this bit set.
+const END_CODE: u8 = 0x80;
+
+// The class of a disk unit, in the highest byte of its identifier.
+const DISK: u64 = 2 << 56;
+
+// The controller's identifier: its number 1, its model 6 and its class 1, a mass storage
+// controller.
+const CONTROLLER: u64 = 0x0106_0000_0000_0001;
+
+// The media type of every drive, an RA81's: the device `DU`, the medium `RA` and its number 81, in
+// five letters of five bits and a number of seven.
+const MEDIA: u32 = 0x2564_1051;
 
 /// An end message: how a command went.
 ///
@@ -98,27 +118,129 @@ pub enum EndBody {
 }
 
 impl EndBody {
-    /// The end code: the opcode of the command that the body answers with bit 7 set, and that bit alone where
-    /// it answers none.
+    /// The end code: the opcode of the command that the body answers with bit 7 set, and that bit
+    /// alone where it answers none.
     ///
     /// MSCP Basic Disk Functions Manual: end codes.
     pub fn code(self) -> u8
         ensures code { result ≡ end_code self }
     {
-        END_CODE + Opcode::of_body(&self).map_or(0, Opcode::number)
+        END_CODE + self.opcode()
+    }
+
+    /// How many bytes the manual gives an end message with this body.
+    ///
+    /// MSCP Basic Disk Functions Manual: end messages.
+    pub fn length(self) -> u16
+        ensures length { result ≡ end_length self }
+        ensures within { result ≤ 48 }
+    {
+        self.row().length
     }
 
     /// What the command is called that the body answers, and `invalid command` where that was none.
     pub fn name(self) -> &'static str
         ensures name { result.now ≡ body_name self }
     {
+        self.row().name
+    }
+
+    // The opcode that the body answers, 0 where it answers none.
+    pub(crate) fn opcode(self) -> u8
+        ensures value { result ≡ answered_opcode self }
+        ensures below { result < 128 }
+    {
+        self.row().opcode
+    }
+
+    // What tells the body from the others, without its numbers.
+    fn row(self) -> BodyRow
+        ensures opcode { result.opcode ≡ answered_opcode self }
+        ensures below { result.opcode < 128 }
+        ensures length { result.length ≡ end_length self }
+        ensures within { result.length ≤ 48 }
+        ensures name { result.name.now ≡ body_name self }
+    {
         match self {
-            EndBody::Invalid => "invalid command",
-            EndBody::Status { .. } => "Get Unit Status",
-            EndBody::Controller => "Set Controller Characteristics",
-            EndBody::Available => "Available",
-            EndBody::Online { .. } => "Online",
-            EndBody::Moved { kind, .. } => kind.name(),
+            EndBody::Invalid => BodyRow::new(0, 12, "invalid command"),
+            EndBody::Status { .. } => BodyRow::new(3, 48, "Get Unit Status"),
+            EndBody::Controller => BodyRow::new(4, 32, "Set Controller Characteristics"),
+            EndBody::Available => BodyRow::new(8, 12, "Available"),
+            EndBody::Online { .. } => BodyRow::new(9, 44, "Online"),
+            EndBody::Moved { kind, .. } => BodyRow::new(kind.opcode(), 32, kind.name()),
+        }
+    }
+
+    // The body of an end code, with the numbers that stand in the text.
+    pub(crate) fn of_code(code: u8, text: &Text) -> Option<EndBody>
+        ensures { result ≡ body_named code text.now }
+    {
+        let moved = |kind| EndBody::Moved {
+            kind,
+            bytes: BYTE_COUNT.get(text),
+        };
+        Some(match code {
+            0x80 => EndBody::Invalid,
+            0x83 => EndBody::Status {
+                flags: UNIT_FLAGS.get(text),
+            },
+            0x84 => EndBody::Controller,
+            0x88 => EndBody::Available,
+            0x89 => EndBody::Online {
+                flags: UNIT_FLAGS.get(text),
+                size: UNIT_SIZE.get(text),
+            },
+            0x90 => moved(Kind::Access),
+            0x92 => moved(Kind::Erase),
+            0xa1 => moved(Kind::Read),
+            0xa2 => moved(Kind::Write),
+            _ => return None,
+        })
+    }
+
+    // Writes what stands after the status of an end message.
+    pub(crate) fn put(self, text: &mut Text, unit: u16, status: u16)
+        ensures written { text.new ≡ with_entries (answer_entries unit status self) text.old }
+        ensures fits { BodyFits self }
+    {
+        match self {
+            EndBody::Invalid | EndBody::Available => {}
+            EndBody::Status { flags } => {
+                UNIT_FLAGS.put(text, flags);
+                put_unit(text, unit, tells_status(status));
+            }
+            EndBody::Controller => put_controller(text, status == SUCCESS),
+            EndBody::Online { flags, size } => {
+                UNIT_FLAGS.put(text, flags);
+                put_unit(text, unit, tells_online(status));
+                UNIT_SIZE.put(text, size);
+            }
+            EndBody::Moved { bytes, .. } => BYTE_COUNT.put(text, bytes),
+        }
+    }
+}
+
+// What tells the body of one end message from another.
+#[derive(Clone, Copy)]
+struct BodyRow {
+    // The opcode that it answers, 0 where it answers none.
+    opcode: u8,
+    // How many bytes its text has.
+    length: u16,
+    // What the command is called.
+    name: &'static str,
+}
+
+impl BodyRow {
+    fn new(opcode: u8, length: u16, name: &'static str) -> BodyRow
+        ensures opcode { result.opcode ≡ opcode }
+        ensures length { result.length ≡ length }
+        ensures name { result.name.now ≡ name.now }
+    {
+        BodyRow {
+            opcode,
+            length,
+            name,
         }
     }
 }
@@ -135,7 +257,7 @@ impl fmt::Display for EndBody {
                 write!(f, "{name}, flags 0x{flags:04x}, {size} blocks")
             }
             EndBody::Moved { bytes, .. } => write!(f, "{name}, {bytes} bytes"),
-            _ => f.write_str(name),
+            EndBody::Invalid | EndBody::Controller | EndBody::Available => f.write_str(name),
         }
     }
 }
@@ -154,6 +276,19 @@ pub enum Kind {
 }
 
 impl Kind {
+    // The opcode of such a transfer.
+    fn opcode(self) -> u8
+        ensures opcode { result ≡ transfer_opcode self }
+        ensures below { result < 128 }
+    {
+        match self {
+            Kind::Access => 16,
+            Kind::Erase => 18,
+            Kind::Read => 33,
+            Kind::Write => 34,
+        }
+    }
+
     /// What the transfer is called.
     pub fn name(self) -> &'static str
         ensures name { result.now ≡ kind_display self }
@@ -172,5 +307,38 @@ impl fmt::Display for Kind {
 
     fn fmt<W: fmt::Write>(&self, f: &mut fmt::Formatter<W>) -> fmt::Result {
         f.write_str(self.name())
+    }
+}
+
+// Whether an end message of Get Unit Status tells identifier and media type.
+fn tells_status(status: u16) -> bool
+    ensures { result ≡ tells_status status }
+{
+    status == SUCCESS || status == AVAILABLE
+}
+
+// Whether an end message of Online tells identifier and media type.
+fn tells_online(status: u16) -> bool
+    ensures { result ≡ tells_online status }
+{
+    status == SUCCESS || status == ALREADY_ONLINE
+}
+
+// Writes identifier and media type of a unit, where they are told.
+fn put_unit(text: &mut Text, unit: u16, told: bool)
+    ensures { text.new ≡ with_entries (unit_entries told unit) text.old }
+{
+    if told {
+        IDENTIFIER.put(text, DISK + u64::from(unit));
+        MEDIA_TYPE.put(text, MEDIA);
+    }
+}
+
+// Writes the controller's identifier, where it is told.
+fn put_controller(text: &mut Text, told: bool)
+    ensures { text.new ≡ with_entries (controller_entries told) text.old }
+{
+    if told {
+        IDENTIFIER.put(text, CONTROLLER);
     }
 }

@@ -3,7 +3,7 @@
 //! MSCP Basic Disk Functions Manual: command and end message formats.
 
 ghost use Rattle.std.specs.Prelude.{◌≡◌, ◌+◌, ◌≤◌};
-ghost use Rattle.uda_packet.specs.Field.{field, number_in, with_number};
+ghost use Rattle.uda_packet.specs.Field.{code_field, field, number_in, with_number};
 
 use byteorder::{ByteOrder, LittleEndian};
 
@@ -35,6 +35,13 @@ pub(crate) const LBN: Long = Long(28);
 pub(crate) const MEDIA_TYPE: Long = Long(28);
 
 pub(crate) const UNIT_SIZE: Long = Long(36);
+
+// The opcode or end code of a text.
+pub(crate) fn code_in(text: &Text) -> u8
+    ensures { result ≡ number_in code_field text.now }
+{
+    text[CODE]
+}
 
 // A field of two bytes, by its first.
 #[derive(Clone, Copy)]

@@ -20,7 +20,6 @@ mod end;
 mod envelope;
 mod field;
 mod flags;
-mod opcode;
 mod transfer;
 
 pub use bad::{Bad, BadKind};

@@ -3,9 +3,8 @@
 //! MSCP Basic Disk Functions Manual: transfer commands.
 
 ghost use Rattle.std.specs.Prelude.{◌≡◌};
-ghost use Rattle.uda_packet.specs.Transfer.{transfer_of, changes_blocks, has_buffer};
+ghost use Rattle.uda_packet.specs.Transfer.{changes_blocks, has_buffer};
 
-use crate::command::Op;
 use crate::end::Kind;
 
 /// What a transfer names, whichever of the four it is.
@@ -17,39 +16,10 @@ pub struct Transfer {
     pub kind: Kind,
     /// How many bytes.
     pub bytes: u32,
-    /// The first logical lbn.
+    /// The first logical block.
     pub lbn: u32,
     /// Where the host's buffer begins; 0 for an Access or an Erase, which have none.
     pub buffer: u32,
-}
-
-impl Op {
-    /// What the operation names as a transfer; `None` where it is none.
-    pub fn transfer(self) -> Option<Transfer>
-        ensures transfer { result ≡ transfer_of self }
-    {
-        let (kind, bytes, lbn, buffer) = match self {
-            Op::Access { bytes, lbn } => (Kind::Access, bytes, lbn, 0),
-            Op::Erase { bytes, lbn } => (Kind::Erase, bytes, lbn, 0),
-            Op::Read {
-                bytes,
-                address,
-                lbn,
-            } => (Kind::Read, bytes, lbn, address),
-            Op::Write {
-                bytes,
-                address,
-                lbn,
-            } => (Kind::Write, bytes, lbn, address),
-            _ => return None,
-        };
-        Some(Transfer {
-            kind,
-            bytes,
-            lbn,
-            buffer,
-        })
-    }
 }
 
 impl Kind {

@@ -4,8 +4,7 @@ use Rattle.std.specs.Prelude.{◌≡◌, ℕ, ◌+◌, ◌-◌, ◌%◌, ◌≤�
 use Rattle.uda_mem.specs.Put.{put, part}
 use Rattle.uda_mem.specs.Words.{word_at, word_bytes}
 use Rattle.uda_packet.specs.declared.end.End.{End}
-use Rattle.uda_packet.specs.declared.end.EndBody.{EndBody}
-use Rattle.uda_packet.specs.declared.end.EndBody.TheVariants as body
+use Rattle.uda_packet.specs.Opcode.{end_length}
 use Rattle.uda_packet.specs.Written.{written_end}
 use Rattle.uda_port.specs.declared.packet.Fetched.{Fetched}
 use Rattle.uda_port.specs.declared.profile.Profile.{Profile}
@@ -38,15 +37,6 @@ pub record TellsRoom (memory : List ℕ) (at : ℕ) : Type 0 where
 abbrev pub HasRoom : Profile → List ℕ → ℕ → ℕ → Type 0
 HasRoom Strict memory at n = TellsRoom memory at
 HasRoom ForGuests memory at n = HasText memory at n
-
--- how many bytes an end message of each kind has
-abbrev pub end_length : EndBody → ℕ
-end_length body.Invalid = 12
-end_length (body.Status flags) = 48
-end_length body.Controller = 32
-end_length body.Available = 12
-end_length (body.Online flags size) = 44
-end_length (body.Moved which moved) = 32
 
 -- the text of an end as it is delivered: strictly always 48 bytes, to a guest those of its kind
 abbrev pub end_text : Profile → End → List ℕ

@@ -3,10 +3,10 @@
 //! UDA50 Programmer's Documentation Kit: message envelopes.
 ghost use Rattle.std.specs.Prelude.{◌≡◌, ◌≤◌, ◌↔◌, IsTrue, IsSome, IfSome, length};
 ghost use Rattle.uda_port.specs.Packet.{HasPacket, HasText, IsPacketAt, TellsRoom, HasRoom};
-ghost use Rattle.uda_port.specs.Packet.{end_length, packet_put};
+ghost use Rattle.uda_port.specs.Packet.{packet_put};
 
 use crate::profile::Profile;
-use uda_packet::{EndBody, Envelope};
+use uda_packet::Envelope;
 
 /// The bytes of a text.
 pub(crate) const TEXT: u16 = 48;
@@ -52,19 +52,6 @@ pub(crate) fn packet_at(memory: &[u8], address: u32) -> Option<Fetched>
         words: (first, second),
         text,
     })
-}
-
-/// How many bytes an end message of each kind has.
-pub(crate) fn end_length(body: &EndBody) -> u16
-    ensures length { result ≡ end_length body.now }
-    ensures within { result ≤ 48 }
-{
-    match body {
-        EndBody::Invalid | EndBody::Available => 12,
-        EndBody::Controller | EndBody::Moved { .. } => 32,
-        EndBody::Online { .. } => 44,
-        EndBody::Status { .. } => 48,
-    }
 }
 
 /// Whether a packet with a text of so many bytes can be written at an address: it lies in memory, and

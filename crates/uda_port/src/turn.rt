@@ -16,7 +16,7 @@ ghost use Rattle.uda_packet.specs.Reading.{read_end};
 ghost use Rattle.uda_packet.specs.Written.{written_end};
 
 use crate::message::message_in;
-use crate::packet::{Delivery, end_length};
+use crate::packet::Delivery;
 use crate::phase::{Fatal, Phase};
 use crate::port::Port;
 use crate::profile::Profile;
@@ -311,7 +311,7 @@ fn put_end(
     match delivery.profile {
         Profile::Strict => responses.put(memory, delivery, &text),
         Profile::ForGuests => {
-            let size = usize::from(end_length(&end.body));
+            let size = usize::from(end.body.length());
             responses.put(memory, delivery, &text[..size])
         }
     }

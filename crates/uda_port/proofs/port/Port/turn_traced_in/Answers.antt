@@ -3,7 +3,7 @@ use Rattle.std.specs.Prelude.{slice_get, IsSome}
 use Rattle.circular_buffer.specs.Buffer.{last_item}
 use Rattle.uda_packet.specs.declared.end.End.{End}
 use Rattle.uda_port.specs.Port.{PortState}
-use Rattle.uda_port.specs.Trace.{Traces, IsDead}
+use Rattle.uda_port.specs.Trace.{IsDead}
 use Rattle.uda_port.proofs.TraceLaws.{fetched, executed, delivered, died, ends_with, told_command, told_refusal, told_first}
 use Rattle.uda_port.proofs.port.Port.turn_traced_in.Goals as goal
 use Rattle.uda_port.proofs.port.Port.turn_traced_in.Goals.{in-Fetched, in-Fetched-2, in-Executed, in-Delivered, in-Idle, in-Dead}

@@ -1,15 +1,14 @@
-/* uda50.h: a UDA50 disk controller for a program in C, as for an emulator of a PDP-11 or a VAX.
+/* uda50.h: a simulated UDA50 disk controller, as for an emulator of a PDP-11 or a VAX.
 
-   A handle stands for one controller. It is all zero at first; the program hands over its address, never
-   copies it, and leaves what is in it alone. Every function may be called on every handle: on one without a
-   controller, that was never made or was freed, it changes nothing and answers UDA_NO_CONTROLLER, or 0.
+   The functions stand in groups: lifecycle, drives, registers, turns, inspection, and failures for tests.
 
-   A handle is used by one call at a time; other threads may use other handles meanwhile. Nothing waits, and no
-   call but uda_new and uda_last_text takes memory.
+   A `uda50` is the handle of one controller. Set it to zero before its first use, pass its address, and neither copy
+   it nor write into it. Every function accepts every handle. On a handle without a controller it changes nothing
+   and returns UDA50_NO_CONTROLLER, or 0 or false where its result is no status.
 
-   Guest memory is handed to each call that touches it, as a pointer that isn't null and a number of bytes. It
-   is used in place, lent for the call, and may be other memory at the next. Words are stored low byte first, so
-   an array of uint16_t serves on a little-endian machine alone. */
+   Guest memory is passed to each call that uses it, as a pointer and a number of bytes. The library reads and
+   writes it in place during that call alone, so the next call may pass other memory. A word is stored low byte
+   first: an array of uint16_t serves on a little-endian machine only. */
 #ifndef UDA50_H
 #define UDA50_H
 
@@ -21,148 +20,167 @@
 extern "C" {
 #endif
 
+/* The version of this header: 10000 * major + 100 * minor + patch. */
+#define UDA50_VERSION_MAJOR 0
+#define UDA50_VERSION_MINOR 1
+#define UDA50_VERSION_PATCH 0
+#define UDA50_VERSION (10000 * UDA50_VERSION_MAJOR + 100 * UDA50_VERSION_MINOR + UDA50_VERSION_PATCH)
+
 typedef struct {
     void *at;
 } uda50;
 
-/* The bytes of an image, 512 a block: a pointer that isn't null, even where there are none. While a unit has
-   them nobody else reads or writes them. A file that is mapped may serve, and must not be shortened. */
+/* The bytes of a disk image, 512 for each block. `at` isn't null, even if `length` is 0. */
 typedef struct {
     uint8_t *at;
     size_t length;
 } uda50_image;
 
-/* What is answered. */
+/* What a call returns as its status. A failed call has changed nothing, except that uda50_new has freed what the
+   handle had. */
 enum {
-    UDA_OK = 0,
-    UDA_NO_CONTROLLER = 64, /* the handle has none */
-    UDA_NO_MEMORY = 65,
-    UDA_NO_SUCH_UNIT = 66,  /* the units are 0 to 3 */
-    UDA_UNIT_TAKEN = 67,    /* the unit has an image */
-    UDA_UNIT_EMPTY = 68,    /* the unit has none */
-    UDA_BAD_LENGTH = 69,    /* an image isn't a whole number of blocks, or guest memory has an odd length */
-    UDA_TOO_LONG = 70       /* an image has more than 891,072 blocks, or guest memory more than 4 MB */
+    UDA50_OK = 0,
+    UDA50_NO_CONTROLLER = 64,    /* the handle has no controller */
+    UDA50_NO_MEMORY = 65,        /* an allocation failed */
+    UDA50_NO_SUCH_UNIT = 66,     /* the unit isn't 0 to 3 */
+    UDA50_ALREADY_ATTACHED = 67, /* the unit has an image */
+    UDA50_NOT_ATTACHED = 68,     /* the unit has no image */
+    UDA50_BAD_LENGTH = 69,       /* an image isn't a whole number of blocks, or guest memory has an odd length */
+    UDA50_TOO_LARGE = 70         /* an image has more than 891,072 blocks, or guest memory more than 4 MB */
 };
 
-/* What a turn did, as uda_turn answers it. */
+/* What a turn did, as uda50_turn and uda50_run return it. */
 enum {
-    UDA_IDLE = 0,      /* nothing: the port is in start-up, has nothing to do, or no descriptor for an end */
-    UDA_FETCHED = 1,   /* a packet was fetched from the command ring */
-    UDA_EXECUTED = 2,  /* a command was executed, and its end waits */
-    UDA_DELIVERED = 3, /* an end was put into the response ring */
-    UDA_DEAD = 4       /* the port is dead, it may be of this turn, and SA shows of what */
+    UDA50_IDLE = 0,      /* nothing: the port isn't running, has nothing to do, or lacks a response descriptor */
+    UDA50_FETCHED = 1,   /* it fetched a packet from the command ring */
+    UDA50_EXECUTED = 2,  /* it executed a command and queued its end message */
+    UDA50_DELIVERED = 3, /* it delivered an end message to the response ring */
+    UDA50_DEAD = 4       /* the port is dead, perhaps since this turn; SA has the code of the fatal error */
 };
 
-/* What uda_last tells of a turn beside these. */
+/* What the kind of a uda50_turn_record can be besides. */
 enum {
-    UDA_REFUSED = 5,   /* a packet was fetched that is no command, and the end that says so waits */
-    UDA_NO_TURN = 6    /* no turn was taken yet */
+    UDA50_INVALID_COMMAND = 5, /* it fetched a packet that is no command, and queued the end message that says so */
+    UDA50_NO_TURN = 6          /* there was no turn yet */
 };
 
-/* What the port is doing. */
+/* The port's phases. */
 enum {
-    UDA_PHASE_STEP_1 = 1,
-    UDA_PHASE_STEP_2 = 2,
-    UDA_PHASE_STEP_3 = 3,
-    UDA_PHASE_PURGE = 4,   /* it waits for 0 in SA */
-    UDA_PHASE_POLL = 5,    /* it waits for a read of IP */
-    UDA_PHASE_STEP_4 = 6,
-    UDA_PHASE_RUNNING = 7,
-    UDA_PHASE_DEAD = 8
+    UDA50_PHASE_STEP_1 = 1,
+    UDA50_PHASE_STEP_2 = 2,
+    UDA50_PHASE_STEP_3 = 3,
+    UDA50_PHASE_PURGE_TEST = 4, /* it waits for 0 in SA */
+    UDA50_PHASE_POLL_TEST = 5,  /* it waits for a read of IP */
+    UDA50_PHASE_STEP_4 = 6,
+    UDA50_PHASE_RUNNING = 7,
+    UDA50_PHASE_DEAD = 8
 };
 
-/* Makes a controller without images, whose port stands in step 1 of its start-up: for guests as they were
-   shipped, or strict, which is for whoever tests a driver. What the handle had is freed first. UDA_OK, or
-   UDA_NO_MEMORY, and then the handle has no controller. */
-uint32_t uda_new(uda50 *handle, bool for_guests);
+/* ---- Lifecycle ---- */
 
-/* The controller goes, and the program has its images again. */
-void uda_free(uda50 *handle);
+/* Returns the library's version, as UDA50_VERSION is made. */
+uint32_t uda50_version(void);
 
-/* Gives unit 0 to 3 an image, while the guest runs, too: the unit is then available. Where `hard` is set no
-   command changes its bytes. The image is the library's until uda_detach or uda_free. UDA_OK, or in this order
-   UDA_NO_SUCH_UNIT, UDA_UNIT_TAKEN, UDA_BAD_LENGTH, UDA_TOO_LONG, and then nothing has changed. */
-uint32_t uda_attach(uda50 *handle, uint32_t unit, uda50_image image, bool hard);
+/* Makes a controller without images, in step 1 of the initialization. Its profile is the compatible one, for
+   software that was shipped, or else the strict one, for whoever tests a driver. What the handle had is freed first.
+   Returns UDA50_OK, or UDA50_NO_MEMORY, and then the handle has no controller. */
+uint32_t uda50_new(uda50 *handle, bool compatible);
 
-/* Takes the image of a unit away, whose bytes are the program's again, as the commands left them. UDA_OK,
-   UDA_NO_SUCH_UNIT or UDA_UNIT_EMPTY. */
-uint32_t uda_detach(uda50 *handle, uint32_t unit);
+/* Frees the controller, and the program has its images again. */
+void uda50_free(uda50 *handle);
 
-/* For whoever tests a driver: the unit's call number `call` for a block from now on fails, and no other; where
-   `call` is 0 none does. A read or a write of one block is a call, and they are counted together, from 1. A Read
-   or an Access that meets it ends with a drive error and the bytes of the blocks before; so does a Write or an
-   Erase, and of that block the first 256 bytes are new and the last 256 are old. The unit stays as it is else:
-   online, if it was. A later uda_fail_at takes the place of an earlier one, and uda_detach ends it. UDA_OK,
-   UDA_NO_SUCH_UNIT or UDA_UNIT_EMPTY. */
-uint32_t uda_fail_at(uda50 *handle, uint32_t unit, uint32_t call);
+/* ---- Drives ---- */
 
-/* The guest writes IP: start-up begins anew. */
-void uda_write_ip(uda50 *handle, uint16_t word);
+/* Gives unit 0 to 3 an image, also while the guest runs: the unit is then available. If `write_protected` is set,
+   no command changes the image. The image is the library's until uda50_detach or uda50_free. Returns UDA50_OK, or the
+   first that holds of UDA50_NO_SUCH_UNIT, UDA50_ALREADY_ATTACHED, UDA50_BAD_LENGTH and UDA50_TOO_LARGE. */
+uint32_t uda50_attach(uda50 *handle, uint32_t unit, uda50_image image, bool write_protected);
 
-/* The guest reads IP: a running port begins to look at its command ring. 0 is read. */
-uint16_t uda_read_ip(uda50 *handle);
+/* Takes a unit's image away. Its bytes are the program's again, as the commands left them. Returns UDA50_OK,
+   UDA50_NO_SUCH_UNIT or UDA50_NOT_ATTACHED. */
+uint32_t uda50_detach(uda50 *handle, uint32_t unit);
 
-/* The guest writes SA: a step of the start-up. */
-void uda_write_sa(uda50 *handle, uint16_t word, uint8_t *memory, size_t length);
+/* ---- Registers ---- */
 
-/* The guest reads SA: the step, 0 while the port runs, or bit 15 with the code of the fatal error. */
-uint16_t uda_read_sa(uda50 *handle);
+/* The guest writes IP: the initialization begins anew. */
+void uda50_write_ip(uda50 *handle, uint16_t word);
 
-/* One turn of the port: UDA_IDLE to UDA_DEAD; or UDA_BAD_LENGTH or UDA_TOO_LONG, and then nothing has changed. */
-uint32_t uda_turn(uda50 *handle, uint8_t *memory, size_t length);
+/* The guest reads IP: a running port begins to poll its command ring. Returns 0. */
+uint16_t uda50_read_ip(uda50 *handle);
 
-/* The request of an interrupt that waits, which is gone then: true, with the address of its vector in *vector;
-   false where none waits, and then *vector is left. To be called after each call that the guest
-   caused, and after each turn. */
-bool uda_take_interrupt(uda50 *handle, uint16_t *vector);
+/* The guest writes SA: a step of the initialization. */
+void uda50_write_sa(uda50 *handle, uint16_t word, uint8_t *memory, size_t length);
 
-/* Turns, one after another, until one answers UDA_IDLE or UDA_DEAD, and no more than `turns`. What the last of
-   them did is answered: so these two say that no turn does more now, and any other that the turns were used up.
-   Where ends wait after UDA_IDLE (`waiting` of uda_show) look again now and then, since a guest may give a
-   response descriptor by a write to memory alone. With 0 turns UDA_IDLE; else as uda_turn. */
-uint32_t uda_run(uda50 *handle, uint32_t turns, uint8_t *memory, size_t length);
+/* The guest reads SA. Returns the word of the step, 0 while the port runs, or bit 15 with the code of the fatal
+   error. */
+uint16_t uda50_read_sa(uda50 *handle);
 
-/* A ring: the address of its first descriptor, how many it has, and the place of the next. */
+/* Takes the pending interrupt request. Returns true, and *vector is the address of its vector; or returns false if
+   there is none, and *vector is as it was. Call it after each register access and after uda50_turn or uda50_run. */
+bool uda50_take_interrupt(uda50 *handle, uint16_t *vector);
+
+/* ---- Turns ---- */
+
+/* Runs one turn of the port. Returns UDA50_IDLE to UDA50_DEAD; or UDA50_BAD_LENGTH or UDA50_TOO_LARGE. */
+uint32_t uda50_turn(uda50 *handle, uint8_t *memory, size_t length);
+
+/* Runs up to `turns` turns, and stops after one that returns UDA50_IDLE or UDA50_DEAD. Returns what the last turn
+   did, or UDA50_IDLE if `turns` is 0; or UDA50_BAD_LENGTH or UDA50_TOO_LARGE. So UDA50_IDLE and UDA50_DEAD say that
+   another turn does nothing now, and any other number that the turns were used up. */
+uint32_t uda50_run(uda50 *handle, uint32_t turns, uint8_t *memory, size_t length);
+
+/* ---- Inspection: nothing changes ---- */
+
+/* A ring of descriptors. */
 typedef struct {
-    uint32_t base;
-    uint16_t count;
-    uint16_t place;
+    uint32_t base;  /* the address of the first descriptor */
+    uint16_t count; /* how many descriptors it has */
+    uint16_t next;  /* the index of the next one that the port will use */
 } uda50_ring;
 
-/* What is to be seen of a port. Before a start-up has told where its rings are, each is one descriptor at 0. */
+/* The state of a port. Until the initialization has set the rings, each is one descriptor at 0. */
 typedef struct {
-    uint32_t phase;       /* UDA_PHASE_STEP_1 to UDA_PHASE_DEAD */
+    uint32_t phase;       /* UDA50_PHASE_STEP_1 to UDA50_PHASE_DEAD */
     uda50_ring responses;
     uda50_ring commands;
     uint32_t pending;     /* commands that were fetched and not yet executed */
-    uint32_t waiting;     /* ends that wait for a response descriptor */
-    uint16_t sa;          /* as uda_read_sa */
+    uint32_t queued;      /* end messages that wait for a response descriptor */
+    uint16_t sa;          /* as uda50_read_sa returns it */
     uint16_t credits;     /* commands that the guest may still post */
-    uint16_t looking;     /* 1 while the port looks at its command ring, else 0 */
-    uint16_t vector;      /* the address of the interrupts' vector */
-} uda50_shown;
+    uint16_t polling;     /* 1 while the port polls its command ring, else 0 */
+    uint16_t vector;      /* the address of the interrupt vector */
+} uda50_state;
 
-/* Shows the port. UDA_OK, or UDA_NO_CONTROLLER, and then *shown is left. Nothing changes. */
-uint32_t uda_show(uda50 *handle, uda50_shown *shown);
+/* Fills *state. Returns UDA50_OK, or UDA50_NO_CONTROLLER, and then *state is as it was. */
+uint32_t uda50_get_state(uda50 *handle, uda50_state *state);
 
-/* What a turn did. What it has no word of is 0. */
+/* What a turn did. A field that doesn't apply is 0. */
 typedef struct {
-    uint32_t kind;        /* UDA_IDLE to UDA_DEAD, UDA_REFUSED, or UDA_NO_TURN */
-    uint32_t reference;   /* of the command */
-    uint32_t lbn;         /* the first block, of a transfer that was fetched */
-    uint32_t bytes;       /* of a transfer that was fetched, or as its end tells them */
-    uint16_t unit;        /* of the command */
-    uint16_t code;        /* the opcode of a command, the end code of an end, or the code of the fatal error */
-    uint16_t status;      /* of an end */
-} uda50_last;
+    uint32_t kind;        /* UDA50_IDLE to UDA50_DEAD, UDA50_INVALID_COMMAND or UDA50_NO_TURN */
+    uint32_t reference;   /* the command's reference number */
+    uint32_t lbn;         /* the first block of a transfer that was fetched */
+    uint32_t bytes;       /* the byte count of a transfer: as requested, or as its end message has it */
+    uint16_t unit;        /* the command's unit */
+    uint16_t code;        /* the opcode of a command, the end code of an end message, or the code of a fatal error */
+    uint16_t status;      /* the status of an end message */
+} uda50_turn_record;
 
-/* Tells the last turn. UDA_OK, or UDA_NO_CONTROLLER, and then *last is left. Nothing changes. */
-uint32_t uda_last(uda50 *handle, uda50_last *last);
+/* Fills *turn with what the last turn did. Returns UDA50_OK, or UDA50_NO_CONTROLLER, and then *turn is as it was. */
+uint32_t uda50_get_last_turn(uda50 *handle, uda50_turn_record *turn);
 
-/* The same as a line of text, such as "executed 3 Read unit 0 status 0x0000 bytes 512", with a 0 behind it and as
-   much of it as the buffer has room for; 96 bytes are enough for any. Before the first turn the line is empty.
-   UDA_OK; or UDA_NO_CONTROLLER or UDA_NO_MEMORY, and then the buffer is left. */
-uint32_t uda_last_text(uda50 *handle, uint8_t *buffer, size_t length);
+/* Writes the same as a line of text, such as "executed 3 Read unit 0 status 0x0000 bytes 512", with a 0 after it. A
+   line that is too long for the buffer is cut off; 96 bytes are enough for any. Before the first turn the line is
+   empty. Returns UDA50_OK; or UDA50_NO_CONTROLLER or UDA50_NO_MEMORY, and then the buffer is as it was. */
+uint32_t uda50_format_last_turn(uda50 *handle, uint8_t *buffer, size_t length);
+
+/* ---- Failures for tests ---- */
+
+/* Makes the unit's block call number `call` from now on fail, and no other; none if `call` is 0. A block call reads
+   or writes one block; reads and writes are counted together, from 1. A Read or an Access that meets the failure
+   ends with a drive error and the byte count of the blocks before. So does a Write or an Erase, and then the first
+   256 bytes of that block are new and the last 256 are old. The unit's mode doesn't change. A later call replaces an
+   earlier one, and uda50_detach ends it. Returns UDA50_OK, UDA50_NO_SUCH_UNIT or UDA50_NOT_ATTACHED. */
+uint32_t uda50_inject_failure(uda50 *handle, uint32_t unit, uint32_t call);
 
 #ifdef __cplusplus
 }

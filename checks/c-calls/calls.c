@@ -37,29 +37,29 @@ static uda50_image image_of(size_t length)
 /* Every call on a handle that has no controller. */
 static void answers_without_controller(uda50 *handle)
 {
-    uda50_shown shown;
-    uda50_last last;
+    uda50_state state;
+    uda50_turn_record last;
     uint8_t text[4] = { 'a', 'b', 'c', 'd' };
     uint16_t vector = 0x1234;
 
-    memset(&shown, 0x5a, sizeof shown);
+    memset(&state, 0x5a, sizeof state);
     memset(&last, 0x5a, sizeof last);
-    EXPECT(uda_attach(handle, 0, image_of(BLOCK), false), UDA_NO_CONTROLLER);
-    EXPECT(uda_detach(handle, 0), UDA_NO_CONTROLLER);
-    EXPECT(uda_fail_at(handle, 0, 1), UDA_NO_CONTROLLER);
-    uda_write_ip(handle, 0);
-    EXPECT(uda_read_ip(handle), 0);
-    uda_write_sa(handle, 0x8000, memory, sizeof memory);
-    EXPECT(uda_read_sa(handle), 0);
-    EXPECT(uda_turn(handle, memory, sizeof memory), UDA_NO_CONTROLLER);
-    EXPECT(uda_run(handle, 5, memory, sizeof memory), UDA_NO_CONTROLLER);
-    EXPECT(uda_take_interrupt(handle, &vector), false);
+    EXPECT(uda50_attach(handle, 0, image_of(BLOCK), false), UDA50_NO_CONTROLLER);
+    EXPECT(uda50_detach(handle, 0), UDA50_NO_CONTROLLER);
+    EXPECT(uda50_inject_failure(handle, 0, 1), UDA50_NO_CONTROLLER);
+    uda50_write_ip(handle, 0);
+    EXPECT(uda50_read_ip(handle), 0);
+    uda50_write_sa(handle, 0x8000, memory, sizeof memory);
+    EXPECT(uda50_read_sa(handle), 0);
+    EXPECT(uda50_turn(handle, memory, sizeof memory), UDA50_NO_CONTROLLER);
+    EXPECT(uda50_run(handle, 5, memory, sizeof memory), UDA50_NO_CONTROLLER);
+    EXPECT(uda50_take_interrupt(handle, &vector), false);
     EXPECT(vector, 0x1234);
-    EXPECT(uda_show(handle, &shown), UDA_NO_CONTROLLER);
-    EXPECT(shown.phase, 0x5a5a5a5a);
-    EXPECT(uda_last(handle, &last), UDA_NO_CONTROLLER);
+    EXPECT(uda50_get_state(handle, &state), UDA50_NO_CONTROLLER);
+    EXPECT(state.phase, 0x5a5a5a5a);
+    EXPECT(uda50_get_last_turn(handle, &last), UDA50_NO_CONTROLLER);
     EXPECT(last.kind, 0x5a5a5a5a);
-    EXPECT(uda_last_text(handle, text, sizeof text), UDA_NO_CONTROLLER);
+    EXPECT(uda50_format_last_turn(handle, text, sizeof text), UDA50_NO_CONTROLLER);
     EXPECT(text[0], 'a');
     EXPECT(handle->at == NULL, true);
 }
@@ -68,18 +68,19 @@ static void handles(void)
 {
     uda50 handle = { 0 };
 
+    EXPECT(uda50_version(), UDA50_VERSION);
     answers_without_controller(&handle);
-    uda_free(&handle);
+    uda50_free(&handle);
     answers_without_controller(&handle);
-    EXPECT(uda_new(&handle, false), UDA_OK);
-    EXPECT(uda_read_sa(&handle), 0x0800);
-    uda_free(&handle);
+    EXPECT(uda50_new(&handle, false), UDA50_OK);
+    EXPECT(uda50_read_sa(&handle), 0x0800);
+    uda50_free(&handle);
     answers_without_controller(&handle);
-    uda_free(&handle);
+    uda50_free(&handle);
     answers_without_controller(&handle);
-    EXPECT(uda_new(&handle, true), UDA_OK);
-    EXPECT(uda_new(&handle, true), UDA_OK);
-    uda_free(&handle);
+    EXPECT(uda50_new(&handle, true), UDA50_OK);
+    EXPECT(uda50_new(&handle, true), UDA50_OK);
+    uda50_free(&handle);
 }
 
 static void images(void)
@@ -90,25 +91,25 @@ static void images(void)
     uda50_image too_long = { large, longer }, longest = { large, longer - BLOCK };
 
     EXPECT(large == MAP_FAILED, false);
-    EXPECT(uda_new(&handle, true), UDA_OK);
-    EXPECT(uda_detach(&handle, 0), UDA_UNIT_EMPTY);
-    EXPECT(uda_fail_at(&handle, 0, 1), UDA_UNIT_EMPTY);
-    EXPECT(uda_attach(&handle, 4, image_of(BLOCK), false), UDA_NO_SUCH_UNIT);
-    EXPECT(uda_attach(&handle, UINT32_MAX, image_of(BLOCK), false), UDA_NO_SUCH_UNIT);
-    EXPECT(uda_detach(&handle, 4), UDA_NO_SUCH_UNIT);
-    EXPECT(uda_fail_at(&handle, 4, 1), UDA_NO_SUCH_UNIT);
-    EXPECT(uda_attach(&handle, 0, image_of(BLOCK + 1), false), UDA_BAD_LENGTH);
-    EXPECT(uda_attach(&handle, 0, image_of(BLOCK - 1), false), UDA_BAD_LENGTH);
-    EXPECT(uda_attach(&handle, 0, too_long, false), UDA_TOO_LONG);
-    EXPECT(uda_attach(&handle, 0, longest, false), UDA_OK);
-    EXPECT(uda_attach(&handle, 0, image_of(BLOCK), false), UDA_UNIT_TAKEN);
-    EXPECT(uda_attach(&handle, 0, image_of(BLOCK + 1), false), UDA_UNIT_TAKEN);
-    EXPECT(uda_detach(&handle, 0), UDA_OK);
-    EXPECT(uda_detach(&handle, 0), UDA_UNIT_EMPTY);
-    EXPECT(uda_attach(&handle, 3, image_of(0), true), UDA_OK);
-    EXPECT(uda_fail_at(&handle, 3, 1), UDA_OK);
-    EXPECT(uda_detach(&handle, 3), UDA_OK);
-    uda_free(&handle);
+    EXPECT(uda50_new(&handle, true), UDA50_OK);
+    EXPECT(uda50_detach(&handle, 0), UDA50_NOT_ATTACHED);
+    EXPECT(uda50_inject_failure(&handle, 0, 1), UDA50_NOT_ATTACHED);
+    EXPECT(uda50_attach(&handle, 4, image_of(BLOCK), false), UDA50_NO_SUCH_UNIT);
+    EXPECT(uda50_attach(&handle, UINT32_MAX, image_of(BLOCK), false), UDA50_NO_SUCH_UNIT);
+    EXPECT(uda50_detach(&handle, 4), UDA50_NO_SUCH_UNIT);
+    EXPECT(uda50_inject_failure(&handle, 4, 1), UDA50_NO_SUCH_UNIT);
+    EXPECT(uda50_attach(&handle, 0, image_of(BLOCK + 1), false), UDA50_BAD_LENGTH);
+    EXPECT(uda50_attach(&handle, 0, image_of(BLOCK - 1), false), UDA50_BAD_LENGTH);
+    EXPECT(uda50_attach(&handle, 0, too_long, false), UDA50_TOO_LARGE);
+    EXPECT(uda50_attach(&handle, 0, longest, false), UDA50_OK);
+    EXPECT(uda50_attach(&handle, 0, image_of(BLOCK), false), UDA50_ALREADY_ATTACHED);
+    EXPECT(uda50_attach(&handle, 0, image_of(BLOCK + 1), false), UDA50_ALREADY_ATTACHED);
+    EXPECT(uda50_detach(&handle, 0), UDA50_OK);
+    EXPECT(uda50_detach(&handle, 0), UDA50_NOT_ATTACHED);
+    EXPECT(uda50_attach(&handle, 3, image_of(0), true), UDA50_OK);
+    EXPECT(uda50_inject_failure(&handle, 3, 1), UDA50_OK);
+    EXPECT(uda50_detach(&handle, 3), UDA50_OK);
+    uda50_free(&handle);
     munmap(large, longer);
 }
 
@@ -117,17 +118,17 @@ static void memories(void)
     uda50 handle = { 0 };
     uint8_t *large = calloc(MEMORY_LIMIT + 2, 1);
 
-    EXPECT(uda_new(&handle, true), UDA_OK);
-    EXPECT(uda_turn(&handle, large, 1), UDA_BAD_LENGTH);
-    EXPECT(uda_turn(&handle, large, MEMORY_LIMIT + 1), UDA_BAD_LENGTH);
-    EXPECT(uda_turn(&handle, large, MEMORY_LIMIT + 2), UDA_TOO_LONG);
-    EXPECT(uda_turn(&handle, large, MEMORY_LIMIT), UDA_IDLE);
-    EXPECT(uda_turn(&handle, large, 0), UDA_IDLE);
-    EXPECT(uda_run(&handle, 9, large, 1), UDA_BAD_LENGTH);
-    EXPECT(uda_run(&handle, 9, large, MEMORY_LIMIT + 2), UDA_TOO_LONG);
-    EXPECT(uda_run(&handle, 9, large, MEMORY_LIMIT), UDA_IDLE);
-    EXPECT(uda_run(&handle, 0, large, MEMORY_LIMIT), UDA_IDLE);
-    uda_free(&handle);
+    EXPECT(uda50_new(&handle, true), UDA50_OK);
+    EXPECT(uda50_turn(&handle, large, 1), UDA50_BAD_LENGTH);
+    EXPECT(uda50_turn(&handle, large, MEMORY_LIMIT + 1), UDA50_BAD_LENGTH);
+    EXPECT(uda50_turn(&handle, large, MEMORY_LIMIT + 2), UDA50_TOO_LARGE);
+    EXPECT(uda50_turn(&handle, large, MEMORY_LIMIT), UDA50_IDLE);
+    EXPECT(uda50_turn(&handle, large, 0), UDA50_IDLE);
+    EXPECT(uda50_run(&handle, 9, large, 1), UDA50_BAD_LENGTH);
+    EXPECT(uda50_run(&handle, 9, large, MEMORY_LIMIT + 2), UDA50_TOO_LARGE);
+    EXPECT(uda50_run(&handle, 9, large, MEMORY_LIMIT), UDA50_IDLE);
+    EXPECT(uda50_run(&handle, 0, large, MEMORY_LIMIT), UDA50_IDLE);
+    uda50_free(&handle);
     free(large);
 }
 
@@ -137,23 +138,23 @@ static void texts(void)
     uda50 handle = { 0 };
     uint8_t text[16];
 
-    EXPECT(uda_new(&handle, false), UDA_OK);
+    EXPECT(uda50_new(&handle, false), UDA50_OK);
     memset(text, 'x', sizeof text);
-    EXPECT(uda_last_text(&handle, text, sizeof text), UDA_OK);
+    EXPECT(uda50_format_last_turn(&handle, text, sizeof text), UDA50_OK);
     EXPECT(text[0], 0);
     EXPECT(text[1], 'x');
-    uda_write_sa(&handle, 0xc000, memory, sizeof memory);
-    EXPECT(uda_run(&handle, 9, memory, sizeof memory), UDA_DEAD);
+    uda50_write_sa(&handle, 0xc000, memory, sizeof memory);
+    EXPECT(uda50_run(&handle, 9, memory, sizeof memory), UDA50_DEAD);
     for (size_t length = 0; length < sizeof text; length++) {
-        size_t shown = length == 0 ? 0 : length - 1;
+        size_t state = length == 0 ? 0 : length - 1;
 
         memset(text, 'x', sizeof text);
-        EXPECT(uda_last_text(&handle, text, length), UDA_OK);
-        EXPECT(memcmp(text, "dead of code 19", shown), 0);
-        EXPECT(length != 0 && text[shown] != 0, false);
+        EXPECT(uda50_format_last_turn(&handle, text, length), UDA50_OK);
+        EXPECT(memcmp(text, "dead of code 19", state), 0);
+        EXPECT(length != 0 && text[state] != 0, false);
         EXPECT(text[length], 'x');
     }
-    uda_free(&handle);
+    uda50_free(&handle);
 }
 
 static void no_leak(void)
@@ -161,10 +162,10 @@ static void no_leak(void)
     for (int round = 0; round < ROUNDS; round++) {
         uda50 handle = { 0 };
 
-        EXPECT(uda_new(&handle, round % 2 == 0), UDA_OK);
-        EXPECT(uda_attach(&handle, (uint32_t)(round % 4), image_of(sizeof blocks), false), UDA_OK);
-        EXPECT(uda_turn(&handle, memory, sizeof memory), UDA_IDLE);
-        uda_free(&handle);
+        EXPECT(uda50_new(&handle, round % 2 == 0), UDA50_OK);
+        EXPECT(uda50_attach(&handle, (uint32_t)(round % 4), image_of(sizeof blocks), false), UDA50_OK);
+        EXPECT(uda50_turn(&handle, memory, sizeof memory), UDA50_IDLE);
+        uda50_free(&handle);
         EXPECT(handle.at == NULL, true);
     }
 }

@@ -69,16 +69,16 @@ static bool done(errand of, uint32_t block, uint32_t count)
 
     for (uint32_t i = 0; i < count; i++)
         post(of, (place + i) % COUNT, block + i * of.blocks);
-    uda_read_ip(&uda);
+    uda50_read_ip(&uda);
     do {
-        turn = uda_turn(&uda, memory, SIZE);
+        turn = uda50_turn(&uda, memory, SIZE);
         turns++;
-    } while (turn != UDA_IDLE && turn < UDA_DEAD);
+    } while (turn != UDA50_IDLE && turn < UDA50_DEAD);
     for (uint32_t i = 0; i < count; i++, place = (place + 1) % COUNT) {
         const uint8_t *status = memory + RESPONSES + PACKET * place + 4 + 10;
         failed |= status[0] | status[1];
     }
-    return turn == UDA_IDLE && failed == 0;
+    return turn == UDA50_IDLE && failed == 0;
 }
 
 static bool start(void)
@@ -87,7 +87,7 @@ static bool start(void)
     static const errand first[] = {{"", SET_CONTROLLER, 0}, {"", ONLINE, 0}};
 
     for (size_t i = 0; i < sizeof words / sizeof *words; i++)
-        uda_write_sa(&uda, words[i], memory, SIZE);
+        uda50_write_sa(&uda, words[i], memory, SIZE);
     return done(first[0], 0, 1) && done(first[1], 0, 1);
 }
 
@@ -104,8 +104,8 @@ int main(int argc, char **argv)
     static const errand errands[] = {{"status 0", GET_UNIT_STATUS, 0}, {"read 1", READ, 1}, {"read 32", READ, 32}};
     uda50_file file;
 
-    if (argc != 3 || uda50_file_open(&file, argv[1], true) != UDA50_FILE_OK || uda_new(&uda, true) != UDA_OK
-        || uda_attach(&uda, 0, file.image, true) != UDA_OK || !start())
+    if (argc != 3 || uda50_file_open(&file, argv[1], true) != UDA50_FILE_OK || uda50_new(&uda, true) != UDA50_OK
+        || uda50_attach(&uda, 0, file.image, true) != UDA50_OK || !start())
         return 2;
     for (size_t i = 0; i < sizeof errands / sizeof *errands; i++) {
         uint32_t rounds = (uint32_t)atoi(argv[2]);
@@ -120,6 +120,6 @@ int main(int argc, char **argv)
         printf("from C: %-12s %12.0f commands/s %12.0f turns/s\n", errands[i].name,
                rounds * ROUND * COUNT / spent, turns / spent);
     }
-    uda_free(&uda);
+    uda50_free(&uda);
     return uda50_file_close(&file) == UDA50_FILE_OK ? 0 : 1;
 }

@@ -24,39 +24,40 @@ static machine *machine_of(bus *bus)
 
 static void write_ip(bus *bus, uint16_t word)
 {
-    uda_write_ip(&machine_of(bus)->uda, word);
+    uda50_write_ip(&machine_of(bus)->uda, word);
 }
 
 static uint16_t read_ip(bus *bus)
 {
-    return uda_read_ip(&machine_of(bus)->uda);
+    return uda50_read_ip(&machine_of(bus)->uda);
 }
 
 static void write_sa(bus *bus, uint16_t word)
 {
-    uda_write_sa(&machine_of(bus)->uda, word, bus->memory, bus->length);
+    uda50_write_sa(&machine_of(bus)->uda, word, bus->memory, bus->length);
 }
 
 static uint16_t read_sa(bus *bus)
 {
-    return uda_read_sa(&machine_of(bus)->uda);
+    return uda50_read_sa(&machine_of(bus)->uda);
 }
 
-/* Turn by turn, so that each can be shown; uda_run does the same in one call. */
+/* Turn by turn, so that each can be state; uda50_run does the same in one call. */
 static void wait_traced(bus *bus)
 {
     char line[96];
     uint32_t turn;
 
     if (!tracing) {
-        uda_run(&machine_of(bus)->uda, TURNS, bus->memory, bus->length);
+        uda50_run(&machine_of(bus)->uda, TURNS, bus->memory, bus->length);
         return;
     }
     do {
-        turn = uda_turn(&machine_of(bus)->uda, bus->memory, bus->length);
-        if (turn != UDA_IDLE && uda_last_text(&machine_of(bus)->uda, (uint8_t *)line, sizeof line) == UDA_OK)
+        turn = uda50_turn(&machine_of(bus)->uda, bus->memory, bus->length);
+        if (turn != UDA50_IDLE
+            && uda50_format_last_turn(&machine_of(bus)->uda, (uint8_t *)line, sizeof line) == UDA50_OK)
             printf("  %s\n", line);
-    } while (turn != UDA_IDLE && turn < UDA_DEAD);
+    } while (turn != UDA50_IDLE && turn < UDA50_DEAD);
 }
 
 static bool make(machine *made)
@@ -66,7 +67,7 @@ static bool make(machine *made)
     memset(memory, 0, sizeof memory);
     memset(made, 0, sizeof *made);
     made->bus = (bus){ memory, MEMORY, write_ip, read_ip, write_sa, read_sa, wait_traced };
-    return uda_new(&made->uda, false) == UDA_OK && uda_attach(&made->uda, 0, image, false) == UDA_OK;
+    return uda50_new(&made->uda, false) == UDA50_OK && uda50_attach(&made->uda, 0, image, false) == UDA50_OK;
 }
 
 /* The driver over a unit that fails once, at its call number `call`. */
@@ -81,12 +82,12 @@ static void over_a_failing_unit(uint32_t call)
     memset(to, 0, sizeof to);
     if (!make(&machine) || driver_start(&driver) != 0)
         return;
-    uda_fail_at(&machine.uda, 0, call);
+    uda50_inject_failure(&machine.uda, 0, call);
     written = driver_write(&driver, 3, from);
     read = driver_read(&driver, 3, to);
     printf("failing at call %u: written %04x, read %04x, %u repeated, %s\n", (unsigned)call, written, read,
            (unsigned)driver.retried, memcmp(from, to, sizeof to) == 0 ? "the same bytes" : "other bytes");
-    uda_free(&machine.uda);
+    uda50_free(&machine.uda);
 }
 
 /* The driver with a rule broken: the code that SA shows, and what the library tells of it. */
@@ -95,19 +96,19 @@ static void with_a_rule_broken(rule broken)
     static const char *const names[RULE_COUNT] = { "none", "credits", "address", "response" };
     machine machine;
     driver driver = { &machine.bus, broken, 0, 0 };
-    uda50_shown shown;
-    uda50_last last;
+    uda50_state state;
+    uda50_turn_record last;
     char line[96];
 
     if (!make(&machine))
         return;
     driver_start(&driver);
-    uda_show(&machine.uda, &shown);
-    uda_last(&machine.uda, &last);
-    uda_last_text(&machine.uda, (uint8_t *)line, sizeof line);
-    printf("rule broken: %-8s SA %04x, phase %u, last turn %u code %u (%s)\n", names[broken], shown.sa,
-           (unsigned)shown.phase, (unsigned)last.kind, last.code, line);
-    uda_free(&machine.uda);
+    uda50_get_state(&machine.uda, &state);
+    uda50_get_last_turn(&machine.uda, &last);
+    uda50_format_last_turn(&machine.uda, (uint8_t *)line, sizeof line);
+    printf("rule broken: %-8s SA %04x, phase %u, last turn %u code %u (%s)\n", names[broken], state.sa,
+           (unsigned)state.phase, (unsigned)last.kind, last.code, line);
+    uda50_free(&machine.uda);
 }
 
 int main(void)

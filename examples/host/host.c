@@ -39,8 +39,8 @@ static uint32_t get32(uint32_t at)
 
 static void write_sa(uint16_t word)
 {
-    uda_write_sa(&uda, word, memory, SIZE);
-    printf("SA <- %04x, then reads %04x\n", word, uda_read_sa(&uda));
+    uda50_write_sa(&uda, word, memory, SIZE);
+    printf("SA <- %04x, then reads %04x\n", word, uda50_read_sa(&uda));
 }
 
 /* Has one command done; false where the port died of it. */
@@ -63,12 +63,12 @@ static bool post(const char *name, uint8_t opcode, uint16_t unit, uint32_t bytes
     put16(RINGS + 2, 0x8000);
     put16(RINGS + 4, COMMAND);
     put16(RINGS + 6, 0x8000);
-    uda_read_ip(&uda);
+    uda50_read_ip(&uda);
     do {
-        turn = uda_turn(&uda, memory, SIZE);
-    } while (turn != UDA_IDLE && turn < UDA_DEAD);
-    if (turn != UDA_IDLE) {
-        printf("%s: answer %u, SA reads %04x\n", name, (unsigned)turn, uda_read_sa(&uda));
+        turn = uda50_turn(&uda, memory, SIZE);
+    } while (turn != UDA50_IDLE && turn < UDA50_DEAD);
+    if (turn != UDA50_IDLE) {
+        printf("%s: answer %u, SA reads %04x\n", name, (unsigned)turn, uda50_read_sa(&uda));
         return false;
     }
     printf("%-18s reference %u, end %02x, status %04x, bytes %u\n", name, (unsigned)get32(RESPONSE),
@@ -108,18 +108,18 @@ int main(int argc, char **argv)
         fprintf(stderr, "%s: %s\n", argv[1], uda50_file_text(fault));
         return 1;
     }
-    if (uda_new(&uda, true) != UDA_OK || uda_attach(&uda, 0, file.image, false) != UDA_OK)
+    if (uda50_new(&uda, true) != UDA50_OK || uda50_attach(&uda, 0, file.image, false) != UDA50_OK)
         return 1;
-    printf("SA reads %04x\n", uda_read_sa(&uda));
+    printf("SA reads %04x\n", uda50_read_sa(&uda));
     write_sa(0x8080 | 0x154 / 4); /* rings of one descriptor; interrupts at the vector 154 */
     write_sa(RINGS);
     write_sa(0);
-    while (uda_take_interrupt(&uda, &vector))
+    while (uda50_take_interrupt(&uda, &vector))
         printf("an interrupt at %03x\n", vector);
     write_sa(1);
     done = posts((uint32_t)(file.image.length / 512));
-    uda_detach(&uda, 0);
-    uda_free(&uda);
+    uda50_detach(&uda, 0);
+    uda50_free(&uda);
     fault = uda50_file_close(&file);
     if (fault != UDA50_FILE_OK)
         fprintf(stderr, "%s: %s\n", argv[1], uda50_file_text(fault));

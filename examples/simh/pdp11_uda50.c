@@ -113,7 +113,7 @@ static void interrupt(void)
 {
     uint16_t vector;
 
-    while (uda_take_interrupt(&uda, &vector)) {
+    while (uda50_take_interrupt(&uda, &vector)) {
         rq_vector = vector;
         SET_INT(RQ);
     }
@@ -134,9 +134,9 @@ static void wake(int32 delay)
 t_stat rq_rd(int32 *data, int32 address, int32 access)
 {
     if (address & 2)
-        *data = uda_read_sa(&uda);
+        *data = uda50_read_sa(&uda);
     else {
-        *data = uda_read_ip(&uda);
+        *data = uda50_read_ip(&uda);
         interrupt();
         wake(rq_qtime);
     }
@@ -147,12 +147,12 @@ t_stat rq_wr(int32 data, int32 address, int32 access)
 {
     if (address & 2) {
         bus_memory memory = lend_memory();
-        uda_write_sa(&uda, (uint16_t)data, memory.at, memory.length);
+        uda50_write_sa(&uda, (uint16_t)data, memory.at, memory.length);
         take_memory_back();
     } else {
         sim_cancel(TURNS);
         CLR_INT(RQ);
-        uda_write_ip(&uda, (uint16_t)data);
+        uda50_write_ip(&uda, (uint16_t)data);
     }
     interrupt();
     return SCPE_OK;
@@ -161,14 +161,14 @@ t_stat rq_wr(int32 data, int32 address, int32 access)
 /* One turn at a time, each with its line. */
 static uint32 traced_turns(bus_memory memory)
 {
-    uint32 kind = UDA_IDLE;
+    uint32 kind = UDA50_IDLE;
     uint8_t line[LINE];
 
     for (int32 turn = 0; turn < rq_turns; turn++) {
-        kind = uda_turn(&uda, memory.at, memory.length);
-        if (kind == UDA_IDLE || kind >= UDA_DEAD)
+        kind = uda50_turn(&uda, memory.at, memory.length);
+        if (kind == UDA50_IDLE || kind >= UDA50_DEAD)
             break;
-        if (uda_last_text(&uda, line, sizeof line) == UDA_OK)
+        if (uda50_format_last_turn(&uda, line, sizeof line) == UDA50_OK)
             fprintf(sim_deb, ">>RQ: %s\n", line);
     }
     return kind;
@@ -179,15 +179,15 @@ t_stat rq_turn(UNIT *unit)
 {
     bus_memory memory = lend_memory();
     uint32 kind = DEBUG_PRS(rq_dev) ? traced_turns(memory)
-                                    : uda_run(&uda, (uint32_t)rq_turns, memory.at, memory.length);
-    uda50_shown shown;
+                                    : uda50_run(&uda, (uint32_t)rq_turns, memory.at, memory.length);
+    uda50_state state;
 
     take_memory_back();
     interrupt();
-    if (kind == UDA_IDLE && uda_show(&uda, &shown) == UDA_OK && shown.waiting == 0)
+    if (kind == UDA50_IDLE && uda50_get_state(&uda, &state) == UDA50_OK && state.queued == 0)
         return SCPE_OK;
-    if (kind < UDA_DEAD)
-        wake(kind == UDA_EXECUTED ? rq_xtime : rq_qtime);
+    if (kind < UDA50_DEAD)
+        wake(kind == UDA50_EXECUTED ? rq_xtime : rq_qtime);
     return SCPE_OK;
 }
 
@@ -196,8 +196,8 @@ t_stat rq_reset(DEVICE *device)
     sim_cancel(TURNS);
     CLR_INT(RQ);
     if (uda.at == NULL)
-        return uda_new(&uda, true) == UDA_OK ? SCPE_OK : SCPE_MEM;
-    uda_write_ip(&uda, 0);
+        return uda50_new(&uda, true) == UDA50_OK ? SCPE_OK : SCPE_MEM;
+    uda50_write_ip(&uda, 0);
     return SCPE_OK;
 }
 
@@ -231,7 +231,7 @@ t_stat rq_attach(UNIT *unit, char *path)
     image = files[number].image;
     if (image.length > unit->capac)
         image.length = (size_t)unit->capac;
-    uda_attach(&uda, number, image, (unit->flags & (UNIT_RO | UNIT_LOCKED)) != 0);
+    uda50_attach(&uda, number, image, (unit->flags & (UNIT_RO | UNIT_LOCKED)) != 0);
     return SCPE_OK;
 }
 
@@ -239,7 +239,7 @@ t_stat rq_detach(UNIT *unit)
 {
     uint32 number = (uint32)(unit - rq_unit);
 
-    if (uda_detach(&uda, number) == UDA_OK) {
+    if (uda50_detach(&uda, number) == UDA50_OK) {
         int fault = uda50_file_close(&files[number]);
         if (fault != UDA50_FILE_OK)
             printf("%s: %s\n", rq_dev.name, uda50_file_text(fault));
@@ -262,19 +262,19 @@ t_stat rq_set_lock(UNIT *unit, int32 locked, char *text, void *desc)
 
 static void show_ring(FILE *to, const char *name, uda50_ring ring)
 {
-    fprintf(to, "%s ring, base = %o, index = %u, length = %u\n", name, ring.base, ring.place, ring.count);
+    fprintf(to, "%s ring, base = %o, index = %u, length = %u\n", name, ring.base, ring.next, ring.count);
 }
 
 t_stat rq_show_rings(FILE *to, UNIT *unit, int32 value, void *desc)
 {
-    uda50_shown shown;
+    uda50_state state;
 
-    if (uda_show(&uda, &shown) != UDA_OK)
+    if (uda50_get_state(&uda, &state) != UDA50_OK)
         return SCPE_OK;
-    fprintf(to, "phase %u, SA = %06o, vector = %o, %u credits, %u pending, %u waiting\n", shown.phase, shown.sa,
-            shown.vector, shown.credits, shown.pending, shown.waiting);
-    show_ring(to, "response", shown.responses);
-    show_ring(to, "command", shown.commands);
+    fprintf(to, "phase %u, SA = %06o, vector = %o, %u credits, %u pending, %u waiting\n", state.phase, state.sa,
+            state.vector, state.credits, state.pending, state.queued);
+    show_ring(to, "response", state.responses);
+    show_ring(to, "command", state.commands);
     return SCPE_OK;
 }
 

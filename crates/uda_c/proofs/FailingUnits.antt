@@ -9,7 +9,7 @@ use Rattle.uda_disk.specs.Units.{UnitState}
 use Rattle.uda_exec.specs.declared.drive_unit.UnitLook.{UnitLook}
 use Rattle.uda_exec.specs.Drives.{DriveState, drive_in, fresh_unit, handed_back, look_of, look_at, in_mode, with_drive, with_mode}
 use Rattle.uda_port.specs.Port.{PortState}
-use Rattle.uda_c.specs.declared.returned.Returned.TheVariants.{Done, NoSuchUnit, UnitEmpty}
+use Rattle.uda_c.specs.declared.call_status.CallStatus.TheVariants.{Done, NoSuchUnit, NotAttached}
 use Rattle.uda_c.specs.declared.controller.Controller.{Controller}
 use Rattle.uda_c.specs.LentImage.{failing_from_now}
 use Rattle.uda_c.specs.Controllers.{FailsAt, drive_failing, unit_failing}
@@ -73,8 +73,8 @@ pub fails_at : (old : Controller) (u call : ℕ) (look : UnitLook) (drive failin
     → new ≡ record back { exec = with_mode back.exec u look.mode }
     → FailsAt old u call Done (record old { port = new })
 fails_at old u call look drive failing out back new there e given fails out_is back_is new_is = record {
-  answer_is = sym (ap (λ b. if b then NoSuchUnit else if is_some (look_at (slice_get old.port.exec.units u)) then Done else UnitEmpty) there
-      ∙ ap (λ (o : Option UnitLook). if is_some o then Done else UnitEmpty) e);
+  answer_is = sym (ap (λ b. if b then NoSuchUnit else if is_some (look_at (slice_get old.port.exec.units u)) then Done else NotAttached) there
+      ∙ ap (λ (o : Option UnitLook). if is_some o then Done else NotAttached) e);
   fails = λ _. ap (λ (p : PortState). record old { port = p }) (new_is
       ∙ ap (λ (p : PortState). record p { exec = with_mode p.exec u look.mode }) (back_is
       ∙ ap (λ (p : PortState). record p { exec = with_drive p.exec u (Some failing) }) out_is)

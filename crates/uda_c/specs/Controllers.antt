@@ -14,9 +14,9 @@ use Rattle.uda_port.specs.Interrupt.{vector_of, served}
 use Rattle.uda_port.specs.Startup.{by_word}
 use Rattle.uda_port.specs.Turn.{TurnGoes}
 use Rattle.uda_port.specs.Trace.{turn_of, Traces}
-use Rattle.uda_c.specs.declared.returned.Returned.{Returned}
-use Rattle.uda_c.specs.declared.returned.Returned.TheVariants.{Done, Took, NoSuchUnit, UnitTaken, UnitEmpty}
-use Rattle.uda_c.specs.declared.returned.Returned.TheVariants.{BadLength, TooLong}
+use Rattle.uda_c.specs.declared.call_status.CallStatus.{CallStatus}
+use Rattle.uda_c.specs.declared.call_status.CallStatus.TheVariants.{Done, Took, NoSuchUnit, AlreadyAttached, NotAttached}
+use Rattle.uda_c.specs.declared.call_status.CallStatus.TheVariants.{BadLength, TooLarge}
 use Rattle.uda_c.specs.declared.controller.Controller.{Controller}
 use Rattle.uda_c.specs.LentImage.{lent_state, failing_from_now}
 
@@ -44,18 +44,18 @@ abbrev pub has_image : Controller → ℕ → Bool
 has_image c unit = is_some (look_at (slice_get c.port.exec.units unit))
 
 -- what an image of so many bytes is answered for a unit
-abbrev pub attach_answer : Controller → ℕ → ℕ → Returned
+abbrev pub attach_answer : Controller → ℕ → ℕ → CallStatus
 attach_answer c unit bytes =
     if nat_lt 3 unit then NoSuchUnit
-    else if has_image c unit then UnitTaken
-    else if bytes % 512 == 0 then (if nat_lt block_limit (bytes / 512) then TooLong else Done)
+    else if has_image c unit then AlreadyAttached
+    else if bytes % 512 == 0 then (if nat_lt block_limit (bytes / 512) then TooLarge else Done)
     else BadLength
 
-abbrev pub detach_answer : Controller → ℕ → Returned
+abbrev pub detach_answer : Controller → ℕ → CallStatus
 detach_answer c unit =
     if nat_lt 3 unit then NoSuchUnit
     else if has_image c unit then Done
-    else UnitEmpty
+    else NotAttached
 
 -- bytes that C lends as an image, and whether the drive's own switch protects them
 pub record Lending : Type 0 where
@@ -72,13 +72,13 @@ abbrev pub controller_with : Controller → ℕ → Option DriveState → Contro
 controller_with c unit drive =
     record c { port = record c.port { exec = with_drive c.port.exec unit drive } }
 
-pub record Attaches (old : Controller) (unit : ℕ) (lending : Lending) (answer : Returned)
+pub record Attaches (old : Controller) (unit : ℕ) (lending : Lending) (answer : CallStatus)
     (new : Controller) : Type 0 where
   pub answer_is : answer ≡ attach_answer old unit (length lending.bytes)
   pub attached : answer ≡ Done → new ≡ controller_with old unit (Some (lent_drive lending))
   pub refused : answer ≢ Done → new ≡ old
 
-pub record Detaches (old : Controller) (unit : ℕ) (answer : Returned) (new : Controller) : Type 0 where
+pub record Detaches (old : Controller) (unit : ℕ) (answer : CallStatus) (new : Controller) : Type 0 where
   pub answer_is : answer ≡ detach_answer old unit
   pub detached : answer ≡ Done → new ≡ controller_with old unit None
   pub refused : answer ≢ Done → new ≡ old
@@ -102,7 +102,7 @@ controller_failing c u call = record c {
   };
 }
 
-pub record FailsAt (old : Controller) (unit call : ℕ) (answer : Returned) (new : Controller) : Type 0 where
+pub record FailsAt (old : Controller) (unit call : ℕ) (answer : CallStatus) (new : Controller) : Type 0 where
   pub answer_is : answer ≡ detach_answer old unit
   pub fails : answer ≡ Done → new ≡ controller_failing old unit call
   pub refused : answer ≢ Done → new ≡ old
@@ -114,7 +114,7 @@ pub record WritesSa (old : Controller) (memory : List ℕ) (word : ℕ) (new : C
   pub last_stays : new.last ≡ old.last
 
 -- a turn of the port, in memory that a port works in, is kept as the last
-pub record TakesTurn (old : Controller) (memory : List ℕ) (answer : Returned) (new : Controller)
+pub record TakesTurn (old : Controller) (memory : List ℕ) (answer : CallStatus) (new : Controller)
     (memory_after : List ℕ) : Type 0 where
   pub trace : Trace
   pub answer_is : answer ≡ Took (turn_of trace)
@@ -123,17 +123,17 @@ pub record TakesTurn (old : Controller) (memory : List ℕ) (answer : Returned) 
   pub tells : Traces trace old.port new.port
 
 -- what memory is answered that no port works in
-abbrev pub memory_refusal : List ℕ → Returned
-memory_refusal memory = if length memory % 2 == 0 then TooLong else BadLength
+abbrev pub memory_refusal : List ℕ → CallStatus
+memory_refusal memory = if length memory % 2 == 0 then TooLarge else BadLength
 
 -- it is refused
-pub record RefusesMemory (old : Controller) (memory : List ℕ) (answer : Returned) (new : Controller)
+pub record RefusesMemory (old : Controller) (memory : List ℕ) (answer : CallStatus) (new : Controller)
     (memory_after : List ℕ) : Type 0 where
   pub answer_is : answer ≡ memory_refusal memory
   pub stays : new ≡ old
   pub memory_stays : memory_after ≡ memory
 
-pub record TurnsWhereMemory (old : Controller) (memory : List ℕ) (answer : Returned) (new : Controller)
+pub record TurnsWhereMemory (old : Controller) (memory : List ℕ) (answer : CallStatus) (new : Controller)
     (memory_after : List ℕ) : Type 0 where
   pub turns : IsMemory memory → TakesTurn old memory answer new memory_after
   pub refuses : (IsMemory memory → ⊥) → RefusesMemory old memory answer new memory_after

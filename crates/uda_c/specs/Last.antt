@@ -11,12 +11,12 @@ use Rattle.uda_port.specs.declared.trace.Trace.{Trace}
 use Rattle.uda_port.specs.declared.trace.Trace.TheVariants.{Fetched, Refused, Executed, Delivered, Idle, Dead}
 use Rattle.uda_port.specs.Startup.{code_of}
 use Rattle.uda_port.specs.Trace.{trace_display}
-use Rattle.uda_c.specs.declared.last.LastTurn.{LastTurn}
-use Rattle.uda_c.specs.declared.returned.Returned.{Returned}
-use Rattle.uda_c.specs.declared.returned.Returned.TheVariants.{Done, NoMemory}
+use Rattle.uda_c.specs.declared.last.TurnRecord.{TurnRecord}
+use Rattle.uda_c.specs.declared.call_status.CallStatus.{CallStatus}
+use Rattle.uda_c.specs.declared.call_status.CallStatus.TheVariants.{Done, NoMemory}
 
 -- a turn that was about no command: its number, and the code of what the port died of
-abbrev pub told_number : ℕ → ℕ → LastTurn
+abbrev pub told_number : ℕ → ℕ → TurnRecord
 told_number kind code =
     record { kind = kind; reference = 0; lbn = 0; bytes = 0; unit = 0; code = code; status = 0 }
 
@@ -30,7 +30,7 @@ told_count (Some t) = t.bytes
 told_count None = 0
 
 -- a command that was fetched
-abbrev pub told_command : Command → LastTurn
+abbrev pub told_command : Command → TurnRecord
 told_command c = record {
   kind = 1;
   reference = c.reference;
@@ -47,7 +47,7 @@ told_bytes (Moved kind bytes) = bytes
 told_bytes _ = 0
 
 -- a turn that was about an end
-abbrev pub told_end : ℕ → End → LastTurn
+abbrev pub told_end : ℕ → End → TurnRecord
 told_end kind e = record {
   kind = kind;
   reference = e.reference;
@@ -59,14 +59,14 @@ told_end kind e = record {
 }
 
 -- a turn, by what it did: 0 to 4 as a turn is answered, 5 for a packet that is no command, 6 for no turn yet
-abbrev pub told_turn : Option Trace → LastTurn
-told_turn (Some Idle) = told_number 0 0
-told_turn (Some (Fetched command)) = told_command command
-told_turn (Some (Executed end)) = told_end 2 end
-told_turn (Some (Delivered end)) = told_end 3 end
-told_turn (Some (Dead cause)) = told_number 4 (code_of cause)
-told_turn (Some (Refused end)) = told_end 5 end
-told_turn None = told_number 6 0
+abbrev pub turn_record : Option Trace → TurnRecord
+turn_record (Some Idle) = told_number 0 0
+turn_record (Some (Fetched command)) = told_command command
+turn_record (Some (Executed end)) = told_end 2 end
+turn_record (Some (Delivered end)) = told_end 3 end
+turn_record (Some (Dead cause)) = told_number 4 (code_of cause)
+turn_record (Some (Refused end)) = told_end 5 end
+turn_record None = told_number 6 0
 
 -- its line, and none where there was no turn yet
 abbrev pub last_line : Option Trace → List ℕ
@@ -80,7 +80,7 @@ text_in text [] = []
 text_in text (b ∷ rest) = take (length rest) text ++ 0 ∷ drop (length (take (length rest) text)) rest
 
 -- the line is in the buffer; or no memory was to be had for it, and the buffer is as it was
-abbrev pub TellsLine : Option Trace → List ℕ → Returned → List ℕ → Type 0
+abbrev pub TellsLine : Option Trace → List ℕ → CallStatus → List ℕ → Type 0
 TellsLine last buffer Done after = after ≡ text_in (last_line last) buffer
 TellsLine last buffer NoMemory after = after ≡ buffer
 TellsLine last buffer _ after = ⊥

@@ -3,8 +3,8 @@ pub mod LendsController
 pub mod Lies
 pub mod LendsBytes
 pub mod LentImage
-pub mod Returned
+pub mod CallStatus
 pub mod Controllers
-pub mod Shown
+pub mod Snapshot
 pub mod Last
 pub mod Runs

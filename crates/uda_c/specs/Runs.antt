@@ -3,8 +3,8 @@ use Rattle.std.specs.Prelude.{◌≡◌, ℕ, zero, suc, Bool, true, false, List
 use Rattle.uda_mem.specs.Slices.{IsMemory}
 use Rattle.uda_port.specs.declared.turn.Turn.{Turn}
 use Rattle.uda_port.specs.declared.turn.Turn.TheVariants as turn
-use Rattle.uda_c.specs.declared.returned.Returned.{Returned}
-use Rattle.uda_c.specs.declared.returned.Returned.TheVariants.{Done, Took}
+use Rattle.uda_c.specs.declared.call_status.CallStatus.{CallStatus}
+use Rattle.uda_c.specs.declared.call_status.CallStatus.TheVariants.{Done, Took}
 use Rattle.uda_c.specs.declared.controller.Controller.{Controller}
 use Rattle.uda_c.specs.Controllers.{TakesTurn, RefusesMemory}
 
@@ -25,7 +25,7 @@ AfterTurn false over rest = rest
 
 -- no more than so many turns, one after another; the last is answered, and where there is none what was
 -- answered before
-abbrev pub TakesTurns : ℕ → Returned → Machine → Returned → Machine → Type 0
+abbrev pub TakesTurns : ℕ → CallStatus → Machine → CallStatus → Machine → Type 0
 TakesTurns zero before old answer new = (answer ≡ before) × (new ≡ old)
 TakesTurns (suc limit) before old answer new =
     (turn : Turn) × (next : Machine) × TakesTurn old.0 old.1 (Took turn) next.0 next.1
@@ -33,6 +33,6 @@ TakesTurns (suc limit) before old answer new =
     (TakesTurns limit (Took turn) next answer new)
 
 -- in memory that a port works in, and other memory is refused
-pub record RunsWhereMemory (limit : ℕ) (old : Machine) (answer : Returned) (new : Machine) : Type 0 where
+pub record RunsWhereMemory (limit : ℕ) (old : Machine) (answer : CallStatus) (new : Machine) : Type 0 where
   pub runs : IsMemory old.1 → TakesTurns limit Done old answer new
   pub refuses : (IsMemory old.1 → ⊥) → RefusesMemory old.0 old.1 answer new.0 new.1

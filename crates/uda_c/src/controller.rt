@@ -2,16 +2,16 @@
 ghost use Rattle.std.specs.Prelude.{◌≡◌, length, IfSome};
 ghost use Rattle.std.specs.Prelude.{IfNone};
 ghost use Rattle.uda_mem.specs.Slices.{IsMemory};
-ghost use Rattle.uda_c.specs.declared.returned.Returned.TheVariants.{Took, Done};
+ghost use Rattle.uda_c.specs.declared.call_status.CallStatus.TheVariants.{Took, Done};
 ghost use Rattle.uda_c.specs.Controllers.{controller_at_start, Attaches, Detaches, TurnsWhereMemory};
 ghost use Rattle.uda_c.specs.Controllers.{FailsAt, drive_failing, TakesTurn, memory_refusal};
 ghost use Rattle.uda_c.specs.LentImage.{lent_state};
 ghost use Rattle.uda_exec.specs.Drives.{drive_state};
 ghost use Rattle.uda_c.specs.Runs.{TakesTurns, RunsWhereMemory, does_nothing};
 
+use crate::call_status::CallStatus;
 use crate::lent::Lent;
 use crate::lent_image::LentImage;
-use crate::returned::Returned;
 use std::alloc::Global;
 use uda_exec::Exec;
 use uda_image::{BLOCK_LIMIT, Drive};
@@ -42,7 +42,7 @@ impl Controller {
     }
 
     /// Takes the bytes that C lends as the image of a unit.
-    pub fn attach(&mut self, unit: u32, image: Lent, hard: bool) -> Returned
+    pub fn attach(&mut self, unit: u32, image: Lent, hard: bool) -> CallStatus
         ensures attaches { Attaches self.old unit (record { bytes = image.held; hard = hard })
             result self.new }
     {
@@ -50,67 +50,67 @@ impl Controller {
         let bytes = image.bytes_mut().len();
         let unit = unit as usize;
         if unit > 3 {
-            return Returned::NoSuchUnit;
+            return CallStatus::NoSuchUnit;
         }
         if self.port.unit(unit).is_some() {
-            return Returned::UnitTaken;
+            return CallStatus::AlreadyAttached;
         }
         if bytes % 512 != 0 {
-            return Returned::BadLength;
+            return CallStatus::BadLength;
         }
         if bytes / 512 > BLOCK_LIMIT as usize {
-            return Returned::TooLong;
+            return CallStatus::TooLarge;
         }
         let store = LentImage::new(image);
         self.port.set_drive(unit, Some(Drive { store, hard }));
-        Returned::Done
+        CallStatus::Done
     }
 
     /// Gives the image of a unit back to C.
-    pub fn detach(&mut self, unit: u32) -> Returned
+    pub fn detach(&mut self, unit: u32) -> CallStatus
         ensures detaches { Detaches self.old unit result self.new }
     {
         let unit = unit as usize;
         if unit > 3 {
-            return Returned::NoSuchUnit;
+            return CallStatus::NoSuchUnit;
         }
         if self.port.unit(unit).is_none() {
-            return Returned::UnitEmpty;
+            return CallStatus::NotAttached;
         }
         self.port.set_drive(unit, None);
-        Returned::Done
+        CallStatus::Done
     }
 
     /// Has the image of a unit fail at a call, counted from now on.
-    pub fn fail_at(&mut self, unit: u32, call: u32) -> Returned
+    pub fn fail_at(&mut self, unit: u32, call: u32) -> CallStatus
         ensures fails { FailsAt self.old unit call result self.new }
     {
         let unit = unit as usize;
         if unit > 3 {
-            return Returned::NoSuchUnit;
+            return CallStatus::NoSuchUnit;
         }
         let Some(look) = self.port.unit(unit) else {
-            return Returned::UnitEmpty;
+            return CallStatus::NotAttached;
         };
         if let Some(drive) = self.port.set_drive(unit, None) {
             self.port.set_drive(unit, Some(failing(drive, call)));
             self.port.restore_mode(unit, look.mode);
         }
-        Returned::Done
+        CallStatus::Done
     }
 
     /// One turn of the port in the guest's memory.
-    pub fn turn(&mut self, memory: &mut [u8]) -> Returned
+    pub fn turn(&mut self, memory: &mut [u8]) -> CallStatus
         ensures goes { TurnsWhereMemory self.old memory.old result self.new memory.new }
     {
         match refusal_of(memory) {
             Some(refusal) => refusal,
-            None => Returned::Took(self.take_turn(memory)),
+            None => CallStatus::Took(self.take_turn(memory)),
         }
     }
 
     /// Turns, one after another, up to the first that does nothing, and no more than `limit`.
-    pub fn run(&mut self, limit: u32, memory: &mut [u8]) -> Returned
+    pub fn run(&mut self, limit: u32, memory: &mut [u8]) -> CallStatus
         ensures runs { RunsWhereMemory limit (self.old, memory.old) result (self.new, memory.new) }
     {
         match refusal_of(memory) {
@@ -120,14 +120,14 @@ impl Controller {
     }
 
     // The same in memory that a port works in.
-    fn run_in(&mut self, limit: u32, memory: &mut [u8]) -> Returned
+    fn run_in(&mut self, limit: u32, memory: &mut [u8]) -> CallStatus
         requires memory { IsMemory memory.old }
         ensures { TakesTurns limit Done (self.old, memory.old) result (self.new, memory.new) }
     {
-        let mut answer = Returned::Done;
+        let mut answer = CallStatus::Done;
         for _ in 0..limit {
             let turn = self.take_turn(memory);
-            answer = Returned::Took(turn);
+            answer = CallStatus::Took(turn);
             if does_nothing(turn) {
                 return answer;
             }
@@ -164,15 +164,15 @@ fn does_nothing(turn: Turn) -> bool
 }
 
 // What memory is answered that no port works in.
-fn refusal_of(memory: &[u8]) -> Option<Returned>
+fn refusal_of(memory: &[u8]) -> Option<CallStatus>
     ensures works { IfNone result (IsMemory memory.now) }
     ensures refused { IfSome result (λ r. (IsMemory memory.now → ⊥) × (r ≡ memory_refusal memory.now)) }
 {
     if uda_mem::is_memory(memory) {
         None
     } else if memory.len() % 2 == 0 {
-        Some(Returned::TooLong)
+        Some(CallStatus::TooLarge)
     } else {
-        Some(Returned::BadLength)
+        Some(CallStatus::BadLength)
     }
 }

@@ -3,47 +3,55 @@
 ghost use Rattle.std.specs.Prelude.{None, MatchOption, false, ◌≡◌};
 ghost use Rattle.uda_port.specs.Port.{port_at_start, port_asked};
 ghost use Rattle.uda_port.specs.Startup.{sa_of};
-ghost use Rattle.uda_c.specs.Returned.{returned_code};
-ghost use Rattle.uda_c.specs.declared.returned.Returned.{Returned};
-ghost use Rattle.uda_c.specs.declared.returned.Returned.TheVariants.{Done, NoController, NoMemory};
+ghost use Rattle.uda_c.specs.CallStatus.{status_code};
+ghost use Rattle.uda_c.specs.declared.call_status.CallStatus.{CallStatus};
+ghost use Rattle.uda_c.specs.declared.call_status.CallStatus.TheVariants.{Done, NoController, NoMemory};
 ghost use Rattle.uda_c.specs.Controllers.{OnHandle, controller_at_start, Attaches, Detaches, WritesSa};
 ghost use Rattle.uda_c.specs.Controllers.{FailsAt, TurnsWhereMemory, TakesInterrupt};
 ghost use Rattle.uda_c.specs.Runs.{RunsWhereMemory};
-ghost use Rattle.uda_c.specs.Shown.{shown_port};
-ghost use Rattle.uda_c.specs.Last.{told_turn, TellsLine};
+ghost use Rattle.uda_c.specs.Snapshot.{port_snapshot};
+ghost use Rattle.uda_c.specs.Last.{turn_record, TellsLine};
 
+use crate::call_status::CallStatus;
 use crate::controller::Controller;
 use crate::handle::Handle;
-use crate::last::{LastTurn, put_last_line};
+use crate::last::{TurnRecord, put_last_line};
 use crate::lent::Lent;
-use crate::returned::Returned;
-use crate::shown::ShownPort;
+use crate::snapshot::PortSnapshot;
 use loose::Loose;
 use std::alloc::Global;
+
+/// Returns the library's version: 10000 times the major number, 100 times the minor one, and the patch number.
+#[unsafe(no_mangle)]
+pub extern "C" fn uda50_version() -> u32
+    ensures version { result ≡ 100 }
+{
+    100
+}
 
 /// A new controller in the place of what the handle had, which is freed: for guests, or strict. Where memory
 /// is lacking the handle has none.
 #[unsafe(no_mangle)]
-pub extern "C" fn uda_new(alloc: Global, handle: &mut Handle, for_guests: bool) -> u32
-    ensures made { MatchOption handle.new.value (result ≡ returned_code NoMemory)
-        (λ c. (result ≡ returned_code Done) × (c ≡ controller_at_start for_guests)) }
+pub extern "C" fn uda50_new(alloc: Global, handle: &mut Handle, compatible: bool) -> u32
+    ensures made { MatchOption handle.new.value (result ≡ status_code NoMemory)
+        (λ c. (result ≡ status_code Done) × (c ≡ controller_at_start compatible)) }
 {
-    uda_free(alloc, handle);
-    let Some(controller) = Controller::new(alloc, for_guests) else {
-        return Returned::NoMemory.code();
+    uda50_free(alloc, handle);
+    let Some(controller) = Controller::new(alloc, compatible) else {
+        return CallStatus::NoMemory.code();
     };
     match Box::new(alloc, controller) {
         Ok(place) => {
             handle.put(Loose::of(place));
-            Returned::Done.code()
+            CallStatus::Done.code()
         }
-        Err(_) => Returned::NoMemory.code(),
+        Err(_) => CallStatus::NoMemory.code(),
     }
 }
 
 /// The controller goes, where the handle has one.
 #[unsafe(no_mangle)]
-pub extern "C" fn uda_free(alloc: Global, handle: &mut Handle)
+pub extern "C" fn uda50_free(alloc: Global, handle: &mut Handle)
     ensures gone { handle.new.value ≡ None }
 {
     if let Some(controller) = handle.take(alloc) {
@@ -53,45 +61,50 @@ pub extern "C" fn uda_free(alloc: Global, handle: &mut Handle)
 
 /// The image of a unit: the bytes are the library's until they are detached or the handle is freed.
 #[unsafe(no_mangle)]
-pub extern "C" fn uda_attach(handle: &mut Handle, unit: u32, image: Lent, hard: bool) -> u32
-    ensures attaches { OnHandle handle.old.value handle.new.value (result ≡ returned_code NoController)
-        (λ old new. (answer : Returned) × (result ≡ returned_code answer)
-        × Attaches old unit (record { bytes = image.held; hard = hard }) answer new) }
+pub extern "C" fn uda50_attach(
+    handle: &mut Handle,
+    unit: u32,
+    image: Lent,
+    write_protected: bool,
+) -> u32
+    ensures attaches { OnHandle handle.old.value handle.new.value (result ≡ status_code NoController)
+        (λ old new. (answer : CallStatus) × (result ≡ status_code answer)
+        × Attaches old unit (record { bytes = image.held; hard = write_protected }) answer new) }
 {
     match handle.get() {
-        Some(controller) => controller.attach(unit, image, hard).code(),
-        None => Returned::NoController.code(),
+        Some(controller) => controller.attach(unit, image, write_protected).code(),
+        None => CallStatus::NoController.code(),
     }
 }
 
 /// Gives the image of a unit back.
 #[unsafe(no_mangle)]
-pub extern "C" fn uda_detach(handle: &mut Handle, unit: u32) -> u32
-    ensures detaches { OnHandle handle.old.value handle.new.value (result ≡ returned_code NoController)
-        (λ old new. (answer : Returned) × (result ≡ returned_code answer) × Detaches old unit answer new) }
+pub extern "C" fn uda50_detach(handle: &mut Handle, unit: u32) -> u32
+    ensures detaches { OnHandle handle.old.value handle.new.value (result ≡ status_code NoController)
+        (λ old new. (answer : CallStatus) × (result ≡ status_code answer) × Detaches old unit answer new) }
 {
     match handle.get() {
         Some(controller) => controller.detach(unit).code(),
-        None => Returned::NoController.code(),
+        None => CallStatus::NoController.code(),
     }
 }
 
 /// Has the image of a unit fail at a call, counted from now on.
 #[unsafe(no_mangle)]
-pub extern "C" fn uda_fail_at(handle: &mut Handle, unit: u32, call: u32) -> u32
-    ensures fails { OnHandle handle.old.value handle.new.value (result ≡ returned_code NoController)
-        (λ old new. (answer : Returned) × (result ≡ returned_code answer)
+pub extern "C" fn uda50_inject_failure(handle: &mut Handle, unit: u32, call: u32) -> u32
+    ensures fails { OnHandle handle.old.value handle.new.value (result ≡ status_code NoController)
+        (λ old new. (answer : CallStatus) × (result ≡ status_code answer)
         × FailsAt old unit call answer new) }
 {
     match handle.get() {
         Some(controller) => controller.fail_at(unit, call).code(),
-        None => Returned::NoController.code(),
+        None => CallStatus::NoController.code(),
     }
 }
 
 /// The guest writes IP.
 #[unsafe(no_mangle)]
-pub extern "C" fn uda_write_ip(handle: &mut Handle, word: u16)
+pub extern "C" fn uda50_write_ip(handle: &mut Handle, word: u16)
     ensures starts { OnHandle handle.old.value handle.new.value Unit
         (λ old new. new ≡ record old { port = port_at_start old.port.profile old.port.exec }) }
 {
@@ -102,7 +115,7 @@ pub extern "C" fn uda_write_ip(handle: &mut Handle, word: u16)
 
 /// The guest reads IP.
 #[unsafe(no_mangle)]
-pub extern "C" fn uda_read_ip(handle: &mut Handle) -> u16
+pub extern "C" fn uda50_read_ip(handle: &mut Handle) -> u16
     ensures zero { result ≡ 0 }
     ensures looks { OnHandle handle.old.value handle.new.value Unit
         (λ old new. new ≡ record old { port = port_asked old.port.phase old.port }) }
@@ -115,7 +128,7 @@ pub extern "C" fn uda_read_ip(handle: &mut Handle) -> u16
 
 /// The guest writes SA.
 #[unsafe(no_mangle)]
-pub extern "C" fn uda_write_sa(handle: &mut Handle, word: u16, memory: &mut [u8])
+pub extern "C" fn uda50_write_sa(handle: &mut Handle, word: u16, memory: &mut [u8])
     ensures steps { OnHandle handle.old.value handle.new.value (memory.new ≡ memory.old)
         (λ old new. WritesSa old memory.old word new memory.new) }
 {
@@ -126,7 +139,7 @@ pub extern "C" fn uda_write_sa(handle: &mut Handle, word: u16, memory: &mut [u8]
 
 /// The guest reads SA.
 #[unsafe(no_mangle)]
-pub extern "C" fn uda_read_sa(handle: &mut Handle) -> u16
+pub extern "C" fn uda50_read_sa(handle: &mut Handle) -> u16
     ensures sa { OnHandle handle.old.value handle.new.value (result ≡ 0)
         (λ old new. (result ≡ sa_of old.port.phase) × (new ≡ old)) }
 {
@@ -138,21 +151,21 @@ pub extern "C" fn uda_read_sa(handle: &mut Handle) -> u16
 
 /// One turn of the port in the guest's memory.
 #[unsafe(no_mangle)]
-pub extern "C" fn uda_turn(handle: &mut Handle, memory: &mut [u8]) -> u32
+pub extern "C" fn uda50_turn(handle: &mut Handle, memory: &mut [u8]) -> u32
     ensures goes { OnHandle handle.old.value handle.new.value
-        ((result ≡ returned_code NoController) × (memory.new ≡ memory.old))
-        (λ old new. (answer : Returned) × (result ≡ returned_code answer)
+        ((result ≡ status_code NoController) × (memory.new ≡ memory.old))
+        (λ old new. (answer : CallStatus) × (result ≡ status_code answer)
         × TurnsWhereMemory old memory.old answer new memory.new) }
 {
     match handle.get() {
         Some(controller) => controller.turn(memory).code(),
-        None => Returned::NoController.code(),
+        None => CallStatus::NoController.code(),
     }
 }
 
 /// Takes the request of an interrupt that waits.
 #[unsafe(no_mangle)]
-pub extern "C" fn uda_take_interrupt(handle: &mut Handle, vector: &mut u16) -> bool
+pub extern "C" fn uda50_take_interrupt(handle: &mut Handle, vector: &mut u16) -> bool
     ensures takes { OnHandle handle.old.value handle.new.value
         ((result ≡ false) × (vector.new ≡ vector.old))
         (λ old new. TakesInterrupt old vector.old result new vector.new) }
@@ -171,60 +184,64 @@ pub extern "C" fn uda_take_interrupt(handle: &mut Handle, vector: &mut u16) -> b
 
 /// Turns of the port, one after another, up to the first that does nothing, and no more than `turns`.
 #[unsafe(no_mangle)]
-pub extern "C" fn uda_run(handle: &mut Handle, turns: u32, memory: &mut [u8]) -> u32
+pub extern "C" fn uda50_run(handle: &mut Handle, turns: u32, memory: &mut [u8]) -> u32
     ensures runs { OnHandle handle.old.value handle.new.value
-        ((result ≡ returned_code NoController) × (memory.new ≡ memory.old))
-        (λ old new. (answer : Returned) × (result ≡ returned_code answer)
+        ((result ≡ status_code NoController) × (memory.new ≡ memory.old))
+        (λ old new. (answer : CallStatus) × (result ≡ status_code answer)
         × RunsWhereMemory turns (old, memory.old) answer (new, memory.new)) }
 {
     match handle.get() {
         Some(controller) => controller.run(turns, memory).code(),
-        None => Returned::NoController.code(),
+        None => CallStatus::NoController.code(),
     }
 }
 
 /// What there is to be seen of the port.
 #[unsafe(no_mangle)]
-pub extern "C" fn uda_show(handle: &mut Handle, shown: &mut ShownPort) -> u32
+pub extern "C" fn uda50_get_state(handle: &mut Handle, state: &mut PortSnapshot) -> u32
     ensures shows { OnHandle handle.old.value handle.new.value
-        ((result ≡ returned_code NoController) × (shown.new ≡ shown.old))
-        (λ old new. (result ≡ returned_code Done) × (new ≡ old) × (shown.new ≡ shown_port old.port)) }
+        ((result ≡ status_code NoController) × (state.new ≡ state.old))
+        (λ old new. (result ≡ status_code Done) × (new ≡ old) × (state.new ≡ port_snapshot old.port)) }
 {
     match handle.get() {
         Some(controller) => {
-            *shown = ShownPort::of(&controller.port);
-            Returned::Done.code()
+            *state = PortSnapshot::of(&controller.port);
+            CallStatus::Done.code()
         }
-        None => Returned::NoController.code(),
+        None => CallStatus::NoController.code(),
     }
 }
 
 /// What the last turn did.
 #[unsafe(no_mangle)]
-pub extern "C" fn uda_last(handle: &mut Handle, last: &mut LastTurn) -> u32
+pub extern "C" fn uda50_get_last_turn(handle: &mut Handle, turn: &mut TurnRecord) -> u32
     ensures tells { OnHandle handle.old.value handle.new.value
-        ((result ≡ returned_code NoController) × (last.new ≡ last.old))
-        (λ old new. (result ≡ returned_code Done) × (new ≡ old) × (last.new ≡ told_turn old.last)) }
+        ((result ≡ status_code NoController) × (turn.new ≡ turn.old))
+        (λ old new. (result ≡ status_code Done) × (new ≡ old) × (turn.new ≡ turn_record old.last)) }
 {
     match handle.get() {
         Some(controller) => {
-            *last = LastTurn::of(controller.last);
-            Returned::Done.code()
+            *turn = TurnRecord::of(controller.last);
+            CallStatus::Done.code()
         }
-        None => Returned::NoController.code(),
+        None => CallStatus::NoController.code(),
     }
 }
 
 /// The line of the last turn, as a text that ends with a 0, as far as the buffer has room.
 #[unsafe(no_mangle)]
-pub extern "C" fn uda_last_text(alloc: Global, handle: &mut Handle, buffer: &mut [u8]) -> u32
+pub extern "C" fn uda50_format_last_turn(
+    alloc: Global,
+    handle: &mut Handle,
+    buffer: &mut [u8],
+) -> u32
     ensures tells { OnHandle handle.old.value handle.new.value
-        ((result ≡ returned_code NoController) × (buffer.new ≡ buffer.old))
-        (λ old new. (answer : Returned) × (result ≡ returned_code answer) × (new ≡ old)
+        ((result ≡ status_code NoController) × (buffer.new ≡ buffer.old))
+        (λ old new. (answer : CallStatus) × (result ≡ status_code answer) × (new ≡ old)
         × TellsLine old.last buffer.old answer buffer.new) }
 {
     match handle.get() {
         Some(controller) => put_last_line(alloc, controller.last, buffer).code(),
-        None => Returned::NoController.code(),
+        None => CallStatus::NoController.code(),
     }
 }

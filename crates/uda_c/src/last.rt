@@ -1,8 +1,8 @@
 //! What C is told of a controller's last turn.
 ghost use Rattle.std.specs.Prelude.{◌≡◌};
-ghost use Rattle.uda_c.specs.Last.{told_number, told_command, told_end, told_turn, TellsLine};
+ghost use Rattle.uda_c.specs.Last.{told_number, told_command, told_end, turn_record, TellsLine};
 
-use crate::returned::Returned;
+use crate::call_status::CallStatus;
 use crate::text::put_c_string;
 use std::alloc::Global;
 use uda_packet::{Command, End, EndBody};
@@ -11,7 +11,7 @@ use uda_port::Trace;
 /// What a turn did, in the form of C. What it has no word of is 0.
 #[repr(C)]
 #[derive(Clone, Copy, Debug, PartialEq, Eq)]
-pub struct LastTurn {
+pub struct TurnRecord {
     /// The number of what it did.
     pub kind: u32,
     /// The command's reference number.
@@ -28,27 +28,27 @@ pub struct LastTurn {
     pub status: u16,
 }
 
-impl LastTurn {
+impl TurnRecord {
     /// What a trace tells, if there was a turn at all.
-    pub fn of(trace: Option<Trace>) -> LastTurn
-        ensures told { result ≡ told_turn trace }
+    pub fn of(trace: Option<Trace>) -> TurnRecord
+        ensures told { result ≡ turn_record trace }
     {
         match trace {
-            Some(Trace::Idle) => LastTurn::plain(0, 0),
-            Some(Trace::Fetched(command)) => LastTurn::of_command(command),
-            Some(Trace::Executed(end)) => LastTurn::of_end(2, end),
-            Some(Trace::Delivered(end)) => LastTurn::of_end(3, end),
-            Some(Trace::Dead(cause)) => LastTurn::plain(4, cause.code()),
-            Some(Trace::Refused(end)) => LastTurn::of_end(5, end),
-            None => LastTurn::plain(6, 0),
+            Some(Trace::Idle) => TurnRecord::plain(0, 0),
+            Some(Trace::Fetched(command)) => TurnRecord::of_command(command),
+            Some(Trace::Executed(end)) => TurnRecord::of_end(2, end),
+            Some(Trace::Delivered(end)) => TurnRecord::of_end(3, end),
+            Some(Trace::Dead(cause)) => TurnRecord::plain(4, cause.code()),
+            Some(Trace::Refused(end)) => TurnRecord::of_end(5, end),
+            None => TurnRecord::plain(6, 0),
         }
     }
 
     // A turn that was about no command.
-    fn plain(kind: u32, code: u16) -> LastTurn
+    fn plain(kind: u32, code: u16) -> TurnRecord
         ensures { result ≡ told_number kind code }
     {
-        LastTurn {
+        TurnRecord {
             kind,
             reference: 0,
             lbn: 0,
@@ -60,14 +60,14 @@ impl LastTurn {
     }
 
     // A fetch.
-    fn of_command(command: Command) -> LastTurn
+    fn of_command(command: Command) -> TurnRecord
         ensures { result ≡ told_command command }
     {
         let (lbn, bytes) = match command.op.transfer() {
             Some(t) => (t.lbn, t.bytes),
             None => (0, 0),
         };
-        LastTurn {
+        TurnRecord {
             kind: 1,
             reference: command.reference,
             lbn,
@@ -79,14 +79,14 @@ impl LastTurn {
     }
 
     // A turn that was about an end.
-    fn of_end(kind: u32, end: End) -> LastTurn
+    fn of_end(kind: u32, end: End) -> TurnRecord
         ensures { result ≡ told_end kind end }
     {
         let bytes = match end.body {
             EndBody::Moved { bytes, .. } => bytes,
             _ => 0,
         };
-        LastTurn {
+        TurnRecord {
             kind,
             reference: end.reference,
             lbn: 0,
@@ -99,18 +99,18 @@ impl LastTurn {
 }
 
 /// Puts the line of a turn into a buffer, as a text of C.
-pub fn put_last_line(alloc: Global, last: Option<Trace>, buffer: &mut [u8]) -> Returned
+pub fn put_last_line(alloc: Global, last: Option<Trace>, buffer: &mut [u8]) -> CallStatus
     ensures tells { TellsLine last buffer.old result buffer.new }
 {
     let Some(trace) = last else {
         put_c_string(buffer, "");
-        return Returned::Done;
+        return CallStatus::Done;
     };
     match trace.to_string(alloc) {
         Ok(line) => {
             put_c_string(buffer, &line);
-            Returned::Done
+            CallStatus::Done
         }
-        Err(_) => Returned::NoMemory,
+        Err(_) => CallStatus::NoMemory,
     }
 }

@@ -1,12 +1,12 @@
 //! The controller as a static library for C: `uda50.h` declares what is exported here.
 #![tactic(auto)]
 
+mod call_status;
 mod controller;
 mod exports;
 mod handle;
 mod last;
 mod lent;
 mod lent_image;
-mod returned;
-mod shown;
+mod snapshot;
 mod text;

@@ -42,8 +42,10 @@ module _ {A : Type 0} where
       let behind : drop (n * i + n) (drop n xs) ≡ drop (n + n * i + n) xs =
       drop-drop (n * i + n) n xs ∙ ap (λ m. drop m xs) (omega arith) in
       ap (λ m. first_chunks n (suc k) (splice xs m (m + n) ys)) start
-      ∙ ap (λ front. first_chunks n (suc k) (front ++ (ys ++ drop (n + n * i + n) xs))) (take-add n (n * i) xs)
-      ∙ ap (λ tail. first_chunks n (suc k) ((take n xs ++ take (n * i) (drop n xs)) ++ (ys ++ tail))) (sym behind)
+      ∙ ap (λ front. first_chunks n (suc k) (front ++ (ys ++ drop (n + n * i + n) xs)))
+      (take-add n (n * i) xs)
+      ∙ ap (λ tail. first_chunks n (suc k) ((take n xs ++ take (n * i) (drop n xs)) ++ (ys ++ tail)))
+      (sym behind)
       ∙ ap (first_chunks n (suc k))
       (append_assoc (take n xs) (take (n * i) (drop n xs)) (ys ++ drop (n * i + n) (drop n xs)))
       ∙ first_chunks-append n k (take n xs) (splice (drop n xs) (n * i) (n * i + n) ys) whole

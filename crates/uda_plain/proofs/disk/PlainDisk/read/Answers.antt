@@ -17,6 +17,7 @@ returns c =
       answer = ap (λ items. Data 0 items) (c.truncate.ensures.items
           ∙ ap (take bytes) (c.in_ok-data.ensures.bytes
           ∙ ap (λ xs. concat (take n (drop c.args.lbn xs))) blocks
-          ∙ ap concat (part-range c.args.self.now.blocks c.args.lbn count n (omega (arith, c.div_ceil-count.ensures))))
+          ∙ ap concat (part-range c.args.self.now.blocks c.args.lbn count n
+          (omega (arith, c.div_ceil-count.ensures))))
           ∙ sym (take-take bytes bytes there (omega arith)));
     }

@@ -6,8 +6,8 @@ use Rattle.uda_port.specs.declared.phase.Phase.TheVariants.{Running, Dead}
 use Rattle.uda_port.specs.Port.{PortState}
 use Rattle.uda_port.specs.Ring.{RingState}
 use Rattle.uda_port.specs.Startup.{sa_of}
-use Rattle.uda_c.specs.declared.shown.ShownRing.{ShownRing}
-use Rattle.uda_c.specs.declared.shown.ShownPort.{ShownPort}
+use Rattle.uda_c.specs.declared.snapshot.RingSnapshot.{RingSnapshot}
+use Rattle.uda_c.specs.declared.snapshot.PortSnapshot.{PortSnapshot}
 
 -- the number by which C knows a phase: in the order of a start-up
 abbrev pub phase_number : Phase → ℕ
@@ -20,18 +20,18 @@ phase_number Step4 = 6
 phase_number Running = 7
 phase_number (Dead cause) = 8
 
-abbrev pub shown_ring : RingState → ShownRing
-shown_ring ring = record { base = ring.base; count = ring.count; place = ring.place }
+abbrev pub ring_snapshot : RingState → RingSnapshot
+ring_snapshot ring = record { base = ring.base; count = ring.count; next = ring.place }
 
-abbrev pub shown_port : PortState → ShownPort
-shown_port port = record {
+abbrev pub port_snapshot : PortState → PortSnapshot
+port_snapshot port = record {
   phase = phase_number port.phase;
-  responses = shown_ring port.responses;
-  commands = shown_ring port.commands;
+  responses = ring_snapshot port.responses;
+  commands = ring_snapshot port.commands;
   pending = length port.exec.pending;
-  waiting = length port.waiting;
+  queued = length port.waiting;
   sa = sa_of port.phase;
   credits = port.credits;
-  looking = if port.looking then 1 else 0;
+  polling = if port.looking then 1 else 0;
   vector = port.interrupts.vector;
 }

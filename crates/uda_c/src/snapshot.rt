@@ -1,6 +1,6 @@
 //! What C is shown of a controller.
 ghost use Rattle.std.specs.Prelude.{◌≡◌};
-ghost use Rattle.uda_c.specs.Shown.{phase_number, shown_ring, shown_port};
+ghost use Rattle.uda_c.specs.Snapshot.{phase_number, ring_snapshot, port_snapshot};
 
 use uda_image::BlockStore;
 use uda_port::{Phase, Port, Ring};
@@ -8,35 +8,35 @@ use uda_port::{Phase, Port, Ring};
 /// A ring, in the form of C.
 #[repr(C)]
 #[derive(Clone, Copy, Debug, PartialEq, Eq)]
-pub struct ShownRing {
+pub struct RingSnapshot {
     /// The address of the first descriptor.
     pub base: u32,
     /// How many descriptors it has.
     pub count: u16,
-    /// The place of the next one.
-    pub place: u16,
+    /// The next of the next one.
+    pub next: u16,
 }
 
 /// A port, in the form of C.
 #[repr(C)]
 #[derive(Clone, Copy, Debug, PartialEq, Eq)]
-pub struct ShownPort {
+pub struct PortSnapshot {
     /// The number of its phase.
     pub phase: u32,
     /// The ring that ends are put into.
-    pub responses: ShownRing,
+    pub responses: RingSnapshot,
     /// The ring that commands are fetched from.
-    pub commands: ShownRing,
+    pub commands: RingSnapshot,
     /// How many commands were fetched and not yet executed.
     pub pending: u32,
     /// How many ends wait for delivery.
-    pub waiting: u32,
+    pub queued: u32,
     /// What SA shows.
     pub sa: u16,
     /// How many commands the host may still post.
     pub credits: u16,
     /// Whether the port looks at its command ring: 1, or 0.
-    pub looking: u16,
+    pub polling: u16,
     /// The address of the interrupts' vector, 0 before the host has told it.
     pub vector: u16,
 }
@@ -57,32 +57,32 @@ fn phase_number(phase: Phase) -> u32
     }
 }
 
-impl ShownRing {
-    fn of(ring: Ring) -> ShownRing
-        ensures { result ≡ shown_ring ring }
+impl RingSnapshot {
+    fn of(ring: Ring) -> RingSnapshot
+        ensures { result ≡ ring_snapshot ring }
     {
-        ShownRing {
+        RingSnapshot {
             base: ring.base(),
             count: ring.count(),
-            place: ring.place(),
+            next: ring.place(),
         }
     }
 }
 
-impl ShownPort {
+impl PortSnapshot {
     /// What there is to be seen of a port.
-    pub fn of<S: BlockStore>(port: &Port<S>) -> ShownPort
-        ensures shown { result ≡ shown_port port.now }
+    pub fn of<S: BlockStore>(port: &Port<S>) -> PortSnapshot
+        ensures shown { result ≡ port_snapshot port.now }
     {
-        ShownPort {
+        PortSnapshot {
             phase: phase_number(port.phase()),
-            responses: ShownRing::of(port.responses()),
-            commands: ShownRing::of(port.commands()),
+            responses: RingSnapshot::of(port.responses()),
+            commands: RingSnapshot::of(port.commands()),
             pending: port.pending() as u32,
-            waiting: port.waiting() as u32,
+            queued: port.waiting() as u32,
             sa: port.read_sa(),
             credits: u16::from(port.credits()),
-            looking: u16::from(port.is_looking()),
+            polling: u16::from(port.is_looking()),
             vector: port.interrupts().vector,
         }
     }

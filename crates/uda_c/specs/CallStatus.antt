@@ -1,0 +1,25 @@
+-- The numbers by which C knows what it is answered.
+use Rattle.std.specs.Prelude.{ℕ}
+use Rattle.uda_port.specs.declared.turn.Turn.{Turn}
+use Rattle.uda_port.specs.declared.turn.Turn.TheVariants as turn
+use Rattle.uda_c.specs.declared.call_status.CallStatus.{CallStatus}
+use Rattle.uda_c.specs.declared.call_status.CallStatus.TheVariants.{Done, Took, NoController, NoMemory, NoSuchUnit}
+use Rattle.uda_c.specs.declared.call_status.CallStatus.TheVariants.{AlreadyAttached, NotAttached, BadLength, TooLarge}
+
+abbrev pub turn_code : Turn → ℕ
+turn_code turn.Idle = 0
+turn_code turn.Fetched = 1
+turn_code turn.Executed = 2
+turn_code turn.Delivered = 3
+turn_code turn.Dead = 4
+
+abbrev pub status_code : CallStatus → ℕ
+status_code Done = 0
+status_code (Took turn) = turn_code turn
+status_code NoController = 64
+status_code NoMemory = 65
+status_code NoSuchUnit = 66
+status_code AlreadyAttached = 67
+status_code NotAttached = 68
+status_code BadLength = 69
+status_code TooLarge = 70

@@ -1,3 +1,4 @@
 pub mod Writes
 pub mod TextLaws
 pub mod WrittenLaws
+pub mod GuestTexts

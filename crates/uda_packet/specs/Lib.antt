@@ -1,3 +1,4 @@
+pub mod DriveTypes
 pub mod Field
 pub mod Flags
 pub mod Commands
@@ -10,3 +11,4 @@ pub mod Envelope
 pub mod Bad
 pub mod Transfer
 pub mod Display
+pub mod GuestEnd

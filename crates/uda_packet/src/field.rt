@@ -24,9 +24,15 @@ pub(crate) const BYTE_COUNT: Long = Long(12);
 
 pub(crate) const VERSION: Word = Word(12);
 
+pub(crate) const MULTI_UNIT: Word = Word(12);
+
 pub(crate) const UNIT_FLAGS: Word = Word(14);
 
 pub(crate) const ADDRESS: Long = Long(16);
+
+pub(crate) const TIME_OUT: Word = Word(16);
+
+pub(crate) const CONTROLLER_VERSION: Word = Word(18);
 
 pub(crate) const IDENTIFIER: Quad = Quad(20);
 
@@ -34,7 +40,21 @@ pub(crate) const LBN: Long = Long(28);
 
 pub(crate) const MEDIA_TYPE: Long = Long(28);
 
+pub(crate) const SHADOW_UNIT: Word = Word(32);
+
 pub(crate) const UNIT_SIZE: Long = Long(36);
+
+// Sectors of a track.
+pub(crate) const TRACK: Word = Word(36);
+
+// Tracks of a group.
+pub(crate) const GROUP: Word = Word(38);
+
+// Groups of a cylinder.
+pub(crate) const CYLINDER: Word = Word(40);
+
+// The serial number of a volume.
+pub(crate) const SERIAL: Long = Long(40);
 
 // The opcode or end code of a text.
 pub(crate) fn code_in(text: &Text) -> u8

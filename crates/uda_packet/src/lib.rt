@@ -15,20 +15,26 @@
 mod bad;
 mod command;
 mod decoding;
+mod drive_type;
 mod encoding;
 mod end;
 mod envelope;
 mod field;
 mod flags;
+mod guest_end;
 mod transfer;
 
 pub use bad::{Bad, BadKind};
 pub use bitflags::Flags;
 pub use command::{Command, Op};
 pub use decoding::{decode_command, decode_end};
+pub use drive_type::{DriveTraits, DriveType, Geometry};
 pub use encoding::{encode_command, encode_end};
 pub use end::{End, EndBody, Kind};
 pub use envelope::Envelope;
 pub use flags::Modifiers;
+pub use guest_end::{
+    ATTENTION_LENGTH, Bus, Identity, Report, UnitReport, encode_guest_end, encode_unit_available,
+};
 pub use transfer::Transfer;
 pub use uda_disk::{UnitFlags, status};

@@ -1,0 +1,43 @@
+-- The drive types that a unit can report, with what a host learns of each.
+-- MSCP Basic Disk Functions Manual: media type identifiers, unit identifiers, Get Unit Status.
+use Rattle.std.specs.Prelude.{ℕ, true, false}
+use Rattle.uda_packet.specs.declared.drive_type.DriveType.{DriveType}
+use Rattle.uda_packet.specs.declared.drive_type.DriveType.TheVariants as drive
+use Rattle.uda_packet.specs.declared.drive_type.DriveTraits.{DriveTraits}
+use Rattle.uda_packet.specs.declared.drive_type.Geometry.{Geometry}
+
+abbrev geometry : ℕ → ℕ → ℕ → Geometry
+geometry sectors tracks groups = record { sectors = sectors; tracks = tracks; groups = groups }
+
+-- a drive whose medium stays in it and can be written
+abbrev fixed : ℕ → ℕ → ℕ → Geometry → DriveTraits
+fixed blocks model media shape = record {
+  blocks = blocks;
+  model = model;
+  media = media;
+  geometry = shape;
+  is_removable = false;
+  is_read_only = false;
+}
+
+abbrev removable : DriveTraits → DriveTraits
+removable traits = record traits { is_removable = true }
+
+-- usual size in blocks, model, media type; sectors a track, tracks a group, groups a cylinder
+abbrev pub drive_traits : DriveType → DriveTraits
+drive_traits drive.Rx50 = removable (fixed 800 7 0x25658032 (geometry 10 5 16))
+drive_traits drive.Rx33 = removable (fixed 2400 10 0x25658021 (geometry 15 2 1))
+drive_traits drive.Rd51 = fixed 21600 6 0x25644033 (geometry 18 4 1)
+drive_traits drive.Rd31 = fixed 41560 12 0x2564401F (geometry 17 4 1)
+drive_traits drive.Rd52 = fixed 60480 8 0x25644034 (geometry 17 8 1)
+drive_traits drive.Rd53 = fixed 138672 9 0x25644035 (geometry 17 8 1)
+drive_traits drive.Rd54 = fixed 311200 13 0x25644036 (geometry 17 15 1)
+drive_traits drive.Ra60 = removable (fixed 400176 4 0x22A4103C (geometry 42 6 1))
+drive_traits drive.Ra81 = fixed 891072 5 0x25641051 (geometry 51 14 1)
+drive_traits drive.Ra82 = fixed 1216665 11 0x25641052 (geometry 57 15 1)
+drive_traits drive.Ra71 = fixed 1367310 40 0x25641047 (geometry 51 14 1)
+drive_traits drive.Ra72 = fixed 1953300 37 0x25641048 (geometry 51 20 1)
+drive_traits drive.Ra90 = fixed 2376153 19 0x2564105A (geometry 69 13 1)
+drive_traits drive.Ra92 = fixed 2940951 29 0x2564105C (geometry 73 13 1)
+drive_traits drive.Rrd40 =
+    record (removable (fixed 1331200 26 0x25652228 (geometry 128 1 1))) { is_read_only = true }

@@ -1,0 +1,123 @@
+-- What a controller for guests reports of itself and of its units.
+-- MSCP Basic Disk Functions Manual: end messages, unit flags, unit and controller identifiers.
+use Rattle.std.specs.Prelude.{ℕ, ◌+◌, ◌*◌, ◌^◌, ◌%◌, ◌==◌, ◌||◌, Bool, true, false, Option, Some, None, List}
+use Rattle.std.specs.Prelude.{[], ◌∷◌, ◌++◌}
+use Rattle.std.specs.Int.RustNames.{bit_or}
+use Rattle.uda_disk.specs.Disk.{software_protection, hardware_protection}
+use Rattle.uda_disk.specs.Status.{SUCCESS}
+use Rattle.uda_packet.specs.declared.drive_type.DriveTraits.{DriveTraits}
+use Rattle.uda_packet.specs.declared.end.End.{End}
+use Rattle.uda_packet.specs.declared.end.EndBody.{EndBody}
+use Rattle.uda_packet.specs.declared.end.EndBody.TheVariants as body
+use Rattle.uda_packet.specs.declared.guest_end.Bus.{Bus}
+use Rattle.uda_packet.specs.declared.guest_end.Bus.TheVariants.{Unibus, Qbus}
+use Rattle.uda_packet.specs.declared.guest_end.Identity.{Identity}
+use Rattle.uda_packet.specs.declared.guest_end.UnitReport.{UnitReport}
+use Rattle.uda_packet.specs.declared.guest_end.Report.{Report}
+use Rattle.uda_packet.specs.DriveTypes.{drive_traits}
+use Rattle.uda_packet.specs.Field.{Entry, ◌holds◌, field, text_of, reference_field, unit_field, code_field}
+use Rattle.uda_packet.specs.Field.{status_field, byte_count_field, unit_flags_field, identifier_field}
+use Rattle.uda_packet.specs.Field.{media_type_field, unit_size_field}
+use Rattle.uda_packet.specs.Opcode.{end_code}
+
+-- the number by which the host knows a drive: the controller's drives have the numbers from the first one on
+abbrev pub unit_number : Identity → ℕ → ℕ
+unit_number identity drive = (identity.first_unit + drive) % 2 ^ 16
+
+-- ---- the controller
+
+-- its model: 6 is a UDA50, 19 an RQDX3
+abbrev pub model_of : Bus → ℕ
+model_of Unibus = 6
+model_of Qbus = 19
+
+-- the controller flags that the host set, with the bit of a controller that replaces bad blocks itself
+abbrev pub flags_reported : ℕ → ℕ
+flags_reported flags = bit_or flags 0x8000
+
+-- the flags; a time-out of 120 seconds; software version 3 and hardware version 1; and the identifier, which
+-- has the model and the class 1 in its highest bytes
+abbrev pub characteristics : Report → List Entry
+characteristics r =
+    unit_flags_field holds flags_reported r.controller_flags
+    ∷ field 16 2 holds 120 ∷ field 18 2 holds 0x0103
+    ∷ identifier_field holds (model_of r.identity.bus * 256 ^ 6 + 1 * 256 ^ 7) ∷ []
+
+-- ---- a unit
+
+abbrev pub flag_if : Bool → ℕ → ℕ
+flag_if true flag = flag
+flag_if false flag = 0
+
+-- bad blocks are replaced by the controller; the drive or its type is write-protected; the host protected the
+-- unit; the medium can be taken out
+abbrev pub unit_flags : UnitReport → ℕ
+unit_flags u =
+    0x8000 + flag_if (u.hard || (drive_traits u.kind).is_read_only) hardware_protection
+    + flag_if u.soft software_protection + flag_if (drive_traits u.kind).is_removable 0x0080
+
+-- the unit's number, its type's model and the class 2 (disk)
+abbrev pub unit_identifier : DriveTraits → ℕ → ℕ
+unit_identifier traits number = number + traits.model * 256 ^ 6 + 2 * 256 ^ 7
+
+-- who the unit is: its number, its flags, its identifier and its media type
+abbrev pub identity_entries : UnitReport → ℕ → List Entry
+identity_entries u number =
+    field 12 2 holds number ∷ unit_flags_field holds unit_flags u
+    ∷ identifier_field holds unit_identifier (drive_traits u.kind) number
+    ∷ media_type_field holds (drive_traits u.kind).media ∷ []
+
+-- what Get Unit Status adds: the number again, and the shape of a volume
+abbrev pub geometry_entries : UnitReport → ℕ → List Entry
+geometry_entries u number =
+    let shape = (drive_traits u.kind).geometry in
+    field 32 2 holds number ∷ field 36 2 holds shape.sectors ∷ field 38 2 holds shape.tracks
+    ∷ field 40 2 holds shape.groups ∷ []
+
+-- what Online adds: the number again, the volume's size, and its serial number
+abbrev pub volume_entries : UnitReport → ℕ → List Entry
+volume_entries u number =
+    field 32 2 holds number ∷ unit_size_field holds u.size ∷ field 40 4 holds (668 + number) ∷ []
+
+-- of a unit that isn't the controller's nothing is reported
+abbrev pub status_entries : Option UnitReport → ℕ → List Entry
+status_entries None number = []
+status_entries (Some u) number = identity_entries u number ++ geometry_entries u number
+
+abbrev pub online_entries : Option UnitReport → ℕ → List Entry
+online_entries None number = []
+online_entries (Some u) number = identity_entries u number ++ volume_entries u number
+
+-- ---- end messages
+
+abbrev pub controller_entries : Report → Bool → List Entry
+controller_entries r true = characteristics r
+controller_entries r false = []
+
+-- what stands after the status of an end message about the unit of this number
+abbrev pub guest_entries : Report → ℕ → ℕ → EndBody → List Entry
+guest_entries r number status body.Invalid = []
+guest_entries r number status (body.Status flags) = status_entries r.unit number
+guest_entries r number status body.Controller = controller_entries r (status == SUCCESS)
+guest_entries r number status body.Available = []
+guest_entries r number status (body.Online flags size) = online_entries r.unit number
+guest_entries r number status (body.Moved which moved) = byte_count_field holds moved ∷ []
+
+-- the text that an end message for a guest is written as
+unfoldable pub written_guest_end : Report → End → List ℕ
+written_guest_end r e =
+    let number = unit_number r.identity e.unit in
+    text_of (
+    reference_field holds e.reference ∷ unit_field holds number ∷ code_field holds (end_code e.body)
+    ∷ status_field holds e.status ∷ guest_entries r number e.status e.body)
+
+-- ---- attention messages
+
+-- the code of the message that a unit has become available
+abbrev pub unit_available : ℕ
+unit_available = 0x40
+
+-- the text of that message: reference 0, status 0, and who the unit is
+unfoldable pub written_unit_available : UnitReport → ℕ → List ℕ
+written_unit_available u number =
+    text_of (unit_field holds number ∷ code_field holds unit_available ∷ identity_entries u number)

@@ -52,7 +52,7 @@ first_word cause word old new memory false wrap' p step wrap is dead = let same 
 second_word : (cause : Fatal) (first word : ℕ) (old new : PortState) (memory : List ℕ) (profile : Profile) (refuses : Bool) → old.phase ≡ Step2 first → old.profile ≡ profile → refuses_second profile word ≡ refuses
     → new ≡ (if refuses then dead_port old StartUpWord else port_shows old (Step3 first word)) → new.phase ≡ Dead cause → FatalWord cause word old memory
 second_word cause first word old new memory Strict true p q purge is dead = of_word StartUpWord cause word old new memory is dead (rw (p, q) purge)
-second_word cause first word old new memory ForGuests true p q purge is dead = absurd (cc)
+second_word cause first word old new memory (ForGuests identity) true p q purge is dead = absurd (cc)
 second_word cause first word old new memory profile' false p q purge is dead = let same = phases new _ is in absurd (cc)
 
 -- what follows the third word isn't dead
@@ -70,12 +70,12 @@ third_word : (cause : Fatal) (first second word : ℕ) (old new : PortState) (me
     else (dead_port old RingWrite, memory)) → new.phase ≡ Dead cause → FatalWord cause word old memory
 third_word cause first second word old new memory memory_after Strict true has' p q high area is dead =
     of_word StartUpWord cause word old new memory (ap (λ (x : PortState × List ℕ). x.0) is) dead (rw (p, q) (ltb-true 3 word high))
-third_word cause first second word old new memory memory_after ForGuests true has' p q high area is dead = absurd (cc)
+third_word cause first second word old new memory memory_after (ForGuests identity) true has' p q high area is dead = absurd (cc)
 third_word cause first second word old new memory memory_after profile' false true p q high area is dead =
     absurd (lives_on cause (port_with_rings old (area_of profile' first second word)) word (sym (phases new _ (ap (λ (x : PortState × List ℕ). x.0) is)) ∙ dead))
 third_word cause first second word old new memory memory_after Strict false false p q high area is dead =
     of_word RingWrite cause word old new memory (ap (λ (x : PortState × List ℕ). x.0) is) dead (rw (p, q) (ltb-false 3 word high, area))
-third_word cause first second word old new memory memory_after ForGuests false false p q high area is dead =
+third_word cause first second word old new memory memory_after (ForGuests identity) false false p q high area is dead =
     of_word RingWrite cause word old new memory (ap (λ (x : PortState × List ℕ). x.0) is) dead (rw (p, q) (tt, area))
 
 purge_word : (cause : Fatal) (word : ℕ) (old new : PortState) (none : Bool) → old.phase ≡ Purge

@@ -12,7 +12,10 @@ use Rattle.uda_port.specs.declared.phase.Phase.{Phase}
 use Rattle.uda_port.specs.declared.phase.Phase.TheVariants.{Step2, Step3, Step4, Dead}
 use Rattle.uda_port.specs.declared.phase.Fatal.TheVariants.{RingWrite, StartUpWord}
 use Rattle.uda_port.specs.Message.{message_of_text, message_in}
-use Rattle.uda_port.specs.Packet.{TellsRoom, HasRoom, end_text}
+use Rattle.uda_port.specs.Packet.{TellsRoom, HasRoom}
+use Rattle.uda_port.specs.Report.{text_by}
+use Rattle.uda_port.specs.declared.guest.Guest.{Guest}
+use Rattle.uda_disk.specs.Units.{Units}
 use Rattle.uda_port.specs.Interrupt.{memory_told}
 use Rattle.uda_port.specs.Port.{PortState, port_shows, commands_told, responses_told, interrupts_told}
 use Rattle.uda_port.specs.Startup.{has_bit, ring_base, response_count, command_count, by_first, by_second, by_third}
@@ -22,8 +25,8 @@ use Rattle.uda_port.specs.Startup.{has_bit, ring_base, response_count, command_c
 strict_message : (p : Fetched) → message_in Strict p ≡ (if p.words.0 == 48 then message_of_text (read_command p.text) else Err (other_length_end p.text))
 strict_message p = refl
 
-strict_text : (e : End) → end_text Strict e ≡ written_end e
-strict_text e = refl
+strict_text : (guest : Guest) (units : Units) (e : End) → text_by Strict guest units e ≡ written_end e
+strict_text guest units e = refl
 
 strict_room : (memory : List ℕ) (at n : ℕ) → HasRoom Strict memory at n ≡ TellsRoom memory at
 strict_room memory at n = refl

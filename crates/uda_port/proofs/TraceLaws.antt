@@ -34,6 +34,13 @@ one_more : (old new : PortState) (message : Result Command End) → new.exec.pen
 one_more old new (Ok c) pending waiting = ACommand c pending
 one_more old new (Err e) pending waiting = AnEnd e pending waiting
 
+-- where no command became pending, an end waits
+pub one_waits : (old new : PortState) → OneMore old new → length new.exec.pending ≤ length old.exec.pending
+    → 0 < length new.waiting
+one_waits old new (ACommand c is) none =
+    absurd (omega (arith, none, ap length is, length-append old.exec.pending (c ∷ [])))
+one_waits old new (AnEnd e stays is) none = omega (arith, ap length is, length-append old.waiting (e ∷ []))
+
 -- a port that has counted its turn has what it had
 one_more_turned : (old new : PortState) → OneMore (port_turn_on old) new → OneMore old new
 one_more_turned old new (ACommand c is) = ACommand c is

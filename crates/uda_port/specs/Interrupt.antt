@@ -20,13 +20,13 @@ NO_INTERRUPTS = record { enabled = false; vector = 0; requested = false }
 -- it asks for nothing
 abbrev pub interrupts_asked : Profile → Interrupts → ℕ → Interrupts
 interrupts_asked Strict i first = i
-interrupts_asked ForGuests i first =
+interrupts_asked (ForGuests identity) i first =
     record { enabled = first / 0x80 % 2 == 1; vector = 4 * (first % 0x80); requested = false }
 
 -- a request is raised, where interrupts are enabled; strictly none ever is
 abbrev pub raised : Profile → Interrupts → Interrupts
 raised Strict i = i
-raised ForGuests i = record i { requested = i.requested || i.enabled }
+raised (ForGuests identity) i = record i { requested = i.requested || i.enabled }
 
 -- the vector of the request that waits
 abbrev pub vector_of : Interrupts → Option ℕ
@@ -68,7 +68,7 @@ word_below base n = if nat_le n base then Some (base - n) else None
 -- where the host is told of a ring's transition, if it is; strictly it never is
 abbrev pub told_at : Profile → Option ℕ → List ℕ → RingState → Option ℕ
 told_at Strict at memory r = None
-told_at ForGuests at memory r = if transits memory r then at else None
+told_at (ForGuests identity) at memory r = if transits memory r then at else None
 
 -- a 1 is written there
 abbrev pub memory_told : List ℕ → Option ℕ → List ℕ

@@ -4,9 +4,11 @@ pub mod Packet
 pub mod Fetch
 pub mod Delivery
 pub mod Message
+pub mod Guest
 pub mod Port
 pub mod IsPort
 pub mod Count
+pub mod Report
 pub mod Startup
 pub mod Trace
 pub mod Turn

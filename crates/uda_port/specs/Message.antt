@@ -32,13 +32,13 @@ text_by_length p =
 -- the text as it is read: strictly as it stands
 abbrev pub text_read : Profile → Fetched → List ℕ
 text_read Strict p = p.text
-text_read ForGuests p = text_by_length p
+text_read (ForGuests identity) p = text_by_length p
 
 -- Whether a command may have so many bytes: strictly each has 48; a guest's has 12 or more, which is as far
 -- as its opcode and modifiers go.
 abbrev pub is_length : Profile → ℕ → Bool
 is_length Strict n = n == 48
-is_length ForGuests n = nat_le 12 n
+is_length (ForGuests identity) n = nat_le 12 n
 
 -- A command, or the end of what is none: a packet of a length that no command has, or a text that is no
 -- command's.

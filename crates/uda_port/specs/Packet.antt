@@ -1,11 +1,8 @@
 -- Packets in host memory: a text, and its envelope in the four bytes below.
 -- UDA50 Programmer's Documentation Kit: message envelopes.
-use Rattle.std.specs.Prelude.{◌≡◌, ℕ, ◌+◌, ◌-◌, ◌%◌, ◌≤◌, List, length, take}
+use Rattle.std.specs.Prelude.{◌≡◌, ℕ, ◌+◌, ◌-◌, ◌%◌, ◌≤◌, List, length}
 use Rattle.uda_mem.specs.Put.{put, part}
 use Rattle.uda_mem.specs.Words.{word_at, word_bytes}
-use Rattle.uda_packet.specs.declared.end.End.{End}
-use Rattle.uda_packet.specs.Opcode.{end_length}
-use Rattle.uda_packet.specs.Written.{written_end}
 use Rattle.uda_port.specs.declared.packet.Fetched.{Fetched}
 use Rattle.uda_port.specs.declared.profile.Profile.{Profile}
 use Rattle.uda_port.specs.declared.profile.Profile.TheVariants.{Strict, ForGuests}
@@ -36,12 +33,7 @@ pub record TellsRoom (memory : List ℕ) (at : ℕ) : Type 0 where
 -- a text of n bytes can be written at an address; a guest's length word is not judged
 abbrev pub HasRoom : Profile → List ℕ → ℕ → ℕ → Type 0
 HasRoom Strict memory at n = TellsRoom memory at
-HasRoom ForGuests memory at n = HasText memory at n
-
--- the text of an end as it is delivered: strictly always 48 bytes, to a guest those of its kind
-abbrev pub end_text : Profile → End → List ℕ
-end_text Strict e = written_end e
-end_text ForGuests e = take (end_length e.body) (written_end e)
+HasRoom (ForGuests identity) memory at n = HasText memory at n
 
 -- a text is written, and then the envelope below it: its length, and these credits for a sequential message
 -- of MSCP

@@ -15,7 +15,7 @@ use Rattle.uda_port.specs.declared.turn.Turn.{Turn}
 use Rattle.uda_port.specs.declared.play.HostEvent.{HostEvent}
 use Rattle.uda_port.specs.declared.play.HostEvent.TheVariants.{WriteIp, ReadIp, WriteSa, Word}
 use Rattle.uda_port.specs.declared.play.HostEvent.TheVariants.{Turn as TurnEvent}
-use Rattle.uda_port.specs.Port.{PortState, port_at_start, port_asked}
+use Rattle.uda_port.specs.Port.{PortState, port_restarted, port_asked}
 use Rattle.uda_port.specs.Startup.{has_bit, area_of, has_area, by_word}
 use Rattle.uda_port.specs.Turn.{port_turn_on, Unchanged, TurnGoes, NothingToFetch, LosesCommandRing}
 use Rattle.uda_port.specs.Turn.{LosesCommand, ExceedsCredits, TakesForeign, LosesResponseRing, LosesResponse}
@@ -30,7 +30,7 @@ pub record WritesWord (address word : ℕ) (memory memory_after : List ℕ) : Ty
 -- what one event does
 abbrev pub EventGoes : HostEvent → PortState → List ℕ → PortState → List ℕ → Type 0
 EventGoes WriteIp old memory new memory_after =
-    (new ≡ port_at_start old.profile old.exec) × (memory_after ≡ memory)
+    (new ≡ port_restarted old) × (memory_after ≡ memory)
 EventGoes ReadIp old memory new memory_after = (new ≡ port_asked old.phase old) × (memory_after ≡ memory)
 EventGoes (WriteSa word) old memory new memory_after = (new, memory_after) ≡ by_word old.phase old memory word
 EventGoes (Word address word) old memory new memory_after =
@@ -55,7 +55,7 @@ pub record Delivers (port : PortState) (memory : List ℕ) : Type 0 where
 -- the third word has no bit that the profile hasn't
 abbrev pub IsHighPart : Profile → ℕ → Type 0
 IsHighPart Strict word = word ≤ 3
-IsHighPart ForGuests word = ⊤
+IsHighPart (ForGuests identity) word = ⊤
 
 -- a word of the start-up asks for what this port hasn't
 abbrev pub AsksMore : Phase → Profile → ℕ → Type 0

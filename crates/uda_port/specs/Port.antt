@@ -9,6 +9,8 @@ use Rattle.uda_port.specs.declared.profile.Profile.{Profile}
 use Rattle.uda_port.specs.declared.phase.Phase.{Phase}
 use Rattle.uda_port.specs.declared.phase.Phase.TheVariants.{Step1, Poll, Step4, Running}
 use Rattle.uda_port.specs.declared.interrupt.Interrupts.{Interrupts}
+use Rattle.uda_port.specs.declared.guest.Guest.{Guest}
+use Rattle.uda_port.specs.Guest.{GUEST_AT_FIRST, guest_restarted}
 use Rattle.uda_port.specs.Ring.{RingState}
 use Rattle.uda_port.specs.Interrupt.{NO_INTERRUPTS, raised, noted, told_at, word_below}
 
@@ -29,6 +31,7 @@ pub record PortState : Type 0 where
   pub fetches : ℕ
   pub deliveries : ℕ
   pub load : ℕ
+  pub guest : Guest
 
 -- a ring before start-up has told where it is
 abbrev pub ring_at_start : RingState
@@ -55,7 +58,12 @@ port_at_start profile exec = record {
   fetches = 0;
   deliveries = 0;
   load = 0;
+  guest = GUEST_AT_FIRST;
 }
+
+-- start-up begins anew: the profile stays, and of what a guest is told all but the controller flags
+abbrev pub port_restarted : PortState → PortState
+port_restarted old = record (port_at_start old.profile old.exec) { guest = guest_restarted old.guest }
 
 -- the credits that a host was given by then: 1 at start-up, as many as commands may be pending by the first
 -- end that is delivered, and 1 by each later one

@@ -12,6 +12,8 @@ use Rattle.uda_port.specs.declared.phase.Fatal.TheVariants.{CreditsExceeded, Wro
 use Rattle.uda_port.specs.declared.profile.Profile.{Profile}
 use Rattle.uda_port.specs.declared.profile.Profile.TheVariants.{Strict, ForGuests}
 use Rattle.uda_port.specs.declared.area.Area.{Area}
+use Rattle.uda_packet.specs.declared.guest_end.Bus.{Bus}
+use Rattle.uda_packet.specs.declared.guest_end.Bus.TheVariants.{Unibus, Qbus}
 use Rattle.uda_port.specs.Ring.{is_ring_length}
 use Rattle.uda_port.specs.Interrupt.{interrupts_asked}
 use Rattle.uda_port.specs.Port.{PortState, port_shows}
@@ -39,6 +41,21 @@ sa_of Step4 = 0x4063
 sa_of Running = 0
 sa_of (Dead cause) = 0x8000 + code_of cause
 
+-- a guest sees in steps 1 and 4 which controller it is: a UDA50, or on a Q-bus an RQDX3
+abbrev pub guest_sa : Bus → Phase → ℕ
+guest_sa Unibus Step1 = 0x0940
+guest_sa Qbus Step1 = 0x0B40
+guest_sa Qbus Step4 = 0x4133
+guest_sa bus phase = sa_of phase
+
+abbrev pub sa_by : Profile → Phase → ℕ
+sa_by Strict phase = sa_of phase
+sa_by (ForGuests identity) phase = guest_sa identity.bus phase
+
+-- SA as the host of a port reads it
+abbrev pub sa_shown : PortState → ℕ
+sa_shown port = sa_by port.profile port.phase
+
 -- a bit of a word
 abbrev pub has_bit : ℕ → ℕ → Bool
 has_bit word bit = word / 2 ^ bit % 2 == 1
@@ -55,9 +72,14 @@ command_count first = 2 ^ (first / 0x800 % 8)
 abbrev pub ring_base : ℕ → ℕ → ℕ
 ring_base second third = 2 * (second / 2) + 0x10000 * third
 
+-- how many values the part of an address above bit 15 has: the UNIBUS has addresses of 18 bits, the Q-bus of 22
+abbrev pub high_addresses : Bus → ℕ
+high_addresses Unibus = 4
+high_addresses Qbus = 64
+
 -- The communication area that the first three words describe. Strictly four bytes below the ring base belong
 -- to it, and the third word is the high part of the base. A guest that asks for purge interrupts, by bit 0 of
--- the second word, has eight bytes below, and bit 15 of its third word is no part of the base.
+-- the second word, has eight bytes below, and of its third word only as many bits as an address on its bus has.
 abbrev pub area_of : Profile → ℕ → ℕ → ℕ → Area
 area_of Strict first second third = record {
   base = ring_base second third;
@@ -65,8 +87,8 @@ area_of Strict first second third = record {
   responses = response_count first;
   commands = command_count first;
 }
-area_of ForGuests first second third = record {
-  base = ring_base second (third % 0x8000);
+area_of (ForGuests identity) first second third = record {
+  base = ring_base second (third % high_addresses identity.bus);
   below = if has_bit second 0 then 8 else 4;
   responses = response_count first;
   commands = command_count first;
@@ -109,11 +131,11 @@ by_first old word =
 -- bits 1 and 0
 abbrev pub refuses_second : Profile → ℕ → Bool
 refuses_second Strict word = has_bit word 0
-refuses_second ForGuests word = false
+refuses_second (ForGuests identity) word = false
 
 abbrev pub refuses_third : Profile → ℕ → Bool
 refuses_third Strict word = nat_lt 3 word
-refuses_third ForGuests word = false
+refuses_third (ForGuests identity) word = false
 
 -- step 2: bit 0 asks for purge interrupts
 abbrev pub by_second : PortState → ℕ → ℕ → PortState
@@ -124,7 +146,7 @@ by_second old first word =
 -- what follows the third word: a guest's purge and poll test, where it asks for it, and else step 4
 abbrev pub asks_test : Profile → ℕ → Bool
 asks_test Strict word = false
-asks_test ForGuests word = has_bit word 15
+asks_test (ForGuests identity) word = has_bit word 15
 
 abbrev pub after_third : PortState → ℕ → PortState
 after_third old word =

@@ -10,6 +10,7 @@ use Rattle.uda_exec.specs.Execution.{ExecutesAt}
 use Rattle.uda_port.specs.declared.packet.Fetched.{Fetched}
 use Rattle.uda_port.specs.declared.phase.Phase.{Phase}
 use Rattle.uda_port.specs.declared.phase.Phase.TheVariants.{Running, Dead as DeadPhase}
+use Rattle.uda_port.specs.declared.profile.Profile.TheVariants.{Strict}
 use Rattle.uda_port.specs.declared.turn.Turn.{Turn}
 use Rattle.uda_port.specs.declared.turn.Turn.TheVariants.{Fetched as TurnFetched, Executed, Delivered, Idle}
 use Rattle.uda_port.specs.declared.turn.Turn.TheVariants.{Dead}
@@ -18,7 +19,7 @@ use Rattle.uda_port.specs.declared.phase.Fatal.TheVariants.{PacketRead, PacketWr
 use Rattle.uda_port.specs.declared.phase.Fatal.TheVariants.{CreditsExceeded, WrongEnvelope}
 use Rattle.uda_port.specs.Fetch.{Takes, TakesFirst, FindsNone, LosesRing, LosesPacket}
 use Rattle.uda_port.specs.declared.packet.Delivery.{Delivery}
-use Rattle.uda_port.specs.Packet.{end_text}
+use Rattle.uda_port.specs.Report.{end_text}
 use Rattle.uda_port.specs.Delivery.{Puts, LosesRoom}
 use Rattle.uda_port.specs.Message.{IsSequential, message_in}
 use Rattle.uda_port.specs.Port.{PortState, next_grant, commands_told, responses_told, interrupts_told}
@@ -146,8 +147,8 @@ pub record DeliversOne (old : PortState) (memory : List ℕ) (new : PortState)
   pub end : End
   pub first : old.waiting ≡ end ∷ new.waiting
   pub puts :
-      Puts (delivery_of old memory) old.responses memory (end_text old.profile end) new.responses memory_after
-  pub legible : read_end (written_end end) ≡ Some end
+      Puts (delivery_of old memory) old.responses memory (end_text old end) new.responses memory_after
+  pub legible : old.profile ≡ Strict → read_end (written_end end) ≡ Some end
   pub others : new ≡ record old {
     responses = new.responses;
     waiting = new.waiting;
@@ -171,7 +172,7 @@ pub record LosesResponseRing (old : PortState) (memory : List ℕ) : Type 0 wher
 pub record LosesResponse (old : PortState) (memory : List ℕ) : Type 0 where
   pub end : End
   pub waits : slice_get old.waiting 0 ≡ Some end
-  pub no_room : LosesRoom old.profile old.responses memory (length (end_text old.profile end))
+  pub no_room : LosesRoom old.profile old.responses memory (length (end_text old end))
 
 -- whether the third line fits, or why it is fatal
 abbrev pub DeliverLine : PortState → List ℕ → Result Bool Fatal → PortState → List ℕ → Type 0

@@ -2,12 +2,13 @@
 //!
 //! UDA50 Programmer's Documentation Kit: initialisation, communication area.
 ghost use Rattle.std.specs.Prelude.{◌≡◌, ◌+◌, ◌≤◌, ◌%◌, ◌^◌, ◌<◌, ◌⊎◌, IsTrue, length};
-ghost use Rattle.uda_port.specs.declared.profile.Profile.TheVariants.{ForGuests};
+ghost use Rattle.uda_port.specs.declared.profile.Profile.TheVariants.{Strict};
 ghost use Rattle.uda_port.specs.Ring.{is_ring_length};
 ghost use Rattle.uda_port.specs.Startup.{area_of, IsArea, has_area, memory_with_area, rings_size, ring_base};
-ghost use Rattle.uda_port.specs.Startup.{response_count, command_count};
+ghost use Rattle.uda_port.specs.Startup.{response_count, command_count, high_addresses};
 
 use crate::profile::Profile;
+use uda_packet::Bus;
 
 /// Where a host's rings stand, and what belongs to them.
 #[derive(Clone, Copy, Debug, PartialEq, Eq)]
@@ -22,16 +23,13 @@ pub(crate) struct Area {
     pub(crate) commands: u16,
 }
 
-/// The bits of a guest's third word that are the high part of the ring base.
-const BASE_HIGH: u16 = 0x7fff;
-
 /// The bit of the second word by which the host asks for purge interrupts.
 const PURGE: u16 = 0x0001;
 
 impl Area {
     /// The area of the first three words; strictly the third is the high part of the ring base alone.
     pub(crate) fn of_words(profile: Profile, first: u16, second: u16, third: u16) -> Area
-        requires high { (third < 2 ^ 15) ⊎ (profile ≡ ForGuests) }
+        requires high { profile ≡ Strict → third < 2 ^ 15 }
         ensures area { result ≡ area_of profile first second third }
         ensures sound { IsArea result }
     {
@@ -44,8 +42,8 @@ impl Area {
                 responses,
                 commands,
             },
-            Profile::ForGuests => Area {
-                base: ring_base(second, third & BASE_HIGH),
+            Profile::ForGuests(identity) => Area {
+                base: ring_base(second, base_high(identity.bus, third)),
                 below: if second & PURGE == 0 { 4 } else { 8 },
                 responses,
                 commands,
@@ -80,6 +78,17 @@ impl Area {
         ensures within { result ≤ 1024 }
     {
         4 * (u32::from(self.responses) + u32::from(self.commands))
+    }
+}
+
+// The high part of a guest's ring base: as many bits of the third word as an address has above 16.
+fn base_high(bus: Bus, third: u16) -> u16
+    ensures bits { result ≡ third % high_addresses bus }
+    ensures small { result < 64 }
+{
+    match bus {
+        Bus::Unibus => third % 4,
+        Bus::Qbus => third % 64,
     }
 }
 

@@ -44,7 +44,7 @@ impl Interrupts {
     {
         match profile {
             Profile::Strict => self,
-            Profile::ForGuests => Interrupts {
+            Profile::ForGuests(_) => Interrupts {
                 enabled: first >> ENABLE & 1 != 0,
                 vector: 4 * (first & VECTOR),
                 requested: false,
@@ -58,7 +58,7 @@ impl Interrupts {
     {
         match profile {
             Profile::Strict => self,
-            Profile::ForGuests => Interrupts {
+            Profile::ForGuests(_) => Interrupts {
                 requested: self.requested || self.enabled,
                 ..self
             },

@@ -6,6 +6,7 @@
 mod area;
 mod descriptor;
 mod drives;
+mod guest;
 mod interrupt;
 mod look;
 mod message;
@@ -22,6 +23,7 @@ mod trace;
 mod turn;
 
 pub use descriptor::Descriptor;
+pub use guest::Guest;
 pub use interrupt::Interrupts;
 pub use no_port::NoPort;
 pub use packet::Fetched;

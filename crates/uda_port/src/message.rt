@@ -41,7 +41,7 @@ fn is_length(profile: Profile, length: u16) -> bool
 {
     match profile {
         Profile::Strict => length == TEXT,
-        Profile::ForGuests => length >= HEAD,
+        Profile::ForGuests(_) => length >= HEAD,
     }
 }
 
@@ -51,7 +51,7 @@ fn text_read(profile: Profile, packet: &Fetched) -> [u8; 48]
 {
     match profile {
         Profile::Strict => packet.text,
-        Profile::ForGuests => text_by_length(packet),
+        Profile::ForGuests(_) => text_by_length(packet),
     }
 }
 

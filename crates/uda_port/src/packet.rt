@@ -22,6 +22,15 @@ pub(crate) struct Delivery {
     pub(crate) told: Option<u32>,
 }
 
+/// A message's text, of which so many bytes are delivered.
+#[derive(Clone, Copy, Debug, PartialEq, Eq)]
+pub(crate) struct Message {
+    /// The text.
+    pub(crate) text: [u8; 48],
+    /// How many of its bytes are delivered.
+    pub(crate) size: u16,
+}
+
 /// A command packet as it stood in host memory: the two words of its envelope, and its text.
 ///
 /// UDA50 Programmer's Documentation Kit: message envelopes.
@@ -61,7 +70,7 @@ pub(crate) fn has_room(profile: Profile, memory: &[u8], address: u32, size: u16)
 {
     match profile {
         Profile::Strict => tells_room(memory, address),
-        Profile::ForGuests => has_text(memory, address, size),
+        Profile::ForGuests(_) => has_text(memory, address, size),
     }
 }
 

@@ -5,7 +5,7 @@ ghost use Rattle.std.specs.Prelude.{◌≡◌};
 ghost use Rattle.uda_mem.specs.Slices.{IsMemory};
 ghost use Rattle.uda_disk.specs.Units.{AreImages};
 ghost use Rattle.uda_port.specs.Port.{CreditsAgree};
-ghost use Rattle.uda_port.specs.Startup.{sa_of};
+ghost use Rattle.uda_port.specs.Startup.{sa_shown};
 ghost use Rattle.uda_port.specs.Play.{EventGoes, Played, DeathHasCause};
 
 use crate::port::Port;
@@ -43,7 +43,7 @@ impl<S: BlockStore> Port<S> {
     #[tactic(auto, using(crate::proofs::Length::wholes))]
     pub fn play(&mut self, events: &[HostEvent], memory: &mut HostMemory) -> u16
         ensures played { Played events.now self.old memory.old self.new memory.new }
-        ensures sa { result ≡ sa_of self.new.phase }
+        ensures sa { result ≡ sa_shown self.new }
         ensures death { DeathHasCause events.now self.old memory.old self.new memory.new }
         ensures credits { CreditsAgree self.new }
         ensures images { AreImages self.new.exec.units }
@@ -55,7 +55,7 @@ impl<S: BlockStore> Port<S> {
     pub fn play_in(&mut self, events: &[HostEvent], memory: &mut [u8]) -> u16
         requires memory { IsMemory memory.old }
         ensures played { Played events.now self.old memory.old self.new memory.new }
-        ensures sa { result ≡ sa_of self.new.phase }
+        ensures sa { result ≡ sa_shown self.new }
         ensures death { DeathHasCause events.now self.old memory.old self.new memory.new }
         ensures credits { CreditsAgree self.new }
         ensures images { AreImages self.new.exec.units }

@@ -2,10 +2,12 @@
 //!
 //! UDA50 Programmer's Documentation Kit: port registers, initialisation.
 ghost use Rattle.std.specs.Prelude.{◌≡◌, ◌≤◌, IfOk, IfErr, length};
-ghost use Rattle.uda_port.specs.Port.{port_at_start, port_asked, port_shows};
+ghost use Rattle.uda_port.specs.Port.{port_at_start, port_restarted, port_asked, port_shows};
+ghost use Rattle.uda_port.specs.Guest.{usual_identity};
 ghost use Rattle.uda_port.specs.Interrupt.{vector_of, served};
 ghost use Rattle.uda_port.specs.declared.profile.Profile.TheVariants.{Strict, ForGuests};
 
+use crate::guest::Guest;
 use crate::interrupt::Interrupts;
 use crate::no_port::NoPort;
 use crate::phase::Phase;
@@ -18,7 +20,13 @@ use std::fmt;
 use std::marker::Model;
 use uda_exec::{Exec, PENDING};
 use uda_image::BlockStore;
-use uda_packet::End;
+use uda_packet::{Bus, End, Identity};
+
+// The controller whose kind nobody has chosen.
+const USUAL_IDENTITY: Identity = Identity {
+    bus: Bus::Unibus,
+    first_unit: 0,
+};
 
 /// The port of a controller: it stands between a host, which writes its registers and its rings in
 /// host memory, and an executor with its units.
@@ -53,6 +61,8 @@ pub struct Port<S: BlockStore> {
     pub(crate) fetches: Tally,
     pub(crate) deliveries: Tally,
     pub(crate) load: Tally,
+    // What a port for guests reports beside its units.
+    pub(crate) guest: Guest,
     // Last, as whatever has a store in it: that what moves has a size is found soonest there.
     pub(crate) exec: Exec<S>,
 }
@@ -77,6 +87,7 @@ impl<S: BlockStore> Model for Port<S> {
       fetches = p.fetches;
       deliveries = p.deliveries;
       load = p.load;
+      guest = p.guest;
     } };
 
     ghost invariant = { IsPort };
@@ -99,10 +110,26 @@ impl<S: BlockStore> Port<S> {
 
     /// The same of the profile for guests: [`new`](Port::new) for hosts as they were shipped.
     pub fn for_guests(alloc: Global, exec: Exec<S>) -> Result<Port<S>, NoPort<Exec<S>>>
-        ensures ok { IfOk result (λ port. port ≡ port_at_start ForGuests exec) }
+        ensures ok { IfOk result (λ port. port ≡ port_at_start (ForGuests usual_identity) exec) }
         ensures err { IfErr result (λ refusal. refusal.exec ≡ exec) }
     {
-        Port::over(alloc, Profile::ForGuests, exec)
+        Port::for_guests_as(alloc, USUAL_IDENTITY, exec)
+    }
+
+    /// Returns a port for guests that is this controller: [`for_guests`](Port::for_guests) is one on a UNIBUS,
+    /// whose units have the numbers from 0 on.
+    ///
+    /// `identity` decides what SA shows in steps 1 and 4, how many bits an address has, and which numbers the
+    /// guest knows the units by.
+    pub fn for_guests_as(
+        alloc: Global,
+        identity: Identity,
+        exec: Exec<S>,
+    ) -> Result<Port<S>, NoPort<Exec<S>>>
+        ensures ok { IfOk result (λ port. port ≡ port_at_start (ForGuests identity) exec) }
+        ensures err { IfErr result (λ refusal. refusal.exec ≡ exec) }
+    {
+        Port::over(alloc, Profile::ForGuests(identity), exec)
     }
 
     // A port of either profile.
@@ -130,6 +157,7 @@ impl<S: BlockStore> Port<S> {
                     fetches: Tally::new(),
                     deliveries: Tally::new(),
                     load: Tally::new(),
+                    guest: Guest::new(),
                 })
             }
         }
@@ -143,7 +171,7 @@ impl<S: BlockStore> Port<S> {
     ///
     /// UDA50 Programmer's Documentation Kit: initialisation.
     pub fn write_ip(&mut self, _value: u16)
-        ensures starts { self.new ≡ port_at_start self.old.profile self.old.exec }
+        ensures starts { self.new ≡ port_restarted self.old }
     {
         self.phase = Phase::Step1;
         self.begun = false;
@@ -158,6 +186,7 @@ impl<S: BlockStore> Port<S> {
         self.fetches = Tally::new();
         self.deliveries = Tally::new();
         self.load = Tally::new();
+        self.guest = self.guest.restarted();
     }
 
     /// The host reads IP: a port that runs begins to look at its command ring, and one in the poll test

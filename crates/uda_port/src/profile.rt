@@ -2,6 +2,8 @@
 //!
 //! UDA50 Programmer's Documentation Kit: initialisation, message envelopes.
 
+use uda_packet::Identity;
+
 /// How far a port bears with its host.
 #[derive(Clone, Copy, Debug, PartialEq, Eq)]
 pub enum Profile {
@@ -10,6 +12,7 @@ pub enum Profile {
     Strict,
     /// For whoever runs hosts as they were shipped: a command has as many bytes as its length says and an
     /// end as many as its kind has, purge interrupts and the purge and poll test are taken, a ring base has
-    /// up to 31 bits, and there are interrupts.
-    ForGuests,
+    /// as many bits as the bus, and there are interrupts. Its identity is what the
+    /// guest sees of the controller.
+    ForGuests(Identity),
 }

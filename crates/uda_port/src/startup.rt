@@ -2,7 +2,7 @@
 //!
 //! UDA50 Programmer's Documentation Kit: initialisation, communication area.
 ghost use Rattle.std.specs.Prelude.{◌≡◌, ◌≤◌, ◌<◌};
-ghost use Rattle.uda_port.specs.Startup.{sa_of, by_first, by_second, by_third, by_purge, by_fourth, by_word};
+ghost use Rattle.uda_port.specs.Startup.{sa_shown, guest_sa, by_first, by_second, by_third, by_purge, by_fourth, by_word};
 ghost use Rattle.uda_port.specs.Startup.{has_bit, refuses_second, refuses_third, asks_test, after_third};
 ghost use Rattle.uda_port.specs.Startup.{IsArea, port_with_rings, dead_port};
 
@@ -13,6 +13,7 @@ use crate::profile::Profile;
 use crate::ring::Ring;
 use uda_image::BlockStore;
 use uda_mem::HostMemory;
+use uda_packet::Bus;
 
 /// The bit of the first word that makes it one.
 const STEP: u16 = 15;
@@ -38,9 +39,12 @@ impl<S: BlockStore> Port<S> {
     ///
     /// UDA50 Programmer's Documentation Kit: initialisation, fatal errors.
     pub fn read_sa(&self) -> u16
-        ensures sa { result ≡ sa_of self.now.phase }
+        ensures sa { result ≡ sa_shown self.now }
     {
-        self.phase.sa()
+        match self.profile {
+            Profile::Strict => self.phase.sa(),
+            Profile::ForGuests(identity) => guest_sa(identity.bus, self.phase),
+        }
     }
 
     /// The host writes `word` to SA: one step of the start-up. A port that runs or is dead ignores it.
@@ -165,13 +169,25 @@ impl<S: BlockStore> Port<S> {
     }
 }
 
+// What SA shows a guest: in steps 1 and 4 which controller it is.
+fn guest_sa(bus: Bus, phase: Phase) -> u16
+    ensures { result ≡ guest_sa bus phase }
+{
+    match (bus, phase) {
+        (Bus::Unibus, Phase::Step1) => 0x0940,
+        (Bus::Qbus, Phase::Step1) => 0x0b40,
+        (Bus::Qbus, Phase::Step4) => 0x4133,
+        _ => phase.sa(),
+    }
+}
+
 // Whether the second word asks for what the profile hasn't.
 fn refuses_second(profile: Profile, word: u16) -> bool
     ensures { result ≡ refuses_second profile word }
 {
     match profile {
         Profile::Strict => has_bit(word, PURGE),
-        Profile::ForGuests => false,
+        Profile::ForGuests(_) => false,
     }
 }
 
@@ -181,7 +197,7 @@ fn refuses_third(profile: Profile, word: u16) -> bool
 {
     match profile {
         Profile::Strict => word > BASE_HIGH,
-        Profile::ForGuests => false,
+        Profile::ForGuests(_) => false,
     }
 }
 
@@ -191,7 +207,7 @@ fn asks_test(profile: Profile, word: u16) -> bool
 {
     match profile {
         Profile::Strict => false,
-        Profile::ForGuests => has_bit(word, TEST),
+        Profile::ForGuests(_) => has_bit(word, TEST),
     }
 }
 

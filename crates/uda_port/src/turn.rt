@@ -1,7 +1,7 @@
 //! The turns of a port.
 //!
 //! UDA50 Programmer's Documentation Kit: command ring polling, message envelopes, credits.
-ghost use Rattle.std.specs.Prelude.{◌≡◌, ◌+◌, ◌<◌, ◌≤◌, slice_get, [], ◌∷◌, ◌++◌, length, Some};
+ghost use Rattle.std.specs.Prelude.{◌≡◌, ◌+◌, ◌<◌, ◌≤◌, slice_get, [], ◌∷◌, ◌++◌, length, take, Some};
 ghost use Rattle.uda_mem.specs.Slices.{IsMemory};
 ghost use Rattle.uda_disk.specs.Units.{AreImages};
 ghost use Rattle.uda_exec.specs.Disks.{PENDING_LIMIT};
@@ -10,13 +10,14 @@ ghost use Rattle.uda_port.specs.Port.{CreditsAgree, next_grant, commands_told, r
 ghost use Rattle.uda_port.specs.Interrupt.{IsBelow};
 ghost use Rattle.uda_port.specs.Turn.{FetchLine, ExecuteLine, DeliverLine, RestGoes, LinesGo, RunningTurn};
 ghost use Rattle.uda_port.specs.Turn.{TurnGoes, delivery_of};
-ghost use Rattle.uda_port.specs.Packet.{end_text};
+ghost use Rattle.uda_port.specs.Report.{end_text, report_of};
+ghost use Rattle.uda_port.specs.declared.profile.Profile.TheVariants.{Strict};
 ghost use Rattle.uda_port.specs.Delivery.{PutGoes};
 ghost use Rattle.uda_packet.specs.Reading.{read_end};
 ghost use Rattle.uda_packet.specs.Written.{written_end};
 
 use crate::message::message_in;
-use crate::packet::Delivery;
+use crate::packet::{Delivery, Message, TEXT};
 use crate::phase::{Fatal, Phase};
 use crate::port::Port;
 use crate::profile::Profile;
@@ -25,7 +26,7 @@ use circular_buffer::HeapCircularBuffer;
 use uda_exec::PENDING;
 use uda_image::BlockStore;
 use uda_mem::HostMemory;
-use uda_packet::{End, encode_end};
+use uda_packet::{End, Identity, Report, encode_end, encode_guest_end};
 
 /// The credits that a host has once the first end since start-up is delivered: as many commands as it may
 /// then have out, and as many as may be pending.
@@ -229,7 +230,8 @@ impl<S: BlockStore> Port<S> {
             return Ok(false);
         };
         let delivery = self.delivery(memory);
-        match put_end(&mut self.responses, memory, delivery, &end) {
+        let message = self.end_text(&end);
+        match put_message(&mut self.responses, memory, delivery, &message) {
             Err(RingFault::Ring) => return Err(Fatal::RingRead),
             Err(RingFault::Packet) => return Err(Fatal::PacketWrite),
             Ok(false) => return Ok(false),
@@ -243,6 +245,37 @@ impl<S: BlockStore> Port<S> {
         Ok(true)
     }
 
+    // The text of an end message, in as many bytes as the profile gives it.
+    fn end_text(&self, end: &End) -> Message
+        ensures text { take result.size result.text ≡ end_text self.now end.now }
+        ensures within { result.size ≤ 48 }
+        ensures whole { self.now.profile ≡ Strict → result.size ≡ 48 }
+        ensures legible { self.now.profile ≡ Strict → read_end (written_end end.now) ≡ Some end.now }
+    {
+        match self.profile {
+            Profile::Strict => Message {
+                text: encode_end(end),
+                size: TEXT,
+            },
+            Profile::ForGuests(identity) => Message {
+                text: encode_guest_end(end, &self.report(identity, end.unit)),
+                size: end.body.length(),
+            },
+        }
+    }
+
+    // What the port reports beside the outcome of a command on this drive.
+    fn report(&self, identity: Identity, drive: u16) -> Report
+        ensures report { result ≡ report_of identity self.now.guest self.now.exec.units drive }
+    {
+        let unit = usize::from(drive);
+        Report {
+            identity,
+            controller_flags: self.guest.flags,
+            unit: self.guest.unit(unit, self.exec.unit(unit)),
+        }
+    }
+
     // Where the host is told of the commands' transition, if it is.
     fn commands_told(&self, memory: &[u8]) -> Option<u32>
         requires { IsMemory memory.now }
@@ -250,7 +283,7 @@ impl<S: BlockStore> Port<S> {
         ensures below { IsBelow result self.now.commands.base }
     {
         match self.profile {
-            Profile::ForGuests if self.commands.transits(memory) => self.responses.word_below(4),
+            Profile::ForGuests(_) if self.commands.transits(memory) => self.responses.word_below(4),
             _ => None,
         }
     }
@@ -262,7 +295,9 @@ impl<S: BlockStore> Port<S> {
         ensures below { IsBelow result self.now.responses.base }
     {
         match self.profile {
-            Profile::ForGuests if self.responses.transits(memory) => self.responses.word_below(2),
+            Profile::ForGuests(_) if self.responses.transits(memory) => self
+                .responses
+                .word_below(2),
             _ => None,
         }
     }
@@ -292,28 +327,27 @@ impl<S: BlockStore> Port<S> {
     }
 }
 
-// Delivers an end to a response ring, in as many bytes as its profile gives it.
-fn put_end(
+// Delivers a message to a response ring.
+fn put_message(
     responses: &mut Ring,
     memory: &mut [u8],
     delivery: Delivery,
-    end: &End,
+    message: &Message,
 ) -> Result<bool, RingFault>
     requires memory { IsMemory memory.old }
     requires few { delivery.credits ≤ 15 }
     requires below { IsBelow delivery.told responses.old.base }
-    ensures goes { PutGoes delivery responses.old memory.old (end_text delivery.profile end.now) result
+    requires within { message.now.size ≤ 48 }
+    requires whole { delivery.profile ≡ Strict → message.now.size ≡ 48 }
+    ensures goes { PutGoes delivery responses.old memory.old (take message.now.size message.now.text) result
         responses.new memory.new }
     ensures base { responses.new.base ≡ responses.old.base }
-    ensures legible { read_end (written_end end.now) ≡ Some end.now }
 {
-    let text = encode_end(end);
-    match delivery.profile {
-        Profile::Strict => responses.put(memory, delivery, &text),
-        Profile::ForGuests => {
-            let size = usize::from(end.body.length());
-            responses.put(memory, delivery, &text[..size])
-        }
+    // A text of 48 bytes is copied by its fixed length.
+    if message.size == TEXT {
+        responses.put(memory, delivery, &message.text)
+    } else {
+        responses.put(memory, delivery, &message.text[..usize::from(message.size)])
     }
 }
 

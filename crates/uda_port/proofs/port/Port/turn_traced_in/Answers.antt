@@ -4,9 +4,22 @@ use Rattle.circular_buffer.specs.Buffer.{last_item}
 use Rattle.uda_packet.specs.declared.end.End.{End}
 use Rattle.uda_port.specs.Port.{PortState}
 use Rattle.uda_port.specs.Trace.{IsDead}
-use Rattle.uda_port.proofs.TraceLaws.{fetched, executed, delivered, died, ends_with, told_command, told_refusal, told_first}
+use Rattle.uda_port.proofs.TraceLaws.{fetched, one_waits, executed, delivered, died, ends_with, told_command, told_refusal, told_first}
 use Rattle.uda_port.proofs.port.Port.turn_traced_in.Goals as goal
 use Rattle.uda_port.proofs.port.Port.turn_traced_in.Goals.{in-Fetched, in-Fetched-2, in-Executed, in-Delivered, in-Idle, in-Dead}
+
+pub newest-requires-in-Fetched-2 : goal.newest-requires-in-Fetched-2
+newest-requires-in-Fetched-2 g c =
+    let old = c.args.self.now in
+    let more = fetched _ old _ c.turn_in.new.self _ c.in-Fetched-2.ensures.goes in
+    let before = ap (λ (p : PortState). length p.exec.pending) c.self.view_is in
+    let after = ap (λ (p : PortState). length p.exec.pending) c.self-2.view_is in
+    let counts = c.pending-pending.ensures.count in
+    let counted = c.pending.ensures.count in
+    let no : length c.turn_in.new.self.exec.pending ≤ length old.exec.pending =
+    omega (arith, before, after, counts, counted, c.if-pending.false) in
+    let here = ap (λ (p : PortState). length p.waiting) c.self-2.view_is in
+    record { some = omega (arith, one_waits old c.turn_in.new.self more no, here) }
 
 pub newest-requires-in-Executed : goal.newest-requires-in-Executed
 newest-requires-in-Executed g c =

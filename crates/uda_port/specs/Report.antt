@@ -1,0 +1,40 @@
+-- The texts of the end messages that a port delivers.
+-- MSCP Basic Disk Functions Manual: end messages.
+use Rattle.std.specs.Prelude.{ℕ, List, take, Option, option_map, slice_get}
+use Rattle.uda_packet.specs.declared.end.End.{End}
+use Rattle.uda_packet.specs.declared.guest_end.Identity.{Identity}
+use Rattle.uda_packet.specs.declared.guest_end.Report.{Report}
+use Rattle.uda_packet.specs.declared.guest_end.UnitReport.{UnitReport}
+use Rattle.uda_packet.specs.GuestEnd.{written_guest_end}
+use Rattle.uda_packet.specs.Opcode.{end_length}
+use Rattle.uda_packet.specs.Written.{written_end}
+use Rattle.uda_disk.specs.Units.{Units}
+use Rattle.uda_exec.specs.Drives.{look_at}
+use Rattle.uda_port.specs.declared.profile.Profile.{Profile}
+use Rattle.uda_port.specs.declared.profile.Profile.TheVariants.{Strict, ForGuests}
+use Rattle.uda_port.specs.declared.guest.Guest.{Guest}
+use Rattle.uda_port.specs.Guest.{unit_reported}
+use Rattle.uda_port.specs.Port.{PortState}
+
+-- what a port reports of a drive, if it is one of its four
+abbrev pub unit_report : Guest → Units → ℕ → Option UnitReport
+unit_report guest units drive =
+    option_map (λ kind. unit_reported kind (look_at (slice_get units drive))) (slice_get guest.types drive)
+
+-- and beside the outcome of a command on that drive
+abbrev pub report_of : Identity → Guest → Units → ℕ → Report
+report_of identity guest units drive = record {
+  identity = identity;
+  controller_flags = guest.flags;
+  unit = unit_report guest units drive;
+}
+
+-- the text of an end message as it is delivered: in the strict profile always 48 bytes, to a guest those of its
+-- kind, which report the controller and the unit as they are then
+abbrev pub text_by : Profile → Guest → Units → End → List ℕ
+text_by Strict guest units e = written_end e
+text_by (ForGuests identity) guest units e =
+    take (end_length e.body) (written_guest_end (report_of identity guest units e.unit) e)
+
+abbrev pub end_text : PortState → End → List ℕ
+end_text port e = text_by port.profile port.guest port.exec.units e

@@ -24,7 +24,8 @@ use Rattle.uda_port.specs.declared.turn.Turn.TheVariants.{Fetched as TurnFetched
 use Rattle.uda_port.specs.declared.phase.Fatal.{Fatal}
 use Rattle.uda_port.specs.declared.phase.Fatal.TheVariants.{PacketRead, PacketWrite, RingRead, CreditsExceeded, WrongEnvelope}
 use Rattle.uda_port.specs.Ring.{is_owned, address_of, word_given_back, RingState, descriptor_address, next_descriptor, ring_advanced}
-use Rattle.uda_port.specs.Packet.{HasRoom, end_text}
+use Rattle.uda_port.specs.Packet.{HasRoom}
+use Rattle.uda_port.specs.Report.{end_text, text_by}
 use Rattle.uda_port.specs.Fetch.{Takes}
 use Rattle.uda_port.specs.Delivery.{Puts}
 use Rattle.uda_port.specs.Message.{message_of_text, message_in}
@@ -161,7 +162,7 @@ delivered_slot memory i credits e = record { descriptor = record (response_at me
 responses_untold : {S : Type 0} {h : Inside S} → IsHost h → responses_told h.port h.memory ≡ None
 responses_untold {h = h} host = ap (λ (p : Profile). told_at p (word_below h.port.responses.base 2) h.memory h.port.responses) host.port.strict
 
-delivery_written : {S : Type 0} {h : Inside S} (e : End) (ring : RingState) (after : List ℕ) → IsHost h → next_grant h.port.deliveries < 2 ^ 16 → Puts (delivery_of h.port h.memory) h.port.responses h.memory (end_text h.port.profile e) ring after
+delivery_written : {S : Type 0} {h : Inside S} (e : End) (ring : RingState) (after : List ℕ) → IsHost h → next_grant h.port.deliveries < 2 ^ 16 → Puts (delivery_of h.port h.memory) h.port.responses h.memory (end_text h.port e) ring after
     → WritesSlot (response_descriptor h.response_place) (response_packet h.response_place) (delivered_slot h.memory h.response_place (next_grant h.port.deliveries) e) h.memory after
 delivery_written {h = h} e ring after host fits puts =
     let credits = next_grant h.port.deliveries in
@@ -172,7 +173,8 @@ delivery_written {h = h} e ring after host fits puts =
     let size : address_of puts.first - 4 ≡ response_packet place = omega arith in
     let second : address_of puts.first - 2 ≡ response_packet place + 2 = omega arith in
     let text : address_of puts.first ≡ response_packet place + 4 = omega arith in
-    let text_is : end_text h.port.profile e ≡ written_end e = ap (λ (p : Profile). end_text p e) host.port.strict in
+    let text_is : end_text h.port e ≡ written_end e =
+      ap (λ (p : Profile). text_by p h.port.guest h.port.exec.units e) host.port.strict in
     let long = ap length text_is ∙ length-written_end e in
     let untold = responses_untold host in
     let is = puts.written ∙ (λ i. put (memory_told (put (put (put h.memory (text i) (text_is i)) (size i) (word_bytes (long i))) (second i) (word_bytes credits)) (untold i)) (at i) (word_bytes (high i))) in
@@ -196,7 +198,7 @@ module _ {S : Type 0} {h : Inside S} (host : IsHost h) (new : PortState) (after 
   sent = delivery_written lines.rest.1.end new.responses after host (omega arith) lines.rest.1.puts
 
   pub end_read : (read : Option End) → (length after ≡ memory_size → read ≡ read_end (part after (response_packet h.response_place + 4) 48)) → read ≡ Some lines.rest.1.end
-  end_read read by = by sent.size ∙ ap read_end (ap (λ (s : Slot). s.text) sent.holds) ∙ lines.rest.1.legible
+  end_read read by = by sent.size ∙ ap read_end (ap (λ (s : Slot). s.text) sent.holds) ∙ lines.rest.1.legible host.port.strict
 
   pub host_takes : {value : HostState} {left : List ℕ} {end : End} {credits : ℕ} → host_view h ≡ value → CreditsAgree new → (length after ≡ memory_size → Some end ≡ read_end (part after (response_packet h.response_place + 4) 48))
       → (length after ≡ memory_size → credits ≡ word_at after (response_packet h.response_place + 2)) → (length after ≡ memory_size → left ≡ memory_reopened after h.response_place)
@@ -260,7 +262,7 @@ module _ {S : Type 0} {h : Inside S} (host : IsHost h) (before : PortState) (aft
       let address = ap address_of first in let within = host.rings.looks_within in let size = host.written.size in
       let room = (host.written.opens h.response_place within).room in
       let word : word_at h.memory (address_of lost.next - 4) ≡ word_at h.memory (response_packet h.response_place) = ap (word_at h.memory) (omega arith) in
-      let n = length (end_text h.port.profile goes.rest.1.0.end) in
+      let n = length (end_text h.port goes.rest.1.0.end) in
       subst (λ (p : Profile). HasRoom p h.memory (address_of lost.next) n → ⊥) host.port.strict lost.no_room (record { packet = record { even = omega arith; above = omega arith; within = omega arith }; long = omega arith })
   rest_lives _ goes = goes.rest.1
 

@@ -12,7 +12,7 @@ use Rattle.uda_port.specs.declared.phase.Fatal.TheVariants.{PacketRead, PacketWr
 use Rattle.uda_port.specs.declared.profile.Profile.{Profile}
 use Rattle.uda_port.specs.declared.profile.Profile.TheVariants.{Strict, ForGuests}
 use Rattle.uda_port.specs.declared.turn.Turn.{Turn}
-use Rattle.uda_port.specs.declared.turn.Turn.TheVariants.{Fetched, Executed, Delivered, Idle, Dead as DeadTurn}
+use Rattle.uda_port.specs.declared.turn.Turn.TheVariants.{Fetched, Executed, Delivered, Notified, Idle, Dead as DeadTurn}
 use Rattle.uda_port.specs.declared.play.HostEvent.{HostEvent}
 use Rattle.uda_port.specs.declared.play.HostEvent.TheVariants.{WriteIp, ReadIp, WriteSa, Word, Turn as TurnEvent}
 use Rattle.uda_port.specs.Port.{PortState, port_shows, port_asked}
@@ -116,11 +116,11 @@ fails_fetch StartUpWord old memory before memory_after line = absurd line
 fails_rest : (cause : Fatal) (old : PortState) (memory : List ℕ) (before : PortState) (memory_after : List ℕ) → GoesOn old memory (Err cause) before memory_after → FatalTurn cause old memory
 fails_rest PacketWrite old memory before memory_after goes = (
   record { nothing_to_fetch = goes.nothing_to_fetch; nothing_pending = goes.rest.0 },
-  record { end = goes.rest.1.0.end; waits = goes.rest.1.0.waits; no_room = goes.rest.1.0.no_room },
+  record { text = goes.rest.1.0.text; is_next = goes.rest.1.0.is_next; no_room = goes.rest.1.0.no_room },
 )
 fails_rest RingRead old memory before memory_after goes = inr (
   record { nothing_to_fetch = goes.nothing_to_fetch; nothing_pending = goes.rest.0 },
-  record { end = goes.rest.1.0.end; waits = goes.rest.1.0.waits; no_descriptor = goes.rest.1.0.no_descriptor },
+  record { text = goes.rest.1.0.text; is_next = goes.rest.1.0.is_next; no_descriptor = goes.rest.1.0.no_descriptor },
 )
 fails_rest PacketRead old memory before memory_after goes = absurd goes.rest.1
 fails_rest CreditsExceeded old memory before memory_after goes = absurd goes.rest.1
@@ -144,6 +144,8 @@ running_turn cause Fetched old new memory memory_after p goes dead =
     absurd (alive cause old.phase new.phase p (phases new _ goes.others ∙ message_phase (port_turn_on old) (message_in old.profile goes.packet)) dead)
 running_turn cause Executed old new memory memory_after p goes dead = absurd (alive cause old.phase new.phase p (phases new _ goes.rest.1.others) dead)
 running_turn cause Delivered old new memory memory_after p goes dead = absurd (alive cause old.phase new.phase p (phases new _ goes.rest.1.others) dead)
+running_turn cause Notified old new memory memory_after p goes dead =
+    absurd (alive cause old.phase new.phase p (phases new _ goes.rest.1.others) dead)
 running_turn cause Idle old new memory memory_after p goes dead = absurd (alive cause old.phase new.phase p (phases new _ goes.rest.1.1.state) dead)
 running_turn cause DeadTurn old new memory memory_after p goes dead =
     subst (λ (x : Fatal). FatalTurn x (port_turn_on old) memory) (same_cause goes.cause cause (sym (phases new _ goes.died) ∙ dead))

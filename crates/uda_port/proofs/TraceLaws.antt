@@ -57,6 +57,17 @@ fetched Purge old memory new memory_after goes = absurd (cc)
 fetched Poll old memory new memory_after goes = absurd (cc)
 fetched (DeadPhase cause) old memory new memory_after goes = absurd (cc)
 
+pub notified : (phase : Phase) (old : PortState) (memory : List ℕ) (new : PortState) (memory_after : List ℕ)
+    → TurnGoes phase old memory turn.Notified new memory_after → old.waiting ≡ []
+notified Running old memory new memory_after goes = goes.rest.1.none_waits
+notified Step1 old memory new memory_after goes = absurd (cc)
+notified (Step2 first) old memory new memory_after goes = absurd (cc)
+notified (Step3 first second) old memory new memory_after goes = absurd (cc)
+notified Step4 old memory new memory_after goes = absurd (cc)
+notified Purge old memory new memory_after goes = absurd (cc)
+notified Poll old memory new memory_after goes = absurd (cc)
+notified (DeadPhase cause) old memory new memory_after goes = absurd (cc)
+
 pub executed : (phase : Phase) (old : PortState) (memory : List ℕ) (new : PortState) (memory_after : List ℕ) → TurnGoes phase old memory turn.Executed new memory_after
     → (end : End) × (new.waiting ≡ old.waiting ++ end ∷ [])
 executed Running old memory new memory_after goes = (goes.rest.1.end, ap (λ (p : PortState). p.waiting) goes.rest.1.others)

@@ -1,8 +1,9 @@
 -- A turn by what its lines did.
-use Rattle.std.specs.Prelude.{ℕ, List, Result, Ok, Err}
+use Rattle.std.proofs.Common.{◌≡◌, ℕ, List, [], ◌∷◌, None, refl}
+use Rattle.std.specs.Prelude.{slice_get, Result, Ok, Err}
 use Rattle.uda_port.specs.declared.phase.Fatal.{Fatal}
 use Rattle.uda_port.specs.declared.turn.Turn.{Turn}
-use Rattle.uda_port.specs.declared.turn.Turn.TheVariants.{Fetched, Executed, Delivered, Idle, Dead}
+use Rattle.uda_port.specs.declared.turn.Turn.TheVariants.{Fetched, Executed, Delivered, Notified, Idle, Dead}
 use Rattle.uda_port.specs.Port.{PortState}
 use Rattle.uda_port.specs.Turn.{port_turn_on, GoesOn, InRest, LinesGo, RunningTurn}
 
@@ -11,6 +12,7 @@ pub running_turn : (old : PortState) (memory : List ℕ) (turn : Turn) (new : Po
 running_turn old memory Fetched new memory_after goes = goes
 running_turn old memory Executed new memory_after goes = goes
 running_turn old memory Delivered new memory_after goes = goes
+running_turn old memory Notified new memory_after goes = goes
 running_turn old memory Idle new memory_after goes = goes
 running_turn old memory Dead new memory_after goes = absurd goes.rest
 
@@ -19,6 +21,12 @@ pub goes_on : (old : PortState) (memory : List ℕ) (result : Result Turn Fatal)
 goes_on old memory (Ok Fetched) new memory_after goes = absurd goes.rest
 goes_on old memory (Ok Executed) new memory_after goes = goes
 goes_on old memory (Ok Delivered) new memory_after goes = goes
+goes_on old memory (Ok Notified) new memory_after goes = goes
 goes_on old memory (Ok Idle) new memory_after goes = goes
 goes_on old memory (Ok Dead) new memory_after goes = goes
 goes_on old memory (Err cause) new memory_after goes = InRest goes
+
+-- a list without a first member is empty
+pub none_first : {A : Type 0} (xs : List A) → slice_get xs 0 ≡ None → xs ≡ []
+none_first [] none = refl
+none_first (x ∷ xs) none = absurd (cc)

@@ -1,8 +1,14 @@
--- What a port for guests reports: which controller it is, the types of its units, and the controller flags.
+-- What a port for guests reports of its units and of itself: the types of the units, the controller flags, and
+-- the units for which an attention message is due.
 -- MSCP Basic Disk Functions Manual: controller flags, unit identifiers, attention messages.
-use Rattle.std.specs.Prelude.{false, replicate, Option, Some, None}
+use Rattle.std.specs.Prelude.{ℕ, ◌/◌, ◌%◌, ◌==◌, ◌&&◌, ◌||◌, Bool, true, false, List}
+use Rattle.std.specs.Prelude.{replicate, set, slice_get, unwrap_or, Option, Some, None, if◌then◌else◌}
+use Rattle.uda_disk.specs.Status.{SUCCESS, ALREADY_ONLINE}
 use Rattle.uda_packet.specs.declared.drive_type.DriveType.{DriveType}
 use Rattle.uda_packet.specs.declared.drive_type.DriveType.TheVariants.{Ra81}
+use Rattle.uda_packet.specs.declared.end.End.{End}
+use Rattle.uda_packet.specs.declared.end.EndBody.{EndBody}
+use Rattle.uda_packet.specs.declared.end.EndBody.TheVariants as body
 use Rattle.uda_packet.specs.declared.guest_end.Bus.TheVariants.{Unibus}
 use Rattle.uda_packet.specs.declared.guest_end.Identity.{Identity}
 use Rattle.uda_packet.specs.declared.guest_end.UnitReport.{UnitReport}
@@ -15,11 +21,40 @@ usual_identity = record { bus = Unibus; first_unit = 0 }
 
 -- before anything is set: every unit is of the type RA81
 abbrev pub GUEST_AT_FIRST : Guest
-GUEST_AT_FIRST = record { types = replicate 4 Ra81; flags = 0 }
+GUEST_AT_FIRST = record { types = replicate 4 Ra81; flags = 0; attentions = replicate 4 false }
 
--- a start-up clears the controller flags; the types stay
+-- a start-up clears the controller flags and what attention is due for; the types stay
 abbrev pub guest_restarted : Guest → Guest
-guest_restarted g = record g { flags = 0 }
+guest_restarted g = record g { flags = 0; attentions = replicate 4 false }
+
+-- by bit 7 of the controller flags a host asks to be told of units that become available
+abbrev pub asks_attention : ℕ → Bool
+asks_attention flags = flags / 0x80 % 2 == 1
+
+-- an attention message is due for this drive, or it isn't
+abbrev pub attention_set : Guest → ℕ → Bool → Guest
+attention_set g drive due = record g { attentions = set g.attentions drive due }
+
+-- the first drive for which a message is due
+abbrev pub is_due : List Bool → ℕ → Bool
+is_due attentions drive = unwrap_or (slice_get attentions drive) false
+
+abbrev pub first_due : List Bool → Option ℕ
+first_due attentions =
+    if is_due attentions 0 then Some 0 else if is_due attentions 1 then Some 1
+    else if is_due attentions 2 then Some 2 else if is_due attentions 3 then Some 3 else None
+
+abbrev ends_online : EndBody → Bool
+ends_online (body.Online flags size) = true
+ends_online _ = false
+
+-- an Online brought its unit online, or found it so
+abbrev pub is_online_now : End → Bool
+is_online_now e = ends_online e.body && (e.status == SUCCESS || e.status == ALREADY_ONLINE)
+
+-- then no message is due for its drive any more
+abbrev pub guest_after : End → Guest → Guest
+guest_after e g = if is_online_now e then attention_set g e.unit false else g
 
 -- a unit of this type, by what stands there: without a volume its size is 0
 abbrev pub unit_reported : DriveType → Option UnitLook → UnitReport

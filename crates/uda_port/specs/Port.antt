@@ -1,16 +1,17 @@
 -- A port as its callers see it, and its credits.
 -- UDA50 Programmer's Documentation Kit: port registers, initialisation, credits.
-use Rattle.std.specs.Prelude.{◌≡◌, ℕ, ◌+◌, ◌-◌, ◌*◌, ◌≤◌, min, Bool, true, false, List, [], length, map}
+use Rattle.std.specs.Prelude.{◌≡◌, ℕ, ◌+◌, ◌-◌, ◌*◌, ◌≤◌, min, Bool, true, false, ◌&&◌, List, [], length, map}
 use Rattle.std.specs.Prelude.{Option}
 use Rattle.uda_packet.specs.declared.end.End.{End}
 use Rattle.uda_exec.specs.Disks.{ExecState, PENDING_LIMIT}
 use Rattle.uda_exec.specs.Drives.{reset_unit}
 use Rattle.uda_port.specs.declared.profile.Profile.{Profile}
+use Rattle.uda_port.specs.declared.profile.Profile.TheVariants.{ForGuests}
 use Rattle.uda_port.specs.declared.phase.Phase.{Phase}
 use Rattle.uda_port.specs.declared.phase.Phase.TheVariants.{Step1, Poll, Step4, Running}
 use Rattle.uda_port.specs.declared.interrupt.Interrupts.{Interrupts}
 use Rattle.uda_port.specs.declared.guest.Guest.{Guest}
-use Rattle.uda_port.specs.Guest.{GUEST_AT_FIRST, guest_restarted}
+use Rattle.uda_port.specs.Guest.{GUEST_AT_FIRST, guest_restarted, asks_attention}
 use Rattle.uda_port.specs.Ring.{RingState}
 use Rattle.uda_port.specs.Interrupt.{NO_INTERRUPTS, raised, noted, told_at, word_below}
 
@@ -102,3 +103,11 @@ abbrev pub port_asked : Phase → PortState → PortState
 port_asked Running old = record old { looking = true }
 port_asked Poll old = port_shows old Step4
 port_asked _ old = old
+
+-- whether a host is to be told of a drive that is put in, by the profile, the phase and the controller flags
+abbrev pub asks_by : Profile → Phase → ℕ → Bool
+asks_by (ForGuests identity) Running flags = asks_attention flags
+asks_by _ _ flags = false
+
+abbrev pub attention_due : PortState → Bool → Bool
+attention_due port is_there = is_there && asks_by port.profile port.phase port.guest.flags

@@ -1,11 +1,11 @@
 -- The texts of the end messages that a port delivers.
 -- MSCP Basic Disk Functions Manual: end messages.
-use Rattle.std.specs.Prelude.{ℕ, List, take, Option, option_map, slice_get}
+use Rattle.std.specs.Prelude.{ℕ, List, take, Option, Some, None, option_map, slice_get}
 use Rattle.uda_packet.specs.declared.end.End.{End}
 use Rattle.uda_packet.specs.declared.guest_end.Identity.{Identity}
 use Rattle.uda_packet.specs.declared.guest_end.Report.{Report}
 use Rattle.uda_packet.specs.declared.guest_end.UnitReport.{UnitReport}
-use Rattle.uda_packet.specs.GuestEnd.{written_guest_end}
+use Rattle.uda_packet.specs.GuestEnd.{written_guest_end, written_unit_available, unit_number}
 use Rattle.uda_packet.specs.Opcode.{end_length}
 use Rattle.uda_packet.specs.Written.{written_end}
 use Rattle.uda_disk.specs.Units.{Units}
@@ -13,7 +13,7 @@ use Rattle.uda_exec.specs.Drives.{look_at}
 use Rattle.uda_port.specs.declared.profile.Profile.{Profile}
 use Rattle.uda_port.specs.declared.profile.Profile.TheVariants.{Strict, ForGuests}
 use Rattle.uda_port.specs.declared.guest.Guest.{Guest}
-use Rattle.uda_port.specs.Guest.{unit_reported}
+use Rattle.uda_port.specs.Guest.{unit_reported, first_due}
 use Rattle.uda_port.specs.Port.{PortState}
 
 -- what a port reports of a drive, if it is one of its four
@@ -36,5 +36,31 @@ text_by Strict guest units e = written_end e
 text_by (ForGuests identity) guest units e =
     take (end_length e.body) (written_guest_end (report_of identity guest units e.unit) e)
 
+-- the message that a unit has become available, of which an attention message has 32 bytes
+abbrev pub available_text : Identity → ℕ → UnitReport → List ℕ
+available_text identity drive u = take 32 (written_unit_available u (unit_number identity drive))
+
+abbrev pub attention_of : Identity → Guest → Units → Option ℕ → Option (List ℕ)
+attention_of identity guest units None = None
+attention_of identity guest units (Some drive) =
+    option_map (available_text identity drive) (unit_report guest units drive)
+
+-- the attention message that is due next, if one is; the strict profile has none
+abbrev pub attention_by : Profile → Guest → Units → Option (List ℕ)
+attention_by Strict guest units = None
+attention_by (ForGuests identity) guest units =
+    attention_of identity guest units (first_due guest.attentions)
+
 abbrev pub end_text : PortState → End → List ℕ
 end_text port e = text_by port.profile port.guest port.exec.units e
+
+abbrev pub attention_text : PortState → Option (List ℕ)
+attention_text port = attention_by port.profile port.guest port.exec.units
+
+-- the text that is delivered next: that of the first end message that waits, or else an attention message's
+abbrev pub next_by : Option End → Profile → Guest → Units → Option (List ℕ)
+next_by (Some e) profile guest units = Some (text_by profile guest units e)
+next_by None profile guest units = attention_by profile guest units
+
+abbrev pub next_text : PortState → Option (List ℕ)
+next_text port = next_by (slice_get port.waiting 0) port.profile port.guest port.exec.units

@@ -12,7 +12,8 @@ use Rattle.uda_port.specs.declared.phase.Phase.TheVariants.{Dead as DeadPhase}
 use Rattle.uda_port.specs.declared.turn.Turn.{Turn}
 use Rattle.uda_port.specs.declared.turn.Turn.TheVariants as turn
 use Rattle.uda_port.specs.declared.trace.Trace.{Trace}
-use Rattle.uda_port.specs.declared.trace.Trace.TheVariants.{Fetched, Refused, Executed, Delivered, Idle, Dead}
+use Rattle.uda_port.specs.declared.trace.Trace.TheVariants.{Fetched, Refused, Executed, Delivered}
+use Rattle.uda_port.specs.declared.trace.Trace.TheVariants.{Notified, Idle, Dead}
 use Rattle.uda_port.specs.Port.{PortState}
 use Rattle.uda_port.specs.Startup.{code_of}
 
@@ -22,17 +23,19 @@ turn_of (Fetched command) = turn.Fetched
 turn_of (Refused end) = turn.Fetched
 turn_of (Executed end) = turn.Executed
 turn_of (Delivered end) = turn.Delivered
+turn_of Notified = turn.Notified
 turn_of Idle = turn.Idle
 turn_of (Dead cause) = turn.Dead
 
 -- what is told is what was done: a command that was fetched is pending, last; the end of what was none, and
--- that of a command that was executed, waits, last; an end that was delivered was the first that waited; and
--- a dead port is dead of this cause
+-- that of a command that was executed, waits, last; an end that was delivered was the first that waited; no end
+-- waited where an attention message was delivered; and a dead port is dead of this cause
 abbrev pub Traces : Trace → PortState → PortState → Type 0
 Traces (Fetched command) old new = new.exec.pending ≡ old.exec.pending ++ command ∷ []
 Traces (Refused end) old new = new.waiting ≡ old.waiting ++ end ∷ []
 Traces (Executed end) old new = new.waiting ≡ old.waiting ++ end ∷ []
 Traces (Delivered end) old new = old.waiting ≡ end ∷ new.waiting
+Traces Notified old new = old.waiting ≡ []
 Traces Idle old new = Unit
 Traces (Dead cause) old new = new.phase ≡ DeadPhase cause
 
@@ -57,5 +60,6 @@ trace_display (Fetched command) = codes "fetched " ++ command_display command
 trace_display (Refused end) = codes "refused " ++ end_line end
 trace_display (Executed end) = codes "executed " ++ end_line end
 trace_display (Delivered end) = codes "delivered " ++ end_line end
+trace_display Notified = codes "notified"
 trace_display Idle = codes "idle"
 trace_display (Dead cause) = codes "dead of code " ++ decimal (code_of cause)

@@ -1,7 +1,7 @@
 -- What a turn of a port does: the first of its lines that fits.
 -- UDA50 Programmer's Documentation Kit: command ring polling, message envelopes, credits, fatal errors.
 use Rattle.std.specs.Prelude.{◌≡◌, ℕ, ◌+◌, ◌-◌, ◌<◌, Bool, true, false, List, [], ◌∷◌, ◌++◌, length}
-use Rattle.std.specs.Prelude.{slice_get, Some, Result, Ok, Err}
+use Rattle.std.specs.Prelude.{Some, Result, Ok, Err}
 use Rattle.uda_packet.specs.declared.command.Command.{Command}
 use Rattle.uda_packet.specs.declared.end.End.{End}
 use Rattle.uda_packet.specs.Reading.{read_end}
@@ -13,13 +13,14 @@ use Rattle.uda_port.specs.declared.phase.Phase.TheVariants.{Running, Dead as Dea
 use Rattle.uda_port.specs.declared.profile.Profile.TheVariants.{Strict}
 use Rattle.uda_port.specs.declared.turn.Turn.{Turn}
 use Rattle.uda_port.specs.declared.turn.Turn.TheVariants.{Fetched as TurnFetched, Executed, Delivered, Idle}
-use Rattle.uda_port.specs.declared.turn.Turn.TheVariants.{Dead}
+use Rattle.uda_port.specs.declared.turn.Turn.TheVariants.{Notified, Dead}
 use Rattle.uda_port.specs.declared.phase.Fatal.{Fatal}
 use Rattle.uda_port.specs.declared.phase.Fatal.TheVariants.{PacketRead, PacketWrite, RingRead}
 use Rattle.uda_port.specs.declared.phase.Fatal.TheVariants.{CreditsExceeded, WrongEnvelope}
 use Rattle.uda_port.specs.Fetch.{Takes, TakesFirst, FindsNone, LosesRing, LosesPacket}
 use Rattle.uda_port.specs.declared.packet.Delivery.{Delivery}
-use Rattle.uda_port.specs.Report.{end_text}
+use Rattle.uda_port.specs.Report.{end_text, attention_text, next_text}
+use Rattle.uda_port.specs.Guest.{guest_after, attention_set, first_due}
 use Rattle.uda_port.specs.Delivery.{Puts, LosesRoom}
 use Rattle.uda_port.specs.Message.{IsSequential, message_in}
 use Rattle.uda_port.specs.Port.{PortState, next_grant, commands_told, responses_told, interrupts_told}
@@ -125,6 +126,7 @@ pub record ExecutesOne (j : ℕ) (old : PortState) (memory : List ℕ) (new : Po
         exec = new.exec;
         waiting = old.waiting ++ end ∷ [];
         load = old.load + length old.exec.pending;
+        guest = guest_after end old.guest;
       }
 
 abbrev pub ExecuteLine : PortState → List ℕ → Bool → PortState → List ℕ → Type 0
@@ -157,22 +159,21 @@ pub record DeliversOne (old : PortState) (memory : List ℕ) (new : PortState)
     deliveries = old.deliveries + 1;
   }
 
--- no end waits, or the port doesn't own the next response descriptor
+-- there is no message, or the port doesn't own the next response descriptor
 abbrev pub NothingToDeliver : PortState → List ℕ → Type 0
-NothingToDeliver old memory =
-    (end : End) → slice_get old.waiting 0 ≡ Some end → FindsNone old.responses memory
+NothingToDeliver old memory = (text : List ℕ) → next_text old ≡ Some text → FindsNone old.responses memory
 
 -- fatal: the next response descriptor isn't in memory
 pub record LosesResponseRing (old : PortState) (memory : List ℕ) : Type 0 where
-  pub end : End
-  pub waits : slice_get old.waiting 0 ≡ Some end
+  pub text : List ℕ
+  pub is_next : next_text old ≡ Some text
   pub no_descriptor : LosesRing old.responses memory
 
 -- fatal: its buffer can't take a text
 pub record LosesResponse (old : PortState) (memory : List ℕ) : Type 0 where
-  pub end : End
-  pub waits : slice_get old.waiting 0 ≡ Some end
-  pub no_room : LosesRoom old.profile old.responses memory (length (end_text old end))
+  pub text : List ℕ
+  pub is_next : next_text old ≡ Some text
+  pub no_room : LosesRoom old.profile old.responses memory (length text)
 
 -- whether the third line fits, or why it is fatal
 abbrev pub DeliverLine : PortState → List ℕ → Result Bool Fatal → PortState → List ℕ → Type 0
@@ -185,6 +186,32 @@ DeliverLine old memory (Err PacketWrite) new memory_after =
     LosesResponse old memory × Unchanged old memory new memory_after
 DeliverLine old memory (Err _) new memory_after = ⊥
 
+-- ---- and where no end waits, an attention message is
+
+-- what goes with it: no credits
+abbrev pub notice_of : PortState → List ℕ → Delivery
+notice_of port memory = record (delivery_of port memory) { credits = 0 }
+
+pub record NotifiesOne (old : PortState) (memory : List ℕ) (new : PortState)
+    (memory_after : List ℕ) : Type 0 where
+  pub drive : ℕ
+  pub text : List ℕ
+  pub none_waits : old.waiting ≡ []
+  pub due : first_due old.guest.attentions ≡ Some drive
+  pub message : attention_text old ≡ Some text
+  pub puts : Puts (notice_of old memory) old.responses memory text new.responses memory_after
+  pub others : new ≡ record old {
+    responses = new.responses;
+    interrupts = interrupts_told old (responses_told old memory);
+    guest = attention_set old.guest drive false;
+  }
+
+-- whether an attention message is delivered, or why it is fatal
+abbrev pub NotifyLine : PortState → List ℕ → Result Bool Fatal → PortState → List ℕ → Type 0
+NotifyLine old memory (Ok true) new memory_after = NotifiesOne old memory new memory_after
+NotifyLine old memory (Ok false) new memory_after = DeliverLine old memory (Ok false) new memory_after
+NotifyLine old memory (Err cause) new memory_after = DeliverLine old memory (Err cause) new memory_after
+
 -- ---- the lines in their order
 
 -- a turn that has nothing to fetch: the second line, or else the third
@@ -192,6 +219,8 @@ abbrev pub RestGoes : PortState → List ℕ → Result Turn Fatal → PortState
 RestGoes old memory (Ok Executed) new memory_after = ExecuteLine old memory true new memory_after
 RestGoes old memory (Ok Delivered) new memory_after =
     (old.exec.pending ≡ []) × DeliverLine old memory (Ok true) new memory_after
+RestGoes old memory (Ok Notified) new memory_after =
+    (old.exec.pending ≡ []) × NotifyLine old memory (Ok true) new memory_after
 RestGoes old memory (Ok Idle) new memory_after =
     (old.exec.pending ≡ []) × DeliverLine old memory (Ok false) new memory_after
 RestGoes old memory (Ok _) new memory_after = ⊥

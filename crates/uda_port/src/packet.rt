@@ -31,6 +31,15 @@ pub(crate) struct Message {
     pub(crate) size: u16,
 }
 
+/// An attention message, and the drive that it is about.
+#[derive(Clone, Copy, Debug, PartialEq, Eq)]
+pub(crate) struct Notice {
+    /// The drive.
+    pub(crate) drive: u16,
+    /// The message.
+    pub(crate) message: Message,
+}
+
 /// A command packet as it stood in host memory: the two words of its envelope, and its text.
 ///
 /// UDA50 Programmer's Documentation Kit: message envelopes.

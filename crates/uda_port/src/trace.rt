@@ -30,6 +30,8 @@ pub enum Trace {
     Executed(End),
     /// This end was delivered to the response ring.
     Delivered(End),
+    /// An attention message was delivered to the response ring.
+    Notified,
     /// Nothing, as with [`Turn::Idle`].
     Idle,
     /// Nothing: the port is dead of this cause. It may have died in this turn.
@@ -45,6 +47,7 @@ impl Trace {
             Trace::Fetched(_) | Trace::Refused(_) => Turn::Fetched,
             Trace::Executed(_) => Turn::Executed,
             Trace::Delivered(_) => Turn::Delivered,
+            Trace::Notified => Turn::Notified,
             Trace::Idle => Turn::Idle,
             Trace::Dead(_) => Turn::Dead,
         }
@@ -63,6 +66,7 @@ impl fmt::Display for Trace {
             Trace::Refused(end) => write!(f, "refused {}", EndLine(end)),
             Trace::Executed(end) => write!(f, "executed {}", EndLine(end)),
             Trace::Delivered(end) => write!(f, "delivered {}", EndLine(end)),
+            Trace::Notified => f.write_str("notified"),
             Trace::Idle => f.write_str("idle"),
             Trace::Dead(cause) => {
                 let code = cause.code();
@@ -129,6 +133,7 @@ impl<S: BlockStore> Port<S> {
             Turn::Fetched => Trace::Refused(newest(&self.waiting)),
             Turn::Executed => Trace::Executed(newest(&self.waiting)),
             Turn::Delivered => Trace::Delivered(first.unwrap()),
+            Turn::Notified => Trace::Notified,
             Turn::Idle => Trace::Idle,
             Turn::Dead => Trace::Dead(cause_of(self.phase)),
         }

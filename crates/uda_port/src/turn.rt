@@ -1,23 +1,24 @@
 //! The turns of a port.
 //!
 //! UDA50 Programmer's Documentation Kit: command ring polling, message envelopes, credits.
-ghost use Rattle.std.specs.Prelude.{◌≡◌, ◌+◌, ◌<◌, ◌≤◌, slice_get, [], ◌∷◌, ◌++◌, length, take, Some};
+ghost use Rattle.std.specs.Prelude.{◌≡◌, ◌≢◌, ◌+◌, ◌<◌, ◌≤◌, IfSome, option_map, slice_get, [], ◌∷◌, ◌++◌, length, take, Some};
 ghost use Rattle.uda_mem.specs.Slices.{IsMemory};
 ghost use Rattle.uda_disk.specs.Units.{AreImages};
 ghost use Rattle.uda_exec.specs.Disks.{PENDING_LIMIT};
 ghost use Rattle.circular_buffer.specs.Buffer.{buffer};
 ghost use Rattle.uda_port.specs.Port.{CreditsAgree, next_grant, commands_told, responses_told};
 ghost use Rattle.uda_port.specs.Interrupt.{IsBelow};
-ghost use Rattle.uda_port.specs.Turn.{FetchLine, ExecuteLine, DeliverLine, RestGoes, LinesGo, RunningTurn};
+ghost use Rattle.uda_port.specs.Turn.{FetchLine, ExecuteLine, DeliverLine, NotifyLine, RestGoes, LinesGo, RunningTurn};
 ghost use Rattle.uda_port.specs.Turn.{TurnGoes, delivery_of};
-ghost use Rattle.uda_port.specs.Report.{end_text, report_of};
+ghost use Rattle.uda_port.specs.Report.{end_text, report_of, attention_text};
+ghost use Rattle.uda_port.specs.Guest.{first_due};
 ghost use Rattle.uda_port.specs.declared.profile.Profile.TheVariants.{Strict};
 ghost use Rattle.uda_port.specs.Delivery.{PutGoes};
 ghost use Rattle.uda_packet.specs.Reading.{read_end};
 ghost use Rattle.uda_packet.specs.Written.{written_end};
 
 use crate::message::message_in;
-use crate::packet::{Delivery, Message, TEXT};
+use crate::packet::{Delivery, Message, Notice, TEXT};
 use crate::phase::{Fatal, Phase};
 use crate::port::Port;
 use crate::profile::Profile;
@@ -26,7 +27,9 @@ use circular_buffer::HeapCircularBuffer;
 use uda_exec::PENDING;
 use uda_image::BlockStore;
 use uda_mem::HostMemory;
-use uda_packet::{End, Identity, Report, encode_end, encode_guest_end};
+use uda_packet::{
+    ATTENTION_LENGTH, End, Identity, Report, encode_end, encode_guest_end, encode_unit_available,
+};
 
 /// The credits that a host has once the first end since start-up is delivered: as many commands as it may
 /// then have out, and as many as may be pending.
@@ -43,6 +46,8 @@ pub enum Turn {
     Executed,
     /// The first end that waited was delivered to the response ring.
     Delivered,
+    /// An attention message was delivered to the response ring.
+    Notified,
     /// Nothing: the port is in start-up, has nothing to do, or has an end and no response descriptor.
     Idle,
     /// Nothing: the port is dead. It may have died in this turn.
@@ -159,6 +164,7 @@ impl<S: BlockStore> Port<S> {
     }
 
     // The lines behind the first.
+    #[tactic(auto, using(crate::proofs::TurnLaws::none_first))]
     fn rest(&mut self, memory: &mut [u8]) -> Result<Turn, Fatal>
         requires { IsMemory memory.old }
         ensures { RestGoes self.old memory.old result self.new memory.new }
@@ -166,7 +172,14 @@ impl<S: BlockStore> Port<S> {
         if self.execute(memory) {
             return Ok(Turn::Executed);
         }
-        match self.deliver(memory) {
+        let Some(end) = self.waiting.front().copied() else {
+            return match self.notify(memory) {
+                Err(cause) => Err(cause),
+                Ok(true) => Ok(Turn::Notified),
+                Ok(false) => Ok(Turn::Idle),
+            };
+        };
+        match self.deliver(memory, end) {
             Err(cause) => Err(cause),
             Ok(true) => Ok(Turn::Delivered),
             Ok(false) => Ok(Turn::Idle),
@@ -217,18 +230,17 @@ impl<S: BlockStore> Port<S> {
             return false;
         };
         self.load.add(pending);
+        self.guest.note_end(&end);
         hold(&mut self.waiting, end);
         true
     }
 
     // The third line: delivers the first end that waits, where the response ring takes it.
-    fn deliver(&mut self, memory: &mut [u8]) -> Result<bool, Fatal>
-        requires { IsMemory memory.old }
+    fn deliver(&mut self, memory: &mut [u8], end: End) -> Result<bool, Fatal>
+        requires memory { IsMemory memory.old }
+        requires first { slice_get self.old.waiting 0 ≡ Some end }
         ensures { DeliverLine self.old memory.old result self.new memory.new }
     {
-        let Some(end) = self.waiting.front().copied() else {
-            return Ok(false);
-        };
         let delivery = self.delivery(memory);
         let message = self.end_text(&end);
         match put_message(&mut self.responses, memory, delivery, &message) {
@@ -243,6 +255,52 @@ impl<S: BlockStore> Port<S> {
         self.begun = true;
         self.deliveries.add(1);
         Ok(true)
+    }
+
+    // Where no end waits: delivers the first attention message that is due, where the response ring takes it.
+    fn notify(&mut self, memory: &mut [u8]) -> Result<bool, Fatal>
+        requires memory { IsMemory memory.old }
+        requires none { self.old.waiting ≡ [] }
+        ensures { NotifyLine self.old memory.old result self.new memory.new }
+    {
+        let Some(notice) = self.notice() else {
+            return Ok(false);
+        };
+        let delivery = Delivery {
+            credits: 0,
+            ..self.delivery(memory)
+        };
+        match put_message(&mut self.responses, memory, delivery, &notice.message) {
+            Err(RingFault::Ring) => return Err(Fatal::RingRead),
+            Err(RingFault::Packet) => return Err(Fatal::PacketWrite),
+            Ok(false) => return Ok(false),
+            Ok(true) => {}
+        }
+        self.guest.set_attention(usize::from(notice.drive), false);
+        self.interrupts.note(self.profile, delivery.told);
+        Ok(true)
+    }
+
+    // The attention message that is due next, if one is.
+    fn notice(&self) -> Option<Notice>
+        ensures text { option_map (λ n. take n.message.size n.message.text) result ≡ attention_text self.now }
+        ensures due { IfSome result (λ n. first_due self.now.guest.attentions ≡ Some n.drive) }
+        ensures within { IfSome result (λ n. n.message.size ≤ 48) }
+        ensures guests { IfSome result (λ n. self.now.profile ≢ Strict) }
+    {
+        let Profile::ForGuests(identity) = self.profile else {
+            return None;
+        };
+        let drive = self.guest.first_due()?;
+        let at = usize::from(drive);
+        let unit = self.guest.unit(at, self.exec.unit(at))?;
+        Some(Notice {
+            drive,
+            message: Message {
+                text: encode_unit_available(&unit, identity.unit_number(drive)),
+                size: ATTENTION_LENGTH,
+            },
+        })
     }
 
     // The text of an end message, in as many bytes as the profile gives it.

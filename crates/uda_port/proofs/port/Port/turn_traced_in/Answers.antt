@@ -4,9 +4,9 @@ use Rattle.circular_buffer.specs.Buffer.{last_item}
 use Rattle.uda_packet.specs.declared.end.End.{End}
 use Rattle.uda_port.specs.Port.{PortState}
 use Rattle.uda_port.specs.Trace.{IsDead}
-use Rattle.uda_port.proofs.TraceLaws.{fetched, one_waits, executed, delivered, died, ends_with, told_command, told_refusal, told_first}
+use Rattle.uda_port.proofs.TraceLaws.{fetched, one_waits, executed, delivered, notified, died, ends_with, told_command, told_refusal, told_first}
 use Rattle.uda_port.proofs.port.Port.turn_traced_in.Goals as goal
-use Rattle.uda_port.proofs.port.Port.turn_traced_in.Goals.{in-Fetched, in-Fetched-2, in-Executed, in-Delivered, in-Idle, in-Dead}
+use Rattle.uda_port.proofs.port.Port.turn_traced_in.Goals.{in-Fetched, in-Fetched-2, in-Executed, in-Delivered, in-Notified, in-Idle, in-Dead}
 
 pub newest-requires-in-Fetched-2 : goal.newest-requires-in-Fetched-2
 newest-requires-in-Fetched-2 g c =
@@ -46,6 +46,7 @@ returns-clause-goes g c =
       | in-Fetched-2 w ↦ rw w.result-is w.in-Fetched-2.ensures.goes
       | in-Executed w ↦ rw w.result-is w.in-Executed.ensures.goes
       | in-Delivered w ↦ rw w.result-is w.in-Delivered.ensures.goes
+      | in-Notified w ↦ rw w.result-is w.in-Notified.ensures.goes
       | in-Idle w ↦ rw w.result-is w.in-Idle.ensures.goes
       | in-Dead w ↦ rw w.result-is w.in-Dead.ensures.goes
     ]
@@ -78,6 +79,7 @@ returns-clause-tells g c =
           let first = subst (λ (p : PortState). slice_get p.waiting 0 ≡ Some w.unwrap-in-Delivered.result) c.self.view_is (sym c.front.ensures ∙ sym c.copied-first.ensures ∙ w.unwrap-in-Delivered.ensures) in
           let taken = delivered _ old _ new _ w.in-Delivered.ensures.goes in
           rw w.result-is (told_first old.waiting new.waiting taken.0 w.unwrap-in-Delivered.result taken.1 first)
+      | in-Notified w ↦ rw w.result-is (notified _ old _ new _ w.in-Notified.ensures.goes)
       | in-Idle w ↦ rw w.result-is tt
       | in-Dead w ↦ rw w.result-is (sym (ap (λ (p : PortState). p.phase) c.self-2.view_is) ∙ w.cause_of.ensures.cause)
     ]

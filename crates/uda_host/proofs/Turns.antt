@@ -20,12 +20,12 @@ use Rattle.uda_port.specs.declared.packet.Fetched.{Fetched}
 use Rattle.uda_port.specs.declared.profile.Profile.{Profile}
 use Rattle.uda_port.specs.declared.phase.Phase.{Phase}
 use Rattle.uda_port.specs.declared.turn.Turn.{Turn}
-use Rattle.uda_port.specs.declared.turn.Turn.TheVariants.{Fetched as TurnFetched, Executed, Delivered, Idle, Dead}
+use Rattle.uda_port.specs.declared.turn.Turn.TheVariants.{Fetched as TurnFetched, Executed, Delivered, Notified, Idle, Dead}
 use Rattle.uda_port.specs.declared.phase.Fatal.{Fatal}
 use Rattle.uda_port.specs.declared.phase.Fatal.TheVariants.{PacketRead, PacketWrite, RingRead, CreditsExceeded, WrongEnvelope}
 use Rattle.uda_port.specs.Ring.{is_owned, address_of, word_given_back, RingState, descriptor_address, next_descriptor, ring_advanced}
 use Rattle.uda_port.specs.Packet.{HasRoom}
-use Rattle.uda_port.specs.Report.{end_text, text_by}
+use Rattle.uda_port.specs.Report.{end_text, text_by, attention_by, next_by}
 use Rattle.uda_port.specs.Fetch.{Takes}
 use Rattle.uda_port.specs.Delivery.{Puts}
 use Rattle.uda_port.specs.Message.{message_of_text, message_in}
@@ -235,8 +235,18 @@ module _ {S : Type 0} {h : Inside S} (host : IsHost h) (before : PortState) (aft
       none_waits : (waiting : List End) → h.port.waiting ≡ waiting → ⊥
       none_waits [] is = omega (arith, some, ap length is, ap length goes.rest.0, ap length none, length-append h.port.exec.pending (unfetched h))
       none_waits (e ∷ rest) is =
-          let free = goes.rest.1.0 e (ap (λ (ends : List End). slice_get ends 0) is) in
+          let first = ap (λ (ends : List End). next_by (slice_get ends 0) h.port.profile h.port.guest h.port.exec.units) is in
+          let free = goes.rest.1.0 (end_text h.port e) first in
           not_both (responses_seen host) free.is_next refl free.not_owned
+
+  -- a strict port has no attention messages
+  never_notified : GoesOn (port_turn_on h.port) h.memory (Ok Notified) before after → ⊥
+  never_notified goes =
+      let one = goes.rest.1 in
+      none_is (ap (λ (p : Profile). attention_by p h.port.guest h.port.exec.units) (sym host.port.strict) ∙ one.message)
+    where
+      none_is : {A : Type 0} {x : A} → None ≡ Some x → ⊥
+      none_is same = absurd (cc)
 
   fetch_lives : (cause : Fatal) (cs : List Command) → unfetched h ≡ cs → FetchLine (port_turn_on h.port) h.memory (Err cause) before after → ⊥
   fetch_lives RingRead cs is line = let seen = commands_seen host in let lost = line.0.no_descriptor in absurd (cc)
@@ -262,7 +272,7 @@ module _ {S : Type 0} {h : Inside S} (host : IsHost h) (before : PortState) (aft
       let address = ap address_of first in let within = host.rings.looks_within in let size = host.written.size in
       let room = (host.written.opens h.response_place within).room in
       let word : word_at h.memory (address_of lost.next - 4) ≡ word_at h.memory (response_packet h.response_place) = ap (word_at h.memory) (omega arith) in
-      let n = length (end_text h.port goes.rest.1.0.end) in
+      let n = length goes.rest.1.0.text in
       subst (λ (p : Profile). HasRoom p h.memory (address_of lost.next) n → ⊥) host.port.strict lost.no_room (record { packet = record { even = omega arith; above = omega arith; within = omega arith }; long = omega arith })
   rest_lives _ goes = goes.rest.1
 
@@ -278,6 +288,7 @@ undelivered (trace.Fetched command) other is = absurd (cc)
 undelivered (trace.Refused end) other is = absurd (cc)
 undelivered (trace.Executed end) other is = absurd (cc)
 undelivered (trace.Delivered end) other is = other end refl
+undelivered trace.Notified other is = absurd (cc)
 undelivered trace.Idle other is = absurd (cc)
 undelivered (trace.Dead cause) other is = absurd (cc)
 
@@ -292,6 +303,7 @@ module _ {S : Type 0} {h : Inside S} {value : HostState} (is : host_view h ≡ v
       by Executed other goes [] none = executed new after host none agree goes
       by Executed other goes (c ∷ rest) were = absurd (must_fetch host were goes.nothing_to_fetch)
       by Delivered other goes cs are = absurd (other refl)
+      by Notified other goes cs are = absurd (never_notified host new after goes)
       by Idle other goes [] none = absurd (never_idle host new after (omega (arith, some, ap out_of is)) none goes)
       by Idle other goes (c ∷ rest) were = absurd (must_fetch host were goes.nothing_to_fetch)
       by Dead other goes cs are = absurd (lives host goes.before after goes.cause goes.fails)

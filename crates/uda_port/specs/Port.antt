@@ -1,12 +1,14 @@
 -- A port as its callers see it, and its credits.
 -- UDA50 Programmer's Documentation Kit: port registers, initialisation, credits.
 use Rattle.std.specs.Prelude.{◌≡◌, ℕ, ◌+◌, ◌-◌, ◌*◌, ◌≤◌, min, Bool, true, false, ◌&&◌, List, [], length, map}
-use Rattle.std.specs.Prelude.{Option}
+use Rattle.std.specs.Prelude.{Option, None, Some, ◌||◌, option_map, slice_get, set}
 use Rattle.uda_packet.specs.declared.end.End.{End}
 use Rattle.uda_exec.specs.Disks.{ExecState, PENDING_LIMIT}
-use Rattle.uda_exec.specs.Drives.{reset_unit}
+use Rattle.uda_packet.specs.declared.drive_type.DriveType.{DriveType}
+use Rattle.uda_packet.specs.DriveTypes.{drive_traits}
+use Rattle.uda_exec.specs.Drives.{DriveState, reset_unit}
 use Rattle.uda_port.specs.declared.profile.Profile.{Profile}
-use Rattle.uda_port.specs.declared.profile.Profile.TheVariants.{ForGuests}
+use Rattle.uda_port.specs.declared.profile.Profile.TheVariants.{Strict, ForGuests}
 use Rattle.uda_port.specs.declared.phase.Phase.{Phase}
 use Rattle.uda_port.specs.declared.phase.Phase.TheVariants.{Step1, Poll, Step4, Running}
 use Rattle.uda_port.specs.declared.interrupt.Interrupts.{Interrupts}
@@ -111,3 +113,28 @@ asks_by _ _ flags = false
 
 abbrev pub attention_due : PortState → Bool → Bool
 attention_due port is_there = is_there && asks_by port.profile port.phase port.guest.flags
+
+-- whether a port for guests has a unit of a type that can't write
+abbrev is_read_only : Option DriveType → Bool
+is_read_only None = false
+is_read_only (Some kind) = (drive_traits kind).is_read_only
+
+abbrev read_only_by : Profile → Option DriveType → Bool
+read_only_by Strict kind = false
+read_only_by (ForGuests identity) kind = is_read_only kind
+
+abbrev pub read_only_at : PortState → ℕ → Bool
+read_only_at port unit = read_only_by port.profile (slice_get port.guest.types unit)
+
+-- a drive that is put there: it is write-protected there too
+abbrev pub protected_drive : Bool → Option DriveState → Option DriveState
+protected_drive read_only drive =
+    option_map (λ (d : DriveState). record d { hard = read_only || d.hard }) drive
+
+abbrev pub drive_put : PortState → ℕ → Option DriveState → Option DriveState
+drive_put port unit drive = protected_drive (read_only_at port unit) drive
+
+-- a unit of another type
+abbrev pub with_type : PortState → ℕ → DriveType → PortState
+with_type old unit kind =
+    record old { guest = record old.guest { types = set old.guest.types unit kind } }

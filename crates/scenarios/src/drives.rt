@@ -9,6 +9,7 @@ use std::alloc::Global;
 use uda_disk::Mode;
 use uda_exec::PENDING;
 use uda_image::{BLOCK_LIMIT, Drive, MemImage};
+use uda_packet::DriveType;
 
 impl Machine {
     /// Changes which drives and commands there are.
@@ -25,6 +26,7 @@ impl Machine {
                 Ok(())
             }
             Change::Restore => self.restore(words),
+            Change::Type => self.set_type(words),
             Change::Accept => self.accept(words),
             Change::Reset => {
                 self.subject.executor()?.reset();
@@ -55,6 +57,23 @@ impl Machine {
             soft: flags & 0x1000 != 0,
         };
         self.restore_mode(unit, mode)
+    }
+
+    // Sets the drive type of a unit without a drive.
+    fn set_type(&mut self, words: &mut Words<'_>) -> Result<(), Fault> {
+        let unit = words.unit()?;
+        let name = words.word("a drive type")?;
+        let Some(kind) = DriveType::ALL
+            .iter()
+            .find(|kind| kind.name().eq_ignore_ascii_case(name))
+        else {
+            return Err(Fault::Wanted("a drive type"));
+        };
+        if self.subject.port()?.set_type(unit, *kind) {
+            Ok(())
+        } else {
+            Err(Fault::Wanted("a unit without a drive"))
+        }
     }
 
     /// Puts a unit into a mode.

@@ -7,6 +7,7 @@ use crate::words::Words;
 use std::alloc::Global;
 use uda_exec::{Exec, UnitLook};
 use uda_image::Drive;
+use uda_packet::{Bus, Identity};
 use uda_port::{Phase, Port, Ring};
 
 /// How many bytes a memory has at first.
@@ -191,7 +192,7 @@ fn subject_of(alloc: Global, words: &mut Words<'_>) -> Result<Subject, Fault> {
     let name = words.word(kind)?;
     match name {
         "strict" => strict(alloc),
-        "guests" => guests(alloc),
+        "guests" => guests(alloc, identity(words)?),
         "executor" => Ok(Subject::Executor(no_drives())),
         "ring" => ring(words),
         _ => Err(Fault::Wanted(kind)),
@@ -206,9 +207,21 @@ fn strict(alloc: Global) -> Result<Subject, Fault> {
     }
 }
 
+// The controller that a guest sees: on a UNIBUS, or on a Q-bus, and with units from a number on.
+fn identity(words: &mut Words<'_>) -> Result<Identity, Fault> {
+    let bus = if words.takes("qbus") {
+        Bus::Qbus
+    } else {
+        words.takes("unibus");
+        Bus::Unibus
+    };
+    let first_unit = if words.count() > 0 { words.small()? } else { 0 };
+    Ok(Identity { bus, first_unit })
+}
+
 // A port of the profile for guests.
-fn guests(alloc: Global) -> Result<Subject, Fault> {
-    match Port::for_guests(alloc, no_drives()) {
+fn guests(alloc: Global, identity: Identity) -> Result<Subject, Fault> {
+    match Port::for_guests_as(alloc, identity, no_drives()) {
         Ok(port) => Ok(Subject::Port(port)),
         Err(_) => Err(Fault::NoMemory),
     }

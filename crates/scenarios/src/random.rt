@@ -130,7 +130,7 @@ impl Machine {
         let port = self.subject.port()?;
         let sa = self.memory.play(port, &[event])?;
         let phase = port.phase();
-        if sa == phase.sa() {
+        if sa == port.read_sa() {
             Ok(phase)
         } else {
             Err(Fault::Wanted("an SA that shows the phase"))

@@ -93,6 +93,7 @@ fn name_of(turn: Turn) -> &'static str {
         Turn::Fetched => "fetched",
         Turn::Executed => "executed",
         Turn::Delivered => "delivered",
+        Turn::Notified => "notified",
         Turn::Idle => "idle",
         Turn::Dead => "dead",
     }

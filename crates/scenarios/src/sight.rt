@@ -28,7 +28,7 @@ impl Machine {
             Sight::Credits => write!(came, "{}", port.credits())?,
             Sight::Profile => came.push_str(match port.profile() {
                 Profile::Strict => "strict",
-                Profile::ForGuests => "guests",
+                Profile::ForGuests(_) => "guests",
             })?,
             _ => write_ring(port.responses(), came)?,
         }

@@ -50,6 +50,7 @@ pub enum Change {
     Remove,
     Insert,
     Restore,
+    Type,
     Accept,
     Reset,
 }
@@ -104,7 +105,7 @@ pub enum Hold {
     Calls,
 }
 
-const VERBS: [(&str, Verb); 50] = [
+const VERBS: [(&str, Verb); 51] = [
     ("new", Verb::Set(Setting::New)),
     ("memory", Verb::Set(Setting::Memory)),
     ("slice", Verb::Set(Setting::Slice)),
@@ -123,6 +124,7 @@ const VERBS: [(&str, Verb); 50] = [
     ("remove", Verb::Move(Change::Remove)),
     ("insert", Verb::Move(Change::Insert)),
     ("restore", Verb::Move(Change::Restore)),
+    ("type", Verb::Move(Change::Type)),
     ("accept", Verb::Move(Change::Accept)),
     ("reset", Verb::Move(Change::Reset)),
     ("ip", Verb::Run(Work::Ip)),

@@ -1,6 +1,6 @@
 -- The drive types that a unit can report, with what a host learns of each.
 -- MSCP Basic Disk Functions Manual: media type identifiers, unit identifiers, Get Unit Status.
-use Rattle.std.specs.Prelude.{ℕ, true, false}
+use Rattle.std.specs.Prelude.{ℕ, true, false, List, codes}
 use Rattle.uda_packet.specs.declared.drive_type.DriveType.{DriveType}
 use Rattle.uda_packet.specs.declared.drive_type.DriveType.TheVariants as drive
 use Rattle.uda_packet.specs.declared.drive_type.DriveTraits.{DriveTraits}
@@ -41,3 +41,20 @@ drive_traits drive.Ra90 = fixed 2376153 19 0x2564105A (geometry 69 13 1)
 drive_traits drive.Ra92 = fixed 2940951 29 0x2564105C (geometry 73 13 1)
 drive_traits drive.Rrd40 =
     record (removable (fixed 1331200 26 0x25652228 (geometry 128 1 1))) { is_read_only = true }
+
+abbrev pub drive_name : DriveType → List ℕ
+drive_name drive.Rx50 = codes "RX50"
+drive_name drive.Rx33 = codes "RX33"
+drive_name drive.Rd51 = codes "RD51"
+drive_name drive.Rd31 = codes "RD31"
+drive_name drive.Rd52 = codes "RD52"
+drive_name drive.Rd53 = codes "RD53"
+drive_name drive.Rd54 = codes "RD54"
+drive_name drive.Ra60 = codes "RA60"
+drive_name drive.Ra81 = codes "RA81"
+drive_name drive.Ra82 = codes "RA82"
+drive_name drive.Ra71 = codes "RA71"
+drive_name drive.Ra72 = codes "RA72"
+drive_name drive.Ra90 = codes "RA90"
+drive_name drive.Ra92 = codes "RA92"
+drive_name drive.Rrd40 = codes "RRD40"

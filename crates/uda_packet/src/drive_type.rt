@@ -2,8 +2,10 @@
 //!
 //! MSCP Basic Disk Functions Manual: media type identifiers, unit identifiers, Get Unit Status.
 
-ghost use Rattle.std.specs.Prelude.{◌≡◌, true, false};
-ghost use Rattle.uda_packet.specs.DriveTypes.{drive_traits};
+ghost use Rattle.std.specs.Prelude.{◌≡◌, true, false, Some};
+ghost use Rattle.uda_packet.specs.DriveTypes.{drive_traits, drive_name};
+
+use std::fmt;
 
 /// A drive type, by which a host's driver chooses its tables.
 #[derive(Clone, Copy, Debug, PartialEq, Eq)]
@@ -73,6 +75,48 @@ pub struct Geometry {
 }
 
 impl DriveType {
+    /// Every drive type.
+    pub const ALL: [DriveType; 15] = [
+        DriveType::Rx50,
+        DriveType::Rx33,
+        DriveType::Rd51,
+        DriveType::Rd31,
+        DriveType::Rd52,
+        DriveType::Rd53,
+        DriveType::Rd54,
+        DriveType::Ra60,
+        DriveType::Ra81,
+        DriveType::Ra82,
+        DriveType::Ra71,
+        DriveType::Ra72,
+        DriveType::Ra90,
+        DriveType::Ra92,
+        DriveType::Rrd40,
+    ];
+
+    /// Returns the name, such as `RA81`.
+    pub fn name(self) -> &'static str
+        ensures name { result.now ≡ drive_name self }
+    {
+        match self {
+            DriveType::Rx50 => "RX50",
+            DriveType::Rx33 => "RX33",
+            DriveType::Rd51 => "RD51",
+            DriveType::Rd31 => "RD31",
+            DriveType::Rd52 => "RD52",
+            DriveType::Rd53 => "RD53",
+            DriveType::Rd54 => "RD54",
+            DriveType::Ra60 => "RA60",
+            DriveType::Ra81 => "RA81",
+            DriveType::Ra82 => "RA82",
+            DriveType::Ra71 => "RA71",
+            DriveType::Ra72 => "RA72",
+            DriveType::Ra90 => "RA90",
+            DriveType::Ra92 => "RA92",
+            DriveType::Rrd40 => "RRD40",
+        }
+    }
+
     /// Returns what a host learns of the drive type.
     ///
     /// MSCP Basic Disk Functions Manual: media type identifiers, unit identifiers, Get Unit Status.
@@ -138,5 +182,13 @@ impl DriveTraits {
             is_removable: true,
             ..self
         }
+    }
+}
+
+impl fmt::Display for DriveType {
+    ghost output = { λ kind. Some (drive_name kind) };
+
+    fn fmt<W: fmt::Write>(&self, f: &mut fmt::Formatter<W>) -> fmt::Result {
+        f.write_str(self.name())
     }
 }

@@ -1,4 +1,7 @@
 mod HandleSteps
+mod SlotSteps
+mod Crosses
 pub mod Images
 pub mod RunLaws
 pub mod FailingUnits
+pub mod Lending

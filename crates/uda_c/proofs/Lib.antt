@@ -1,6 +1,7 @@
 mod HandleSteps
 mod SlotSteps
 mod Crosses
+mod HandleCrosses
 pub mod Images
 pub mod RunLaws
 pub mod FailingUnits

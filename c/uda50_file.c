@@ -58,10 +58,8 @@ int uda50_file_open(uda50_file *file, const char *path, bool read_only)
 
     *file = closed;
     file->descriptor = open(path, flags);
-    if (file->descriptor < 0) {
-        *file = closed;
+    if (file->descriptor < 0)
         return UDA50_FILE_OPEN;
-    }
     file->is_open = true;
     file->read_only = read_only;
     fault = lock(file);

@@ -16,6 +16,7 @@
 static char calls[512];
 static const char *failing = "";
 static int error;
+static size_t mapped; /* the bytes of the last map */
 
 int __real_open(const char *path, int flags, ...);
 int __real_close(int descriptor);
@@ -67,17 +68,18 @@ void *__wrap_mmap(void *at, size_t length, int access, int flags, int descriptor
 {
     const char *name = flags != MAP_SHARED || from != 0 ? "?" : access == PROT_READ ? ":r" : ":rw";
 
+    mapped = length;
     return fails("map", name) ? MAP_FAILED : __real_mmap(at, length, access, flags, descriptor, from);
 }
 
 int __wrap_munmap(void *at, size_t length)
 {
-    return fails("unmap", "") ? -1 : __real_munmap(at, length);
+    return fails("unmap", length == mapped ? "" : "?") ? -1 : __real_munmap(at, length);
 }
 
 int __wrap_msync(void *at, size_t length, int flags)
 {
-    return fails("sync", flags == MS_SYNC ? "" : "?") ? -1 : __real_msync(at, length, flags);
+    return fails("sync", flags == MS_SYNC && length == mapped ? "" : "?") ? -1 : __real_msync(at, length, flags);
 }
 
 /* Compares the calls since the last comparison. */

@@ -34,8 +34,9 @@ static void expect_turn(uda50 *uda, uda50_turn_record wanted, int line)
     expect(turn.status, wanted.status, "status", line);
 }
 
-#define EXPECT_TURN(kind, reference, lbn, bytes, unit, code, status) \
-    expect_turn(&uda, (uda50_turn_record){ kind, reference, lbn, bytes, unit, code, status }, __LINE__)
+#define EXPECT_TURN(k, r, l, b, u, c, s) \
+    expect_turn(&uda, (uda50_turn_record){ .kind = k, .reference = r, .lbn = l, .bytes = b, .unit = u, .code = c, \
+                                           .status = s }, __LINE__)
 
 static uda50 uda;
 

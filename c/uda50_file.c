@@ -2,55 +2,84 @@
 #define _POSIX_C_SOURCE 200809L
 #include "uda50_file.h"
 
+#include <errno.h>
 #include <fcntl.h>
+#include <sys/file.h>
 #include <sys/mman.h>
 #include <sys/stat.h>
 #include <unistd.h>
 
 enum { BLOCK = 512, BLOCK_LIMIT = 891072 };
 
-/* The bytes of a file without any: an image's pointer isn't null. */
-static uint8_t nothing[1];
+static const uda50_file closed;
 
-static int map(uda50_file *file, bool read_only)
+/* Takes the lock of an open regular file. */
+static int lock(const uda50_file *file)
 {
     struct stat status;
-    int access = read_only ? PROT_READ : PROT_READ | PROT_WRITE;
-    void *at;
 
     if (fstat(file->descriptor, &status) != 0 || !S_ISREG(status.st_mode))
+        return UDA50_FILE_OPEN;
+    if (flock(file->descriptor, (file->read_only ? LOCK_SH : LOCK_EX) | LOCK_NB) != 0 && errno == EWOULDBLOCK)
+        return UDA50_FILE_LOCKED;
+    return UDA50_FILE_OK;
+}
+
+/* Maps a locked file. A file without bytes has no map. */
+static int map(uda50_file *file)
+{
+    int access = file->read_only ? PROT_READ : PROT_READ | PROT_WRITE;
+    struct stat status;
+    void *at;
+
+    if (fstat(file->descriptor, &status) != 0)
         return UDA50_FILE_OPEN;
     if (status.st_size % BLOCK != 0)
         return UDA50_FILE_LENGTH;
     if (status.st_size / BLOCK > BLOCK_LIMIT)
         return UDA50_FILE_TOO_LARGE;
-    file->image.at = nothing;
-    file->image.length = (size_t)status.st_size;
     if (status.st_size == 0)
         return UDA50_FILE_OK;
-    at = mmap(NULL, file->image.length, access, MAP_SHARED, file->descriptor, 0);
+    at = mmap(NULL, (size_t)status.st_size, access, MAP_SHARED, file->descriptor, 0);
     if (at == MAP_FAILED)
         return UDA50_FILE_MAP;
-    file->image.at = at;
+    file->map = at;
+    file->length = (size_t)status.st_size;
+    file->image.at = file->map;
+    file->image.length = file->length;
     return UDA50_FILE_OK;
 }
 
 int uda50_file_open(uda50_file *file, const char *path, bool read_only)
 {
+    /* O_NONBLOCK is for a FIFO, which is refused afterwards; a regular file is the same with it. */
+    int flags = (read_only ? O_RDONLY : O_RDWR) | O_CLOEXEC | O_NONBLOCK | O_NOCTTY;
     int fault;
 
-    file->descriptor = open(path, (read_only ? O_RDONLY : O_RDWR) | O_CLOEXEC);
+    *file = closed;
+    file->descriptor = open(path, flags);
     if (file->descriptor < 0)
         return UDA50_FILE_OPEN;
-    fault = map(file, read_only);
-    if (fault != UDA50_FILE_OK)
+    file->is_open = true;
+    file->read_only = read_only;
+    fault = lock(file);
+    if (fault == UDA50_FILE_OK)
+        fault = map(file);
+    if (fault != UDA50_FILE_OK) {
         close(file->descriptor);
+        *file = closed;
+    }
     return fault;
+}
+
+uint32_t uda50_file_attach(uda50 *handle, uint32_t unit, uda50_file *file)
+{
+    return uda50_attach(handle, unit, &file->image, file->read_only);
 }
 
 int uda50_file_sync(uda50_file *file)
 {
-    if (file->image.length != 0 && msync(file->image.at, file->image.length, MS_SYNC) != 0)
+    if (file->length != 0 && msync(file->map, file->length, MS_SYNC) != 0)
         return UDA50_FILE_SYNC;
     return UDA50_FILE_OK;
 }
@@ -59,10 +88,13 @@ int uda50_file_close(uda50_file *file)
 {
     int fault = uda50_file_sync(file);
 
-    if (file->image.length != 0)
-        munmap(file->image.at, file->image.length);
+    if (!file->is_open)
+        return UDA50_FILE_OK;
+    if (file->length != 0)
+        munmap(file->map, file->length);
     if (close(file->descriptor) != 0)
         fault = UDA50_FILE_SYNC;
+    *file = closed;
     return fault;
 }
 
@@ -79,6 +111,8 @@ const char *uda50_file_text(int fault)
         return "the file has more than 891072 blocks";
     case UDA50_FILE_MAP:
         return "the file can't be mapped";
+    case UDA50_FILE_LOCKED:
+        return "the file is in use";
     default:
         return "what was written can't be written out";
     }

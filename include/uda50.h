@@ -6,9 +6,16 @@
    it nor write into it. Every function accepts every handle. On a handle without a controller it changes nothing
    and returns UDA50_NO_CONTROLLER, or 0 or false where its result is no status.
 
+   No pointer that is passed is null, but in an image without bytes. No two of handle, image structs, images, guest
+   memory and what a call fills overlap; the library can't detect that they do. One array for two units is such an
+   overlap, and so is an image in guest memory.
+
    Guest memory is passed to each call that uses it, as a pointer and a number of bytes. The library reads and
-   writes it in place during that call alone, so the next call may pass other memory. A word is stored low byte
-   first: an array of uint16_t serves on a little-endian machine only. */
+   writes it in place during that call alone, so the next call may pass other memory. No other thread writes it
+   during the call. A word is stored low byte first: an array of uint16_t serves on a little-endian machine only.
+
+   One call at a time uses a handle. A handle may go from one thread to another, and threads may use different
+   handles at once. No call blocks, and only uda50_new and uda50_format_last_turn allocate memory. */
 #ifndef UDA50_H
 #define UDA50_H
 
@@ -30,14 +37,19 @@ typedef struct {
     void *at;
 } uda50;
 
-/* The bytes of a disk image, 512 for each block. `at` isn't null, even if `length` is 0. */
+enum { UDA50_UNITS = 4 };
+
+/* The bytes of a disk image, 512 for each block. If `length` is 0 there are none, and `at` may be null: such a struct
+   is empty, as one that is set to zero.
+
+   The struct says who has the bytes. uda50_attach takes them and leaves it empty; uda50_detach and uda50_free put
+   them into an empty one. While a unit has the bytes, nothing else reads or writes them. */
 typedef struct {
     uint8_t *at;
     size_t length;
 } uda50_image;
 
-/* What a call returns as its status. A failed call has changed nothing, except that uda50_new has freed what the
-   handle had. */
+/* What a call returns as its status. A call that fails changes nothing. */
 enum {
     UDA50_OK = 0,
     UDA50_NO_CONTROLLER = 64,    /* the handle has no controller */
@@ -45,8 +57,10 @@ enum {
     UDA50_NO_SUCH_UNIT = 66,     /* the unit isn't 0 to 3 */
     UDA50_ALREADY_ATTACHED = 67, /* the unit has an image */
     UDA50_NOT_ATTACHED = 68,     /* the unit has no image */
-    UDA50_BAD_LENGTH = 69,       /* an image isn't a whole number of blocks, or guest memory has an odd length */
-    UDA50_TOO_LARGE = 70         /* an image has more than 891,072 blocks, or guest memory more than 4 MB */
+    UDA50_BAD_LENGTH = 69,       /* an image isn't one or more whole blocks, or guest memory has an odd length */
+    UDA50_TOO_LARGE = 70,        /* an image has more than 891,072 blocks, or guest memory more than 4 MB */
+    UDA50_NOT_EMPTY = 71,        /* a struct that an image is to be put into isn't empty */
+    UDA50_HAS_CONTROLLER = 72    /* the handle has a controller */
 };
 
 /* What a turn did, as uda50_turn and uda50_run return it. */
@@ -82,23 +96,24 @@ enum {
 uint32_t uda50_version(void);
 
 /* Makes a controller without images, in step 1 of the initialization. Its profile is the compatible one, for
-   software that was shipped, or else the strict one, for whoever tests a driver. What the handle had is freed first.
-   Returns UDA50_OK, or UDA50_NO_MEMORY, and then the handle has no controller. */
+   software that was shipped, or else the strict one, for whoever tests a driver. Returns UDA50_OK,
+   UDA50_HAS_CONTROLLER or UDA50_NO_MEMORY. */
 uint32_t uda50_new(uda50 *handle, bool compatible);
 
-/* Frees the controller, and the program has its images again. */
-void uda50_free(uda50 *handle);
+/* Frees the controller. images[n] is then the image of unit n, as the commands left it, or empty if the unit has
+   none. Returns UDA50_OK, or the first that holds of UDA50_NO_CONTROLLER and UDA50_NOT_EMPTY. */
+uint32_t uda50_free(uda50 *handle, uda50_image images[UDA50_UNITS]);
 
 /* ---- Drives ---- */
 
 /* Gives unit 0 to 3 an image, also while the guest runs: the unit is then available. If `write_protected` is set,
-   no command changes the image. The image is the library's until uda50_detach or uda50_free. Returns UDA50_OK, or the
-   first that holds of UDA50_NO_SUCH_UNIT, UDA50_ALREADY_ATTACHED, UDA50_BAD_LENGTH and UDA50_TOO_LARGE. */
-uint32_t uda50_attach(uda50 *handle, uint32_t unit, uda50_image image, bool write_protected);
+   no command changes the image. Then *image is empty. Returns UDA50_OK, or the first that holds of
+   UDA50_NO_CONTROLLER, UDA50_NO_SUCH_UNIT, UDA50_ALREADY_ATTACHED, UDA50_BAD_LENGTH and UDA50_TOO_LARGE. */
+uint32_t uda50_attach(uda50 *handle, uint32_t unit, uda50_image *image, bool write_protected);
 
-/* Takes a unit's image away. Its bytes are the program's again, as the commands left them. Returns UDA50_OK,
-   UDA50_NO_SUCH_UNIT or UDA50_NOT_ATTACHED. */
-uint32_t uda50_detach(uda50 *handle, uint32_t unit);
+/* Takes a unit's image away. *image is then that image, as the commands left it. Returns UDA50_OK, or the first that
+   holds of UDA50_NO_CONTROLLER, UDA50_NO_SUCH_UNIT, UDA50_NOT_ATTACHED and UDA50_NOT_EMPTY. */
+uint32_t uda50_detach(uda50 *handle, uint32_t unit, uda50_image *image);
 
 /* ---- Registers ---- */
 
@@ -108,7 +123,8 @@ void uda50_write_ip(uda50 *handle, uint16_t word);
 /* The guest reads IP: a running port begins to poll its command ring. Returns 0. */
 uint16_t uda50_read_ip(uda50 *handle);
 
-/* The guest writes SA: a step of the initialization. */
+/* The guest writes SA: a step of the initialization. Step 3 sets the rings in guest memory to zero; if they aren't
+   whole within `length` bytes, the port dies and the memory is as it was. Any length is accepted, also an odd one. */
 void uda50_write_sa(uda50 *handle, uint16_t word, uint8_t *memory, size_t length);
 
 /* The guest reads SA. Returns the word of the step, 0 while the port runs, or bit 15 with the code of the fatal
@@ -121,12 +137,17 @@ bool uda50_take_interrupt(uda50 *handle, uint16_t *vector);
 
 /* ---- Turns ---- */
 
-/* Runs one turn of the port. Returns UDA50_IDLE to UDA50_DEAD; or UDA50_BAD_LENGTH or UDA50_TOO_LARGE. */
+/* Runs one turn of the port. Returns UDA50_IDLE to UDA50_DEAD; or UDA50_NO_CONTROLLER, UDA50_BAD_LENGTH or
+   UDA50_TOO_LARGE. */
 uint32_t uda50_turn(uda50 *handle, uint8_t *memory, size_t length);
 
 /* Runs up to `turns` turns, and stops after one that returns UDA50_IDLE or UDA50_DEAD. Returns what the last turn
-   did, or UDA50_IDLE if `turns` is 0; or UDA50_BAD_LENGTH or UDA50_TOO_LARGE. So UDA50_IDLE and UDA50_DEAD say that
-   another turn does nothing now, and any other number that the turns were used up. */
+   did, or UDA50_IDLE if `turns` is 0; or fails as uda50_turn does.
+
+   Call it after each read of IP, and again soon while it returns UDA50_FETCHED, UDA50_EXECUTED or UDA50_DELIVERED:
+   then the turns were used up. After UDA50_IDLE nothing is left to do until the guest accesses a register, unless
+   end messages are queued (uda50_get_state): then call it again now and then, since a guest frees a response
+   descriptor by a write to its memory. After UDA50_DEAD only a write of IP helps. */
 uint32_t uda50_run(uda50 *handle, uint32_t turns, uint8_t *memory, size_t length);
 
 /* ---- Inspection: nothing changes ---- */
@@ -179,7 +200,8 @@ uint32_t uda50_format_last_turn(uda50 *handle, uint8_t *buffer, size_t length);
    or writes one block; reads and writes are counted together, from 1. A Read or an Access that meets the failure
    ends with a drive error and the byte count of the blocks before. So does a Write or an Erase, and then the first
    256 bytes of that block are new and the last 256 are old. The unit's mode doesn't change. A later call replaces an
-   earlier one, and uda50_detach ends it. Returns UDA50_OK, UDA50_NO_SUCH_UNIT or UDA50_NOT_ATTACHED. */
+   earlier one, and uda50_detach ends it. Returns UDA50_OK, or the first that holds of UDA50_NO_CONTROLLER,
+   UDA50_NO_SUCH_UNIT and UDA50_NOT_ATTACHED. */
 uint32_t uda50_inject_failure(uda50 *handle, uint32_t unit, uint32_t call);
 
 #ifdef __cplusplus

@@ -1,4 +1,4 @@
-/* uda50_file.h: files as images for uda50.h, by mapping them. */
+/* uda50_file.h: files as images for uda50.h, by mapping them into memory. */
 #ifndef UDA50_FILE_H
 #define UDA50_FILE_H
 
@@ -8,33 +8,49 @@
 extern "C" {
 #endif
 
-/* A file that is open as an image. */
+/* A file as an image. It is closed if it is set to zero, after uda50_file_close and after a failed uda50_file_open.
+   The program uses `image`, and reads the other fields at most. */
 typedef struct {
-    uda50_image image;
+    uda50_image image; /* empty while a unit has it */
+    uint8_t *map;      /* the whole file */
+    size_t length;
     int descriptor;
+    bool is_open;
+    bool read_only;
 } uda50_file;
 
+/* What these functions return, but for uda50_file_attach. */
 enum {
     UDA50_FILE_OK = 0,
-    UDA50_FILE_OPEN = 1,      /* it can't be opened, or isn't a plain file */
+    UDA50_FILE_OPEN = 1,      /* it can't be opened, or isn't a regular file */
     UDA50_FILE_LENGTH = 2,    /* its length is no multiple of 512 */
     UDA50_FILE_TOO_LARGE = 3, /* it has more than 891,072 blocks */
     UDA50_FILE_MAP = 4,       /* it can't be mapped */
-    UDA50_FILE_SYNC = 5       /* what was written can't be written out */
+    UDA50_FILE_SYNC = 5,      /* what was written can't be written out, so it may be lost */
+    UDA50_FILE_LOCKED = 6     /* another program, or another uda50_file, has a lock that excludes this one */
 };
 
-/* Opens a file and maps it: to be read alone, where `read_only` is set, and then its image must be attached as
-   hard. While it is open nobody may shorten it: the system would end the program. */
+/* Opens a file and maps it: for reading only, if `read_only` is set, or else for reading and writing. While it is
+   open nobody may shorten it: an access to the missing part ends the program by SIGBUS.
+
+   It takes the advisory lock (flock) that `uda run` takes: a shared one for reading only, or else an exclusive one.
+   A file system without locks is no failure. Returns UDA50_FILE_OK, or the first that holds of UDA50_FILE_OPEN,
+   UDA50_FILE_LOCKED, UDA50_FILE_LENGTH, UDA50_FILE_TOO_LARGE and UDA50_FILE_MAP, and then *file is closed. It never
+   blocks, and overwrites what *file holds. */
 int uda50_file_open(uda50_file *file, const char *path, bool read_only);
 
-/* Writes out what was written. */
+/* Attaches the file's image to a unit, write protected if the file was opened for reading only: a Write to a
+   read-only map would end the program. Returns what uda50_attach does. */
+uint32_t uda50_file_attach(uda50 *handle, uint32_t unit, uda50_file *file);
+
+/* Writes out what was written. Returns UDA50_FILE_OK or UDA50_FILE_SYNC. */
 int uda50_file_sync(uda50_file *file);
 
-/* Writes out what was written, unmaps and closes the file, whose image no unit may have any more. The file is
-   closed in either case. */
+/* Writes out what was written, unmaps the file, closes it and so gives up its lock. No unit may still have its image.
+   Returns UDA50_FILE_OK or UDA50_FILE_SYNC; the file is closed in either case. Does nothing to a closed file. */
 int uda50_file_close(uda50_file *file);
 
-/* What such a number says. */
+/* Returns what such a number says, as a text. */
 const char *uda50_file_text(int fault);
 
 #ifdef __cplusplus

@@ -1,37 +1,51 @@
-/* calls.c: what the calls answer where they are misused, and that nothing is left when controllers go. Each line
-   that fails is printed; the status is 1 where there was one. */
+/* calls.c: what the calls return if they are misused, what images hold when they come back, and that nothing is left
+   when controllers go. It prints each line that fails, and then returns 1. */
 #define _DEFAULT_SOURCE
-#include "uda50.h"
-#include "uda50_file.h"
+#include "guest.h"
 
-#include <stdio.h>
 #include <stdlib.h>
-#include <string.h>
 #include <sys/mman.h>
-#include <unistd.h>
 
-enum { BLOCK = 512, BLOCK_LIMIT = 891072, MEMORY_LIMIT = 4194304, ROUNDS = 10000 };
+enum { BLOCK_LIMIT = 891072, MEMORY_LIMIT = 4194304, ROUNDS = 10000 };
 
-static int failures;
+static uint8_t blocks[8 * BLOCK], kept[8 * BLOCK];
 
-static void expect(unsigned long answer, unsigned long wanted, const char *what, int line)
+/* Offers bytes to a unit. If they are refused the struct must have them still, and if not it must be empty. */
+static uint32_t attached(uda50 *handle, uint32_t unit, uint8_t *at, size_t length, bool write_protected)
 {
-    if (answer == wanted)
-        return;
-    printf("line %d: %s is %lu and not %lu\n", line, what, answer, wanted);
-    failures++;
+    uda50_image image = { at, length };
+    uint32_t answer = uda50_attach(handle, unit, &image, write_protected);
+
+    EXPECT(image.at == (answer == UDA50_OK ? NULL : at), true);
+    EXPECT(image.length, answer == UDA50_OK ? 0 : length);
+    EXPECT(memcmp(blocks, kept, sizeof blocks), 0);
+    return answer;
 }
 
-#define EXPECT(answer, wanted) expect((unsigned long)(answer), (unsigned long)(wanted), #answer, __LINE__)
-
-static uint8_t blocks[8 * BLOCK];
-static uint8_t memory[0x1000];
-
-static uda50_image image_of(size_t length)
+/* Asks for a unit's image. It must be these bytes, or none if it is refused. */
+static uint32_t detached(uda50 *handle, uint32_t unit, uint8_t *at, size_t length)
 {
-    uda50_image image = { blocks, length };
+    uda50_image image = { NULL, 0 };
+    uint32_t answer = uda50_detach(handle, unit, &image);
 
-    return image;
+    EXPECT(image.at == (answer == UDA50_OK ? at : NULL), true);
+    EXPECT(image.length, answer == UDA50_OK ? length : 0);
+    EXPECT(memcmp(blocks, kept, sizeof blocks), 0);
+    return answer;
+}
+
+/* Frees a handle, of whose images this is unit 0's, or NULL. */
+static uint32_t freed(uda50 *handle, uint8_t *at, size_t length)
+{
+    uda50_image images[UDA50_UNITS] = { { NULL, 0 } };
+    uint32_t answer = uda50_free(handle, images);
+
+    EXPECT(images[0].at == at && images[0].length == length, true);
+    for (int unit = 1; unit < UDA50_UNITS; unit++)
+        EXPECT(images[unit].length, 0);
+    EXPECT(memcmp(blocks, kept, sizeof blocks), 0);
+    EXPECT(handle->at == NULL, true);
+    return answer;
 }
 
 /* Every call on a handle that has no controller. */
@@ -44,8 +58,9 @@ static void answers_without_controller(uda50 *handle)
 
     memset(&state, 0x5a, sizeof state);
     memset(&last, 0x5a, sizeof last);
-    EXPECT(uda50_attach(handle, 0, image_of(BLOCK), false), UDA50_NO_CONTROLLER);
-    EXPECT(uda50_detach(handle, 0), UDA50_NO_CONTROLLER);
+    EXPECT(attached(handle, 0, blocks, BLOCK, false), UDA50_NO_CONTROLLER);
+    EXPECT(detached(handle, 0, NULL, 0), UDA50_NO_CONTROLLER);
+    EXPECT(freed(handle, NULL, 0), UDA50_NO_CONTROLLER);
     EXPECT(uda50_inject_failure(handle, 0, 1), UDA50_NO_CONTROLLER);
     uda50_write_ip(handle, 0);
     EXPECT(uda50_read_ip(handle), 0);
@@ -70,47 +85,95 @@ static void handles(void)
 
     EXPECT(uda50_version(), UDA50_VERSION);
     answers_without_controller(&handle);
-    uda50_free(&handle);
-    answers_without_controller(&handle);
     EXPECT(uda50_new(&handle, false), UDA50_OK);
     EXPECT(uda50_read_sa(&handle), 0x0800);
-    uda50_free(&handle);
-    answers_without_controller(&handle);
-    uda50_free(&handle);
+    uda50_write_sa(&handle, 0x8000, memory, sizeof memory);
+    EXPECT(uda50_new(&handle, false), UDA50_HAS_CONTROLLER);
+    EXPECT(uda50_read_sa(&handle), 0x1080);
+    EXPECT(freed(&handle, NULL, 0), UDA50_OK);
     answers_without_controller(&handle);
     EXPECT(uda50_new(&handle, true), UDA50_OK);
-    EXPECT(uda50_new(&handle, true), UDA50_OK);
-    uda50_free(&handle);
+    EXPECT(freed(&handle, NULL, 0), UDA50_OK);
 }
 
+/* What an image must be, and where it goes. */
 static void images(void)
 {
     uda50 handle = { 0 };
     size_t longer = (size_t)(BLOCK_LIMIT + 1) * BLOCK;
     uint8_t *large = mmap(NULL, longer, PROT_READ | PROT_WRITE, MAP_PRIVATE | MAP_ANONYMOUS | MAP_NORESERVE, -1, 0);
-    uda50_image too_long = { large, longer }, longest = { large, longer - BLOCK };
+    uda50_image held = { blocks, BLOCK }, full[UDA50_UNITS] = { { NULL, 0 } };
 
     EXPECT(large == MAP_FAILED, false);
     EXPECT(uda50_new(&handle, true), UDA50_OK);
-    EXPECT(uda50_detach(&handle, 0), UDA50_NOT_ATTACHED);
+    EXPECT(detached(&handle, 0, NULL, 0), UDA50_NOT_ATTACHED);
     EXPECT(uda50_inject_failure(&handle, 0, 1), UDA50_NOT_ATTACHED);
-    EXPECT(uda50_attach(&handle, 4, image_of(BLOCK), false), UDA50_NO_SUCH_UNIT);
-    EXPECT(uda50_attach(&handle, UINT32_MAX, image_of(BLOCK), false), UDA50_NO_SUCH_UNIT);
-    EXPECT(uda50_detach(&handle, 4), UDA50_NO_SUCH_UNIT);
+    EXPECT(attached(&handle, 4, blocks, BLOCK, false), UDA50_NO_SUCH_UNIT);
+    EXPECT(attached(&handle, UINT32_MAX, blocks, BLOCK, false), UDA50_NO_SUCH_UNIT);
+    EXPECT(detached(&handle, 4, NULL, 0), UDA50_NO_SUCH_UNIT);
     EXPECT(uda50_inject_failure(&handle, 4, 1), UDA50_NO_SUCH_UNIT);
-    EXPECT(uda50_attach(&handle, 0, image_of(BLOCK + 1), false), UDA50_BAD_LENGTH);
-    EXPECT(uda50_attach(&handle, 0, image_of(BLOCK - 1), false), UDA50_BAD_LENGTH);
-    EXPECT(uda50_attach(&handle, 0, too_long, false), UDA50_TOO_LARGE);
-    EXPECT(uda50_attach(&handle, 0, longest, false), UDA50_OK);
-    EXPECT(uda50_attach(&handle, 0, image_of(BLOCK), false), UDA50_ALREADY_ATTACHED);
-    EXPECT(uda50_attach(&handle, 0, image_of(BLOCK + 1), false), UDA50_ALREADY_ATTACHED);
-    EXPECT(uda50_detach(&handle, 0), UDA50_OK);
-    EXPECT(uda50_detach(&handle, 0), UDA50_NOT_ATTACHED);
-    EXPECT(uda50_attach(&handle, 3, image_of(0), true), UDA50_OK);
+    EXPECT(attached(&handle, 0, blocks, BLOCK + 1, false), UDA50_BAD_LENGTH);
+    EXPECT(attached(&handle, 0, blocks, BLOCK - 1, false), UDA50_BAD_LENGTH);
+    EXPECT(attached(&handle, 0, blocks, 0, false), UDA50_BAD_LENGTH);
+    EXPECT(attached(&handle, 0, NULL, 0, false), UDA50_BAD_LENGTH);
+    EXPECT(attached(&handle, 0, large, longer, false), UDA50_TOO_LARGE);
+    EXPECT(attached(&handle, 0, large, longer - BLOCK, false), UDA50_OK);
+    EXPECT(attached(&handle, 0, blocks, BLOCK, false), UDA50_ALREADY_ATTACHED);
+    EXPECT(attached(&handle, 0, blocks, BLOCK + 1, false), UDA50_ALREADY_ATTACHED);
+    EXPECT(uda50_detach(&handle, 0, &held), UDA50_NOT_EMPTY);
+    EXPECT(held.at == blocks && held.length == BLOCK, true);
+    for (int unit = 0; unit < UDA50_UNITS; unit++) {
+        full[unit] = held;
+        EXPECT(uda50_free(&handle, full), UDA50_NOT_EMPTY);
+        EXPECT(full[unit].at == blocks && full[unit].length == BLOCK, true);
+        full[unit] = (uda50_image){ NULL, 0 };
+    }
+    EXPECT(detached(&handle, 0, large, longer - BLOCK), UDA50_OK);
+    EXPECT(detached(&handle, 0, NULL, 0), UDA50_NOT_ATTACHED);
+    EXPECT(attached(&handle, 3, blocks, BLOCK, true), UDA50_OK);
     EXPECT(uda50_inject_failure(&handle, 3, 1), UDA50_OK);
-    EXPECT(uda50_detach(&handle, 3), UDA50_OK);
-    uda50_free(&handle);
+    EXPECT(detached(&handle, 3, blocks, BLOCK), UDA50_OK);
+    EXPECT(attached(&handle, 0, blocks, sizeof blocks, true), UDA50_OK);
+    EXPECT(freed(&handle, blocks, sizeof blocks), UDA50_OK);
     munmap(large, longer);
+}
+
+/* Whole images after a guest's Writes, on each unit one, that go back by uda50_free and by uda50_detach. */
+static void whole_images(void)
+{
+    static uint8_t disks[UDA50_UNITS][16 * BLOCK], wanted[UDA50_UNITS][16 * BLOCK];
+    uda50_image image, images[UDA50_UNITS] = { { NULL, 0 } };
+    uda50 handle = { 0 };
+
+    EXPECT(uda50_new(&handle, true), UDA50_OK);
+    for (uint16_t unit = 0; unit < UDA50_UNITS; unit++) {
+        for (size_t i = 0; i < sizeof wanted[unit]; i++)
+            disks[unit][i] = wanted[unit][i] = (uint8_t)(i * (unit + 3u) + i / BLOCK);
+        image = (uda50_image){ disks[unit], sizeof disks[unit] };
+        EXPECT(uda50_attach(&handle, unit, &image, false), UDA50_OK);
+        EXPECT(status_of(&handle, (command){ SET_CONTROLLER, 0, 1, 0, 0 }), 0);
+        EXPECT(status_of(&handle, (command){ ONLINE, unit, 2, 0, 0 }), 0);
+        memset(memory + BUFFER, 'a' + unit, 3 * BLOCK);
+        EXPECT(status_of(&handle, (command){ WRITE, unit, 3, 3 * BLOCK, unit + 5u }), 0);
+        memset(wanted[unit] + (unit + 5) * BLOCK, 'a' + unit, 3 * BLOCK);
+    }
+    image = (uda50_image){ blocks, sizeof blocks };
+    EXPECT(uda50_attach(&handle, 1, &image, false), UDA50_ALREADY_ATTACHED);
+    EXPECT(memcmp(disks, wanted, sizeof wanted), 0);
+    EXPECT(uda50_detach(&handle, 1, &image), UDA50_NOT_EMPTY);
+    EXPECT(memcmp(disks, wanted, sizeof wanted), 0);
+    image = (uda50_image){ NULL, 0 };
+    EXPECT(uda50_detach(&handle, 1, &image), UDA50_OK);
+    EXPECT(image.at == disks[1] && image.length == sizeof disks[1], true);
+    EXPECT(memcmp(disks, wanted, sizeof wanted), 0);
+    EXPECT(uda50_attach(&handle, 1, &image, false), UDA50_OK);
+    EXPECT(uda50_new(&handle, true), UDA50_HAS_CONTROLLER);
+    EXPECT(memcmp(disks, wanted, sizeof wanted), 0);
+    EXPECT(uda50_free(&handle, images), UDA50_OK);
+    for (int unit = 0; unit < UDA50_UNITS; unit++)
+        EXPECT(images[unit].at == disks[unit] && images[unit].length == sizeof disks[unit], true);
+    EXPECT(memcmp(disks, wanted, sizeof wanted), 0);
+    EXPECT(memcmp(blocks, kept, sizeof blocks), 0);
 }
 
 static void memories(void)
@@ -128,7 +191,7 @@ static void memories(void)
     EXPECT(uda50_run(&handle, 9, large, MEMORY_LIMIT + 2), UDA50_TOO_LARGE);
     EXPECT(uda50_run(&handle, 9, large, MEMORY_LIMIT), UDA50_IDLE);
     EXPECT(uda50_run(&handle, 0, large, MEMORY_LIMIT), UDA50_IDLE);
-    uda50_free(&handle);
+    freed(&handle, NULL, 0);
     free(large);
 }
 
@@ -154,7 +217,7 @@ static void texts(void)
         EXPECT(length != 0 && text[state] != 0, false);
         EXPECT(text[length], 'x');
     }
-    uda50_free(&handle);
+    freed(&handle, NULL, 0);
 }
 
 static void no_leak(void)
@@ -163,58 +226,22 @@ static void no_leak(void)
         uda50 handle = { 0 };
 
         EXPECT(uda50_new(&handle, round % 2 == 0), UDA50_OK);
-        EXPECT(uda50_attach(&handle, (uint32_t)(round % 4), image_of(sizeof blocks), false), UDA50_OK);
+        EXPECT(attached(&handle, 0, blocks, sizeof blocks, false), UDA50_OK);
         EXPECT(uda50_turn(&handle, memory, sizeof memory), UDA50_IDLE);
-        uda50_free(&handle);
+        EXPECT(freed(&handle, blocks, sizeof blocks), UDA50_OK);
         EXPECT(handle.at == NULL, true);
     }
 }
 
-/* A file of so many bytes, opened and closed. */
-static int opened(off_t length, bool read_only)
-{
-    char path[] = "calls.XXXXXX";
-    uda50_file file;
-    int descriptor = mkstemp(path), fault;
-
-    EXPECT(descriptor >= 0 && ftruncate(descriptor, length) == 0, true);
-    fault = uda50_file_open(&file, path, read_only);
-    if (fault == UDA50_FILE_OK) {
-        EXPECT(file.image.length, length);
-        EXPECT(file.image.at != NULL, true);
-        EXPECT(uda50_file_sync(&file), UDA50_FILE_OK);
-        EXPECT(uda50_file_close(&file), UDA50_FILE_OK);
-    }
-    close(descriptor);
-    unlink(path);
-    return fault;
-}
-
-static void files(void)
-{
-    uda50_file file;
-
-    EXPECT(uda50_file_open(&file, "no such file", false), UDA50_FILE_OPEN);
-    EXPECT(uda50_file_open(&file, ".", true), UDA50_FILE_OPEN);
-    EXPECT(uda50_file_open(&file, "/dev/null", false), UDA50_FILE_OPEN);
-    EXPECT(opened(0, false), UDA50_FILE_OK);
-    EXPECT(opened(BLOCK - 1, false), UDA50_FILE_LENGTH);
-    EXPECT(opened(BLOCK + 1, true), UDA50_FILE_LENGTH);
-    EXPECT(opened(BLOCK, true), UDA50_FILE_OK);
-    EXPECT(opened((off_t)BLOCK_LIMIT * BLOCK, false), UDA50_FILE_OK);
-    EXPECT(opened((off_t)(BLOCK_LIMIT + 1) * BLOCK, false), UDA50_FILE_TOO_LARGE);
-    for (int fault = UDA50_FILE_OK; fault <= UDA50_FILE_SYNC; fault++)
-        EXPECT(uda50_file_text(fault)[0] != '\0', true);
-}
-
 int main(void)
 {
+    for (size_t i = 0; i < sizeof blocks; i++)
+        blocks[i] = kept[i] = (uint8_t)(i * 7 + i / 256);
     handles();
     images();
+    whole_images();
     memories();
     texts();
     no_leak();
-    files();
-    printf("%s\n", failures == 0 ? "all as written" : "not as written");
-    return failures == 0 ? 0 : 1;
+    return ended();
 }

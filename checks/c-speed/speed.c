@@ -102,10 +102,11 @@ static double now(void)
 int main(int argc, char **argv)
 {
     static const errand errands[] = {{"status 0", GET_UNIT_STATUS, 0}, {"read 1", READ, 1}, {"read 32", READ, 32}};
+    uda50_image images[UDA50_UNITS] = {{NULL, 0}};
     uda50_file file;
 
     if (argc != 3 || uda50_file_open(&file, argv[1], true) != UDA50_FILE_OK || uda50_new(&uda, true) != UDA50_OK
-        || uda50_attach(&uda, 0, file.image, true) != UDA50_OK || !start())
+        || uda50_file_attach(&uda, 0, &file) != UDA50_OK || !start())
         return 2;
     for (size_t i = 0; i < sizeof errands / sizeof *errands; i++) {
         uint32_t rounds = (uint32_t)atoi(argv[2]);
@@ -120,6 +121,6 @@ int main(int argc, char **argv)
         printf("from C: %-12s %12.0f commands/s %12.0f turns/s\n", errands[i].name,
                rounds * ROUND * COUNT / spent, turns / spent);
     }
-    uda50_free(&uda);
+    uda50_free(&uda, images);
     return uda50_file_close(&file) == UDA50_FILE_OK ? 0 : 1;
 }

@@ -67,7 +67,14 @@ static bool make(machine *made)
     memset(memory, 0, sizeof memory);
     memset(made, 0, sizeof *made);
     made->bus = (bus){ memory, MEMORY, write_ip, read_ip, write_sa, read_sa, wait_traced };
-    return uda50_new(&made->uda, false) == UDA50_OK && uda50_attach(&made->uda, 0, image, false) == UDA50_OK;
+    return uda50_new(&made->uda, false) == UDA50_OK && uda50_attach(&made->uda, 0, &image, false) == UDA50_OK;
+}
+
+static void unmake(machine *made)
+{
+    uda50_image images[UDA50_UNITS] = { { NULL, 0 } };
+
+    uda50_free(&made->uda, images);
 }
 
 /* The driver over a unit that fails once, at its call number `call`. */
@@ -87,7 +94,7 @@ static void over_a_failing_unit(uint32_t call)
     read = driver_read(&driver, 3, to);
     printf("failing at call %u: written %04x, read %04x, %u repeated, %s\n", (unsigned)call, written, read,
            (unsigned)driver.retried, memcmp(from, to, sizeof to) == 0 ? "the same bytes" : "other bytes");
-    uda50_free(&machine.uda);
+    unmake(&machine);
 }
 
 /* The driver with a rule broken: the code that SA shows, and what the library tells of it. */
@@ -108,7 +115,7 @@ static void with_a_rule_broken(rule broken)
     uda50_format_last_turn(&machine.uda, (uint8_t *)line, sizeof line);
     printf("rule broken: %-8s SA %04x, phase %u, last turn %u code %u (%s)\n", names[broken], state.sa,
            (unsigned)state.phase, (unsigned)last.kind, last.code, line);
-    uda50_free(&machine.uda);
+    unmake(&machine);
 }
 
 int main(void)

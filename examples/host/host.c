@@ -96,6 +96,7 @@ static bool posts(uint32_t blocks)
 int main(int argc, char **argv)
 {
     uda50_file file;
+    uda50_image images[UDA50_UNITS] = { { NULL, 0 } };
     uint16_t vector = 0;
     bool done;
 
@@ -108,7 +109,7 @@ int main(int argc, char **argv)
         fprintf(stderr, "%s: %s\n", argv[1], uda50_file_text(fault));
         return 1;
     }
-    if (uda50_new(&uda, true) != UDA50_OK || uda50_attach(&uda, 0, file.image, false) != UDA50_OK)
+    if (uda50_new(&uda, true) != UDA50_OK || uda50_file_attach(&uda, 0, &file) != UDA50_OK)
         return 1;
     printf("SA reads %04x\n", uda50_read_sa(&uda));
     write_sa(0x8080 | 0x154 / 4); /* rings of one descriptor; interrupts at the vector 154 */
@@ -117,9 +118,8 @@ int main(int argc, char **argv)
     while (uda50_take_interrupt(&uda, &vector))
         printf("an interrupt at %03x\n", vector);
     write_sa(1);
-    done = posts((uint32_t)(file.image.length / 512));
-    uda50_detach(&uda, 0);
-    uda50_free(&uda);
+    done = posts((uint32_t)(file.length / 512));
+    uda50_free(&uda, images);
     fault = uda50_file_close(&file);
     if (fault != UDA50_FILE_OK)
         fprintf(stderr, "%s: %s\n", argv[1], uda50_file_text(fault));

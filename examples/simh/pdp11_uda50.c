@@ -217,21 +217,24 @@ t_stat rq_attach(UNIT *unit, char *path)
 {
     uint32 number = (uint32)(unit - rq_unit);
     t_stat status = attach_unit(unit, path);
-    uda50_image image;
+    uda50_file *file = &files[number];
     int fault;
 
     if (status != SCPE_OK)
         return status;
-    fault = map_file(unit, &files[number]);
+    fault = map_file(unit, file);
     if (fault != UDA50_FILE_OK) {
         printf("%s: %s\n", rq_dev.name, uda50_file_text(fault));
         detach_unit(unit);
         return SCPE_OPENERR;
     }
-    image = files[number].image;
-    if (image.length > unit->capac)
-        image.length = (size_t)unit->capac;
-    uda50_attach(&uda, number, image, (unit->flags & (UNIT_RO | UNIT_LOCKED)) != 0);
+    if (file->image.length > unit->capac)
+        file->image.length = (size_t)unit->capac;
+    if (uda50_file_attach(&uda, number, file) != UDA50_OK) {
+        uda50_file_close(file);
+        detach_unit(unit);
+        return SCPE_OPENERR;
+    }
     return SCPE_OK;
 }
 
@@ -239,7 +242,7 @@ t_stat rq_detach(UNIT *unit)
 {
     uint32 number = (uint32)(unit - rq_unit);
 
-    if (uda50_detach(&uda, number) == UDA50_OK) {
+    if (uda50_detach(&uda, number, &files[number].image) == UDA50_OK) {
         int fault = uda50_file_close(&files[number]);
         if (fault != UDA50_FILE_OK)
             printf("%s: %s\n", rq_dev.name, uda50_file_text(fault));

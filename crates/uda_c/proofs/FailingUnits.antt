@@ -20,14 +20,14 @@ pub record Seen (slot : Option (Option UnitState)) (look : UnitLook) : Type 0 wh
   pub here : slot ≡ Some (Some unit)
   pub look_is : look ≡ look_of unit
 
-seen : (slot : Option (Option UnitState)) (look : UnitLook) → look_at slot ≡ Some look → Seen slot look
+pub seen : (slot : Option (Option UnitState)) (look : UnitLook) → look_at slot ≡ Some look → Seen slot look
 seen (Some (Some unit)) look e =
     record { unit = unit; here = refl; look_is = sym (ap (λ (o : Option UnitLook). unwrap_or o look) e) }
 seen (Some None) look e = absurd (cc)
 seen None look e = absurd (cc)
 
 -- and it is that which is handed back
-handed : (units : List (Option UnitState)) (u : ℕ) (unit : UnitState) → slice_get units u ≡ Some (Some unit)
+pub handed : (units : List (Option UnitState)) (u : ℕ) (unit : UnitState) → slice_get units u ≡ Some (Some unit)
     → handed_back units u None ≡ Some (drive_in unit)
 handed units u unit here =
     ap (λ (o : Option (Option DriveState)). unwrap_or o None)

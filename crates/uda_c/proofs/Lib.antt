@@ -1,4 +1,8 @@
 mod HandleSteps
+mod SlotSteps
+mod Crosses
+mod HandleCrosses
 pub mod Images
 pub mod RunLaws
 pub mod FailingUnits
+pub mod Lending

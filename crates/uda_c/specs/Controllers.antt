@@ -2,23 +2,34 @@
 use Rattle.std.specs.Prelude.{◌≡◌, ◌≢◌, ℕ, ◌/◌, ◌%◌, ◌==◌, Bool, true}
 use Rattle.std.specs.Prelude.{false, List, [], ◌∷◌, Option, Some, None, slice_get}
 use Rattle.std.specs.Prelude.{nat_lt, length, is_some, option_map, set, unwrap_or, if◌then◌else◌}
+use Rattle.std.specs.List.{concat}
 use Rattle.uda_mem.specs.Slices.{IsMemory}
 use Rattle.uda_image.specs.Limits.{block_limit}
-use Rattle.uda_disk.specs.Units.{UnitState}
+use Rattle.uda_disk.specs.Units.{UnitState, AreImages}
 use Rattle.uda_exec.specs.Drives.{DriveState, with_drive, look_at}
 use Rattle.uda_port.specs.declared.profile.Profile.{Profile}
 use Rattle.uda_port.specs.declared.profile.Profile.TheVariants.{Strict, ForGuests}
 use Rattle.uda_port.specs.declared.trace.Trace.{Trace}
-use Rattle.uda_port.specs.Port.{port_at_start}
+use Rattle.uda_port.specs.Port.{PortState, CreditsAgree, port_at_start}
 use Rattle.uda_port.specs.Interrupt.{vector_of, served}
 use Rattle.uda_port.specs.Startup.{by_word}
 use Rattle.uda_port.specs.Turn.{TurnGoes}
 use Rattle.uda_port.specs.Trace.{turn_of, Traces}
 use Rattle.uda_c.specs.declared.call_status.CallStatus.{CallStatus}
 use Rattle.uda_c.specs.declared.call_status.CallStatus.TheVariants.{Done, Took, NoSuchUnit, AlreadyAttached, NotAttached}
+use Rattle.uda_c.specs.declared.call_status.CallStatus.TheVariants.{NoController, HasController, NoMemory, NotEmpty}
 use Rattle.uda_c.specs.declared.call_status.CallStatus.TheVariants.{BadLength, TooLarge}
 use Rattle.uda_c.specs.declared.controller.Controller.{Controller}
+use Rattle.uda_c.specs.declared.slot.Slot.{Slot}
+use Rattle.uda_c.specs.declared.unit_images.UnitImages.{UnitImages}
+use Rattle.uda_c.specs.Slots.{empty_slot, are_empty}
 use Rattle.uda_c.specs.LentImage.{lent_state, failing_from_now}
+
+-- what is true of every port: four units, whose images are images, and credits that agree
+pub record IsSound (port : PortState) : Type 0 where
+  pub four : length port.exec.units ≡ 4
+  pub images : AreImages port.exec.units
+  pub credits : CreditsAgree port
 
 -- a call on a handle that holds no controller does this, and the handle holds none afterwards; one on a
 -- handle that holds a controller does that to it
@@ -28,13 +39,21 @@ OnHandle None None without with = without
 OnHandle (Some old) (Some new) without with = with old new
 OnHandle _ _ without with = ⊥
 
+-- what is true of the port of every controller that a handle holds, before a call and after it
+abbrev pub HoldsSound : Option Controller → Type 0
+HoldsSound None = Unit
+HoldsSound (Some c) = IsSound c.port
+
+abbrev pub AreSound : Option Controller → Option Controller → Type 0
+AreSound old new = HoldsSound old × HoldsSound new
+
 abbrev pub profile_of : Bool → Profile
-profile_of for_guests = if for_guests then ForGuests else Strict
+profile_of compatible = if compatible then ForGuests else Strict
 
 -- a controller at first: no unit has an image, and the port stands in step 1
 abbrev pub controller_at_start : Bool → Controller
-controller_at_start for_guests = record {
-  port = port_at_start (profile_of for_guests)
+controller_at_start compatible = record {
+  port = port_at_start (profile_of compatible)
       (record { units = None ∷ None ∷ None ∷ None ∷ []; pending = [] });
   last = None;
 }
@@ -43,24 +62,50 @@ controller_at_start for_guests = record {
 abbrev pub has_image : Controller → ℕ → Bool
 has_image c unit = is_some (look_at (slice_get c.port.exec.units unit))
 
--- what an image of so many bytes is answered for a unit
+-- what so many bytes are answered as an image
+abbrev pub image_answer : ℕ → CallStatus
+image_answer bytes =
+    if bytes == 0 then BadLength
+    else if bytes % 512 == 0 then (if nat_lt block_limit (bytes / 512) then TooLarge else Done)
+    else BadLength
+
+-- what they are answered for a unit
 abbrev pub attach_answer : Controller → ℕ → ℕ → CallStatus
 attach_answer c unit bytes =
     if nat_lt 3 unit then NoSuchUnit
     else if has_image c unit then AlreadyAttached
-    else if bytes % 512 == 0 then (if nat_lt block_limit (bytes / 512) then TooLarge else Done)
-    else BadLength
+    else image_answer bytes
 
-abbrev pub detach_answer : Controller → ℕ → CallStatus
-detach_answer c unit =
+-- what is answered of a unit that is to have an image
+abbrev pub unit_answer : Controller → ℕ → CallStatus
+unit_answer c unit =
     if nat_lt 3 unit then NoSuchUnit
     else if has_image c unit then Done
+    else NotAttached
+
+-- what is answered where the image is to go into a slot that has so many bytes
+abbrev pub detach_answer : Controller → ℕ → ℕ → CallStatus
+detach_answer c unit bytes =
+    if nat_lt 3 unit then NoSuchUnit
+    else if has_image c unit then (if bytes == 0 then Done else NotEmpty)
     else NotAttached
 
 -- bytes that C lends as an image, and whether the drive's own switch protects them
 pub record Lending : Type 0 where
   pub bytes : List ℕ
   pub hard : Bool
+
+-- the image of a unit: the bytes of its blocks, one after another, and its protection
+abbrev pub image_of : UnitState → Lending
+image_of unit = record { bytes = concat unit.store.blocks; hard = unit.mode.hard }
+
+abbrev pub image_in : Option (Option UnitState) → Option Lending
+image_in (Some (Some unit)) = Some (image_of unit)
+image_in _ = None
+
+-- the image that a unit has, if it has one
+abbrev pub image_at : Controller → ℕ → Option Lending
+image_at c unit = image_in (slice_get c.port.exec.units unit)
 
 -- they as a unit's drive
 abbrev pub lent_drive : Lending → DriveState
@@ -72,16 +117,71 @@ abbrev pub controller_with : Controller → ℕ → Option DriveState → Contro
 controller_with c unit drive =
     record c { port = record c.port { exec = with_drive c.port.exec unit drive } }
 
-pub record Attaches (old : Controller) (unit : ℕ) (lending : Lending) (answer : CallStatus)
-    (new : Controller) : Type 0 where
-  pub answer_is : answer ≡ attach_answer old unit (length lending.bytes)
-  pub attached : answer ≡ Done → new ≡ controller_with old unit (Some (lent_drive lending))
+-- a controller, and a slot for an image
+abbrev pub Exchange : Type 0
+Exchange = Controller × Slot
+
+-- the image in the slot, with this protection, becomes a unit's, and C has it no more; or nothing changes
+pub record Attaches (old : Exchange) (unit : ℕ) (hard : Bool) (answer : CallStatus) (new : Exchange)
+    : Type 0 where
+  pub answer_is : answer ≡ attach_answer old.0 unit (length old.1.held)
+  pub attached : answer ≡ Done
+      → new.0 ≡ controller_with old.0 unit (Some (lent_drive (record { bytes = old.1.held; hard = hard })))
+  pub has : answer ≡ Done → image_at new.0 unit ≡ Some (record { bytes = old.1.held; hard = hard })
+  pub taken : answer ≡ Done → new.1 ≡ empty_slot
   pub refused : answer ≢ Done → new ≡ old
 
-pub record Detaches (old : Controller) (unit : ℕ) (answer : CallStatus) (new : Controller) : Type 0 where
-  pub answer_is : answer ≡ detach_answer old unit
-  pub detached : answer ≡ Done → new ≡ controller_with old unit None
+-- a unit's image goes into the slot, and C has it again, as the commands left it; or nothing changes
+pub record Detaches (old : Exchange) (unit : ℕ) (answer : CallStatus) (new : Exchange) : Type 0 where
+  pub answer_is : answer ≡ detach_answer old.0 unit (length old.1.held)
+  pub detached : answer ≡ Done → new.0 ≡ controller_with old.0 unit None
+  pub given_back : answer ≡ Done → option_map (λ image. image.bytes) (image_at old.0 unit) ≡ Some new.1.held
   pub refused : answer ≢ Done → new ≡ old
+
+-- the bytes of a unit's image, and none if it has no image
+abbrev pub bytes_of : Option Lending → List ℕ
+bytes_of (Some image) = image.bytes
+bytes_of None = []
+
+abbrev pub bytes_at : Controller → ℕ → List ℕ
+bytes_at c unit = bytes_of (image_at c unit)
+
+-- each slot has the bytes of its unit's image
+pub record HasImagesOf (c : Controller) (images : UnitImages) : Type 0 where
+  pub unit_0 : images.unit_0.held ≡ bytes_at c 0
+  pub unit_1 : images.unit_1.held ≡ bytes_at c 1
+  pub unit_2 : images.unit_2.held ≡ bytes_at c 2
+  pub unit_3 : images.unit_3.held ≡ bytes_at c 3
+
+-- what is answered if the images are to go into these slots
+abbrev pub free_answer : UnitImages → CallStatus
+free_answer images = if are_empty images then Done else NotEmpty
+
+-- all images go into the slots, each as the commands left it; or nothing changes
+pub record GivesBack (old : Controller × UnitImages) (answer : CallStatus) (new : Controller × UnitImages)
+    : Type 0 where
+  pub answer_is : answer ≡ free_answer old.1
+  pub given_back : answer ≡ Done → HasImagesOf old.0 new.1
+  pub refused : answer ≢ Done → new ≡ old
+
+-- a controller goes, and C has the images of its units again; or nothing changes
+pub record FreesOne (old : Controller) (images : UnitImages) (answer : CallStatus) (new : Option Controller)
+    (images_after : UnitImages) : Type 0 where
+  pub answer_is : answer ≡ free_answer images
+  pub freed : answer ≡ Done → new ≡ None
+  pub given_back : answer ≡ Done → HasImagesOf old images_after
+  pub refused : answer ≢ Done → (new ≡ Some old) × (images_after ≡ images)
+
+abbrev pub Frees : Option Controller → UnitImages → CallStatus → Option Controller → UnitImages → Type 0
+Frees (Some c) images answer new images_after = FreesOne c images answer new images_after
+Frees None images answer new images_after =
+    (answer ≡ NoController) × (new ≡ None) × (images_after ≡ images)
+
+-- a handle without a controller gets one, or none if an allocation fails; one that has a controller keeps it
+abbrev pub MakesNew : Option Controller → Bool → CallStatus → Option Controller → Type 0
+MakesNew (Some c) compatible answer new = (answer ≡ HasController) × (new ≡ Some c)
+MakesNew None compatible answer None = answer ≡ NoMemory
+MakesNew None compatible answer (Some c) = (answer ≡ Done) × (c ≡ controller_at_start compatible)
 
 -- a drive whose store fails at a call, counted from now on
 abbrev pub drive_failing : ℕ → DriveState → DriveState
@@ -103,7 +203,7 @@ controller_failing c u call = record c {
 }
 
 pub record FailsAt (old : Controller) (unit call : ℕ) (answer : CallStatus) (new : Controller) : Type 0 where
-  pub answer_is : answer ≡ detach_answer old unit
+  pub answer_is : answer ≡ unit_answer old unit
   pub fails : answer ≡ Done → new ≡ controller_failing old unit call
   pub refused : answer ≢ Done → new ≡ old
 

@@ -2,6 +2,8 @@ pub mod Held
 pub mod LendsController
 pub mod Lies
 pub mod LendsBytes
+pub mod SlotOwns
+pub mod Slots
 pub mod LentImage
 pub mod CallStatus
 pub mod Controllers

@@ -25,6 +25,10 @@ pub enum CallStatus {
     BadLength,
     /// So many bytes are more than an image, or a guest's memory, may have.
     TooLarge,
+    /// A slot that an image is to go into has one.
+    NotEmpty,
+    /// The handle has a controller.
+    HasController,
 }
 
 impl CallStatus {
@@ -48,6 +52,8 @@ impl CallStatus {
             CallStatus::NotAttached => 68,
             CallStatus::BadLength => 69,
             CallStatus::TooLarge => 70,
+            CallStatus::NotEmpty => 71,
+            CallStatus::HasController => 72,
         }
     }
 }

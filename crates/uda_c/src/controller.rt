@@ -1,17 +1,21 @@
 //! What a handle of C points to.
-ghost use Rattle.std.specs.Prelude.{◌≡◌, length, IfSome};
-ghost use Rattle.std.specs.Prelude.{IfNone};
+ghost use Rattle.std.specs.Prelude.{◌≡◌, ◌≢◌, ◌≤◌, ◌/◌, ◌%◌, ℕ, length, IfSome, IfNone, IfOk, IfErr, IsTrue};
+ghost use Rattle.uda_image.specs.Limits.{block_limit};
 ghost use Rattle.uda_mem.specs.Slices.{IsMemory};
 ghost use Rattle.uda_c.specs.declared.call_status.CallStatus.TheVariants.{Took, Done};
 ghost use Rattle.uda_c.specs.Controllers.{controller_at_start, Attaches, Detaches, TurnsWhereMemory};
-ghost use Rattle.uda_c.specs.Controllers.{FailsAt, drive_failing, TakesTurn, memory_refusal};
-ghost use Rattle.uda_c.specs.LentImage.{lent_state};
+ghost use Rattle.uda_c.specs.Controllers.{FailsAt, drive_failing, TakesTurn, memory_refusal, IsSound};
+ghost use Rattle.uda_c.specs.Controllers.{GivesBack, image_answer, image_at, bytes_at};
+ghost use Rattle.uda_c.specs.LentImage.{lent_state, IsWhole};
+ghost use Rattle.uda_c.specs.Slots.{empty_slot, is_empty};
 ghost use Rattle.uda_exec.specs.Drives.{drive_state};
 ghost use Rattle.uda_c.specs.Runs.{TakesTurns, RunsWhereMemory, does_nothing};
 
 use crate::call_status::CallStatus;
 use crate::lent::Lent;
 use crate::lent_image::LentImage;
+use crate::slot::Slot;
+use crate::unit_images::UnitImages;
 use std::alloc::Global;
 use uda_exec::Exec;
 use uda_image::{BLOCK_LIMIT, Drive};
@@ -41,13 +45,17 @@ impl Controller {
         }
     }
 
-    /// Takes the bytes that C lends as the image of a unit.
-    pub fn attach(&mut self, unit: u32, image: Lent, hard: bool) -> CallStatus
-        ensures attaches { Attaches self.old unit (record { bytes = image.held; hard = hard })
-            result self.new }
+    /// What is true of every controller, told.
+    pub fn keep(&self)
+        ensures sound { IsSound self.now.port }
     {
-        let mut image = image;
-        let bytes = image.bytes_mut().len();
+        self.port.keep();
+    }
+
+    /// Takes the bytes that C lends as the image of a unit, or leaves them where they are.
+    pub fn attach(&mut self, unit: u32, image: &mut Slot, hard: bool) -> CallStatus
+        ensures attaches { Attaches (self.old, image.old) unit hard result (self.new, image.new) }
+    {
         let unit = unit as usize;
         if unit > 3 {
             return CallStatus::NoSuchUnit;
@@ -55,30 +63,60 @@ impl Controller {
         if self.port.unit(unit).is_some() {
             return CallStatus::AlreadyAttached;
         }
-        if bytes % 512 != 0 {
-            return CallStatus::BadLength;
+        match take_image(image) {
+            Ok(lent) => {
+                let store = LentImage::new(lent);
+                self.port.set_drive(unit, Some(Drive { store, hard }));
+                CallStatus::Done
+            }
+            Err(refusal) => refusal,
         }
-        if bytes / 512 > BLOCK_LIMIT as usize {
-            return CallStatus::TooLarge;
-        }
-        let store = LentImage::new(image);
-        self.port.set_drive(unit, Some(Drive { store, hard }));
-        CallStatus::Done
     }
 
     /// Gives the image of a unit back to C.
-    pub fn detach(&mut self, unit: u32) -> CallStatus
-        ensures detaches { Detaches self.old unit result self.new }
+    #[tactic(auto, using(crate::proofs::Lending::put_back))]
+    pub fn detach(&mut self, unit: u32, image: &mut Slot) -> CallStatus
+        ensures detaches { Detaches (self.old, image.old) unit result (self.new, image.new) }
     {
         let unit = unit as usize;
         if unit > 3 {
             return CallStatus::NoSuchUnit;
         }
-        if self.port.unit(unit).is_none() {
+        let Some(_look) = self.port.unit(unit) else {
             return CallStatus::NotAttached;
+        };
+        if let Some(lent) = image.take() {
+            image.put(lent);
+            return CallStatus::NotEmpty;
         }
-        self.port.set_drive(unit, None);
+        if let Some(drive) = self.port.set_drive(unit, None) {
+            image.put(drive.store.into_lent());
+        }
         CallStatus::Done
+    }
+
+    /// Gives the images of all units back to C, unless a slot for them has one.
+    pub fn give_back(&mut self, images: &mut UnitImages) -> CallStatus
+        ensures gives_back { GivesBack (self.old, images.old) result (self.new, images.new) }
+    {
+        if !images.are_empty() {
+            return CallStatus::NotEmpty;
+        }
+        self.give_back_one(0, &mut images.unit_0);
+        self.give_back_one(1, &mut images.unit_1);
+        self.give_back_one(2, &mut images.unit_2);
+        self.give_back_one(3, &mut images.unit_3);
+        CallStatus::Done
+    }
+
+    // Gives the image of a unit back to C, if it has one.
+    fn give_back_one(&mut self, unit: u32, image: &mut Slot)
+        requires low { unit ≤ 3 }
+        requires empty { IsTrue (is_empty image.old) }
+        ensures given_back { image.new.held ≡ bytes_at self.old unit }
+        ensures others { (k : ℕ) → k ≢ unit → image_at self.new k ≡ image_at self.old k }
+    {
+        self.detach(unit, image);
     }
 
     /// Has the image of a unit fail at a call, counted from now on.
@@ -143,6 +181,49 @@ impl Controller {
         let trace = self.port.turn_traced_in(memory);
         self.last = Some(trace);
         trace.turn()
+    }
+}
+
+// Takes an image out of a slot, where there is one that a unit may have; else all stays there.
+#[tactic(auto, using(crate::proofs::Lending::put_back))]
+fn take_image(slot: &mut Slot) -> Result<Lent, CallStatus>
+    ensures ok { IfOk result (λ lent. (lent.held ≡ slot.old.held) × IsWhole lent.held
+        × (slot.new ≡ empty_slot) × (image_answer (length slot.old.held) ≡ Done)) }
+    ensures err { IfErr result (λ r. (r ≡ image_answer (length slot.old.held)) × (r ≢ Done)
+        × (slot.new ≡ slot.old)) }
+{
+    let Some(lent) = slot.take() else {
+        return Err(CallStatus::BadLength);
+    };
+    let mut lent = lent;
+    match image_answer(length_of(&mut lent)) {
+        CallStatus::Done => Ok(lent),
+        refusal => {
+            slot.put(lent);
+            Err(refusal)
+        }
+    }
+}
+
+// How many bytes these are.
+fn length_of(lent: &mut Lent) -> usize
+    ensures length { result ≡ length lent.old.held }
+    ensures same { lent.new ≡ lent.old }
+{
+    lent.bytes_mut().len()
+}
+
+// What so many bytes are answered as an image.
+fn image_answer(bytes: usize) -> CallStatus
+    ensures answer { result ≡ image_answer bytes }
+    ensures whole { result ≡ Done → (bytes % 512 ≡ 0) × (bytes / 512 ≤ block_limit) }
+{
+    if bytes == 0 || bytes % 512 != 0 {
+        CallStatus::BadLength
+    } else if bytes / 512 > BLOCK_LIMIT as usize {
+        CallStatus::TooLarge
+    } else {
+        CallStatus::Done
     }
 }
 

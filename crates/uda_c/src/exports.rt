@@ -1,12 +1,13 @@
 //! The functions that C calls. Each answers on every handle: on one without a controller, as on one that
 //! was never made or was freed, as `include/uda50.h` says.
-ghost use Rattle.std.specs.Prelude.{None, MatchOption, false, ◌≡◌};
+ghost use Rattle.std.specs.Prelude.{None, false, is_some, ◌≡◌};
 ghost use Rattle.uda_port.specs.Port.{port_at_start, port_asked};
 ghost use Rattle.uda_port.specs.Startup.{sa_of};
 ghost use Rattle.uda_c.specs.CallStatus.{status_code};
 ghost use Rattle.uda_c.specs.declared.call_status.CallStatus.{CallStatus};
-ghost use Rattle.uda_c.specs.declared.call_status.CallStatus.TheVariants.{Done, NoController, NoMemory};
-ghost use Rattle.uda_c.specs.Controllers.{OnHandle, controller_at_start, Attaches, Detaches, WritesSa};
+ghost use Rattle.uda_c.specs.declared.call_status.CallStatus.TheVariants.{Done, NoController};
+ghost use Rattle.uda_c.specs.Controllers.{OnHandle, AreSound, HoldsSound, MakesNew, Frees, GivesBack};
+ghost use Rattle.uda_c.specs.Controllers.{Attaches, Detaches, WritesSa};
 ghost use Rattle.uda_c.specs.Controllers.{FailsAt, TurnsWhereMemory, TakesInterrupt};
 ghost use Rattle.uda_c.specs.Runs.{RunsWhereMemory};
 ghost use Rattle.uda_c.specs.Snapshot.{port_snapshot};
@@ -16,12 +17,13 @@ use crate::call_status::CallStatus;
 use crate::controller::Controller;
 use crate::handle::Handle;
 use crate::last::{TurnRecord, put_last_line};
-use crate::lent::Lent;
+use crate::slot::Slot;
 use crate::snapshot::PortSnapshot;
+use crate::unit_images::UnitImages;
 use loose::Loose;
 use std::alloc::Global;
 
-/// Returns the library's version: 10000 times the major number, 100 times the minor one, and the patch number.
+/// Returns the library's version: 10000 times the major number, 100 times the minor, and the patch number.
 #[unsafe(no_mangle)]
 pub extern "C" fn uda50_version() -> u32
     ensures version { result ≡ 100 }
@@ -29,62 +31,76 @@ pub extern "C" fn uda50_version() -> u32
     100
 }
 
-/// A new controller in the place of what the handle had, which is freed: for guests, or strict. Where memory
-/// is lacking the handle has none.
+/// Makes a controller without images, of the compatible profile or of the strict one. A handle that has a
+/// controller keeps it. If an allocation fails the handle has none.
 #[unsafe(no_mangle)]
 pub extern "C" fn uda50_new(alloc: Global, handle: &mut Handle, compatible: bool) -> u32
-    ensures made { MatchOption handle.new.value (result ≡ status_code NoMemory)
-        (λ c. (result ≡ status_code Done) × (c ≡ controller_at_start compatible)) }
+    ensures made { (answer : CallStatus) × (result ≡ status_code answer)
+        × MakesNew handle.old.value compatible answer handle.new.value }
+    ensures sound { AreSound handle.old.value handle.new.value }
 {
-    uda50_free(alloc, handle);
-    let Some(controller) = Controller::new(alloc, compatible) else {
-        return CallStatus::NoMemory.code();
-    };
-    match Box::new(alloc, controller) {
-        Ok(place) => {
-            handle.put(Loose::of(place));
-            CallStatus::Done.code()
-        }
-        Err(_) => CallStatus::NoMemory.code(),
+    if has_controller(handle) {
+        return CallStatus::HasController.code();
     }
+    make(alloc, handle, compatible).code()
 }
 
-/// The controller goes, where the handle has one.
+/// Frees the controller and gives C the images of its units. If a slot for them has one, nothing changes.
 #[unsafe(no_mangle)]
-pub extern "C" fn uda50_free(alloc: Global, handle: &mut Handle)
-    ensures gone { handle.new.value ≡ None }
+pub extern "C" fn uda50_free(alloc: Global, handle: &mut Handle, images: &mut UnitImages) -> u32
+    ensures frees { (answer : CallStatus) × (result ≡ status_code answer)
+        × Frees handle.old.value images.old answer handle.new.value images.new }
+    ensures sound { AreSound handle.old.value handle.new.value }
 {
-    if let Some(controller) = handle.take(alloc) {
-        drop(controller.into_box());
+    let answer = give_back(handle, images);
+    if answer == CallStatus::Done {
+        release(alloc, handle);
     }
+    answer.code()
 }
 
-/// The image of a unit: the bytes are the library's until they are detached or the handle is freed.
+/// The image of a unit: its bytes are the library's until they are detached. C has them no more then, and
+/// where it is refused it has them as they were.
 #[unsafe(no_mangle)]
 pub extern "C" fn uda50_attach(
     handle: &mut Handle,
     unit: u32,
-    image: Lent,
+    image: &mut Slot,
     write_protected: bool,
 ) -> u32
-    ensures attaches { OnHandle handle.old.value handle.new.value (result ≡ status_code NoController)
+    ensures attaches { OnHandle handle.old.value handle.new.value
+        ((result ≡ status_code NoController) × (image.new ≡ image.old))
         (λ old new. (answer : CallStatus) × (result ≡ status_code answer)
-        × Attaches old unit (record { bytes = image.held; hard = write_protected }) answer new) }
+        × Attaches (old, image.old) unit write_protected answer (new, image.new)) }
+    ensures sound { AreSound handle.old.value handle.new.value }
 {
     match handle.get() {
-        Some(controller) => controller.attach(unit, image, write_protected).code(),
+        Some(controller) => {
+            controller.keep();
+            let answer = controller.attach(unit, image, write_protected);
+            controller.keep();
+            answer.code()
+        }
         None => CallStatus::NoController.code(),
     }
 }
 
-/// Gives the image of a unit back.
+/// Gives the image of a unit back: C has its bytes again, as the commands left them.
 #[unsafe(no_mangle)]
-pub extern "C" fn uda50_detach(handle: &mut Handle, unit: u32) -> u32
-    ensures detaches { OnHandle handle.old.value handle.new.value (result ≡ status_code NoController)
-        (λ old new. (answer : CallStatus) × (result ≡ status_code answer) × Detaches old unit answer new) }
+pub extern "C" fn uda50_detach(handle: &mut Handle, unit: u32, image: &mut Slot) -> u32
+    ensures detaches { OnHandle handle.old.value handle.new.value
+        ((result ≡ status_code NoController) × (image.new ≡ image.old))
+        (λ old new. (answer : CallStatus) × (result ≡ status_code answer)
+        × Detaches (old, image.old) unit answer (new, image.new)) }
+    ensures sound { AreSound handle.old.value handle.new.value }
 {
     match handle.get() {
-        Some(controller) => controller.detach(unit).code(),
+        Some(controller) => {
+            controller.keep();
+            let answer = controller.detach(unit, image);
+            controller.keep();
+            answer.code()
+        }
         None => CallStatus::NoController.code(),
     }
 }
@@ -95,9 +111,15 @@ pub extern "C" fn uda50_inject_failure(handle: &mut Handle, unit: u32, call: u32
     ensures fails { OnHandle handle.old.value handle.new.value (result ≡ status_code NoController)
         (λ old new. (answer : CallStatus) × (result ≡ status_code answer)
         × FailsAt old unit call answer new) }
+    ensures sound { AreSound handle.old.value handle.new.value }
 {
     match handle.get() {
-        Some(controller) => controller.fail_at(unit, call).code(),
+        Some(controller) => {
+            controller.keep();
+            let answer = controller.fail_at(unit, call).code();
+            controller.keep();
+            answer
+        }
         None => CallStatus::NoController.code(),
     }
 }
@@ -107,9 +129,12 @@ pub extern "C" fn uda50_inject_failure(handle: &mut Handle, unit: u32, call: u32
 pub extern "C" fn uda50_write_ip(handle: &mut Handle, word: u16)
     ensures starts { OnHandle handle.old.value handle.new.value Unit
         (λ old new. new ≡ record old { port = port_at_start old.port.profile old.port.exec }) }
+    ensures sound { AreSound handle.old.value handle.new.value }
 {
     if let Some(controller) = handle.get() {
+        controller.keep();
         controller.port.write_ip(word);
+        controller.keep();
     }
 }
 
@@ -119,9 +144,15 @@ pub extern "C" fn uda50_read_ip(handle: &mut Handle) -> u16
     ensures zero { result ≡ 0 }
     ensures looks { OnHandle handle.old.value handle.new.value Unit
         (λ old new. new ≡ record old { port = port_asked old.port.phase old.port }) }
+    ensures sound { AreSound handle.old.value handle.new.value }
 {
     match handle.get() {
-        Some(controller) => controller.port.read_ip(),
+        Some(controller) => {
+            controller.keep();
+            let answer = controller.port.read_ip();
+            controller.keep();
+            answer
+        }
         None => 0,
     }
 }
@@ -131,9 +162,12 @@ pub extern "C" fn uda50_read_ip(handle: &mut Handle) -> u16
 pub extern "C" fn uda50_write_sa(handle: &mut Handle, word: u16, memory: &mut [u8])
     ensures steps { OnHandle handle.old.value handle.new.value (memory.new ≡ memory.old)
         (λ old new. WritesSa old memory.old word new memory.new) }
+    ensures sound { AreSound handle.old.value handle.new.value }
 {
     if let Some(controller) = handle.get() {
+        controller.keep();
         controller.port.write_sa_in(word, memory);
+        controller.keep();
     }
 }
 
@@ -142,9 +176,15 @@ pub extern "C" fn uda50_write_sa(handle: &mut Handle, word: u16, memory: &mut [u
 pub extern "C" fn uda50_read_sa(handle: &mut Handle) -> u16
     ensures sa { OnHandle handle.old.value handle.new.value (result ≡ 0)
         (λ old new. (result ≡ sa_of old.port.phase) × (new ≡ old)) }
+    ensures sound { AreSound handle.old.value handle.new.value }
 {
     match handle.get() {
-        Some(controller) => controller.port.read_sa(),
+        Some(controller) => {
+            controller.keep();
+            let answer = controller.port.read_sa();
+            controller.keep();
+            answer
+        }
         None => 0,
     }
 }
@@ -156,9 +196,15 @@ pub extern "C" fn uda50_turn(handle: &mut Handle, memory: &mut [u8]) -> u32
         ((result ≡ status_code NoController) × (memory.new ≡ memory.old))
         (λ old new. (answer : CallStatus) × (result ≡ status_code answer)
         × TurnsWhereMemory old memory.old answer new memory.new) }
+    ensures sound { AreSound handle.old.value handle.new.value }
 {
     match handle.get() {
-        Some(controller) => controller.turn(memory).code(),
+        Some(controller) => {
+            controller.keep();
+            let answer = controller.turn(memory).code();
+            controller.keep();
+            answer
+        }
         None => CallStatus::NoController.code(),
     }
 }
@@ -169,11 +215,15 @@ pub extern "C" fn uda50_take_interrupt(handle: &mut Handle, vector: &mut u16) ->
     ensures takes { OnHandle handle.old.value handle.new.value
         ((result ≡ false) × (vector.new ≡ vector.old))
         (λ old new. TakesInterrupt old vector.old result new vector.new) }
+    ensures sound { AreSound handle.old.value handle.new.value }
 {
     let Some(controller) = handle.get() else {
         return false;
     };
-    match controller.port.take_interrupt() {
+    controller.keep();
+    let request = controller.port.take_interrupt();
+    controller.keep();
+    match request {
         Some(address) => {
             *vector = address;
             true
@@ -189,9 +239,15 @@ pub extern "C" fn uda50_run(handle: &mut Handle, turns: u32, memory: &mut [u8]) 
         ((result ≡ status_code NoController) × (memory.new ≡ memory.old))
         (λ old new. (answer : CallStatus) × (result ≡ status_code answer)
         × RunsWhereMemory turns (old, memory.old) answer (new, memory.new)) }
+    ensures sound { AreSound handle.old.value handle.new.value }
 {
     match handle.get() {
-        Some(controller) => controller.run(turns, memory).code(),
+        Some(controller) => {
+            controller.keep();
+            let answer = controller.run(turns, memory).code();
+            controller.keep();
+            answer
+        }
         None => CallStatus::NoController.code(),
     }
 }
@@ -202,9 +258,11 @@ pub extern "C" fn uda50_get_state(handle: &mut Handle, state: &mut PortSnapshot)
     ensures shows { OnHandle handle.old.value handle.new.value
         ((result ≡ status_code NoController) × (state.new ≡ state.old))
         (λ old new. (result ≡ status_code Done) × (new ≡ old) × (state.new ≡ port_snapshot old.port)) }
+    ensures sound { AreSound handle.old.value handle.new.value }
 {
     match handle.get() {
         Some(controller) => {
+            controller.keep();
             *state = PortSnapshot::of(&controller.port);
             CallStatus::Done.code()
         }
@@ -218,9 +276,11 @@ pub extern "C" fn uda50_get_last_turn(handle: &mut Handle, turn: &mut TurnRecord
     ensures tells { OnHandle handle.old.value handle.new.value
         ((result ≡ status_code NoController) × (turn.new ≡ turn.old))
         (λ old new. (result ≡ status_code Done) × (new ≡ old) × (turn.new ≡ turn_record old.last)) }
+    ensures sound { AreSound handle.old.value handle.new.value }
 {
     match handle.get() {
         Some(controller) => {
+            controller.keep();
             *turn = TurnRecord::of(controller.last);
             CallStatus::Done.code()
         }
@@ -239,9 +299,74 @@ pub extern "C" fn uda50_format_last_turn(
         ((result ≡ status_code NoController) × (buffer.new ≡ buffer.old))
         (λ old new. (answer : CallStatus) × (result ≡ status_code answer) × (new ≡ old)
         × TellsLine old.last buffer.old answer buffer.new) }
+    ensures sound { AreSound handle.old.value handle.new.value }
 {
     match handle.get() {
-        Some(controller) => put_last_line(alloc, controller.last, buffer).code(),
+        Some(controller) => {
+            controller.keep();
+            let answer = put_last_line(alloc, controller.last, buffer).code();
+            controller.keep();
+            answer
+        }
         None => CallStatus::NoController.code(),
+    }
+}
+
+// Returns whether the handle has a controller.
+fn has_controller(handle: &mut Handle) -> bool
+    ensures value { result ≡ is_some handle.old.value }
+    ensures same { handle.new.value ≡ handle.old.value }
+    ensures sound { HoldsSound handle.old.value }
+{
+    match handle.get() {
+        Some(controller) => {
+            controller.keep();
+            true
+        }
+        None => false,
+    }
+}
+
+// Gives C the images of the controller's units, unless a slot for them has one.
+fn give_back(handle: &mut Handle, images: &mut UnitImages) -> CallStatus
+    ensures gives_back { OnHandle handle.old.value handle.new.value
+        ((result ≡ NoController) × (images.new ≡ images.old))
+        (λ old new. GivesBack (old, images.old) result (new, images.new)) }
+    ensures sound { HoldsSound handle.old.value }
+{
+    match handle.get() {
+        Some(controller) => {
+            controller.keep();
+            controller.give_back(images)
+        }
+        None => CallStatus::NoController,
+    }
+}
+
+// Frees the controller, if the handle has one.
+fn release(alloc: Global, handle: &mut Handle)
+    ensures gone { handle.new.value ≡ None }
+{
+    if let Some(controller) = handle.take(alloc) {
+        drop(controller.into_box());
+    }
+}
+
+// Puts a new controller into an empty handle.
+fn make(alloc: Global, handle: &mut Handle, compatible: bool) -> CallStatus
+    requires { handle.old.value ≡ None }
+    ensures made { MakesNew None compatible result handle.new.value }
+    ensures sound { HoldsSound handle.new.value }
+{
+    let Some(controller) = Controller::new(alloc, compatible) else {
+        return CallStatus::NoMemory;
+    };
+    controller.keep();
+    match Box::new(alloc, controller) {
+        Ok(place) => {
+            handle.put(Loose::of(place));
+            CallStatus::Done
+        }
+        Err(_) => CallStatus::NoMemory,
     }
 }

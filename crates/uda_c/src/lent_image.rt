@@ -6,7 +6,8 @@ ghost use Rattle.uda_image.specs.AtOnce.{ReadsAtOnce, WritesAtOnce};
 ghost use Rattle.uda_image.specs.Image.{block_count_of, block_of, with_block, half_written};
 ghost use Rattle.uda_image.specs.Store.{Reads, Writes, KeepsNature};
 ghost use Rattle.uda_image.specs.StoreLaws.{block_count-le, IsImage-blocks_of};
-ghost use Rattle.uda_c.specs.LentImage.{lent_state, failing_from_now};
+ghost use Rattle.uda_c.specs.LentImage.{lent_state, failing_from_now, IsWhole};
+ghost use Rattle.std.specs.List.{concat};
 
 use crate::lent::Lent;
 use std::marker::Model;
@@ -27,18 +28,19 @@ pub struct LentImage {
 impl Model for LentImage {
     ghost use Rattle.std.specs.Prelude.{◌≡◌};
     ghost use Rattle.uda_image.specs.Image.{block_count_of};
-    ghost use Rattle.uda_c.specs.LentImage.{LentBlocks};
+    ghost use Rattle.uda_c.specs.LentImage.{LentBlocks, IsWhole};
 
     ghost Value = { LentBlocks };
 
     ghost view = { λ image. record { bytes = image.bytes.held; left = image.left } };
 
-    ghost invariant = { λ image. image.size ≡ block_count_of image.bytes.held };
+    ghost invariant = { λ image. (image.size ≡ block_count_of image.bytes.held) × IsWhole image.bytes.held };
 }
 
 impl LentImage {
     /// An image of the bytes that are lent, of which no call fails.
     pub fn new(lent: Lent) -> LentImage
+        requires whole { IsWhole lent.held }
         ensures image { result ≡ record { bytes = lent.held; left = None } }
     {
         let mut bytes = lent;
@@ -48,6 +50,16 @@ impl LentImage {
             size,
             left: None,
         }
+    }
+
+    /// The bytes, given back: its blocks, one after another.
+    #[tactic(auto, using(crate::proofs::Images::image_laws))]
+    pub fn into_lent(self) -> Lent
+        ensures bytes { result.held ≡ self.bytes }
+        ensures blocks { result.held ≡ concat (lent_state self).blocks }
+    {
+        let LentImage { bytes, .. } = self;
+        bytes
     }
 
     /// Has the image's call number `call` from now on fail, and no other: reads and writes of blocks are
@@ -83,7 +95,7 @@ impl LentImage {
     }
 
     // Writes the first half of block `n` alone.
-    #[tactic(auto, using(crate::proofs::Images::image_laws))]
+    #[tactic(auto, using(crate::proofs::Images::image_laws, crate::proofs::Images::length_with_block))]
     fn write_half(&mut self, n: u32, from: &[u8; 512])
         requires { n < block_count_of self.old.bytes }
         ensures half { self.new ≡ record self.old {
@@ -136,7 +148,7 @@ impl BlockStore for LentImage {
         Ok(())
     }
 
-    #[tactic(auto, using(crate::proofs::Images::image_laws))]
+    #[tactic(auto, using(crate::proofs::Images::image_laws, crate::proofs::Images::length_with_block))]
     fn write(&mut self, n: u32, from: &[u8; 512]) -> Result<(), StoreError>
         requires { n < block_count_of self.old.bytes }
         ensures fails { IsErr result ↔ (self.old.left ≡ Some 1) }
@@ -174,7 +186,7 @@ impl BlockStore for LentImage {
         true
     }
 
-    #[tactic(auto, using(crate::proofs::Images::at_once_laws))]
+    #[tactic(auto, using(crate::proofs::Images::at_once_laws, crate::proofs::Images::length_put))]
     fn write_at_once(&mut self, n: u32, count: u32, from: &[u8]) -> bool
         requires on_unit { n + count ≤ block_count_of self.old.bytes }
         requires long { length from.now ≡ 512 * count }

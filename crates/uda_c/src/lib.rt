@@ -8,5 +8,7 @@ mod handle;
 mod last;
 mod lent;
 mod lent_image;
+mod slot;
 mod snapshot;
 mod text;
+mod unit_images;

@@ -106,8 +106,8 @@ impl<S: BlockStore> Port<S> {
         turn
     }
 
-    // What the fields keep, told.
-    pub(crate) fn keep(&self)
+    /// What is true of every port, told: it has four units, whose images are images, and its credits agree.
+    pub fn keep(&self)
         ensures credits { CreditsAgree self.now }
         ensures four { length self.now.exec.units ≡ 4 }
         ensures images { AreImages self.now.exec.units }

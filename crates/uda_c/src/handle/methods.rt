@@ -3,6 +3,8 @@ ghost use Rattle.uda_c.specs.LendsController.{handle_follows};
 ghost use Rattle.std.specs.Option.{option_copied_mut, option_map};
 ghost use Rattle.std.specs.Prelude.{None, Some, ◌≡◌};
 ghost use types.Logic.{sem};
+ghost use denote.Param.Send.{IsSend};
+ghost use Rattle.uda_c.specs.contracts.handle.Handle.{the_row};
 
 use super::Handle;
 use crate::controller::Controller;
@@ -42,3 +44,8 @@ impl Handle {
         Some(Loose { at, alloc })
     }
 }
+
+/// States that a handle may go from one thread to another, with the controller that it has. It does nothing.
+pub fn handle_crosses_threads()
+    ensures law { IsSend the_row }
+{}

@@ -1,0 +1,185 @@
+/* meanings.c: the meaning of each field and argument of uda50.h that another of its type could stand for. */
+#include "guest.h"
+
+static uint8_t disks[3][16 * BLOCK];
+
+static uda50_state state_of(uda50 *uda)
+{
+    uda50_state state;
+
+    memset(&state, 0x5a, sizeof state);
+    EXPECT(uda50_get_state(uda, &state), UDA50_OK);
+    return state;
+}
+
+static uda50_turn_record turn_of(uda50 *uda)
+{
+    uda50_turn_record turn;
+
+    memset(&turn, 0x5a, sizeof turn);
+    EXPECT(uda50_get_last_turn(uda, &turn), UDA50_OK);
+    return turn;
+}
+
+static void expect_turn(uda50 *uda, uda50_turn_record wanted, int line)
+{
+    uda50_turn_record turn = turn_of(uda);
+
+    expect(turn.kind, wanted.kind, "kind", line);
+    expect(turn.reference, wanted.reference, "reference", line);
+    expect(turn.lbn, wanted.lbn, "lbn", line);
+    expect(turn.bytes, wanted.bytes, "bytes", line);
+    expect(turn.unit, wanted.unit, "unit", line);
+    expect(turn.code, wanted.code, "code", line);
+    expect(turn.status, wanted.status, "status", line);
+}
+
+#define EXPECT_TURN(k, r, l, b, u, c, s) \
+    expect_turn(&uda, (uda50_turn_record){ .kind = k, .reference = r, .lbn = l, .bytes = b, .unit = u, .code = c, \
+                                           .status = s }, __LINE__)
+
+static uda50 uda;
+
+/* The rings, the vector and the credits of a port that was started up. */
+static void rings(void)
+{
+    uda50_state state;
+
+    EXPECT(state_of(&uda).phase, UDA50_PHASE_STEP_1);
+    EXPECT(state_of(&uda).sa, 0x0800);
+    EXPECT_TURN(UDA50_NO_TURN, 0, 0, 0, 0, 0, 0);
+    start(&uda);
+    state = state_of(&uda);
+    EXPECT(state.phase, UDA50_PHASE_RUNNING);
+    EXPECT(state.responses.base, BASE);
+    EXPECT(state.responses.count, RESPONSES);
+    EXPECT(state.responses.next, 0);
+    EXPECT(state.commands.base, BASE + 4 * RESPONSES);
+    EXPECT(state.commands.count, COMMANDS);
+    EXPECT(state.commands.next, 0);
+    EXPECT(state.pending, 0);
+    EXPECT(state.queued, 0);
+    EXPECT(state.sa, 0);
+    EXPECT(state.credits, 1);
+    EXPECT(state.polling, 0);
+    EXPECT(state.vector, VECTOR);
+    EXPECT(uda50_turn(&uda, memory, SIZE), UDA50_IDLE);
+    EXPECT_TURN(UDA50_IDLE, 0, 0, 0, 0, 0, 0);
+}
+
+/* One command, turn by turn: an Online of a unit that isn't there. */
+static void one_command(void)
+{
+    give_response(0);
+    post(0, (command){ ONLINE, 3, 0x01020304, 0, 0 });
+    uda50_read_ip(&uda);
+    EXPECT(state_of(&uda).polling, 1);
+    EXPECT(uda50_turn(&uda, memory, SIZE), UDA50_FETCHED);
+    EXPECT_TURN(UDA50_FETCHED, 0x01020304, 0, 0, 3, ONLINE, 0);
+    EXPECT(state_of(&uda).pending, 1);
+    EXPECT(state_of(&uda).queued, 0);
+    EXPECT(state_of(&uda).credits, 0);
+    EXPECT(state_of(&uda).commands.next, 1);
+    EXPECT(state_of(&uda).responses.next, 0);
+    EXPECT(uda50_turn(&uda, memory, SIZE), UDA50_EXECUTED);
+    EXPECT_TURN(UDA50_EXECUTED, 0x01020304, 0, 0, 3, ONLINE + END, 0x23);
+    EXPECT(state_of(&uda).polling, 0);
+    EXPECT(state_of(&uda).pending, 0);
+    EXPECT(state_of(&uda).queued, 1);
+    EXPECT(uda50_turn(&uda, memory, SIZE), UDA50_DELIVERED);
+    EXPECT_TURN(UDA50_DELIVERED, 0x01020304, 0, 0, 3, ONLINE + END, 0x23);
+    EXPECT(state_of(&uda).queued, 0);
+    EXPECT(state_of(&uda).responses.next, 1);
+    EXPECT(state_of(&uda).commands.next, 1);
+    EXPECT(state_of(&uda).credits, 15);
+}
+
+/* Two transfers, whose end messages then lack a descriptor, and a packet that is no command. */
+static void transfers(void)
+{
+    give_response(1);
+    post(1, (command){ ONLINE, 2, 5, 0, 0 });
+    uda50_read_ip(&uda);
+    EXPECT(uda50_run(&uda, 100, memory, SIZE), UDA50_IDLE);
+    post(0, (command){ READ, 2, 6, 2 * BLOCK, 7 });
+    post(1, (command){ READ, 2, 8, 3 * BLOCK, 9 });
+    uda50_read_ip(&uda);
+    EXPECT(uda50_run(&uda, 1, memory, SIZE), UDA50_FETCHED);
+    EXPECT_TURN(UDA50_FETCHED, 6, 7, 2 * BLOCK, 2, READ, 0);
+    EXPECT(uda50_run(&uda, 1, memory, SIZE), UDA50_FETCHED);
+    EXPECT(state_of(&uda).pending, 2);
+    EXPECT(state_of(&uda).queued, 0);
+    EXPECT(uda50_run(&uda, 100, memory, SIZE), UDA50_IDLE);
+    EXPECT(state_of(&uda).pending, 0);
+    EXPECT(state_of(&uda).queued, 2);
+    post(0, (command){ 0x7f, 1, 10, 0, 0 });
+    uda50_read_ip(&uda);
+    EXPECT(uda50_turn(&uda, memory, SIZE), UDA50_FETCHED);
+    EXPECT(turn_of(&uda).kind, UDA50_INVALID_COMMAND);
+    EXPECT(turn_of(&uda).reference, 10);
+    EXPECT(turn_of(&uda).unit, 1);
+    EXPECT(state_of(&uda).queued, 3);
+}
+
+/* The port dies: of a command at an odd address, which is code 1. */
+static void death(void)
+{
+    start(&uda);
+    post(0, (command){ ONLINE, 0, 1, 0, 0 });
+    put16(BASE + 4 * RESPONSES, command_at(0) + 1);
+    uda50_read_ip(&uda);
+    EXPECT(uda50_turn(&uda, memory, SIZE), UDA50_DEAD);
+    EXPECT_TURN(UDA50_DEAD, 0, 0, 0, 0, 1, 0);
+    EXPECT(state_of(&uda).phase, UDA50_PHASE_DEAD);
+    EXPECT(state_of(&uda).sa, 0x8001);
+    EXPECT(uda50_read_sa(&uda), 0x8001);
+    EXPECT(state_of(&uda).vector, VECTOR);
+}
+
+/* Executes a Read of two blocks or a Write of one on a unit that is brought online. */
+static uint32_t transferred(uint8_t opcode, uint16_t unit, uint32_t lbn)
+{
+    EXPECT(status_of(&uda, (command){ SET_CONTROLLER, 0, 1, 0, 0 }), 0);
+    EXPECT(status_of(&uda, (command){ ONLINE, unit, 2, 0, 0 }), 0);
+    memset(memory + BUFFER, 'n', 2 * BLOCK);
+    return status_of(&uda, (command){ opcode, unit, 3, opcode == READ ? 2 * BLOCK : BLOCK, lbn });
+}
+
+/* The arguments of uda50_attach, uda50_detach and uda50_inject_failure. */
+static void arguments(void)
+{
+    uda50_image images[UDA50_UNITS] = { { NULL, 0 } };
+    uint8_t before[BLOCK];
+
+    memcpy(before, disks[2], BLOCK);
+    EXPECT(transferred(WRITE, 2, 0) & 0x1f, 6); /* write protected */
+    EXPECT(memcmp(before, disks[2], BLOCK), 0);
+    EXPECT(transferred(WRITE, 1, 4), 0);
+    EXPECT(disks[1][4 * BLOCK], 'n');
+    EXPECT(uda50_inject_failure(&uda, 1, 2), UDA50_OK);
+    EXPECT(transferred(READ, 2, 0), 0);
+    EXPECT(transferred(READ, 1, 0), 11); /* at its second block */
+    EXPECT(transferred(READ, 1, 0), 0);
+    EXPECT(uda50_free(&uda, images), UDA50_OK);
+    EXPECT(images[0].length, 0);
+    EXPECT(images[1].at == disks[1] && images[1].length == sizeof disks[1], true);
+    EXPECT(images[2].at == disks[2] && images[2].length == sizeof disks[2], true);
+    EXPECT(images[3].length, 0);
+}
+
+int main(void)
+{
+    uda50_image one = { disks[1], sizeof disks[1] }, two = { disks[2], sizeof disks[2] };
+
+    for (size_t i = 0; i < sizeof disks[2]; i++)
+        disks[2][i] = (uint8_t)(i / BLOCK + 1);
+    EXPECT(uda50_new(&uda, true), UDA50_OK);
+    EXPECT(uda50_attach(&uda, 1, &one, false), UDA50_OK);
+    EXPECT(uda50_attach(&uda, 2, &two, true), UDA50_OK);
+    rings();
+    one_command();
+    transfers();
+    death();
+    arguments();
+    return ended();
+}

@@ -1,0 +1,18 @@
+-- What may go to another thread: bytes that are lent.
+use denote.Array.{Array}
+use denote.Builtin.{u8}
+use denote.Struct.Struct.{exits_of}
+use denote.Struct.Owning.{shape, fields, to}
+use denote.Param.Send.{IsSend, AllSend, owning_send, struct_send, array_send, sendable}
+use Rattle.std_alloc.proofs.SendSync.{quiet, lies}
+use Rattle.uda_c.specs.contracts.lent.Lent.{the_row, the_type}
+
+pub lent_send : IsSend the_row
+lent_send =
+    let all : AllSend (fields the_type) = search sendable in
+    owning_send the_type all (λ d. (
+      tt,
+      lies (Array u8 d.len) (array_send u8 d.len (search sendable)) d.at
+          d.held,
+    ))
+    (λ k. quiet (to the_type) (exits_of k (fields the_type)) ((struct_send (shape the_type) all).leaving k))

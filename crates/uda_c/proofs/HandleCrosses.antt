@@ -1,0 +1,37 @@
+-- A handle may go to another thread, with the controller that it holds.
+use Rattle.std.specs.Prelude.{Option, None, Some}
+use mir.Raw.{raw}
+use base.Shift.{Keyless}
+use denote.Memory.{lone}
+use denote.RawPtr.{Ptr}
+use denote.Struct.Struct.{exits_of}
+use denote.Struct.Owning.{shape, fields, to}
+use denote.Param.Send.{IsSend, AllSend, owning_send, struct_send, sendable}
+use Rattle.std.proofs.Crossing.{crosses, frees}
+use Rattle.std_alloc.proofs.SendSync.{quiet, lies}
+use denote.RattleType.{RattleType}
+use Rattle.std.specs.contracts.alloc.Global.{the_row as Z}
+use Rattle.std.specs.contracts.impls.GlobalAllocator.TheImpl.{ghosts}
+use Rattle.circular_buffer.proofs.Crosses.{Cells-send, Deed-send}
+use Rattle.circular_buffer.specs.contracts.cells.Deed as Deed
+use Rattle.uda_c.proofs.Crosses.{lent_send}
+use Rattle.uda_c.specs.Held.{heap, held}
+use Rattle.uda_c.specs.declared.controller.Controller.{Controller}
+use Rattle.uda_c.specs.contracts.controller.Controller.{the_row as X}
+use Rattle.uda_c.specs.contracts.handle.Handle.{the_row, the_type}
+
+deed_send : (R : RattleType) → IsSend (Deed.the_row R Z ghosts)
+deed_send R = Deed-send R Z ghosts frees
+
+controller_send : IsSend X
+controller_send = search (sendable, crosses, lent_send, Cells-send, deed_send) depth 80 fits 30000
+
+held-Keyless : (p : Ptr) (m : Option Controller) → Keyless (held p m)
+held-Keyless p None = tt
+held-Keyless p (Some c) = (lies X controller_send p c, frees.frees heap (raw (lone X.mir)) p)
+
+pub handle_send : IsSend the_row
+handle_send =
+    let all : AllSend (fields the_type) = search sendable in
+    owning_send the_type all (λ d. held-Keyless d.at d.value)
+    (λ k. quiet (to the_type) (exits_of k (fields the_type)) ((struct_send (shape the_type) all).leaving k))

@@ -1,0 +1,109 @@
+-- Images that are lent, and given back.
+use Rattle.std.proofs.Common.{◌≡◌, ◌≢◌, ℕ, ◌<◌, ◌≤◌, Bool, true, false, List, [], length, length-set, set, Option, Some, None, refl, sym, ap, subst, ◌∙◌, arith}
+use Rattle.std.specs.Prelude.{◌==◌, option_map, slice_get, unwrap_or, is_some, if◌then◌else◌}
+use Rattle.std.specs.List.{concat}
+use Rattle.std.proofs.lemmas.Bool.{le-ltb, ne_eqb}
+use Rattle.uda_disk.proofs.Slots.{slice_get-set_same}
+use Rattle.uda_disk.specs.Units.{UnitState}
+use Rattle.uda_image.proofs.ImageLaws.{concat-blocks_of}
+use Rattle.uda_exec.specs.declared.drive_unit.UnitLook.{UnitLook}
+use Rattle.uda_exec.specs.Drives.{DriveState, drive_in, fresh_unit, handed_back, look_at, with_drive}
+use Rattle.uda_port.specs.Port.{PortState}
+use Rattle.uda_c.proofs.FailingUnits.{seen, handed}
+use Rattle.uda_c.specs.declared.controller.Controller.{Controller}
+use Rattle.uda_c.specs.declared.call_status.CallStatus.TheVariants.{Done, NoSuchUnit, AlreadyAttached, NotAttached, NotEmpty, HasController}
+use Rattle.uda_c.specs.declared.slot.Slot.{Slot}
+use Rattle.uda_c.specs.declared.lent.Lent.{Lent}
+use Rattle.uda_c.specs.LentImage.{LentBlocks, IsWhole, lent_state}
+use Rattle.uda_c.specs.Slots.{empty_slot, lent_in, slot_of, is_empty}
+use Rattle.uda_c.specs.Controllers.{Lending, Attaches, Detaches, MakesNew, image_answer, image_in, has_image, lent_drive}
+
+-- a unit that gets an image has it
+attached : (units : List (Option UnitState)) (u : ℕ) (lending : Lending) → u < length units
+    → IsWhole lending.bytes
+    → image_in (slice_get (set units u (Some (fresh_unit (lent_drive lending)))) u) ≡ Some lending
+attached units u lending there whole =
+    ap image_in (slice_get-set_same units u (Some (fresh_unit (lent_drive lending))) there)
+    ∙ ap (λ (bytes : List ℕ). Some (record { bytes = bytes; hard = lending.hard })) (concat-blocks_of
+    lending.bytes whole.0 whole.1)
+
+-- the calls that do it
+pub attaches : (old : Controller) (u : ℕ) (slot after : Slot) (hard : Bool) (bytes : List ℕ) (store :
+    LentBlocks) (new : PortState)
+    → u ≤ 3 → has_image old u ≡ false → bytes ≡ slot.held → IsWhole bytes → after ≡ empty_slot
+    → image_answer (length slot.held) ≡ Done → store ≡ record { bytes = bytes; left = None }
+    → new ≡ record old.port {
+      exec = with_drive old.port.exec u (Some (record {
+        store = lent_state store;
+        hard = hard;
+      }));
+    }
+    → length new.exec.units ≡ 4 → Attaches (old, slot) u hard Done (record old { port = new }, after)
+attaches old u slot after hard bytes store new low free are whole gone fits store_is new_is four =
+    let units : List (Option UnitState) = old.port.exec.units in
+    let lending : Lending = record { bytes = slot.held; hard = hard } in
+    let drive_is : record { store = lent_state store; hard = hard } ≡ lent_drive lending =
+    ap (λ (s : LentBlocks). record { store = lent_state s; hard = hard }) (store_is
+    ∙ ap (λ (b : List ℕ). record { bytes = b; left = None }) are) in
+    let is : new ≡ record old.port { exec = with_drive old.port.exec u (Some (lent_drive lending)) } =
+    new_is ∙ ap (λ (d : DriveState). record old.port { exec = with_drive old.port.exec u (Some d) })
+    drive_is in
+    let long : length units ≡ 4 =
+    sym (length-set units u (Some (fresh_unit (lent_drive lending))))
+    ∙ sym (ap (λ (p : PortState). length p.exec.units) is) ∙ four in
+    record {
+      answer_is = sym (ap (λ b. if b then NoSuchUnit else if has_image old u then AlreadyAttached else
+          image_answer (length slot.held)) (le-ltb 3 u low)
+          ∙ ap (λ b. if b then AlreadyAttached else image_answer (length slot.held)) free ∙ fits);
+      attached = λ _. ap (λ (p : PortState). record old { port = p }) is;
+      has = λ _. ap (λ (p : PortState). image_in (slice_get p.exec.units u)) is
+          ∙ attached units u lending (omega (arith, low, long)) (subst IsWhole are whole);
+      taken = λ _. gone;
+      refused = λ no. absurd (no refl);
+    }
+
+-- bytes that are put back where they were
+pub put_back : (old new : Slot) (lent : Lent) → new ≡ slot_of lent → lent ≡ lent_in old → new ≡ old
+put_back old new lent put were = put ∙ ap slot_of were
+
+pub empty : (slot : Slot) → slot.held ≡ [] → true ≡ is_empty slot
+empty slot e = sym (ap (λ (bytes : List ℕ). length bytes == 0) e)
+
+pub full : (slot : Slot) → length slot.held ≢ 0 → false ≡ is_empty slot
+full slot some = sym (ne_eqb (length slot.held) 0 some)
+
+-- an image isn't put into a slot that has bytes
+pub not_put : (old : Controller) (u : ℕ) (look : UnitLook) (slot after : Slot) (lent : Lent) → u ≤ 3
+    → look_at (slice_get old.port.exec.units u) ≡ Some look → length slot.held ≢ 0 → lent ≡ lent_in slot
+    → after ≡ slot_of lent
+    → Detaches (old, slot) u NotEmpty (old, after)
+not_put old u look slot after lent low e some were put = record {
+  answer_is = sym (ap (λ b. if b then NoSuchUnit else if has_image old u then (if length slot.held == 0 then
+      Done else NotEmpty) else NotAttached) (le-ltb 3 u low)
+      ∙ ap (λ (o : Option UnitLook). if is_some o then (if length slot.held == 0 then Done else NotEmpty)
+      else NotAttached) e
+      ∙ ap (λ b. if b then Done else NotEmpty) (ne_eqb (length slot.held) 0 some));
+  detached = λ no. absurd (cc);
+  given_back = λ no. absurd (cc);
+  refused = λ _. ap (λ (s : Slot). (old, s)) (put_back slot after lent put were);
+}
+
+-- the drive that is handed back has the unit's blocks
+pub given_back : (units : List (Option UnitState)) (u : ℕ) (look : UnitLook) (drive : DriveState) (bytes :
+    List ℕ)
+    → look_at (slice_get units u) ≡ Some look → Some drive ≡ handed_back units u None
+    → bytes ≡ concat drive.store.blocks
+    → option_map (λ (image : Lending). image.bytes) (image_in (slice_get units u)) ≡ Some bytes
+given_back units u look drive bytes e back are =
+    let s = seen (slice_get units u) look e in
+    let drive_is : drive ≡ drive_in s.unit =
+    ap (λ (o : Option DriveState). unwrap_or o drive) (back ∙ handed units u s.unit s.here) in
+    ap (λ (o : Option (Option UnitState)). option_map (λ (image : Lending). image.bytes) (image_in o)) s.here
+    ∙ ap Some (sym (are ∙ ap (λ (d : DriveState). concat d.store.blocks) drive_is))
+
+-- a handle that has a controller keeps it
+pub controller_stays : (old new : Option Controller) {b : Bool} (compatible : Bool) → b ≡ is_some old
+    → b ≡ true → new ≡ old
+    → MakesNew old compatible HasController new
+controller_stays (Some c) new compatible is has stays = (refl, stays)
+controller_stays None new compatible is has stays = let no : false ≡ true = sym is ∙ has in absurd (cc)

@@ -1,0 +1,47 @@
+//! What Rattle code does with a slot.
+ghost use Rattle.uda_c.specs.Slots.{Took, slot_of, is_empty};
+ghost use Rattle.std.specs.Prelude.{◌≡◌};
+
+use super::Slot;
+use crate::lent::Lent;
+use std::ptr::null_mut;
+
+impl Slot {
+    /// Returns whether it has no bytes.
+    #[tactic(auto, using(crate::proofs::Lending::empty, crate::proofs::Lending::full))]
+    pub fn is_empty(&mut self) -> bool
+        ensures value { result ≡ is_empty self.old }
+        ensures same { self.new ≡ self.old }
+    {
+        match self.take() {
+            Some(lent) => {
+                self.put(lent);
+                false
+            }
+            None => true,
+        }
+    }
+
+    /// Takes the bytes out, if there are any.
+    pub fn take(&mut self) -> Option<Lent>
+        ensures took { Took result self.old self.new }
+    {
+        let len = self.len;
+        if len == 0 {
+            return None;
+        }
+        let at = self.at;
+        self.at = null_mut();
+        self.len = 0;
+        Some(Lent { at, len })
+    }
+
+    /// Puts bytes in, over what there was.
+    pub fn put(&mut self, lent: Lent)
+        ensures value { self.new ≡ slot_of lent }
+    {
+        let Lent { at, len } = lent;
+        self.at = at;
+        self.len = len;
+    }
+}

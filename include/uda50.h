@@ -56,7 +56,9 @@ enum {
 /* What uda_last tells of a turn beside these. */
 enum {
     UDA_REFUSED = 5,   /* a packet was fetched that is no command, and the end that says so waits */
-    UDA_NO_TURN = 6    /* no turn was taken yet */
+    UDA_NO_TURN = 6,   /* no turn was taken yet */
+    UDA_ANSWERED = 7,  /* a command was fetched that is answered at once, and its end waits */
+    UDA_ABORTED = 8    /* the same of an Abort that took a pending command out, whose end waits before it */
 };
 
 /* What the port is doing. */
@@ -147,7 +149,7 @@ uint32_t uda_show(uda50 *handle, uda50_shown *shown);
 
 /* What a turn did. What it has no word of is 0. */
 typedef struct {
-    uint32_t kind;        /* UDA_IDLE to UDA_DEAD, UDA_REFUSED, or UDA_NO_TURN */
+    uint32_t kind;        /* UDA_IDLE to UDA_DEAD, or UDA_REFUSED to UDA_ABORTED */
     uint32_t reference;   /* of the command */
     uint32_t lbn;         /* the first block, of a transfer that was fetched */
     uint32_t bytes;       /* of a transfer that was fetched, or as its end tells them */

@@ -5,7 +5,7 @@ ghost use Rattle.uda_c.specs.Last.{told_number, told_command, told_end, told_tur
 use crate::returned::Returned;
 use crate::text::put_c_string;
 use std::alloc::Global;
-use uda_packet::{Command, End, EndBody};
+use uda_packet::{Command, EndBody, Reply, ReplyBody};
 use uda_port::Trace;
 
 /// What a turn did, in the form of C. What it has no word of is 0.
@@ -40,6 +40,8 @@ impl LastTurn {
             Some(Trace::Delivered(end)) => LastTurn::of_end(3, end),
             Some(Trace::Dead(cause)) => LastTurn::plain(4, cause.code()),
             Some(Trace::Refused(end)) => LastTurn::of_end(5, end),
+            Some(Trace::Answered(end)) => LastTurn::of_end(7, end),
+            Some(Trace::Aborted(end)) => LastTurn::of_end(8, end),
             None => LastTurn::plain(6, 0),
         }
     }
@@ -79,11 +81,11 @@ impl LastTurn {
     }
 
     // A turn that was about an end.
-    fn of_end(kind: u32, end: End) -> LastTurn
+    fn of_end(kind: u32, end: Reply) -> LastTurn
         ensures { result ≡ told_end kind end }
     {
         let bytes = match end.body {
-            EndBody::Moved { bytes, .. } => bytes,
+            ReplyBody::Basic(EndBody::Moved { bytes, .. }) => bytes,
             _ => 0,
         };
         LastTurn {

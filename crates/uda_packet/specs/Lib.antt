@@ -10,3 +10,5 @@ pub mod Envelope
 pub mod Bad
 pub mod Transfer
 pub mod Display
+pub mod Reply
+pub mod Guest

@@ -62,7 +62,7 @@ pub fn encode_end(end: &End) -> [u8; 48]
 }
 
 // A text with what all messages begin with, and 0 elsewhere.
-fn head(reference: u32, unit: u16, code: u8) -> Text
+pub(crate) fn head(reference: u32, unit: u16, code: u8) -> Text
     ensures { result
         ≡ text_of (reference_field holds reference ∷ unit_field holds unit
         ∷ code_field holds code ∷ []) }

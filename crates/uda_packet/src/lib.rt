@@ -20,6 +20,8 @@ mod end;
 mod envelope;
 mod field;
 mod flags;
+mod guest;
+mod reply;
 mod transfer;
 
 pub use bad::{Bad, BadKind};
@@ -30,5 +32,7 @@ pub use encoding::{encode_command, encode_end};
 pub use end::{End, EndBody, Kind};
 pub use envelope::Envelope;
 pub use flags::Modifiers;
+pub use guest::decode_for_guests;
+pub use reply::{Reply, ReplyBody, decode_reply, encode_reply};
 pub use transfer::Transfer;
 pub use uda_disk::{UnitFlags, status};

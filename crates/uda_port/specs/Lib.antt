@@ -4,6 +4,7 @@ pub mod Packet
 pub mod Fetch
 pub mod Delivery
 pub mod Message
+pub mod AtOnce
 pub mod Port
 pub mod IsPort
 pub mod Count

@@ -1,10 +1,11 @@
 -- Packets in host memory: a text, and its envelope in the four bytes below.
 -- UDA50 Programmer's Documentation Kit: message envelopes.
-use Rattle.std.specs.Prelude.{◌≡◌, ℕ, ◌+◌, ◌-◌, ◌%◌, ◌≤◌, List, length, take}
+use Rattle.std.specs.Prelude.{◌≡◌, ℕ, ◌+◌, ◌-◌, ◌%◌, ◌≤◌, List, length, take, Some}
 use Rattle.uda_mem.specs.Put.{put, part}
 use Rattle.uda_mem.specs.Words.{word_at, word_bytes}
-use Rattle.uda_packet.specs.declared.end.End.{End}
-use Rattle.uda_packet.specs.Opcode.{end_length}
+use Rattle.uda_packet.specs.declared.reply.Reply.{Reply}
+use Rattle.uda_packet.specs.Reading.{read_end}
+use Rattle.uda_packet.specs.Reply.{reply_length, strict_end, written_reply, read_reply}
 use Rattle.uda_packet.specs.Written.{written_end}
 use Rattle.uda_port.specs.declared.packet.Fetched.{Fetched}
 use Rattle.uda_port.specs.declared.profile.Profile.{Profile}
@@ -39,9 +40,14 @@ HasRoom Strict memory at n = TellsRoom memory at
 HasRoom ForGuests memory at n = HasText memory at n
 
 -- the text of an end as it is delivered: strictly always 48 bytes, to a guest those of its kind
-abbrev pub end_text : Profile → End → List ℕ
-end_text Strict e = written_end e
-end_text ForGuests e = take (end_length e.body) (written_end e)
+abbrev pub end_text : Profile → Reply → List ℕ
+end_text Strict r = written_end (strict_end r)
+end_text ForGuests r = take (reply_length r.body) (written_reply r)
+
+-- the text is read as the end message, by the grammar of the profile
+abbrev pub IsLegible : Profile → Reply → Type 0
+IsLegible Strict r = read_end (written_end (strict_end r)) ≡ Some (strict_end r)
+IsLegible ForGuests r = read_reply (written_reply r) ≡ Some r
 
 -- a text is written, and then the envelope below it: its length, and these credits for a sequential message
 -- of MSCP

@@ -2,7 +2,7 @@
 -- UDA50 Programmer's Documentation Kit: port registers, initialisation, credits.
 use Rattle.std.specs.Prelude.{◌≡◌, ℕ, ◌+◌, ◌-◌, ◌*◌, ◌≤◌, min, Bool, true, false, List, [], length, map}
 use Rattle.std.specs.Prelude.{Option}
-use Rattle.uda_packet.specs.declared.end.End.{End}
+use Rattle.uda_packet.specs.declared.reply.Reply.{Reply}
 use Rattle.uda_exec.specs.Disks.{ExecState, PENDING_LIMIT}
 use Rattle.uda_exec.specs.Drives.{reset_unit}
 use Rattle.uda_port.specs.declared.profile.Profile.{Profile}
@@ -21,7 +21,7 @@ pub record PortState : Type 0 where
   pub exec : ExecState
   pub responses : RingState
   pub commands : RingState
-  pub waiting : List End
+  pub waiting : List Reply
   pub looking : Bool
   pub credits : ℕ
   pub interrupts : Interrupts

@@ -18,7 +18,7 @@ use std::fmt;
 use std::marker::Model;
 use uda_exec::{Exec, PENDING};
 use uda_image::BlockStore;
-use uda_packet::End;
+use uda_packet::Reply;
 
 /// The port of a controller: it stands between a host, which writes its registers and its rings in
 /// host memory, and an executor with its units.
@@ -43,7 +43,7 @@ pub struct Port<S: BlockStore> {
     pub(crate) responses: Ring,
     pub(crate) commands: Ring,
     // The ends that wait for delivery, the next one first.
-    pub(crate) waiting: HeapCircularBuffer<End>,
+    pub(crate) waiting: HeapCircularBuffer<Reply>,
     // Whether the port looks at its command ring.
     pub(crate) looking: bool,
     // The credits that the host has.

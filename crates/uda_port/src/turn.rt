@@ -10,11 +10,10 @@ ghost use Rattle.uda_port.specs.Port.{CreditsAgree, next_grant, commands_told, r
 ghost use Rattle.uda_port.specs.Interrupt.{IsBelow};
 ghost use Rattle.uda_port.specs.Turn.{FetchLine, ExecuteLine, DeliverLine, RestGoes, LinesGo, RunningTurn};
 ghost use Rattle.uda_port.specs.Turn.{TurnGoes, delivery_of};
-ghost use Rattle.uda_port.specs.Packet.{end_text};
+ghost use Rattle.uda_port.specs.Packet.{end_text, IsLegible};
 ghost use Rattle.uda_port.specs.Delivery.{PutGoes};
-ghost use Rattle.uda_packet.specs.Reading.{read_end};
-ghost use Rattle.uda_packet.specs.Written.{written_end};
 
+use crate::at_once::answer_at_once;
 use crate::message::message_in;
 use crate::packet::Delivery;
 use crate::phase::{Fatal, Phase};
@@ -25,7 +24,7 @@ use circular_buffer::HeapCircularBuffer;
 use uda_exec::PENDING;
 use uda_image::BlockStore;
 use uda_mem::HostMemory;
-use uda_packet::{End, encode_end};
+use uda_packet::{Reply, encode_end, encode_reply};
 
 /// The credits that a host has once the first end since start-up is delivered: as many commands as it may
 /// then have out, and as many as may be pending.
@@ -198,7 +197,9 @@ impl<S: BlockStore> Port<S> {
         self.fetches.add(1);
         match message {
             Ok(command) => self.exec.accept(command),
-            Err(end) => hold(&mut self.waiting, end),
+            Err(reply) => {
+                answer_at_once(self.profile, &mut self.exec, &mut self.waiting, reply);
+            }
         }
         Ok(true)
     }
@@ -216,7 +217,7 @@ impl<S: BlockStore> Port<S> {
             return false;
         };
         self.load.add(pending);
-        hold(&mut self.waiting, end);
+        hold(&mut self.waiting, Reply::basic(end));
         true
     }
 
@@ -297,7 +298,7 @@ fn put_end(
     responses: &mut Ring,
     memory: &mut [u8],
     delivery: Delivery,
-    end: &End,
+    end: &Reply,
 ) -> Result<bool, RingFault>
     requires memory { IsMemory memory.old }
     requires few { delivery.credits ≤ 15 }
@@ -305,12 +306,12 @@ fn put_end(
     ensures goes { PutGoes delivery responses.old memory.old (end_text delivery.profile end.now) result
         responses.new memory.new }
     ensures base { responses.new.base ≡ responses.old.base }
-    ensures legible { read_end (written_end end.now) ≡ Some end.now }
+    ensures legible { IsLegible delivery.profile end.now }
 {
-    let text = encode_end(end);
     match delivery.profile {
-        Profile::Strict => responses.put(memory, delivery, &text),
+        Profile::Strict => responses.put(memory, delivery, &encode_end(&end.strict_end())),
         Profile::ForGuests => {
+            let text = encode_reply(end);
             let size = usize::from(end.body.length());
             responses.put(memory, delivery, &text[..size])
         }
@@ -318,7 +319,7 @@ fn put_end(
 }
 
 // Puts an end last.
-fn hold(waiting: &mut HeapCircularBuffer<End>, end: End)
+pub(crate) fn hold(waiting: &mut HeapCircularBuffer<Reply>, end: Reply)
     requires room { length waiting.old.items < waiting.old.capacity }
     ensures last { waiting.new ≡ buffer (waiting.old.items ++ end ∷ []) waiting.old.capacity }
     ensures longer { length waiting.new.items ≡ length waiting.old.items + 1 }
@@ -328,7 +329,7 @@ fn hold(waiting: &mut HeapCircularBuffer<End>, end: End)
 }
 
 // Takes the first end out.
-fn release(waiting: &mut HeapCircularBuffer<End>, end: End)
+fn release(waiting: &mut HeapCircularBuffer<Reply>, end: Reply)
     requires first { slice_get waiting.old.items 0 ≡ Some end }
     ensures items { waiting.old.items ≡ end ∷ waiting.new.items }
     ensures capacity { waiting.new.capacity ≡ waiting.old.capacity }

@@ -69,13 +69,16 @@ enum {
     UDA50_FETCHED = 1,   /* it fetched a packet from the command ring */
     UDA50_EXECUTED = 2,  /* it executed a command and queued its end message */
     UDA50_DELIVERED = 3, /* it delivered an end message to the response ring */
-    UDA50_DEAD = 4       /* the port is dead, perhaps since this turn; SA has the code of the fatal error */
+    UDA50_NOTIFIED = 4,  /* it delivered an attention message to the response ring */
+    UDA50_DEAD = 5       /* the port is dead, perhaps since this turn; SA has the code of the fatal error */
 };
 
 /* What the kind of a uda50_turn_record can be besides. */
 enum {
-    UDA50_INVALID_COMMAND = 5, /* it fetched a packet that is no command, and queued the end message that says so */
-    UDA50_NO_TURN = 6          /* there was no turn yet */
+    UDA50_INVALID_COMMAND = 6, /* it fetched a packet that is no command, and queued the end message that says so */
+    UDA50_NO_TURN = 7,         /* there was no turn yet */
+    UDA50_ANSWERED = 8,        /* it fetched a command that is answered at once, and queued its end message */
+    UDA50_ABORTED = 9          /* it fetched an Abort that took a pending command out: both end messages are queued */
 };
 
 /* The port's phases. */
@@ -144,7 +147,7 @@ uint32_t uda50_turn(uda50 *handle, uint8_t *memory, size_t length);
 /* Runs up to `turns` turns, and stops after one that returns UDA50_IDLE or UDA50_DEAD. Returns what the last turn
    did, or UDA50_IDLE if `turns` is 0; or fails as uda50_turn does.
 
-   Call it after each read of IP, and again soon while it returns UDA50_FETCHED, UDA50_EXECUTED or UDA50_DELIVERED:
+   Call it after each read of IP, and again soon while it returns UDA50_FETCHED, UDA50_EXECUTED, UDA50_DELIVERED or UDA50_NOTIFIED:
    then the turns were used up. After UDA50_IDLE nothing is left to do until the guest accesses a register, unless
    end messages are queued (uda50_get_state): then call it again now and then, since a guest frees a response
    descriptor by a write to its memory. After UDA50_DEAD only a write of IP helps. */
@@ -177,7 +180,7 @@ uint32_t uda50_get_state(uda50 *handle, uda50_state *state);
 
 /* What a turn did. A field that doesn't apply is 0. */
 typedef struct {
-    uint32_t kind;        /* UDA50_IDLE to UDA50_DEAD, UDA50_INVALID_COMMAND or UDA50_NO_TURN */
+    uint32_t kind;        /* UDA50_IDLE to UDA50_DEAD, or UDA50_INVALID_COMMAND to UDA50_ABORTED */
     uint32_t reference;   /* the command's reference number */
     uint32_t lbn;         /* the first block of a transfer that was fetched */
     uint32_t bytes;       /* the byte count of a transfer: as requested, or as its end message has it */

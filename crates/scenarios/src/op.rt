@@ -2,7 +2,7 @@
 use crate::fault::Fault;
 use crate::words::Words;
 use std::fmt;
-use uda_packet::{Command, End, EndBody, Kind, Op};
+use uda_packet::{Command, End, EndBody, Kind, Op, Reply, ReplyBody};
 
 // What a command is asked for by.
 #[derive(Clone, Copy)]
@@ -123,6 +123,38 @@ impl fmt::Display for EndLine {
         } = self.0;
         let name = name_of_body(body);
         write!(f, "{reference} {name} {unit} {}", Outcome(self.0))
+    }
+}
+
+/// The same of an end message that a guest may get.
+#[derive(Drop)]
+pub struct ReplyLine(pub Reply);
+
+impl fmt::Display for ReplyLine {
+    fn fmt<W: fmt::Write>(&self, f: &mut fmt::Formatter<W>) -> fmt::Result {
+        let Reply {
+            reference,
+            unit,
+            status,
+            body,
+        } = self.0;
+        match body {
+            ReplyBody::Basic(_) => write!(f, "{}", EndLine(self.0.strict_end())),
+            ReplyBody::Abort { named } => {
+                write!(f, "{reference} abort {unit} {status:04x} {named}")
+            }
+            ReplyBody::CommandStatus { named, progress } => {
+                write!(
+                    f,
+                    "{reference} progress {unit} {status:04x} {named} {progress}"
+                )
+            }
+            ReplyBody::AccessPaths => write!(f, "{reference} paths {unit} {status:04x}"),
+            ReplyBody::CompareController => {
+                write!(f, "{reference} compare-controller {unit} {status:04x}")
+            }
+            ReplyBody::Flush => write!(f, "{reference} flush {unit} {status:04x}"),
+        }
     }
 }
 

@@ -1,12 +1,12 @@
 //! What is to be seen in memory.
 use crate::fault::Fault;
 use crate::machine::Machine;
-use crate::op::EndLine;
+use crate::op::ReplyLine;
 use crate::verb::Place;
 use crate::words::Words;
 use std::fmt::Write;
 use uda_mem::is_memory;
-use uda_packet::decode_end;
+use uda_packet::decode_reply;
 use uda_port::Descriptor;
 
 impl Machine {
@@ -111,8 +111,8 @@ impl Machine {
         for (place, byte) in text.iter_mut().zip(bytes) {
             *place = *byte;
         }
-        match decode_end(&text) {
-            Some(end) => write!(came, "{}", EndLine(end))?,
+        match decode_reply(&text) {
+            Some(end) => write!(came, "{}", ReplyLine(end))?,
             None => came.push_str("none")?,
         }
         Ok(())

@@ -12,7 +12,8 @@ turn_code turn.Idle = 0
 turn_code turn.Fetched = 1
 turn_code turn.Executed = 2
 turn_code turn.Delivered = 3
-turn_code turn.Dead = 4
+turn_code turn.Notified = 4
+turn_code turn.Dead = 5
 
 abbrev pub status_code : CallStatus → ℕ
 status_code Done = 0

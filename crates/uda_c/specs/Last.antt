@@ -1,14 +1,17 @@
 -- What C is told of a turn, and its line as a text of C.
 use Rattle.std.specs.Prelude.{◌≡◌, ℕ, List, [], ◌∷◌, ◌++◌, length, take, drop, Option, Some, None}
 use Rattle.uda_packet.specs.declared.command.Command.{Command}
-use Rattle.uda_packet.specs.declared.end.End.{End}
-use Rattle.uda_packet.specs.declared.end.EndBody.{EndBody}
 use Rattle.uda_packet.specs.declared.end.EndBody.TheVariants.{Moved}
 use Rattle.uda_packet.specs.declared.transfer.Transfer.{Transfer}
-use Rattle.uda_packet.specs.Opcode.{opcode_of, end_code}
+use Rattle.uda_packet.specs.declared.reply.Reply.{Reply}
+use Rattle.uda_packet.specs.declared.reply.ReplyBody.{ReplyBody}
+use Rattle.uda_packet.specs.declared.reply.ReplyBody.TheVariants.{Basic}
+use Rattle.uda_packet.specs.Opcode.{opcode_of}
+use Rattle.uda_packet.specs.Reply.{reply_code}
 use Rattle.uda_packet.specs.Transfer.{transfer_of}
 use Rattle.uda_port.specs.declared.trace.Trace.{Trace}
-use Rattle.uda_port.specs.declared.trace.Trace.TheVariants.{Fetched, Refused, Executed, Delivered, Idle, Dead}
+use Rattle.uda_port.specs.declared.trace.Trace.TheVariants.{Fetched, Refused, Answered, Aborted, Executed}
+use Rattle.uda_port.specs.declared.trace.Trace.TheVariants.{Delivered, Notified, Idle, Dead}
 use Rattle.uda_port.specs.Startup.{code_of}
 use Rattle.uda_port.specs.Trace.{trace_display}
 use Rattle.uda_c.specs.declared.last.TurnRecord.{TurnRecord}
@@ -42,31 +45,35 @@ told_command c = record {
 }
 
 -- the bytes that an end tells
-abbrev pub told_bytes : EndBody → ℕ
-told_bytes (Moved kind bytes) = bytes
+abbrev pub told_bytes : ReplyBody → ℕ
+told_bytes (Basic (Moved kind bytes)) = bytes
 told_bytes _ = 0
 
 -- a turn that was about an end
-abbrev pub told_end : ℕ → End → TurnRecord
+abbrev pub told_end : ℕ → Reply → TurnRecord
 told_end kind e = record {
   kind = kind;
   reference = e.reference;
   lbn = 0;
   bytes = told_bytes e.body;
   unit = e.unit;
-  code = end_code e.body;
+  code = reply_code e.body;
   status = e.status;
 }
 
--- a turn, by what it did: 0 to 4 as a turn is answered, 5 for a packet that is no command, 6 for no turn yet
+-- a turn, by what it did: 0 to 5 as a turn is answered, 6 for a packet that is no command, 7 for no turn yet, 8
+-- for a command that was answered at once, 9 for an Abort that took a pending command out
 abbrev pub turn_record : Option Trace → TurnRecord
 turn_record (Some Idle) = told_number 0 0
 turn_record (Some (Fetched command)) = told_command command
 turn_record (Some (Executed end)) = told_end 2 end
 turn_record (Some (Delivered end)) = told_end 3 end
-turn_record (Some (Dead cause)) = told_number 4 (code_of cause)
-turn_record (Some (Refused end)) = told_end 5 end
-turn_record None = told_number 6 0
+turn_record (Some (Dead cause)) = told_number 5 (code_of cause)
+turn_record (Some (Refused end)) = told_end 6 end
+turn_record (Some (Answered end)) = told_end 8 end
+turn_record (Some (Aborted end)) = told_end 9 end
+turn_record (Some Notified) = told_number 4 0
+turn_record None = told_number 7 0
 
 -- its line, and none where there was no turn yet
 abbrev pub last_line : Option Trace → List ℕ

@@ -5,7 +5,7 @@ ghost use Rattle.uda_c.specs.Last.{told_number, told_command, told_end, turn_rec
 use crate::call_status::CallStatus;
 use crate::text::put_c_string;
 use std::alloc::Global;
-use uda_packet::{Command, End, EndBody};
+use uda_packet::{Command, EndBody, Reply, ReplyBody};
 use uda_port::Trace;
 
 /// What a turn did, in the form of C. What it has no word of is 0.
@@ -38,9 +38,12 @@ impl TurnRecord {
             Some(Trace::Fetched(command)) => TurnRecord::of_command(command),
             Some(Trace::Executed(end)) => TurnRecord::of_end(2, end),
             Some(Trace::Delivered(end)) => TurnRecord::of_end(3, end),
-            Some(Trace::Dead(cause)) => TurnRecord::plain(4, cause.code()),
-            Some(Trace::Refused(end)) => TurnRecord::of_end(5, end),
-            None => TurnRecord::plain(6, 0),
+            Some(Trace::Dead(cause)) => TurnRecord::plain(5, cause.code()),
+            Some(Trace::Refused(end)) => TurnRecord::of_end(6, end),
+            Some(Trace::Answered(end)) => TurnRecord::of_end(8, end),
+            Some(Trace::Aborted(end)) => TurnRecord::of_end(9, end),
+            Some(Trace::Notified) => TurnRecord::plain(4, 0),
+            None => TurnRecord::plain(7, 0),
         }
     }
 
@@ -79,11 +82,11 @@ impl TurnRecord {
     }
 
     // A turn that was about an end.
-    fn of_end(kind: u32, end: End) -> TurnRecord
+    fn of_end(kind: u32, end: Reply) -> TurnRecord
         ensures { result ≡ told_end kind end }
     {
         let bytes = match end.body {
-            EndBody::Moved { bytes, .. } => bytes,
+            ReplyBody::Basic(EndBody::Moved { bytes, .. }) => bytes,
             _ => 0,
         };
         TurnRecord {

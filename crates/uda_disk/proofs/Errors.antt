@@ -5,7 +5,7 @@ use Rattle.std.specs.Prelude.{slice_get, slice_set, nat_eq, ◌&&◌, if◌then�
 use Rattle.std.proofs.lemmas.Bool.{eq-eqb}
 use Rattle.uda_disk.specs.Disk.{Disk, Disks}
 use Rattle.uda_disk.specs.Status.{DRIVE_ERROR}
-use Rattle.uda_disk.specs.Request.{Act, Online, Available, Status, Request}
+use Rattle.uda_disk.specs.Request.{Act, Read, Access, Write, Erase, Request}
 use Rattle.uda_disk.specs.Answer.{Answer, TooLong, status_of}
 use Rattle.uda_disk.specs.Plain.{Bar, Barred, Free, bar, Outcome, Done, Lost, answer_by, serve_by}
 use Rattle.uda_disk.specs.PlainRun.{FixedRequest, requests_of, too_long, step_as, step, step_of, plain, plain_as, tells_error, drive_errors, EachLossIsTold}
@@ -18,10 +18,11 @@ free-clean : (k : ℕ) (left : List ℕ) (unit : ℕ) (act : Act) (disks : Disks
   → is_error (answer_by (Lost k left) act (Free d)) ≡ false
     → serve_by (Lost k left) (record { unit = unit; act = act }) (Free d) disks
     ≡ serve_by Done (record { unit = unit; act = act }) (Free d) disks
-free-clean k left unit (Online protect) disks d h = refl
-free-clean k left unit Available disks d h = refl
-free-clean k left unit Status disks d h = refl
-free-clean k left unit _ disks d h = absurd (cc)
+free-clean k left unit (Read lbn bytes) disks d h = absurd (cc)
+free-clean k left unit (Access lbn bytes) disks d h = absurd (cc)
+free-clean k left unit (Write lbn payload) disks d h = absurd (cc)
+free-clean k left unit (Erase lbn bytes) disks d h = absurd (cc)
+free-clean k left unit _ disks d h = refl
 
 bar-clean : (k : ℕ) (left : List ℕ) (r : Request) (disks : Disks) (b : Bar)
   → is_error (answer_by (Lost k left) r.act b) ≡ false → serve_by (Lost k left) r b disks

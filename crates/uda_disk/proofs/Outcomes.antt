@@ -5,7 +5,7 @@ use Rattle.uda_disk.specs.declared.refusal.Refusal.{Refusal}
 use Rattle.uda_disk.specs.declared.refusal.Refusal.TheVariants.{UnitUnknown}
 use Rattle.uda_disk.specs.Status.{SUCCESS, ALREADY_ONLINE, AVAILABLE, DRIVE_ERROR}
 use Rattle.uda_disk.specs.Disk.{Disks}
-use Rattle.uda_disk.specs.Request.{Act, Online, Available, Status, Request, blocks_named}
+use Rattle.uda_disk.specs.Request.{Act, Online, Status, Read, Access, Write, Erase, Request, blocks_named}
 use Rattle.uda_disk.specs.Answer.{Answer}
 use Rattle.uda_disk.specs.Plain.{Bar, Barred, Free, bar, Outcome, Done, Lost, is_lost, FitsCount, refusal_status, answer_by, serve_as, is_free}
 use Rattle.uda_disk.specs.PlainRun.{too_long, step_as}
@@ -42,10 +42,11 @@ done-clean _ (Free d) = refl
 lost-told : (k : ℕ) (left : List ℕ) (act : Act) (b : Bar) → is_free b ≡ true → k < blocks_named act
   → is_error (answer_by (Lost k left) act b) ≡ true
 lost-told k left act (Barred refusal) h l = absurd (cc)
-lost-told k left (Online protect) (Free d) h l = absurd (omega arith)
-lost-told k left Available (Free d) h l = absurd (omega arith)
-lost-told k left Status (Free d) h l = absurd (omega arith)
-lost-told k left _ (Free d) h l = refl
+lost-told k left (Read lbn bytes) (Free d) h l = refl
+lost-told k left (Access lbn bytes) (Free d) h l = refl
+lost-told k left (Write lbn payload) (Free d) h l = refl
+lost-told k left (Erase lbn bytes) (Free d) h l = refl
+lost-told k left _ (Free d) h l = absurd (omega arith)
 
 by_outcome : (o : Outcome) (act : Act) (b : Bar) → FitsCount (blocks_named act) o
   → (is_lost o ≡ true → is_free b ≡ true) → is_error (answer_by o act b) ≡ is_lost o

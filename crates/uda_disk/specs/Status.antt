@@ -11,6 +11,10 @@ abbrev pub ALREADY_ONLINE : ℕ
 ALREADY_ONLINE = 0x0100
 
 -- invalid command: its length, its opcode, its modifiers, its version
+-- MSCP: Abort
+abbrev pub ABORTED : ℕ
+ABORTED = 0x0002
+
 abbrev pub INVALID_LENGTH : ℕ
 INVALID_LENGTH = 0x0001
 
@@ -67,6 +71,7 @@ unfoldable pub status_name : ℕ → List ℕ
 status_name word =
     if word == SUCCESS then codes "success"
     else if word == ALREADY_ONLINE then codes "already online"
+    else if word == ABORTED then codes "aborted"
     else if word == INVALID_LENGTH then codes "invalid length"
     else if word == INVALID_OPCODE then codes "invalid opcode"
     else if word == INVALID_MODIFIERS then codes "invalid modifiers"

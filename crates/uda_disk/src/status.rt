@@ -11,6 +11,9 @@ pub const SUCCESS: u16 = 0x0000;
 /// Online of a unit that was online already.
 pub const ALREADY_ONLINE: u16 = 0x0100;
 
+/// An Abort ended the command before it was executed.
+pub const ABORTED: u16 = 0x0002;
+
 /// The packet's length was none of a command.
 pub const INVALID_LENGTH: u16 = 0x0001;
 
@@ -65,6 +68,7 @@ pub fn name(status: u16) -> &'static str
     match status {
         SUCCESS => "success",
         ALREADY_ONLINE => "already online",
+        ABORTED => "aborted",
         INVALID_LENGTH => "invalid length",
         INVALID_OPCODE => "invalid opcode",
         INVALID_MODIFIERS => "invalid modifiers",

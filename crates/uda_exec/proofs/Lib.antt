@@ -12,3 +12,4 @@ pub mod Choices
 pub mod Swap
 pub mod OrderLaw
 pub mod OrderExamples
+pub mod NamedLaws

@@ -6,3 +6,4 @@ pub mod Transfers
 pub mod Effect
 pub mod Order
 pub mod Execution
+pub mod Named

@@ -11,9 +11,11 @@ ghost use Rattle.uda_exec.specs.Drives.{drive_state, drive_states, drive_in, fre
 ghost use Rattle.uda_exec.specs.Drives.{drives_in, handed_back, reset_unit, with_drive, look_at};
 ghost use Rattle.uda_exec.specs.Drives.{in_mode, with_mode};
 ghost use Rattle.uda_exec.specs.Execution.{Executes, ExecutesAt};
+ghost use Rattle.uda_exec.specs.Named.{oldest_named, taken_out, aborted, progress_of};
 
 use crate::choice::{Position, next_place};
 use crate::drive_unit::{DriveUnit, UnitLook};
+use crate::named::{place_named, progress};
 use crate::reply::{plain_body, refuse, reply};
 use arrayvec::ArrayVec;
 use std::fmt;
@@ -128,6 +130,30 @@ impl<S: BlockStore> Exec<S> {
         ensures newest { result ≡ slice_get self.now.pending (length self.now.pending - 1) }
     {
         self.pending.last().copied()
+    }
+
+    /// Takes the oldest pending command of this unit and reference out without executing it, and returns its end
+    /// message: its own end code, status 0x0002, and all numbers 0. If there is none, nothing changes.
+    ///
+    /// MSCP Basic Disk Functions Manual: Abort.
+    pub fn abort(&mut self, unit: u16, reference: u32) -> Option<End>
+        ensures end { result ≡ option_map aborted (oldest_named unit reference self.old.pending) }
+        ensures taken { self.new ≡ taken_out unit reference self.old }
+        ensures fewer { IfSome result (λ _. length self.new.pending + 1 ≡ length self.old.pending) }
+        ensures none { IfNone result (self.new ≡ self.old) }
+    {
+        let place = place_named(self.pending.as_slice(), unit, reference)?;
+        let named = self.pending.remove(place);
+        Some(reply(named, status::ABORTED, plain_body(named.op, 0)))
+    }
+
+    /// Returns the byte count of the oldest pending transfer of this unit and reference, and 0 if there is none.
+    ///
+    /// MSCP Basic Disk Functions Manual: Get Command Status.
+    pub fn progress(&self, unit: u16, reference: u32) -> u32
+        ensures progress { result ≡ progress_of unit reference self.now.pending }
+    {
+        progress(self.pending.as_slice(), unit, reference)
     }
 
     /// Executes one pending command that may go, takes it out and answers its end message. None where

@@ -13,6 +13,7 @@ mod choice;
 mod drive_unit;
 mod executor;
 mod movement;
+mod named;
 pub mod order;
 mod refusal;
 mod reply;

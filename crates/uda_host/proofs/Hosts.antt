@@ -1,10 +1,11 @@
 -- What is true of a host, and what a post and bytes for a buffer change of it.
 use Rattle.std.proofs.Common.{◌≡◌, ℕ, ◌+◌, ◌-◌, ◌%◌, ◌<◌, List, [], ◌∷◌, ◌++◌, length, refl, sym, ap, ◌∙◌, arith, length-append}
-use Rattle.std.specs.Prelude.{Ok}
-use Rattle.std.proofs.lemmas.List.{append_assoc, length_push, drop-append-le}
+use Rattle.std.specs.Prelude.{Ok, map}
+use Rattle.std.proofs.lemmas.List.{append_assoc, length_push, drop-append-le, length-map}
 use Rattle.std.proofs.lemmas.List.Elements.{All-push}
 use Rattle.uda_mem.specs.Put.{put, Meet}
 use Rattle.uda_packet.specs.declared.command.Command.{Command}
+use Rattle.uda_packet.specs.Reply.{strict_end}
 use Rattle.uda_packet.specs.Written.{written_command}
 use Rattle.uda_packet.specs.Reading.{read_command}
 use Rattle.uda_port.specs.declared.phase.Phase.{Phase}
@@ -25,14 +26,15 @@ pub record HostThat (P : HostState → Type 0) {S : Type 0} (h : Inside S) : Typ
 pub adds_up : {S : Type 0} {h : Inside S} → IsHost h → AddsUp (host_view h)
 adds_up {h = h} host =
     let due = length-append h.port.exec.pending (unfetched h) in
+    let waits : length (map strict_end h.port.waiting) ≡ length h.port.waiting = length-map h.port.waiting strict_end in
     let agree = host.agree in let counts = host.counts in
     record {
       runs = host.port.runs;
       size = host.written.size;
-      credits_are = λ taken. omega (arith, due);
-      done_were_fetched = omega arith;
-      fetched_were_posted = omega (arith, due);
-      turns_are = counts.turned;
+      credits_are = λ taken. omega (arith, due, waits);
+      done_were_fetched = omega (arith, waits);
+      fetched_were_posted = omega (arith, due, waits);
+      turns_are = omega (arith, counts.turned, waits);
     }
 
 -- bytes are put into a buffer

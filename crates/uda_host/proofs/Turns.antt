@@ -1,9 +1,9 @@
 -- What a turn of the port does to its host.
 use Rattle.std.proofs.Common.{◌≡◌, ℕ, ◌^◌, ◌+◌, ◌-◌, ◌/◌, ◌%◌, ◌<◌, ◌≤◌, true, false, List, [], ◌∷◌, ◌++◌, length, drop, Option, Some, None, refl, sym, ap, ap₂, ◌∙◌, arith, subst, length-append}
-use Rattle.std.specs.Prelude.{Result, Ok, Err, slice_get, nat_eq, All, if◌then◌else◌}
+use Rattle.std.specs.Prelude.{Result, Ok, Err, slice_get, nat_eq, map, All, if◌then◌else◌}
 use Rattle.std.proofs.Math.Seq.{get_or-append_seam}
 use Rattle.std.proofs.lemmas.Bool.{le-leb, lt-leb}
-use Rattle.std.proofs.lemmas.List.{append-nil, append_assoc, length_push, length-drop, drop-drop}
+use Rattle.std.proofs.lemmas.List.{append-nil, append_assoc, length_push, length-drop, drop-drop, map-append, length-map}
 use Rattle.uda_mem.specs.Put.{put, part}
 use Rattle.uda_mem.specs.Words.{word_at, word_bytes}
 use Rattle.uda_mem.proofs.PutLaws.{length-part}
@@ -28,7 +28,10 @@ use Rattle.uda_port.specs.Packet.{HasRoom}
 use Rattle.uda_port.specs.Report.{end_text, text_by, attention_by, next_by}
 use Rattle.uda_port.specs.Fetch.{Takes}
 use Rattle.uda_port.specs.Delivery.{Puts}
-use Rattle.uda_port.specs.Message.{message_of_text, message_in}
+use Rattle.uda_packet.specs.declared.reply.Reply.{Reply}
+use Rattle.uda_packet.specs.Guest.{reply_to_bad}
+use Rattle.uda_packet.specs.Reply.{basic_reply, strict_end}
+use Rattle.uda_port.specs.Message.{message_in}
 use Rattle.uda_port.specs.Interrupt.{told_at, word_below, memory_told}
 use Rattle.uda_port.specs.Port.{PortState, CreditsAgree, next_grant, commands_told, responses_told, interrupts_told}
 use Rattle.uda_port.specs.Turn.{port_turn_on, port_with_message, delivery_of, FetchesOne, NothingToFetch, FetchLine, GoesOn, Fails, InFetch, InRest, RunningTurn, TurnGoes}
@@ -102,10 +105,10 @@ fetched : {S : Type 0} {h : Inside S} {c : Command} {rest : List Command} (new :
 fetched {h = h} {c} {rest} new after host were agree goes =
     let port = h.port in let place = port.commands.place in let pending = port.exec.pending in let takes = goes.takes in
     let sound : IsSound c = subst IsSound (get_or-append_seam pending c rest c) ((rw were at host.sound) (length pending) c (omega (arith, length-append pending (c ∷ rest)))) in
-    let read : ℕ → List ℕ → Result Command End = λ size text. if nat_eq size 48 then message_of_text (read_command text) else Err (other_length_end text) in
-    let message : message_in port.profile goes.packet ≡ Ok c = ap (λ (p : Profile). message_in p goes.packet) host.port.strict ∙ ap₂ read (size_read host were takes) (text_read host were takes) ∙ ap message_of_text sound.legible in
+    let read : ℕ → List ℕ → Result Command Reply = λ size text. if nat_eq size 48 then reply_to_bad (read_command text) else Err (basic_reply (other_length_end text)) in
+    let message : message_in port.profile goes.packet ≡ Ok c = ap (λ (p : Profile). message_in p goes.packet) host.port.strict ∙ ap₂ read (size_read host were takes) (text_read host were takes) ∙ ap reply_to_bad sound.legible in
     let untold : commands_told port h.memory ≡ None = ap (λ (p : Profile). told_at p (word_below port.responses.base 4) h.memory port.commands) host.port.strict in
-    let leaves = λ (m : Result Command End) (r : RingState) (told : Option ℕ). record (port_with_message (port_turn_on port) m) { commands = r; credits = port.credits - 1; interrupts = interrupts_told port told; fetches = port.fetches + 1 } in
+    let leaves = λ (m : Result Command Reply) (r : RingState) (told : Option ℕ). record (port_with_message (port_turn_on port) m) { commands = r; credits = port.credits - 1; interrupts = interrupts_told port told; fetches = port.fetches + 1 } in
     let ring_is = takes.advanced ∙ ap ring_advanced host.rings.commands_are in
     let is = goes.others ∙ (λ i. leaves (message i) (ring_is i) (untold i)) in
     let given = λ (d : Descriptor) (r : RingState) (told : Option ℕ). put (memory_told h.memory told) (descriptor_address r + 2) (word_bytes (word_given_back d.high)) in
@@ -141,6 +144,8 @@ executed {h = h} new after host none agree goes =
     let sound : All IsSound pending = rw before at host.sound in
     let above = (All-at IsSound pending goes.rest.0 one.executes.command sound taken.stands).above in
     let rings = host.rings in let counts = host.counts in
+    let waits : map strict_end (h.port.waiting ++ basic_reply one.end ∷ []) ≡ map strict_end h.port.waiting ++ one.end ∷ [] =
+    map-append strict_end h.port.waiting (basic_reply one.end ∷ []) in
     rw one.others (record {
       host = record {
         port = record { strict = host.port.strict; runs = host.port.runs };
@@ -148,10 +153,10 @@ executed {h = h} new after host none agree goes =
         rings = record { commands_are = rings.commands_are; responses_are = rings.responses_are; posts_next = rings.posts_next; looks_within = rings.looks_within };
         written = rw one.executes.executes.memory_stays (rings-put at bytes (λ meet. above (omega arith)) host.written);
         agree = subst CreditsAgree one.others agree;
-        counts = record { fetched = counts.fetched; turned = omega (arith, length_push h.port.waiting one.end); credits = counts.credits };
+        counts = record { fetched = counts.fetched; turned = omega (arith, length_push h.port.waiting (basic_reply one.end)); credits = counts.credits };
         sound = rw (behind, taken.taken) (All-remove IsSound pending goes.rest.0 sound);
       };
-      so = OneDone (record { place = goes.rest.0; end = one.end; executes = rw (before, behind) one.executes; is = rw before });
+      so = OneDone (record { place = goes.rest.0; end = one.end; executes = rw (before, behind) one.executes; is = rw (before, waits) });
     })
 
 -- ---- an end is delivered
@@ -162,9 +167,9 @@ delivered_slot memory i credits e = record { descriptor = record (response_at me
 responses_untold : {S : Type 0} {h : Inside S} → IsHost h → responses_told h.port h.memory ≡ None
 responses_untold {h = h} host = ap (λ (p : Profile). told_at p (word_below h.port.responses.base 2) h.memory h.port.responses) host.port.strict
 
-delivery_written : {S : Type 0} {h : Inside S} (e : End) (ring : RingState) (after : List ℕ) → IsHost h → next_grant h.port.deliveries < 2 ^ 16 → Puts (delivery_of h.port h.memory) h.port.responses h.memory (end_text h.port e) ring after
-    → WritesSlot (response_descriptor h.response_place) (response_packet h.response_place) (delivered_slot h.memory h.response_place (next_grant h.port.deliveries) e) h.memory after
-delivery_written {h = h} e ring after host fits puts =
+delivery_written : {S : Type 0} {h : Inside S} (r : Reply) (ring : RingState) (after : List ℕ) → IsHost h → next_grant h.port.deliveries < 2 ^ 16 → Puts (delivery_of h.port h.memory) h.port.responses h.memory (end_text h.port r) ring after
+    → WritesSlot (response_descriptor h.response_place) (response_packet h.response_place) (delivered_slot h.memory h.response_place (next_grant h.port.deliveries) (strict_end r)) h.memory after
+delivery_written {h = h} r ring after host fits puts =
     let credits = next_grant h.port.deliveries in
     let place = h.response_place in let next = puts.is_next in let seen = responses_seen host in
     let first : puts.first ≡ owned (response_packet place) = cc in
@@ -173,8 +178,9 @@ delivery_written {h = h} e ring after host fits puts =
     let size : address_of puts.first - 4 ≡ response_packet place = omega arith in
     let second : address_of puts.first - 2 ≡ response_packet place + 2 = omega arith in
     let text : address_of puts.first ≡ response_packet place + 4 = omega arith in
-    let text_is : end_text h.port e ≡ written_end e =
-      ap (λ (p : Profile). text_by p h.port.guest h.port.exec.units e) host.port.strict in
+    let e : End = strict_end r in
+    let text_is : end_text h.port r ≡ written_end e =
+      ap (λ (p : Profile). text_by p h.port.guest h.port.exec.units r) host.port.strict in
     let long = ap length text_is ∙ length-written_end e in
     let untold = responses_untold host in
     let is = puts.written ∙ (λ i. put (memory_told (put (put (put h.memory (text i) (text_is i)) (size i) (word_bytes (long i))) (second i) (word_bytes credits)) (untold i)) (at i) (word_bytes (high i))) in
@@ -194,10 +200,10 @@ module _ {S : Type 0} {h : Inside S} (host : IsHost h) (new : PortState) (after 
       by [] none = none
       by (c ∷ rest) were = absurd (must_fetch host were lines.nothing_to_fetch)
 
-  sent : WritesSlot (response_descriptor h.response_place) (response_packet h.response_place) (delivered_slot h.memory h.response_place (next_grant h.port.deliveries) lines.rest.1.end) h.memory after
+  sent : WritesSlot (response_descriptor h.response_place) (response_packet h.response_place) (delivered_slot h.memory h.response_place (next_grant h.port.deliveries) (strict_end lines.rest.1.end)) h.memory after
   sent = delivery_written lines.rest.1.end new.responses after host (omega arith) lines.rest.1.puts
 
-  pub end_read : (read : Option End) → (length after ≡ memory_size → read ≡ read_end (part after (response_packet h.response_place + 4) 48)) → read ≡ Some lines.rest.1.end
+  pub end_read : (read : Option End) → (length after ≡ memory_size → read ≡ read_end (part after (response_packet h.response_place + 4) 48)) → read ≡ Some (strict_end lines.rest.1.end)
   end_read read by = by sent.size ∙ ap read_end (ap (λ (s : Slot). s.text) sent.holds) ∙ lines.rest.1.legible host.port.strict
 
   pub host_takes : {value : HostState} {left : List ℕ} {end : End} {credits : ℕ} → host_view h ≡ value → CreditsAgree new → (length after ≡ memory_size → Some end ≡ read_end (part after (response_packet h.response_place + 4) 48))
@@ -206,7 +212,7 @@ module _ {S : Type 0} {h : Inside S} (host : IsHost h) (new : PortState) (after 
   host_takes {left = left} {end} {credits} is agree end_by credits_by left_by =
       let port = h.port in let one = lines.rest.1 in
       let read = end_read (Some end) end_by in
-      let end_is : end ≡ one.end = cc in
+      let end_is : end ≡ strict_end one.end = cc in
       let grant : credits ≡ next_grant port.deliveries = credits_by sent.size ∙ ap (λ (s : Slot). s.credits) sent.holds in
       let w = high_written sent owner_word (omega arith) in
       let open_then = (host.written.opens h.response_place host.rings.looks_within).owned_is in
@@ -223,7 +229,7 @@ module _ {S : Type 0} {h : Inside S} (host : IsHost h) (new : PortState) (after 
           counts = record { fetched = counts.fetched; turned = omega (arith, ap length one.first); credits = omega arith };
           sound = host.sound;
         };
-        so = record { none_due = ap₂ (λ (xs ys : List Command). xs ++ ys) lines.rest.0 none_left; waited = one.first; buffers = w.buffers; is = refl };
+        so = record { none_due = ap₂ (λ (xs ys : List Command). xs ++ ys) lines.rest.0 none_left; waited = ap (map strict_end) one.first; buffers = w.buffers; is = refl };
       })
 
 -- ---- a turn is never idle, and never the port's last
@@ -232,10 +238,10 @@ module _ {S : Type 0} {h : Inside S} (host : IsHost h) (before : PortState) (aft
   never_idle : 0 < out_of (host_view h) → unfetched h ≡ [] → GoesOn (port_turn_on h.port) h.memory (Ok Idle) before after → ⊥
   never_idle some none goes = none_waits h.port.waiting refl
     where
-      none_waits : (waiting : List End) → h.port.waiting ≡ waiting → ⊥
-      none_waits [] is = omega (arith, some, ap length is, ap length goes.rest.0, ap length none, length-append h.port.exec.pending (unfetched h))
+      none_waits : (waiting : List Reply) → h.port.waiting ≡ waiting → ⊥
+      none_waits [] is = omega (arith, some, length-map h.port.waiting strict_end, ap length is, ap length goes.rest.0, ap length none, length-append h.port.exec.pending (unfetched h))
       none_waits (e ∷ rest) is =
-          let first = ap (λ (ends : List End). next_by (slice_get ends 0) h.port.profile h.port.guest h.port.exec.units) is in
+          let first = ap (λ (ends : List Reply). next_by (slice_get ends 0) h.port.profile h.port.guest h.port.exec.units) is in
           let free = goes.rest.1.0 (end_text h.port e) first in
           not_both (responses_seen host) free.is_next refl free.not_owned
 
@@ -283,9 +289,11 @@ module _ {S : Type 0} {h : Inside S} (host : IsHost h) (before : PortState) (aft
 -- ---- a turn
 
 -- a trace of another kind is of another turn
-pub undelivered : (was : Trace) → ((end : End) → was ≡ trace.Delivered end → ⊥) → turn_of was ≡ Delivered → ⊥
+pub undelivered : (was : Trace) → ((end : Reply) → was ≡ trace.Delivered end → ⊥) → turn_of was ≡ Delivered → ⊥
 undelivered (trace.Fetched command) other is = absurd (cc)
 undelivered (trace.Refused end) other is = absurd (cc)
+undelivered (trace.Answered end) other is = absurd (cc)
+undelivered (trace.Aborted end) other is = absurd (cc)
 undelivered (trace.Executed end) other is = absurd (cc)
 undelivered (trace.Delivered end) other is = other end refl
 undelivered trace.Notified other is = absurd (cc)

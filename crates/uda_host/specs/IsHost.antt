@@ -1,5 +1,6 @@
 -- What a host's fields stand for, and what is always true of them.
-use Rattle.std.specs.Prelude.{◌≡◌, ◌<◌, true, ◌++◌, length, All}
+use Rattle.std.specs.Prelude.{◌≡◌, ◌<◌, true, ◌++◌, length, map, All}
+use Rattle.uda_packet.specs.Reply.{strict_end}
 use Rattle.uda_port.specs.declared.phase.Phase.TheVariants.{Running}
 use Rattle.uda_port.specs.declared.profile.Profile.TheVariants.{Strict}
 use Rattle.uda_port.specs.Port.{PortState, CreditsAgree}
@@ -8,13 +9,14 @@ use Rattle.uda_host.specs.InStep.{IsSound, unfetched, RingsAgree, CountsAgree}
 use Rattle.uda_host.specs.Host.{HostState}
 use Rattle.uda_host.specs.declared.host.Host.TheInside.{Inside}
 
+-- a strict port sends the end messages of the strict profile
 abbrev pub host_view : {S : Type 0} → Inside S → HostState
 host_view h = record {
   phase = h.port.phase;
   memory = h.memory;
   units = h.port.exec.units;
   due = h.port.exec.pending ++ unfetched h;
-  waiting = h.port.waiting;
+  waiting = map strict_end h.port.waiting;
   credits = h.held;
   turns = h.port.turns;
   fetches = h.port.fetches;

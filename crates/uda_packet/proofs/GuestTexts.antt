@@ -1,13 +1,15 @@
 -- Written field by field, an end message for a guest is the text that is written at once.
 use Rattle.std.proofs.Common.{◌≡◌, ℕ, ◌==◌, Bool, true, false, Option, Some, None, List, [], ◌∷◌, refl, ap, ◌∙◌}
-use Rattle.uda_packet.specs.declared.end.End.{End}
+use Rattle.uda_packet.specs.declared.reply.Reply.{Reply}
+use Rattle.uda_packet.specs.declared.reply.ReplyBody.{ReplyBody}
+use Rattle.uda_packet.specs.declared.reply.ReplyBody.TheVariants.{Basic, Abort, CommandStatus, AccessPaths, CompareController, Flush}
 use Rattle.uda_packet.specs.declared.end.EndBody.{EndBody}
 use Rattle.uda_packet.specs.declared.end.EndBody.TheVariants as body
 use Rattle.uda_packet.specs.declared.guest_end.Report.{Report}
 use Rattle.uda_packet.specs.declared.guest_end.UnitReport.{UnitReport}
 use Rattle.uda_packet.specs.Field.{Entry, ◌holds◌, text_of, with_entries, with_number, reference_field, unit_field, code_field, status_field}
-use Rattle.uda_packet.specs.GuestEnd.{written_guest_end, written_unit_available, unit_available, identity_entries, guest_entries, controller_entries, status_entries, online_entries, unit_number}
-use Rattle.uda_packet.specs.Opcode.{end_code}
+use Rattle.uda_packet.specs.GuestEnd.{written_guest_end, written_unit_available, unit_available, identity_entries, guest_entries, guest_reply_entries, controller_entries, status_entries, online_entries, unit_number}
+use Rattle.uda_packet.specs.Reply.{reply_code}
 use Rattle.uda_disk.specs.Status.{SUCCESS}
 
 module _ (reference number code status : ℕ) where
@@ -40,24 +42,35 @@ module _ (reference number code status : ℕ) where
   of_body r (body.Online flags size) = of_online r.unit
   of_body r (body.Moved which moved) = refl
 
+  of_reply : (r : Report) (b : ReplyBody) → IsWrittenAtOnce (guest_reply_entries r number status b)
+  of_reply r (Basic b) = of_body r b
+  of_reply r (Abort named) = refl
+  of_reply r (CommandStatus named progress) = refl
+  of_reply r AccessPaths = refl
+  of_reply r CompareController = refl
+  of_reply r Flush = refl
+
 -- the same of a whole end message, by what its head and its fields were written as
-pub writes_guest_end : (r : Report) (e : End) (number code : ℕ) (before after : List ℕ)
-    → number ≡ unit_number r.identity e.unit → code ≡ end_code e.body
+pub writes_guest_end : (r : Report) (e : Reply) (number code : ℕ) (before after : List ℕ)
+    → number ≡ unit_number r.identity e.unit → code ≡ reply_code e.body
     → before ≡ with_number status_field e.status
     (text_of (reference_field holds e.reference ∷ unit_field holds number ∷ code_field holds code ∷ []))
-    → after ≡ with_entries (guest_entries r number e.status e.body) before → after ≡ written_guest_end r e
+    → after ≡ with_entries (guest_reply_entries r number e.status e.body) before
+    → after ≡ written_guest_end r e
 unfolding written_guest_end
 writes_guest_end r e number code before after numbered named headed written =
-    written ∙ ap (λ (b : List ℕ). with_entries (guest_entries r number e.status e.body) b) headed
-    ∙ of_body e.reference number code e.status r e.body
+    written ∙ ap (λ (b : List ℕ). with_entries (guest_reply_entries r number e.status e.body) b) headed
+    ∙ of_reply e.reference number code e.status r e.body
     ∙ ap (λ (n : ℕ). text_of (head_and e.reference n code e.status
-    (status_field holds e.status ∷ guest_entries r n e.status e.body))) numbered
+    (status_field holds e.status ∷ guest_reply_entries r n e.status e.body))) numbered
     ∙ ap (λ (k : ℕ). text_of (head_and e.reference (unit_number r.identity e.unit) k e.status
-    (status_field holds e.status ∷ guest_entries r (unit_number r.identity e.unit) e.status e.body))) named
+    (status_field holds e.status ∷ guest_reply_entries r (unit_number r.identity e.unit) e.status e.body)))
+    named
 
 -- and so is an attention message
 pub writes_unit_available : (u : UnitReport) (number : ℕ) (before after : List ℕ)
-    → before ≡ text_of (reference_field holds 0 ∷ unit_field holds number ∷ code_field holds unit_available ∷ [])
+    → before ≡ text_of (reference_field holds 0 ∷ unit_field holds number ∷ code_field holds unit_available
+    ∷ [])
     → after ≡ with_entries (identity_entries u number) before → after ≡ written_unit_available u number
 unfolding written_unit_available
 writes_unit_available u number before after headed written =

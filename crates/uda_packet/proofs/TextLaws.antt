@@ -9,7 +9,10 @@ use Rattle.uda_packet.specs.declared.end.EndBody.{EndBody}
 use Rattle.uda_packet.specs.declared.bad.Bad.{Bad}
 use Rattle.uda_packet.specs.declared.bad.BadKind.{BadKind}
 use Rattle.uda_packet.specs.declared.bad.BadKind.TheVariants as fault
+use Rattle.uda_packet.specs.declared.reply.Reply.{Reply}
+use Rattle.uda_packet.specs.Field.{number_in, reference_field, unit_field, status_field, code_field}
 use Rattle.uda_packet.specs.Opcode.{names_version}
+use Rattle.uda_packet.specs.Reply.{reply_named, read_reply}
 use Rattle.uda_packet.specs.Text.{OpText, VersionFits, FaultText, CommandText, BadText, HasUnknownOpcode, HasStrayModifier, HasWrongVersion, EndText, IsNoEnd}
 use Rattle.uda_packet.specs.Reading.{op_by_version, read_op, read_command, read_end}
 
@@ -108,3 +111,21 @@ only_end bytes (Some d) t e = (
   λ p. let same : d ≡ e = cc in subst (λ (x : End). EndText bytes x) same t,
   λ u. sym (end_is_read bytes d t) ∙ end_is_read bytes e u,
 )
+
+-- ---- end messages of the profile for guests
+
+-- what a text of such an end message is read as
+pub record ReplyText (bytes : List ℕ) (r : Reply) : Type 0 where
+  pub reference_is : number_in reference_field bytes ≡ r.reference
+  pub unit_is : number_in unit_field bytes ≡ r.unit
+  pub status_is : number_in status_field bytes ≡ r.status
+  pub body_is : reply_named (number_in code_field bytes) bytes ≡ Some r.body
+
+pub reply_is_read : (bytes : List ℕ) (r : Reply) → ReplyText bytes r → read_reply bytes ≡ Some r
+unfolding read_reply
+reply_is_read bytes r t = rw (t.reference_is, t.unit_is, t.status_is, t.body_is) refl
+
+pub no_reply_is_read : (bytes : List ℕ) → reply_named (number_in code_field bytes) bytes ≡ None
+    → read_reply bytes ≡ None
+unfolding read_reply
+no_reply_is_read bytes none = rw none refl

@@ -15,6 +15,10 @@ use Rattle.uda_packet.specs.Text.{CommandText, NamesOp, AllowsModifiers, Version
 use Rattle.uda_packet.specs.Commands.{BodyFits, answer_entries, unit_entries, controller_entries, tells_status, tells_online}
 use Rattle.uda_packet.specs.Written.{written_command, written_end}
 use Rattle.uda_packet.specs.Range.{EntriesFit}
+use Rattle.uda_packet.specs.declared.reply.Reply.{Reply}
+use Rattle.uda_packet.specs.declared.reply.ReplyBody.{ReplyBody}
+use Rattle.uda_packet.specs.declared.reply.ReplyBody.TheVariants.{Basic, Abort, CommandStatus, AccessPaths, CompareController, Flush}
+use Rattle.uda_packet.specs.Reply.{basic_reply, reply_code, reply_entries, reply_named, ReplyFits, read_reply, written_reply}
 
 -- a command and an end message whose numbers are in the ranges of their types
 pub record CommandFits (c : Command) : Type 0 where
@@ -149,6 +153,11 @@ writes_command c code before after named headed written =
 
 -- ---- end messages
 
+-- a body of the strict profile is read as it is in the profile for guests
+basic_is_read : (bytes : List ℕ) (b : EndBody) → BodyText bytes b
+    → reply_named (number_in code_field bytes) bytes ≡ Some (Basic b)
+basic_is_read bytes b t = rw t refl
+
 module _ (reference unit status : ℕ) where
   -- a text before its answer is written
   abbrev text_begin : ℕ → List ℕ
@@ -253,3 +262,81 @@ written_end_text e h =
 pub length-written_end : (e : End) → length (written_end e) ≡ 48
 unfolding written_end
 length-written_end e = (written_lawful e).long
+
+-- ---- end messages of the profile for guests
+
+pub record ReplyIsFit (r : Reply) : Type 0 where
+  pub reference_fits : r.reference < 2 ^ 32
+  pub unit_fits : r.unit < 2 ^ 16
+  pub status_fits : r.status < 2 ^ 16
+  pub body_fits : ReplyFits r.body
+
+module _ (reference unit status : ℕ) where
+  -- what is proved of the row of such an end message
+  record LawfulReply (b : ReplyBody) (rest : List Entry) : Type 0 where
+    entries : with_entries rest (text_begin reference unit status (reply_code b))
+        ≡ whole_text reference unit status (reply_code b) rest
+    long : length (whole_text reference unit status (reply_code b) rest) ≡ 48
+    text : ReplyFits b → let bytes = whole_text reference unit status (reply_code b) rest in
+        reply_named (number_in code_field bytes) bytes ≡ Some b
+
+  reply_lawful : (b : ReplyBody) → LawfulReply b (reply_entries unit status b)
+  reply_lawful (Basic b) =
+      let row = end_lawful reference unit status b in
+      record {
+        entries = row.entries;
+        long = row.long;
+        text = λ h.
+            basic_is_read (whole_text reference unit status (end_code b) (answer_entries unit status b)) b (row.text h);
+      }
+  reply_lawful (Abort named) =
+      record { entries = refl; long = refl; text = λ h. one (λ x. Some (Abort x)) (long_back named h) }
+  reply_lawful (CommandStatus named progress) = record {
+    entries = refl;
+    long = refl;
+    text = λ h. two (λ x y. Some (CommandStatus x y)) (long_back named h.0) (long_back progress h.1);
+  }
+  reply_lawful AccessPaths = record { entries = refl; long = refl; text = λ h. refl }
+  reply_lawful CompareController = record { entries = refl; long = refl; text = λ h. refl }
+  reply_lawful Flush = record { entries = refl; long = refl; text = λ h. refl }
+
+reply_is_lawful : (r : Reply)
+    → LawfulReply r.reference r.unit r.status r.body (reply_entries r.unit r.status r.body)
+reply_is_lawful r = reply_lawful r.reference r.unit r.status r.body
+
+-- the answer written after a head and a status makes the text
+pub writes_reply : (r : Reply) (code : ℕ) (head before after : List ℕ) → code ≡ reply_code r.body
+    → head ≡ head_text r.reference r.unit code
+    → before ≡ with_number status_field r.status head
+    → after ≡ with_entries (reply_entries r.unit r.status r.body) before → after ≡ written_reply r
+unfolding written_reply
+writes_reply r code head before after named headed begins written =
+    let begun : before ≡ text_begin r.reference r.unit r.status (reply_code r.body) =
+    begins ∙ ap (λ (t : List ℕ). with_number status_field r.status t)
+    (headed ∙ ap (λ (k : ℕ). head_text r.reference r.unit k) named) in
+    written ∙ ap (λ (b : List ℕ). with_entries (reply_entries r.unit r.status r.body) b) begun
+    ∙ (reply_is_lawful r).entries
+
+reply_head_back : (r : Reply) → ReplyIsFit r → HeadBack (written_reply r) r.reference r.unit
+unfolding written_reply
+reply_head_back r h = record {
+  reference_is = long_back r.reference h.reference_fits;
+  unit_is = word_back r.unit h.unit_fits;
+}
+
+-- it is read as the end message that it was written from
+pub written_reply_back : (r : Reply) → ReplyIsFit r → read_reply (written_reply r) ≡ Some r
+unfolding written_reply read_reply
+written_reply_back r h =
+    let head = reply_head_back r h in
+    let status : number_in status_field (written_reply r) ≡ r.status = word_back r.status h.status_fits in
+    rw (head.reference_is, head.unit_is, status, (reply_is_lawful r).text h.body_fits) refl
+
+pub length-written_reply : (r : Reply) → length (written_reply r) ≡ 48
+unfolding written_reply
+length-written_reply r = (reply_is_lawful r).long
+
+-- the text of an end message of the strict profile is the same
+pub written_basic : (e : End) → written_reply (basic_reply e) ≡ written_end e
+unfolding written_reply written_end
+written_basic e = refl

@@ -115,7 +115,7 @@ pub record BodyRow : Type 0 where
   -- its numbers as a person reads them
   pub numbers : List ℕ
 
-abbrev body_line : ℕ → ℕ → List ℕ → List ℕ → BodyRow
+abbrev pub body_line : ℕ → ℕ → List ℕ → List ℕ → BodyRow
 body_line code bytes title shown = record {
   opcode = code;
   length = bytes;

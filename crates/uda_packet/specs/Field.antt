@@ -32,6 +32,14 @@ status_field = field 10 2
 abbrev pub byte_count_field : Field
 byte_count_field = field 12 4
 
+-- the reference of the command that an Abort or a Get Command Status names
+abbrev pub named_field : Field
+named_field = field 12 4
+
+-- how far the command is that a Get Command Status names
+abbrev pub progress_field : Field
+progress_field = field 16 4
+
 abbrev pub version_field : Field
 version_field = field 12 2
 

@@ -6,7 +6,10 @@ use Rattle.std.specs.Int.RustNames.{bit_or}
 use Rattle.uda_disk.specs.Disk.{software_protection, hardware_protection}
 use Rattle.uda_disk.specs.Status.{SUCCESS}
 use Rattle.uda_packet.specs.declared.drive_type.DriveTraits.{DriveTraits}
-use Rattle.uda_packet.specs.declared.end.End.{End}
+use Rattle.uda_packet.specs.declared.reply.Reply.{Reply}
+use Rattle.uda_packet.specs.declared.reply.ReplyBody.{ReplyBody}
+use Rattle.uda_packet.specs.declared.reply.ReplyBody.TheVariants.{Basic}
+use Rattle.uda_packet.specs.Reply.{reply_code, reply_entries}
 use Rattle.uda_packet.specs.declared.end.EndBody.{EndBody}
 use Rattle.uda_packet.specs.declared.end.EndBody.TheVariants as body
 use Rattle.uda_packet.specs.declared.guest_end.Bus.{Bus}
@@ -18,7 +21,6 @@ use Rattle.uda_packet.specs.DriveTypes.{drive_traits}
 use Rattle.uda_packet.specs.Field.{Entry, ◌holds◌, field, text_of, reference_field, unit_field, code_field}
 use Rattle.uda_packet.specs.Field.{status_field, byte_count_field, unit_flags_field, identifier_field}
 use Rattle.uda_packet.specs.Field.{media_type_field, unit_size_field}
-use Rattle.uda_packet.specs.Opcode.{end_code}
 
 -- the number by which the host knows a drive: the controller's drives have the numbers from the first one on
 abbrev pub unit_number : Identity → ℕ → ℕ
@@ -103,13 +105,18 @@ guest_entries r number status body.Available = []
 guest_entries r number status (body.Online flags size) = online_entries r.unit number
 guest_entries r number status (body.Moved which moved) = byte_count_field holds moved ∷ []
 
+-- the same of a message that only the profile for guests knows: what it answers
+abbrev pub guest_reply_entries : Report → ℕ → ℕ → ReplyBody → List Entry
+guest_reply_entries r number status (Basic b) = guest_entries r number status b
+guest_reply_entries r number status b = reply_entries number status b
+
 -- the text that an end message for a guest is written as
-unfoldable pub written_guest_end : Report → End → List ℕ
+unfoldable pub written_guest_end : Report → Reply → List ℕ
 written_guest_end r e =
     let number = unit_number r.identity e.unit in
     text_of (
-    reference_field holds e.reference ∷ unit_field holds number ∷ code_field holds (end_code e.body)
-    ∷ status_field holds e.status ∷ guest_entries r number e.status e.body)
+    reference_field holds e.reference ∷ unit_field holds number ∷ code_field holds (reply_code e.body)
+    ∷ status_field holds e.status ∷ guest_reply_entries r number e.status e.body)
 
 -- ---- attention messages
 

@@ -12,3 +12,5 @@ pub mod Bad
 pub mod Transfer
 pub mod Display
 pub mod GuestEnd
+pub mod Reply
+pub mod Guest

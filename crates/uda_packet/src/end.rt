@@ -17,7 +17,7 @@ use crate::status::{ALREADY_ONLINE, AVAILABLE, SUCCESS};
 use std::fmt;
 
 // An end code is the opcode that it answers with this bit set.
-const END_CODE: u8 = 0x80;
+pub(crate) const END_CODE: u8 = 0x80;
 
 // The class of a disk unit, in the highest byte of its identifier.
 const DISK: u64 = 2 << 56;
@@ -154,7 +154,7 @@ impl EndBody {
     }
 
     // What tells the body from the others, without its numbers.
-    fn row(self) -> BodyRow
+    pub(crate) fn row(self) -> BodyRow
         ensures opcode { result.opcode ≡ answered_opcode self }
         ensures below { result.opcode < 128 }
         ensures length { result.length ≡ end_length self }
@@ -222,17 +222,17 @@ impl EndBody {
 
 // What tells the body of one end message from another.
 #[derive(Clone, Copy)]
-struct BodyRow {
+pub(crate) struct BodyRow {
     // The opcode that it answers, 0 where it answers none.
-    opcode: u8,
+    pub(crate) opcode: u8,
     // How many bytes its text has.
-    length: u16,
+    pub(crate) length: u16,
     // What the command is called.
-    name: &'static str,
+    pub(crate) name: &'static str,
 }
 
 impl BodyRow {
-    fn new(opcode: u8, length: u16, name: &'static str) -> BodyRow
+    pub(crate) fn new(opcode: u8, length: u16, name: &'static str) -> BodyRow
         ensures opcode { result.opcode ≡ opcode }
         ensures length { result.length ≡ length }
         ensures name { result.name.now ≡ name.now }

@@ -22,6 +22,10 @@ pub(crate) const STATUS: Word = Word(10);
 
 pub(crate) const BYTE_COUNT: Long = Long(12);
 
+pub(crate) const NAMED: Long = Long(12);
+
+pub(crate) const PROGRESS: Long = Long(16);
+
 pub(crate) const VERSION: Word = Word(12);
 
 pub(crate) const MULTI_UNIT: Word = Word(12);

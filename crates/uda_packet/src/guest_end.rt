@@ -5,7 +5,7 @@
 ghost use Rattle.std.specs.Prelude.{◌≡◌, ◌+◌, ◌*◌, ◌^◌, length};
 ghost use Rattle.uda_packet.specs.DriveTypes.{drive_traits};
 ghost use Rattle.uda_packet.specs.Field.{with_entries};
-ghost use Rattle.uda_packet.specs.GuestEnd.{written_guest_end, guest_entries, unit_number, model_of};
+ghost use Rattle.uda_packet.specs.GuestEnd.{written_guest_end, guest_entries, guest_reply_entries, unit_number, model_of};
 ghost use Rattle.uda_packet.specs.GuestEnd.{written_unit_available};
 ghost use Rattle.uda_packet.specs.GuestEnd.{flags_reported, characteristics, controller_entries, unit_flags};
 ghost use Rattle.uda_packet.specs.GuestEnd.{unit_identifier, identity_entries, geometry_entries};
@@ -13,11 +13,12 @@ ghost use Rattle.uda_packet.specs.GuestEnd.{volume_entries, status_entries, onli
 
 use crate::drive_type::{DriveTraits, DriveType};
 use crate::encoding::head;
-use crate::end::{End, EndBody};
+use crate::end::EndBody;
 use crate::field::{
     BYTE_COUNT, CONTROLLER_VERSION, CYLINDER, GROUP, IDENTIFIER, MEDIA_TYPE, MULTI_UNIT, SERIAL,
     SHADOW_UNIT, STATUS, TIME_OUT, TRACK, Text, UNIT_FLAGS, UNIT_SIZE,
 };
+use crate::reply::{Reply, ReplyBody};
 use crate::status::SUCCESS;
 
 /// The bus that a controller is on: it decides which controller a guest sees.
@@ -69,14 +70,14 @@ pub struct Report {
 /// names is 0.
 ///
 /// MSCP Basic Disk Functions Manual: end messages.
-pub fn encode_guest_end(end: &End, report: &Report) -> [u8; 48]
+pub fn encode_guest_end(end: &Reply, report: &Report) -> [u8; 48]
     ensures written { result ≡ written_guest_end report.now end.now }
     ensures long { length result ≡ 48 }
 {
     let number = report.identity.unit_number(end.unit);
     let mut text = head(end.reference, number, end.body.code());
     STATUS.put(&mut text, end.status);
-    report.put(&mut text, number, end);
+    report.put_reply(&mut text, number, end.status, end.body);
     text
 }
 
@@ -115,14 +116,24 @@ impl Identity {
 }
 
 impl Report {
-    // Writes what stands after the status.
-    fn put(&self, text: &mut Text, number: u16, end: &End)
-        ensures { text.new ≡ with_entries (guest_entries self.now number end.now.status end.now.body) text.old }
+    // Writes what stands after the status of any message.
+    fn put_reply(&self, text: &mut Text, number: u16, status: u16, body: ReplyBody)
+        ensures { text.new ≡ with_entries (guest_reply_entries self.now number status body) text.old }
     {
-        match end.body {
+        match body {
+            ReplyBody::Basic(body) => self.put(text, number, status, body),
+            other => other.put(text, number, status),
+        }
+    }
+
+    // Writes what stands after the status, of a message that the strict profile knows.
+    fn put(&self, text: &mut Text, number: u16, status: u16, body: EndBody)
+        ensures { text.new ≡ with_entries (guest_entries self.now number status body) text.old }
+    {
+        match body {
             EndBody::Invalid | EndBody::Available => {}
             EndBody::Status { .. } => self.put_status(text, number),
-            EndBody::Controller => self.put_controller(text, end.status == SUCCESS),
+            EndBody::Controller => self.put_controller(text, status == SUCCESS),
             EndBody::Online { .. } => self.put_online(text, number),
             EndBody::Moved { bytes, .. } => BYTE_COUNT.put(text, bytes),
         }

@@ -21,7 +21,9 @@ mod end;
 mod envelope;
 mod field;
 mod flags;
+mod guest;
 mod guest_end;
+mod reply;
 mod transfer;
 
 pub use bad::{Bad, BadKind};
@@ -33,8 +35,10 @@ pub use encoding::{encode_command, encode_end};
 pub use end::{End, EndBody, Kind};
 pub use envelope::Envelope;
 pub use flags::Modifiers;
+pub use guest::decode_for_guests;
 pub use guest_end::{
     ATTENTION_LENGTH, Bus, Identity, Report, UnitReport, encode_guest_end, encode_unit_available,
 };
+pub use reply::{Reply, ReplyBody, decode_reply, encode_reply};
 pub use transfer::Transfer;
 pub use uda_disk::{UnitFlags, status};

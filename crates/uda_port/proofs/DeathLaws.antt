@@ -4,7 +4,7 @@ use Rattle.std.specs.Prelude.{if◌then◌else◌}
 use Rattle.std.proofs.lemmas.List.Elements.{All-nil, All-cons, All-head, All-tail}
 use borrow.Author.Tests.{ltb-true, ltb-false}
 use Rattle.uda_packet.specs.declared.command.Command.{Command}
-use Rattle.uda_packet.specs.declared.end.End.{End}
+use Rattle.uda_packet.specs.declared.reply.Reply.{Reply}
 use Rattle.uda_port.specs.declared.phase.Phase.{Phase}
 use Rattle.uda_port.specs.declared.phase.Phase.TheVariants.{Step1, Step2, Step3, Purge, Poll, Step4, Running, Dead}
 use Rattle.uda_port.specs.declared.phase.Fatal.{Fatal}
@@ -133,7 +133,7 @@ fails_of cause old memory before memory_after (InFetch line) = fails_fetch cause
 fails_of cause old memory before memory_after (InRest goes) = fails_rest cause old memory before memory_after goes
 
 -- a message leaves the phase
-message_phase : (old : PortState) (message : Result Command End) → (port_with_message old message).phase ≡ old.phase
+message_phase : (old : PortState) (message : Result Command Reply) → (port_with_message old message).phase ≡ old.phase
 message_phase old (Ok c) = refl
 message_phase old (Err e) = refl
 

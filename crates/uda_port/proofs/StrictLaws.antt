@@ -1,5 +1,5 @@
 -- What each definition that depends on the profile says of the strict one, where no host is told anything.
-use Rattle.std.proofs.Common.{◌≡◌, ℕ, ◌+◌, ◌-◌, ◌*◌, List, length, None, Err, refl}
+use Rattle.std.proofs.Common.{◌≡◌, ℕ, ◌+◌, ◌-◌, ◌*◌, List, [], ◌∷◌, length, None, Err, refl}
 use Rattle.std.specs.Prelude.{◌==◌, ◌&&◌, nat_le, nat_lt, replicate, if◌then◌else◌}
 use Rattle.uda_mem.specs.Put.{put}
 use Rattle.uda_packet.specs.declared.end.End.{End}
@@ -11,7 +11,12 @@ use Rattle.uda_port.specs.declared.profile.Profile.TheVariants.{Strict}
 use Rattle.uda_port.specs.declared.phase.Phase.{Phase}
 use Rattle.uda_port.specs.declared.phase.Phase.TheVariants.{Step2, Step3, Step4, Dead}
 use Rattle.uda_port.specs.declared.phase.Fatal.TheVariants.{RingWrite, StartUpWord}
-use Rattle.uda_port.specs.Message.{message_of_text, message_in}
+use Rattle.uda_port.specs.Message.{message_in}
+use Rattle.uda_port.specs.AtOnce.{replies_at_once, exec_at_once}
+use Rattle.uda_packet.specs.declared.reply.Reply.{Reply}
+use Rattle.uda_packet.specs.Guest.{reply_to_bad}
+use Rattle.uda_packet.specs.Reply.{basic_reply}
+use Rattle.uda_exec.specs.Disks.{ExecState}
 use Rattle.uda_port.specs.Packet.{TellsRoom, HasRoom}
 use Rattle.uda_port.specs.Report.{text_by}
 use Rattle.uda_port.specs.declared.guest.Guest.{Guest}
@@ -22,11 +27,19 @@ use Rattle.uda_port.specs.Startup.{has_bit, ring_base, response_count, command_c
 
 -- ---- texts
 
-strict_message : (p : Fetched) → message_in Strict p ≡ (if p.words.0 == 48 then message_of_text (read_command p.text) else Err (other_length_end p.text))
+strict_message : (p : Fetched) → message_in Strict p
+    ≡ (if p.words.0 == 48 then reply_to_bad (read_command p.text) else Err (basic_reply (other_length_end p.text)))
 strict_message p = refl
 
-strict_text : (guest : Guest) (units : Units) (e : End) → text_by Strict guest units e ≡ written_end e
+strict_text : (guest : Guest) (units : Units) (e : End) → text_by Strict guest units (basic_reply e) ≡ written_end e
 strict_text guest units e = refl
+
+-- no command is answered at once
+strict_replies : (r : Reply) (exec : ExecState) → replies_at_once Strict r exec ≡ r ∷ []
+strict_replies r exec = refl
+
+strict_exec : (r : Reply) (exec : ExecState) → exec_at_once Strict r exec ≡ exec
+strict_exec r exec = refl
 
 strict_room : (memory : List ℕ) (at n : ℕ) → HasRoom Strict memory at n ≡ TellsRoom memory at
 strict_room memory at n = refl

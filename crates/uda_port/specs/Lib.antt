@@ -5,6 +5,7 @@ pub mod Fetch
 pub mod Delivery
 pub mod Message
 pub mod Guest
+pub mod AtOnce
 pub mod Port
 pub mod IsPort
 pub mod Count

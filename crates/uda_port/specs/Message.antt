@@ -1,15 +1,16 @@
 -- What a command packet says.
 -- UDA50 Programmer's Documentation Kit: message envelopes; MSCP Basic Disk Functions Manual: invalid
 -- commands.
-use Rattle.std.specs.Prelude.{◌≡◌, ℕ, ◌-◌, ◌==◌, nat_le, nat_lt, Bool, List, replicate, Result, Ok, Err}
+use Rattle.std.specs.Prelude.{◌≡◌, ℕ, ◌-◌, ◌==◌, nat_le, nat_lt, Bool, List, replicate, Result, Err}
 use Rattle.std.specs.Prelude.{if◌then◌else◌}
 use Rattle.uda_mem.specs.Put.{put}
-use Rattle.uda_packet.specs.declared.bad.Bad.{Bad}
 use Rattle.uda_packet.specs.declared.command.Command.{Command}
-use Rattle.uda_packet.specs.declared.end.End.{End}
-use Rattle.uda_packet.specs.Bad.{bad_end, other_length_end}
+use Rattle.uda_packet.specs.declared.reply.Reply.{Reply}
+use Rattle.uda_packet.specs.Bad.{other_length_end}
 use Rattle.uda_packet.specs.Envelope.{envelope_of}
+use Rattle.uda_packet.specs.Guest.{read_guest, reply_to_bad}
 use Rattle.uda_packet.specs.Reading.{read_command}
+use Rattle.uda_packet.specs.Reply.{basic_reply}
 use Rattle.uda_port.specs.declared.packet.Fetched.{Fetched}
 use Rattle.uda_port.specs.declared.profile.Profile.{Profile}
 use Rattle.uda_port.specs.declared.profile.Profile.TheVariants.{Strict, ForGuests}
@@ -18,10 +19,6 @@ use Rattle.uda_port.specs.declared.profile.Profile.TheVariants.{Strict, ForGuest
 pub record IsSequential (p : Fetched) : Type 0 where
   pub kind : (envelope_of p.words.0 p.words.1).kind ≡ 0
   pub connection : (envelope_of p.words.0 p.words.1).connection ≡ 0
-
-abbrev pub message_of_text : Result Command Bad → Result Command End
-message_of_text (Ok c) = Ok c
-message_of_text (Err bad) = Err (bad_end bad)
 
 -- the text of a packet by its length word: of one that is shorter than 48 bytes the bytes behind its length
 -- count as 0, and a longer one is read as far as 48
@@ -40,9 +37,15 @@ abbrev pub is_length : Profile → ℕ → Bool
 is_length Strict n = n == 48
 is_length (ForGuests identity) n = nat_le 12 n
 
--- A command, or the end of what is none: a packet of a length that no command has, or a text that is no
--- command's.
-abbrev pub message_in : Profile → Fetched → Result Command End
+-- what a text asks: a guest has commands that are answered at once, and modifiers that are ignored
+abbrev pub text_asks : Profile → List ℕ → Result Command Reply
+text_asks Strict text = reply_to_bad (read_command text)
+text_asks (ForGuests identity) text = read_guest text
+
+-- A command to be executed, or an end message: that of a packet of a length that no command has, of a text that
+-- is no command's, or of a command that is answered at once.
+abbrev pub message_in : Profile → Fetched → Result Command Reply
 message_in profile p =
     let text = text_read profile p in
-    if is_length profile p.words.0 then message_of_text (read_command text) else Err (other_length_end text)
+    if is_length profile p.words.0 then text_asks profile text
+    else Err (basic_reply (other_length_end text))

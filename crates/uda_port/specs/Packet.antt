@@ -1,8 +1,12 @@
 -- Packets in host memory: a text, and its envelope in the four bytes below.
 -- UDA50 Programmer's Documentation Kit: message envelopes.
-use Rattle.std.specs.Prelude.{◌≡◌, ℕ, ◌+◌, ◌-◌, ◌%◌, ◌≤◌, List, length}
+use Rattle.std.specs.Prelude.{◌≡◌, ℕ, ◌+◌, ◌-◌, ◌%◌, ◌≤◌, List, length, Some}
 use Rattle.uda_mem.specs.Put.{put, part}
 use Rattle.uda_mem.specs.Words.{word_at, word_bytes}
+use Rattle.uda_packet.specs.declared.reply.Reply.{Reply}
+use Rattle.uda_packet.specs.Reading.{read_end}
+use Rattle.uda_packet.specs.Reply.{strict_end}
+use Rattle.uda_packet.specs.Written.{written_end}
 use Rattle.uda_port.specs.declared.packet.Fetched.{Fetched}
 use Rattle.uda_port.specs.declared.profile.Profile.{Profile}
 use Rattle.uda_port.specs.declared.profile.Profile.TheVariants.{Strict, ForGuests}
@@ -34,6 +38,10 @@ pub record TellsRoom (memory : List ℕ) (at : ℕ) : Type 0 where
 abbrev pub HasRoom : Profile → List ℕ → ℕ → ℕ → Type 0
 HasRoom Strict memory at n = TellsRoom memory at
 HasRoom (ForGuests identity) memory at n = HasText memory at n
+
+-- the text that a strict port writes is read as the end message
+abbrev pub IsLegible : Reply → Type 0
+IsLegible r = read_end (written_end (strict_end r)) ≡ Some (strict_end r)
 
 -- a text is written, and then the envelope below it: its length, and these credits for a sequential message
 -- of MSCP

@@ -2,7 +2,7 @@
 -- UDA50 Programmer's Documentation Kit: port registers, initialisation, credits.
 use Rattle.std.specs.Prelude.{◌≡◌, ℕ, ◌+◌, ◌-◌, ◌*◌, ◌≤◌, min, Bool, true, false, ◌&&◌, List, [], length, map}
 use Rattle.std.specs.Prelude.{Option, None, Some, ◌||◌, option_map, slice_get, set}
-use Rattle.uda_packet.specs.declared.end.End.{End}
+use Rattle.uda_packet.specs.declared.reply.Reply.{Reply}
 use Rattle.uda_exec.specs.Disks.{ExecState, PENDING_LIMIT}
 use Rattle.uda_packet.specs.declared.drive_type.DriveType.{DriveType}
 use Rattle.uda_packet.specs.DriveTypes.{drive_traits}
@@ -26,7 +26,7 @@ pub record PortState : Type 0 where
   pub exec : ExecState
   pub responses : RingState
   pub commands : RingState
-  pub waiting : List End
+  pub waiting : List Reply
   pub looking : Bool
   pub credits : ℕ
   pub interrupts : Interrupts

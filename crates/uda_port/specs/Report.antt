@@ -1,12 +1,12 @@
 -- The texts of the end messages that a port delivers.
 -- MSCP Basic Disk Functions Manual: end messages.
 use Rattle.std.specs.Prelude.{ℕ, List, take, Option, Some, None, option_map, slice_get}
-use Rattle.uda_packet.specs.declared.end.End.{End}
+use Rattle.uda_packet.specs.declared.reply.Reply.{Reply}
 use Rattle.uda_packet.specs.declared.guest_end.Identity.{Identity}
 use Rattle.uda_packet.specs.declared.guest_end.Report.{Report}
 use Rattle.uda_packet.specs.declared.guest_end.UnitReport.{UnitReport}
 use Rattle.uda_packet.specs.GuestEnd.{written_guest_end, written_unit_available, unit_number}
-use Rattle.uda_packet.specs.Opcode.{end_length}
+use Rattle.uda_packet.specs.Reply.{reply_length, strict_end}
 use Rattle.uda_packet.specs.Written.{written_end}
 use Rattle.uda_disk.specs.Units.{Units}
 use Rattle.uda_exec.specs.Drives.{look_at}
@@ -31,10 +31,10 @@ report_of identity guest units drive = record {
 
 -- the text of an end message as it is delivered: in the strict profile always 48 bytes, to a guest those of its
 -- kind, which report the controller and the unit as they are then
-abbrev pub text_by : Profile → Guest → Units → End → List ℕ
-text_by Strict guest units e = written_end e
+abbrev pub text_by : Profile → Guest → Units → Reply → List ℕ
+text_by Strict guest units e = written_end (strict_end e)
 text_by (ForGuests identity) guest units e =
-    take (end_length e.body) (written_guest_end (report_of identity guest units e.unit) e)
+    take (reply_length e.body) (written_guest_end (report_of identity guest units e.unit) e)
 
 -- the message that a unit has become available, of which an attention message has 32 bytes
 abbrev pub available_text : Identity → ℕ → UnitReport → List ℕ
@@ -51,14 +51,14 @@ attention_by Strict guest units = None
 attention_by (ForGuests identity) guest units =
     attention_of identity guest units (first_due guest.attentions)
 
-abbrev pub end_text : PortState → End → List ℕ
+abbrev pub end_text : PortState → Reply → List ℕ
 end_text port e = text_by port.profile port.guest port.exec.units e
 
 abbrev pub attention_text : PortState → Option (List ℕ)
 attention_text port = attention_by port.profile port.guest port.exec.units
 
 -- the text that is delivered next: that of the first end message that waits, or else an attention message's
-abbrev pub next_by : Option End → Profile → Guest → Units → Option (List ℕ)
+abbrev pub next_by : Option Reply → Profile → Guest → Units → Option (List ℕ)
 next_by (Some e) profile guest units = Some (text_by profile guest units e)
 next_by None profile guest units = attention_by profile guest units
 

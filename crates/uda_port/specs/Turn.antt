@@ -4,8 +4,8 @@ use Rattle.std.specs.Prelude.{◌≡◌, ℕ, ◌+◌, ◌-◌, ◌<◌, Bool, t
 use Rattle.std.specs.Prelude.{Some, Result, Ok, Err}
 use Rattle.uda_packet.specs.declared.command.Command.{Command}
 use Rattle.uda_packet.specs.declared.end.End.{End}
-use Rattle.uda_packet.specs.Reading.{read_end}
-use Rattle.uda_packet.specs.Written.{written_end}
+use Rattle.uda_packet.specs.declared.reply.Reply.{Reply}
+use Rattle.uda_packet.specs.Reply.{basic_reply}
 use Rattle.uda_exec.specs.Execution.{ExecutesAt}
 use Rattle.uda_port.specs.declared.packet.Fetched.{Fetched}
 use Rattle.uda_port.specs.declared.phase.Phase.{Phase}
@@ -21,6 +21,8 @@ use Rattle.uda_port.specs.Fetch.{Takes, TakesFirst, FindsNone, LosesRing, LosesP
 use Rattle.uda_port.specs.declared.packet.Delivery.{Delivery}
 use Rattle.uda_port.specs.Report.{end_text, attention_text, next_text}
 use Rattle.uda_port.specs.Guest.{guest_after, attention_set, first_due}
+use Rattle.uda_port.specs.Packet.{IsLegible}
+use Rattle.uda_port.specs.AtOnce.{replies_at_once, exec_at_once}
 use Rattle.uda_port.specs.Delivery.{Puts, LosesRoom}
 use Rattle.uda_port.specs.Message.{IsSequential, message_in}
 use Rattle.uda_port.specs.Port.{PortState, next_grant, commands_told, responses_told, interrupts_told}
@@ -41,10 +43,14 @@ pub record Unchanged (old : PortState) (memory : List ℕ) (new : PortState)
 
 -- ---- the first line: a command is fetched
 
--- a command goes last among those pending; the end of what is none, last among those that wait
-abbrev pub port_with_message : PortState → Result Command End → PortState
+-- a command goes last among those pending; the end message of what is none, last among those that wait; a
+-- command that is answered at once is done first
+abbrev pub port_with_message : PortState → Result Command Reply → PortState
 port_with_message old (Ok c) = record old { exec = record old.exec { pending = old.exec.pending ++ c ∷ [] } }
-port_with_message old (Err e) = record old { waiting = old.waiting ++ e ∷ [] }
+port_with_message old (Err r) = record old {
+  exec = exec_at_once old.profile r old.exec;
+  waiting = old.waiting ++ replies_at_once old.profile r old.exec;
+}
 
 pub record FetchesOne (old : PortState) (memory : List ℕ) (new : PortState)
     (memory_after : List ℕ) : Type 0 where
@@ -124,7 +130,7 @@ pub record ExecutesOne (j : ℕ) (old : PortState) (memory : List ℕ) (new : Po
   pub others : new
       ≡ record old {
         exec = new.exec;
-        waiting = old.waiting ++ end ∷ [];
+        waiting = old.waiting ++ basic_reply end ∷ [];
         load = old.load + length old.exec.pending;
         guest = guest_after end old.guest;
       }
@@ -146,11 +152,11 @@ delivery_of port memory = record {
 
 pub record DeliversOne (old : PortState) (memory : List ℕ) (new : PortState)
     (memory_after : List ℕ) : Type 0 where
-  pub end : End
+  pub end : Reply
   pub first : old.waiting ≡ end ∷ new.waiting
   pub puts :
       Puts (delivery_of old memory) old.responses memory (end_text old end) new.responses memory_after
-  pub legible : old.profile ≡ Strict → read_end (written_end end) ≡ Some end
+  pub legible : old.profile ≡ Strict → IsLegible end
   pub others : new ≡ record old {
     responses = new.responses;
     waiting = new.waiting;

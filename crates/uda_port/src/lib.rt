@@ -4,6 +4,7 @@
 #![tactic(auto)]
 
 mod area;
+mod at_once;
 mod descriptor;
 mod drives;
 mod guest;

@@ -3,17 +3,18 @@
 //! UDA50 Programmer's Documentation Kit: message envelopes.
 ghost use Rattle.std.specs.Prelude.{◌≡◌, MatchOption, length};
 ghost use Rattle.uda_port.specs.Message.{IsSequential, is_length, message_in, text_by_length, text_read};
+ghost use Rattle.uda_port.specs.Message.{text_asks};
 
 use crate::packet::{Fetched, TEXT};
 use crate::profile::Profile;
-use uda_packet::{Command, End, Envelope, decode_command};
+use uda_packet::{Command, End, Envelope, Reply, decode_command, decode_for_guests};
 
 /// The bytes that a command has as far as its opcode and modifiers go.
 const HEAD: u16 = 12;
 
-/// The command of a packet, or the end of what is none. None where the envelope is of another
-/// connection or message type.
-pub(crate) fn message_in(profile: Profile, packet: &Fetched) -> Option<Result<Command, End>>
+/// The command of a packet, or the end message of what is none or is answered at once. None where the envelope
+/// is of another connection or message type.
+pub(crate) fn message_in(profile: Profile, packet: &Fetched) -> Option<Result<Command, Reply>>
     ensures { MatchOption result (IsSequential packet.now → ⊥)
         (λ message. IsSequential packet.now × (message ≡ message_in profile packet.now)) }
 {
@@ -25,14 +26,24 @@ pub(crate) fn message_in(profile: Profile, packet: &Fetched) -> Option<Result<Co
 }
 
 // A packet's message.
-fn message_of(profile: Profile, packet: &Fetched) -> Result<Command, End>
+fn message_of(profile: Profile, packet: &Fetched) -> Result<Command, Reply>
     ensures { result ≡ message_in profile packet.now }
 {
     let text = text_read(profile, packet);
     if !is_length(profile, packet.words.0) {
-        return Err(End::of_other_length(&text));
+        return Err(Reply::basic(End::of_other_length(&text)));
     }
-    decode_command(&text).map_err(|bad| bad.end())
+    text_asks(profile, &text)
+}
+
+// What a text asks.
+fn text_asks(profile: Profile, text: &[u8; 48]) -> Result<Command, Reply>
+    ensures { result ≡ text_asks profile text.now }
+{
+    match profile {
+        Profile::Strict => decode_command(text).map_err(|bad| Reply::basic(bad.end())),
+        Profile::ForGuests(_) => decode_for_guests(text),
+    }
 }
 
 // Whether a command may have so many bytes: strictly each has 48.

@@ -20,7 +20,7 @@ use std::fmt;
 use std::marker::Model;
 use uda_exec::{Exec, PENDING};
 use uda_image::BlockStore;
-use uda_packet::{Bus, End, Identity};
+use uda_packet::{Bus, Identity, Reply};
 
 // The controller whose kind nobody has chosen.
 const USUAL_IDENTITY: Identity = Identity {
@@ -51,7 +51,7 @@ pub struct Port<S: BlockStore> {
     pub(crate) responses: Ring,
     pub(crate) commands: Ring,
     // The ends that wait for delivery, the next one first.
-    pub(crate) waiting: HeapCircularBuffer<End>,
+    pub(crate) waiting: HeapCircularBuffer<Reply>,
     // Whether the port looks at its command ring.
     pub(crate) looking: bool,
     // The credits that the host has.

@@ -8,7 +8,7 @@ ghost use Rattle.circular_buffer.specs.Buffer.{last_item};
 ghost use Rattle.uda_port.specs.declared.phase.Phase.TheVariants.{Dead as DeadPhase};
 ghost use Rattle.uda_port.specs.Port.{CreditsAgree};
 ghost use Rattle.uda_port.specs.Turn.{TurnGoes};
-ghost use Rattle.uda_port.specs.Trace.{turn_of, Traces, IsDead, trace_display};
+ghost use Rattle.uda_port.specs.Trace.{turn_of, Traces, IsDead, trace_display, reply_trace};
 
 use crate::phase::{Fatal, Phase};
 use crate::port::Port;
@@ -17,7 +17,7 @@ use circular_buffer::HeapCircularBuffer;
 use std::fmt;
 use uda_image::BlockStore;
 use uda_mem::HostMemory;
-use uda_packet::{Command, End, EndBody};
+use uda_packet::{Command, EndBody, Reply, ReplyBody};
 
 /// What a turn did: a [`Turn`] with the command or the end message that it was about.
 #[derive(Clone, Copy, Debug, PartialEq, Eq)]
@@ -25,11 +25,15 @@ pub enum Trace {
     /// This command was fetched, and is pending.
     Fetched(Command),
     /// A packet was fetched that is no command, and this end waits.
-    Refused(End),
+    Refused(Reply),
+    /// A command was fetched that is answered at once, and this end waits.
+    Answered(Reply),
+    /// An Abort was fetched that took a pending command out. The end of that command waits, and then this one.
+    Aborted(Reply),
     /// A pending command was executed, and this end waits.
-    Executed(End),
+    Executed(Reply),
     /// This end was delivered to the response ring.
-    Delivered(End),
+    Delivered(Reply),
     /// An attention message was delivered to the response ring.
     Notified,
     /// Nothing, as with [`Turn::Idle`].
@@ -45,6 +49,7 @@ impl Trace {
     {
         match self {
             Trace::Fetched(_) | Trace::Refused(_) => Turn::Fetched,
+            Trace::Answered(_) | Trace::Aborted(_) => Turn::Fetched,
             Trace::Executed(_) => Turn::Executed,
             Trace::Delivered(_) => Turn::Delivered,
             Trace::Notified => Turn::Notified,
@@ -56,7 +61,8 @@ impl Trace {
 
 /// A line of a trace: `fetched 3 Read unit 0 lbn 9 bytes 512`,
 /// `executed 3 Read unit 0 status 0x0000 bytes 512`, `delivered 4 Online unit 0 status 0x0000`,
-/// `refused 0 invalid command unit 0 status 0x0001`, `idle` or `dead of code 10`.
+/// `refused 0 invalid command unit 0 status 0x0001`, `answered 5 Flush unit 0 status 0x0000`,
+/// `aborted 6 Abort unit 0 status 0x0000`, `idle` or `dead of code 10`.
 impl fmt::Display for Trace {
     ghost output = { λ trace. Some (trace_display trace) };
 
@@ -64,6 +70,8 @@ impl fmt::Display for Trace {
         match *self {
             Trace::Fetched(command) => write!(f, "fetched {command}"),
             Trace::Refused(end) => write!(f, "refused {}", EndLine(end)),
+            Trace::Answered(end) => write!(f, "answered {}", EndLine(end)),
+            Trace::Aborted(end) => write!(f, "aborted {}", EndLine(end)),
             Trace::Executed(end) => write!(f, "executed {}", EndLine(end)),
             Trace::Delivered(end) => write!(f, "delivered {}", EndLine(end)),
             Trace::Notified => f.write_str("notified"),
@@ -78,7 +86,7 @@ impl fmt::Display for Trace {
 
 // An end message as a line of a trace has it.
 #[derive(Drop)]
-struct EndLine(End);
+struct EndLine(Reply);
 
 impl fmt::Display for EndLine {
     ghost use Rattle.uda_port.specs.Trace.{end_line};
@@ -86,7 +94,7 @@ impl fmt::Display for EndLine {
     ghost output = { λ line. Some (end_line line.0) };
 
     fn fmt<W: fmt::Write>(&self, f: &mut fmt::Formatter<W>) -> fmt::Result {
-        let End {
+        let Reply {
             reference,
             unit,
             status,
@@ -94,7 +102,7 @@ impl fmt::Display for EndLine {
         } = self.0;
         let name = body.name();
         match body {
-            EndBody::Moved { bytes, .. } => write!(
+            ReplyBody::Basic(EndBody::Moved { bytes, .. }) => write!(
                 f,
                 "{reference} {name} unit {unit} status 0x{status:04x} bytes {bytes}"
             ),
@@ -125,12 +133,13 @@ impl<S: BlockStore> Port<S> {
         ensures four { length self.new.exec.units ≡ 4 }
         ensures images { AreImages self.new.exec.units }
     {
-        let (pending, first) = (self.exec.pending(), self.waiting.front().copied());
-        match self.turn_in(memory) {
-            Turn::Fetched if self.exec.pending() > pending => {
-                Trace::Fetched(self.exec.newest().unwrap())
-            }
-            Turn::Fetched => Trace::Refused(newest(&self.waiting)),
+        let (before, first) = (self.exec.pending(), self.waiting.front().copied());
+        let turn = self.turn_in(memory);
+        let after = self.exec.pending();
+        match turn {
+            Turn::Fetched if after > before => Trace::Fetched(self.exec.newest().unwrap()),
+            Turn::Fetched if after < before => Trace::Aborted(newest(&self.waiting)),
+            Turn::Fetched => reply_trace(newest(&self.waiting)),
             Turn::Executed => Trace::Executed(newest(&self.waiting)),
             Turn::Delivered => Trace::Delivered(first.unwrap()),
             Turn::Notified => Trace::Notified,
@@ -140,8 +149,22 @@ impl<S: BlockStore> Port<S> {
     }
 }
 
+// The trace of a fetch whose end message waits.
+fn reply_trace(reply: Reply) -> Trace
+    ensures trace { result ≡ reply_trace reply.body reply }
+{
+    match reply.body {
+        ReplyBody::Basic(_) => Trace::Refused(reply),
+        ReplyBody::Abort { .. } => Trace::Answered(reply),
+        ReplyBody::CommandStatus { .. } => Trace::Answered(reply),
+        ReplyBody::AccessPaths => Trace::Answered(reply),
+        ReplyBody::CompareController => Trace::Answered(reply),
+        ReplyBody::Flush => Trace::Answered(reply),
+    }
+}
+
 // The end that waits last.
-fn newest(waiting: &HeapCircularBuffer<End>) -> End
+fn newest(waiting: &HeapCircularBuffer<Reply>) -> Reply
     requires some { 0 < length waiting.now.items }
     ensures newest { last_item waiting.now.items ≡ Some result }
 {

@@ -13,10 +13,10 @@ ghost use Rattle.uda_port.specs.Turn.{TurnGoes, delivery_of};
 ghost use Rattle.uda_port.specs.Report.{end_text, report_of, attention_text};
 ghost use Rattle.uda_port.specs.Guest.{first_due};
 ghost use Rattle.uda_port.specs.declared.profile.Profile.TheVariants.{Strict};
+ghost use Rattle.uda_port.specs.Packet.{IsLegible};
 ghost use Rattle.uda_port.specs.Delivery.{PutGoes};
-ghost use Rattle.uda_packet.specs.Reading.{read_end};
-ghost use Rattle.uda_packet.specs.Written.{written_end};
 
+use crate::at_once::answer_at_once;
 use crate::message::message_in;
 use crate::packet::{Delivery, Message, Notice, TEXT};
 use crate::phase::{Fatal, Phase};
@@ -28,7 +28,7 @@ use uda_exec::PENDING;
 use uda_image::BlockStore;
 use uda_mem::HostMemory;
 use uda_packet::{
-    ATTENTION_LENGTH, End, Identity, Report, encode_end, encode_guest_end, encode_unit_available,
+    ATTENTION_LENGTH, Identity, Reply, Report, encode_end, encode_guest_end, encode_unit_available,
 };
 
 /// The credits that a host has once the first end since start-up is delivered: as many commands as it may
@@ -212,7 +212,9 @@ impl<S: BlockStore> Port<S> {
         self.fetches.add(1);
         match message {
             Ok(command) => self.exec.accept(command),
-            Err(end) => hold(&mut self.waiting, end),
+            Err(reply) => {
+                answer_at_once(self.profile, &mut self.exec, &mut self.waiting, reply);
+            }
         }
         Ok(true)
     }
@@ -231,12 +233,12 @@ impl<S: BlockStore> Port<S> {
         };
         self.load.add(pending);
         self.guest.note_end(&end);
-        hold(&mut self.waiting, end);
+        hold(&mut self.waiting, Reply::basic(end));
         true
     }
 
     // The third line: delivers the first end that waits, where the response ring takes it.
-    fn deliver(&mut self, memory: &mut [u8], end: End) -> Result<bool, Fatal>
+    fn deliver(&mut self, memory: &mut [u8], end: Reply) -> Result<bool, Fatal>
         requires memory { IsMemory memory.old }
         requires first { slice_get self.old.waiting 0 ≡ Some end }
         ensures { DeliverLine self.old memory.old result self.new memory.new }
@@ -304,15 +306,15 @@ impl<S: BlockStore> Port<S> {
     }
 
     // The text of an end message, in as many bytes as the profile gives it.
-    fn end_text(&self, end: &End) -> Message
+    fn end_text(&self, end: &Reply) -> Message
         ensures text { take result.size result.text ≡ end_text self.now end.now }
         ensures within { result.size ≤ 48 }
         ensures whole { self.now.profile ≡ Strict → result.size ≡ 48 }
-        ensures legible { self.now.profile ≡ Strict → read_end (written_end end.now) ≡ Some end.now }
+        ensures legible { self.now.profile ≡ Strict → IsLegible end.now }
     {
         match self.profile {
             Profile::Strict => Message {
-                text: encode_end(end),
+                text: encode_end(&end.strict_end()),
                 size: TEXT,
             },
             Profile::ForGuests(identity) => Message {
@@ -410,7 +412,7 @@ fn put_message(
 }
 
 // Puts an end last.
-fn hold(waiting: &mut HeapCircularBuffer<End>, end: End)
+pub(crate) fn hold(waiting: &mut HeapCircularBuffer<Reply>, end: Reply)
     requires room { length waiting.old.items < waiting.old.capacity }
     ensures last { waiting.new ≡ buffer (waiting.old.items ++ end ∷ []) waiting.old.capacity }
     ensures longer { length waiting.new.items ≡ length waiting.old.items + 1 }
@@ -420,7 +422,7 @@ fn hold(waiting: &mut HeapCircularBuffer<End>, end: End)
 }
 
 // Takes the first end out.
-fn release(waiting: &mut HeapCircularBuffer<End>, end: End)
+fn release(waiting: &mut HeapCircularBuffer<Reply>, end: Reply)
     requires first { slice_get waiting.old.items 0 ≡ Some end }
     ensures items { waiting.old.items ≡ end ∷ waiting.new.items }
     ensures capacity { waiting.new.capacity ≡ waiting.old.capacity }

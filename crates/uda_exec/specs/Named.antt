@@ -1,0 +1,38 @@
+-- Pending commands by their unit and reference.
+-- MSCP Basic Disk Functions Manual: Abort, Get Command Status.
+use Rattle.std.specs.Prelude.{ℕ, Bool, ◌&&◌, nat_eq, List, ◌++◌, Option, find}
+use Rattle.std.specs.List.{before_first, after_first}
+use Rattle.std.specs.Option.{option_map_or}
+use Rattle.uda_packet.specs.declared.command.Command.{Command}
+use Rattle.uda_packet.specs.declared.end.End.{End}
+use Rattle.uda_disk.specs.Status.{ABORTED}
+use Rattle.uda_exec.specs.Disks.{ExecState}
+use Rattle.uda_exec.specs.Commands.{bytes_asked, is_transfer}
+use Rattle.uda_exec.specs.Effect.{plain_body, reply}
+
+-- a command is for this unit and has this reference
+abbrev pub is_named : ℕ → ℕ → Command → Bool
+is_named drive number c = nat_eq c.unit drive && nat_eq c.reference number
+
+-- the oldest such command of those that are pending
+abbrev pub oldest_named : ℕ → ℕ → List Command → Option Command
+oldest_named drive number pending = find (is_named drive number) pending
+
+-- the executor without that command
+abbrev pub taken_out : ℕ → ℕ → ExecState → ExecState
+taken_out drive number exec = record exec {
+  pending = before_first (is_named drive number) exec.pending ++ after_first (is_named drive number) exec.pending;
+}
+
+-- MSCP: Abort. The end message of a command that was taken out: all its numbers are 0
+abbrev pub aborted : Command → End
+aborted c = reply c ABORTED (plain_body c.op 0)
+
+-- such a command that is a transfer
+abbrev pub is_named_transfer : ℕ → ℕ → Command → Bool
+is_named_transfer drive number c = is_named drive number c && is_transfer c.op
+
+-- MSCP: Get Command Status. The byte count of the oldest such transfer, and 0 if there is none
+abbrev pub progress_of : ℕ → ℕ → List Command → ℕ
+progress_of drive number pending =
+    option_map_or (λ c. bytes_asked c.op) (find (is_named_transfer drive number) pending) 0

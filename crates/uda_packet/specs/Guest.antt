@@ -1,0 +1,85 @@
+-- What the text of a guest's command asks: any command of basic MSCP, whatever its modifiers.
+-- MSCP Basic Disk Functions Manual: command messages, opcodes, command modifiers.
+use Rattle.std.specs.Prelude.{ℕ, ◌==◌, nat_lt, ◌&&◌, Bool, List, Option, Some, None, Result, Ok, Err}
+use Rattle.std.specs.Prelude.{if◌then◌else◌}
+use Rattle.std.specs.Int.RustNames.{bit_and}
+use Rattle.uda_packet.specs.declared.bad.Bad.{Bad}
+use Rattle.uda_packet.specs.declared.command.Command.{Command}
+use Rattle.uda_packet.specs.declared.reply.Reply.{Reply}
+use Rattle.uda_packet.specs.declared.reply.ReplyBody.{ReplyBody}
+use Rattle.uda_packet.specs.declared.reply.ReplyBody.TheVariants.{Abort, CommandStatus, AccessPaths}
+use Rattle.uda_packet.specs.declared.reply.ReplyBody.TheVariants.{CompareController, Flush}
+use Rattle.uda_packet.specs.declared.command.Op.{Op}
+use Rattle.uda_packet.specs.declared.command.Op.TheVariants as op
+use Rattle.uda_packet.specs.Field.{number_in, with_number, reference_field, unit_field, code_field}
+use Rattle.uda_packet.specs.Field.{modifiers_field, named_field}
+use Rattle.uda_packet.specs.Flags.{next_unit}
+use Rattle.uda_packet.specs.Opcode.{opcode_of, allowed_modifiers, op_named}
+use Rattle.uda_packet.specs.Bad.{bad_end}
+use Rattle.uda_packet.specs.Reading.{read_command}
+use Rattle.uda_packet.specs.Reply.{basic_reply}
+use Rattle.uda_disk.specs.Status.{SUCCESS}
+
+-- ---- commands that are answered when they are fetched
+
+-- the body of the answer, which the text alone gives; the progress that a Get Command Status asks for is not
+-- known yet
+abbrev pub body_at_once : ℕ → List ℕ → Option ReplyBody
+body_at_once code bytes =
+    if code == 1 then Some (Abort (number_in named_field bytes))
+    else if code == 2 then Some (CommandStatus (number_in named_field bytes) 0)
+    else if code == 11 then Some AccessPaths
+    else if code == 17 then Some CompareController
+    else if code == 19 then Some Flush
+    else None
+
+-- ---- other commands, as the strict profile reads them
+
+-- "Get Unit Status with next unit": the lowest of units 0 to 3 that isn't below the unit asked for, and unit
+-- 0 if there is none
+abbrev pub next_from : ℕ → ℕ
+next_from asked = if nat_lt asked 4 then asked else 0
+
+abbrev pub asks_next : List ℕ → Bool
+asks_next bytes =
+    (number_in code_field bytes == opcode_of op.Status)
+    && (bit_and (number_in modifiers_field bytes) next_unit == next_unit)
+
+-- the unit that the command is for
+abbrev pub unit_meant : List ℕ → ℕ
+unit_meant bytes =
+    if asks_next bytes then next_from (number_in unit_field bytes) else number_in unit_field bytes
+
+abbrev allowed_by : Option Op → ℕ
+allowed_by None = 0
+allowed_by (Some o) = allowed_modifiers o
+
+-- the modifiers that have a meaning for the command
+abbrev pub modifiers_meant : List ℕ → ℕ
+modifiers_meant bytes =
+    bit_and (number_in modifiers_field bytes) (allowed_by (op_named (number_in code_field bytes) bytes))
+
+-- the text with that unit and those modifiers
+abbrev pub plain_text : List ℕ → List ℕ
+plain_text bytes =
+    with_number modifiers_field (modifiers_meant bytes) (with_number unit_field (unit_meant bytes) bytes)
+
+-- ---- what is asked
+
+abbrev pub reply_to_bad : Result Command Bad → Result Command Reply
+reply_to_bad (Ok c) = Ok c
+reply_to_bad (Err bad) = Err (basic_reply (bad_end bad))
+
+abbrev pub asked_by : List ℕ → Option ReplyBody → Result Command Reply
+asked_by bytes (Some answer) =
+    Err (record {
+      reference = number_in reference_field bytes;
+      unit = number_in unit_field bytes;
+      status = SUCCESS;
+      body = answer;
+    })
+asked_by bytes None = reply_to_bad (read_command (plain_text bytes))
+
+-- a command to be executed, or the end message of one that is answered at once or is invalid
+abbrev pub read_guest : List ℕ → Result Command Reply
+read_guest bytes = asked_by bytes (body_at_once (number_in code_field bytes) bytes)

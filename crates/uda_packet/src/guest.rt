@@ -1,0 +1,117 @@
+//! Texts of guests' commands: any command of basic MSCP, whatever its modifiers.
+//!
+//! MSCP Basic Disk Functions Manual: command messages, opcodes, command modifiers.
+
+ghost use Rattle.std.specs.Prelude.{◌≡◌};
+ghost use Rattle.uda_packet.specs.Guest.{body_at_once, next_from, asks_next, unit_meant, modifiers_meant};
+ghost use Rattle.uda_packet.specs.Guest.{plain_text, read_guest};
+ghost use Rattle.uda_packet.specs.Field.{number_in, code_field};
+
+use crate::command::{Command, Op};
+use crate::decoding::decode_command;
+use crate::field::{MODIFIERS, NAMED, REFERENCE, Text, UNIT, code_in};
+use crate::reply::{Reply, ReplyBody};
+use crate::status;
+
+// The opcode of Get Unit Status.
+const GET_UNIT_STATUS: u8 = 3;
+
+// The modifier "next unit" of Get Unit Status.
+const NEXT_UNIT: u16 = 0x0001;
+
+// The units of a controller.
+const UNITS: u16 = 4;
+
+/// Returns the command that a guest's text asks for, if it is to be executed.
+///
+/// Modifiers that have no meaning for the command are ignored. A Get Unit Status with the modifier
+/// 0x0001, *next unit*, is for the lowest of units 0 to 3 that isn't below the unit of the
+/// text, and for unit 0 if there is none.
+///
+/// # Errors
+///
+/// The end message of an Abort, a Get Command Status, a Determine Access Paths, a Compare Controller Data or a
+/// Flush, with status 0. The text doesn't tell the progress of a command, so it is 0 in that of a Get Command
+/// Status. For an invalid command, the end message of [`Bad::end`](crate::Bad::end).
+///
+/// MSCP Basic Disk Functions Manual: command messages, command modifiers.
+pub fn decode_for_guests(text: &[u8; 48]) -> Result<Command, Reply>
+    ensures asked { result ≡ read_guest text.now }
+{
+    match body_at_once(text) {
+        None => decode_command(&plain_text(text)).map_err(|bad| Reply::basic(bad.end())),
+        Some(body) => Err(Reply {
+            reference: REFERENCE.get(text),
+            unit: UNIT.get(text),
+            status: status::SUCCESS,
+            body,
+        }),
+    }
+}
+
+// Returns the body of the answer, if the command is answered when it is fetched.
+fn body_at_once(text: &Text) -> Option<ReplyBody>
+    ensures { result ≡ body_at_once (number_in code_field text.now) text.now }
+{
+    match code_in(text) {
+        1 => Some(ReplyBody::Abort {
+            named: NAMED.get(text),
+        }),
+        2 => Some(ReplyBody::CommandStatus {
+            named: NAMED.get(text),
+            progress: 0,
+        }),
+        11 => Some(ReplyBody::AccessPaths),
+        17 => Some(ReplyBody::CompareController),
+        19 => Some(ReplyBody::Flush),
+        _ => None,
+    }
+}
+
+// Returns the text with the unit that it is for and the modifiers that have a meaning.
+fn plain_text(text: &Text) -> Text
+    ensures { result ≡ plain_text text.now }
+{
+    let (unit, modifiers) = (unit_meant(text), modifiers_meant(text));
+    let mut plain = *text;
+    UNIT.put(&mut plain, unit);
+    MODIFIERS.put(&mut plain, modifiers);
+    plain
+}
+
+// Returns the unit that a command is for.
+fn unit_meant(text: &Text) -> u16
+    ensures { result ≡ unit_meant text.now }
+{
+    let asked = UNIT.get(text);
+    if asks_next(text) {
+        next_from(asked)
+    } else {
+        asked
+    }
+}
+
+// Whether a Get Unit Status asks for the next unit.
+fn asks_next(text: &Text) -> bool
+    ensures { result ≡ asks_next text.now }
+{
+    let modifiers = MODIFIERS.get(text);
+    code_in(text) == GET_UNIT_STATUS && modifiers & NEXT_UNIT == NEXT_UNIT
+}
+
+// Returns the lowest unit that isn't below the one asked for, and unit 0 if there is none.
+fn next_from(asked: u16) -> u16
+    ensures { result ≡ next_from asked }
+{
+    if asked < UNITS { asked } else { 0 }
+}
+
+// Returns the modifiers that have a meaning for the command.
+fn modifiers_meant(text: &Text) -> u16
+    ensures { result ≡ modifiers_meant text.now }
+{
+    match Op::of_code(code_in(text), text) {
+        None => 0,
+        Some(op) => MODIFIERS.get(text) & op.row().modifiers,
+    }
+}

@@ -1,0 +1,218 @@
+//! End messages of the profile for guests.
+//!
+//! MSCP Basic Disk Functions Manual: end messages; Abort, Get Command Status, Determine Access Paths, Compare
+//! Controller Data, Flush.
+
+ghost use Rattle.std.specs.Prelude.{◌≡◌, ◌<◌, ◌≤◌, Some, length};
+ghost use Rattle.uda_packet.specs.Field.{with_entries};
+ghost use Rattle.uda_packet.specs.Reply.{basic_reply, strict_end, basic_body, reply_row, reply_code};
+ghost use Rattle.uda_packet.specs.Reply.{reply_length, reply_name, reply_entries, reply_named, ReplyFits};
+ghost use Rattle.uda_packet.specs.Reply.{read_reply, written_reply};
+
+use crate::encoding::head;
+use crate::end::{BodyRow, END_CODE, End, EndBody};
+use crate::field::{NAMED, PROGRESS, REFERENCE, STATUS, Text, UNIT, code_in};
+
+/// An end message of the profile for guests. This profile has commands that the strict one doesn't know.
+///
+/// MSCP Basic Disk Functions Manual: end messages.
+#[derive(Clone, Copy, PartialEq, Eq, Debug)]
+pub struct Reply {
+    /// The reference number of the command.
+    pub reference: u32,
+    /// The unit number of the command.
+    pub unit: u16,
+    /// The status word: the major status in bits 4-0, the subcode above.
+    pub status: u16,
+    /// Which command ended, with what it answers.
+    pub body: ReplyBody,
+}
+
+impl Reply {
+    /// Returns an end message of the strict profile, as the profile for guests has it.
+    pub fn basic(end: End) -> Reply
+        ensures reply { result ≡ basic_reply end }
+    {
+        Reply {
+            reference: end.reference,
+            unit: end.unit,
+            status: end.status,
+            body: ReplyBody::Basic(end.body),
+        }
+    }
+
+    /// Returns the end message that a strict port sends: this one if the strict profile knows it, and otherwise
+    /// that of an invalid command.
+    pub fn strict_end(&self) -> End
+        ensures end { result ≡ strict_end self.now }
+    {
+        End {
+            reference: self.reference,
+            unit: self.unit,
+            status: self.status,
+            body: self.body.basic(),
+        }
+    }
+}
+
+/// Which command an end message of the profile for guests ends, with what it answers.
+///
+/// MSCP Basic Disk Functions Manual: end messages.
+#[derive(Clone, Copy, PartialEq, Eq, Debug)]
+pub enum ReplyBody {
+    /// A command that the strict profile knows, or an invalid command.
+    Basic(EndBody),
+    /// Abort.
+    Abort {
+        /// The reference of the command to abort.
+        named: u32,
+    },
+    /// Get Command Status.
+    CommandStatus {
+        /// The reference of the command that is asked about.
+        named: u32,
+        /// The byte count of that command, if it is a pending transfer; otherwise 0.
+        progress: u32,
+    },
+    /// Determine Access Paths.
+    AccessPaths,
+    /// Compare Controller Data.
+    CompareController,
+    /// Flush.
+    Flush,
+}
+
+impl ReplyBody {
+    /// Returns the end code: the opcode of the command with bit 7 set, and only that bit for an invalid command.
+    ///
+    /// MSCP Basic Disk Functions Manual: end codes.
+    pub fn code(self) -> u8
+        ensures code { result ≡ reply_code self }
+    {
+        END_CODE + self.row().opcode
+    }
+
+    /// Returns how many bytes the manual gives such an end message.
+    ///
+    /// MSCP Basic Disk Functions Manual: end messages.
+    pub fn length(self) -> u16
+        ensures length { result ≡ reply_length self }
+        ensures within { result ≤ 48 }
+    {
+        self.row().length
+    }
+
+    /// Returns what the command is called, and `invalid command` if it was none.
+    pub fn name(self) -> &'static str
+        ensures name { result.now ≡ reply_name self }
+    {
+        self.row().name
+    }
+
+    // Returns the body that a strict port sends.
+    fn basic(self) -> EndBody
+        ensures { result ≡ basic_body self }
+    {
+        match self {
+            ReplyBody::Basic(body) => body,
+            ReplyBody::Abort { .. } => EndBody::Invalid,
+            ReplyBody::CommandStatus { .. } => EndBody::Invalid,
+            ReplyBody::AccessPaths => EndBody::Invalid,
+            ReplyBody::CompareController => EndBody::Invalid,
+            ReplyBody::Flush => EndBody::Invalid,
+        }
+    }
+
+    // Returns what tells the body from the others, without its numbers.
+    fn row(self) -> BodyRow
+        ensures opcode { result.opcode ≡ (reply_row self).opcode }
+        ensures below { result.opcode < 128 }
+        ensures length { result.length ≡ reply_length self }
+        ensures within { result.length ≤ 48 }
+        ensures name { result.name.now ≡ reply_name self }
+    {
+        match self {
+            ReplyBody::Basic(body) => body.row(),
+            ReplyBody::Abort { .. } => BodyRow::new(1, 16, "Abort"),
+            ReplyBody::CommandStatus { .. } => BodyRow::new(2, 20, "Get Command Status"),
+            ReplyBody::AccessPaths => BodyRow::new(11, 12, "Determine Access Paths"),
+            ReplyBody::CompareController => BodyRow::new(17, 12, "Compare Controller Data"),
+            ReplyBody::Flush => BodyRow::new(19, 12, "Flush"),
+        }
+    }
+
+    // Returns the body of an end code, with the numbers of the text.
+    pub(crate) fn of_code(code: u8, text: &Text) -> Option<ReplyBody>
+        ensures { result ≡ reply_named code text.now }
+    {
+        if let Some(body) = EndBody::of_code(code, text) {
+            return Some(ReplyBody::Basic(body));
+        }
+        Some(match code {
+            0x81 => ReplyBody::Abort {
+                named: NAMED.get(text),
+            },
+            0x82 => ReplyBody::CommandStatus {
+                named: NAMED.get(text),
+                progress: PROGRESS.get(text),
+            },
+            0x8b => ReplyBody::AccessPaths,
+            0x91 => ReplyBody::CompareController,
+            0x93 => ReplyBody::Flush,
+            _ => return None,
+        })
+    }
+
+    // Writes what stands after the status of an end message.
+    pub(crate) fn put(self, text: &mut Text, unit: u16, status: u16)
+        ensures written { text.new ≡ with_entries (reply_entries unit status self) text.old }
+        ensures fits { ReplyFits self }
+    {
+        match self {
+            ReplyBody::Basic(body) => body.put(text, unit, status),
+            ReplyBody::Abort { named } => NAMED.put(text, named),
+            ReplyBody::CommandStatus { named, progress } => {
+                NAMED.put(text, named);
+                PROGRESS.put(text, progress);
+            }
+            ReplyBody::AccessPaths | ReplyBody::CompareController | ReplyBody::Flush => {}
+        }
+    }
+}
+
+/// Returns the text of an end message of the profile for guests, which `decode_reply` reads as that end
+/// message again, whatever its numbers. One that the strict profile knows has the text of [`encode_end`](crate::encode_end).
+///
+/// MSCP Basic Disk Functions Manual: end messages.
+pub fn encode_reply(reply: &Reply) -> [u8; 48]
+    ensures written { result ≡ written_reply reply.now }
+    ensures long { length result ≡ 48 }
+    ensures back { read_reply result ≡ Some reply.now }
+{
+    let Reply {
+        reference,
+        unit,
+        status,
+        body,
+    } = *reply;
+    let mut text = head(reference, unit, body.code());
+    STATUS.put(&mut text, status);
+    body.put(&mut text, unit, status);
+    text
+}
+
+/// Returns the end message of the profile for guests that a text stands for: one that [`decode_end`](crate::decode_end) reads, or
+/// that of a command that the strict profile doesn't know. `None` if byte 8 is no end code of either.
+///
+/// MSCP Basic Disk Functions Manual: end messages.
+pub fn decode_reply(text: &[u8; 48]) -> Option<Reply>
+    ensures read { result ≡ read_reply text.now }
+{
+    let body = ReplyBody::of_code(code_in(text), text)?;
+    Some(Reply {
+        reference: REFERENCE.get(text),
+        unit: UNIT.get(text),
+        status: STATUS.get(text),
+        body,
+    })
+}

@@ -31,7 +31,8 @@ use Rattle.uda_port.specs.Delivery.{Puts}
 use Rattle.uda_packet.specs.declared.reply.Reply.{Reply}
 use Rattle.uda_packet.specs.Guest.{reply_to_bad}
 use Rattle.uda_packet.specs.Reply.{basic_reply, strict_end}
-use Rattle.uda_port.specs.Message.{message_in}
+use Rattle.uda_port.specs.Message.{message_in, flags_kept}
+use Rattle.uda_port.specs.declared.guest.Guest.{Guest}
 use Rattle.uda_port.specs.Interrupt.{told_at, word_below, memory_told}
 use Rattle.uda_port.specs.Port.{PortState, CreditsAgree, next_grant, commands_told, responses_told, interrupts_told}
 use Rattle.uda_port.specs.Turn.{port_turn_on, port_with_message, delivery_of, FetchesOne, NothingToFetch, FetchLine, GoesOn, Fails, InFetch, InRest, RunningTurn, TurnGoes}
@@ -108,9 +109,11 @@ fetched {h = h} {c} {rest} new after host were agree goes =
     let read : ℕ → List ℕ → Result Command Reply = λ size text. if nat_eq size 48 then reply_to_bad (read_command text) else Err (basic_reply (other_length_end text)) in
     let message : message_in port.profile goes.packet ≡ Ok c = ap (λ (p : Profile). message_in p goes.packet) host.port.strict ∙ ap₂ read (size_read host were takes) (text_read host were takes) ∙ ap reply_to_bad sound.legible in
     let untold : commands_told port h.memory ≡ None = ap (λ (p : Profile). told_at p (word_below port.responses.base 4) h.memory port.commands) host.port.strict in
-    let leaves = λ (m : Result Command Reply) (r : RingState) (told : Option ℕ). record (port_with_message (port_turn_on port) m) { commands = r; credits = port.credits - 1; interrupts = interrupts_told port told; fetches = port.fetches + 1 } in
+    let kept : flags_kept port.profile goes.packet (message_in port.profile goes.packet) port.guest ≡ port.guest =
+      ap (λ (p : Profile). flags_kept p goes.packet (message_in p goes.packet) port.guest) host.port.strict in
+    let leaves = λ (m : Result Command Reply) (r : RingState) (told : Option ℕ) (g : Guest). record (port_with_message (port_turn_on port) m) { commands = r; credits = port.credits - 1; interrupts = interrupts_told port told; fetches = port.fetches + 1; guest = g } in
     let ring_is = takes.advanced ∙ ap ring_advanced host.rings.commands_are in
-    let is = goes.others ∙ (λ i. leaves (message i) (ring_is i) (untold i)) in
+    let is = goes.others ∙ (λ i. leaves (message i) (ring_is i) (untold i) (kept i)) in
     let given = λ (d : Descriptor) (r : RingState) (told : Option ℕ). put (memory_told h.memory told) (descriptor_address r + 2) (word_bytes (word_given_back d.high)) in
     let first = first_is host were takes in
     let memory_is = takes.written ∙ (λ i. given (first i) (host.rings.commands_are i) (untold i)) in

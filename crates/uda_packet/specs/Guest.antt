@@ -1,6 +1,6 @@
 -- What the text of a guest's command asks: any command of basic MSCP, whatever its modifiers.
 -- MSCP Basic Disk Functions Manual: command messages, opcodes, command modifiers.
-use Rattle.std.specs.Prelude.{ℕ, ◌==◌, nat_lt, ◌&&◌, Bool, List, Option, Some, None, Result, Ok, Err}
+use Rattle.std.specs.Prelude.{ℕ, ◌+◌, ◌%◌, ◌==◌, nat_lt, ◌&&◌, Bool, List, Option, Some, None, Result, Ok, Err}
 use Rattle.std.specs.Prelude.{if◌then◌else◌}
 use Rattle.std.specs.Int.RustNames.{bit_and}
 use Rattle.uda_packet.specs.declared.bad.Bad.{Bad}
@@ -12,7 +12,9 @@ use Rattle.uda_packet.specs.declared.reply.ReplyBody.TheVariants.{CompareControl
 use Rattle.uda_packet.specs.declared.command.Op.{Op}
 use Rattle.uda_packet.specs.declared.command.Op.TheVariants as op
 use Rattle.uda_packet.specs.Field.{number_in, with_number, reference_field, unit_field, code_field}
-use Rattle.uda_packet.specs.Field.{modifiers_field, named_field}
+use Rattle.uda_packet.specs.Field.{modifiers_field, named_field, address_field}
+use Rattle.uda_packet.specs.declared.guest_end.Identity.{Identity}
+use Rattle.uda_packet.specs.GuestEnd.{drive_number, addresses_of}
 use Rattle.uda_packet.specs.Flags.{next_unit}
 use Rattle.uda_packet.specs.Opcode.{opcode_of, allowed_modifiers, op_named}
 use Rattle.uda_packet.specs.Bad.{bad_end}
@@ -35,10 +37,11 @@ body_at_once code bytes =
 
 -- ---- other commands, as the strict profile reads them
 
--- "Get Unit Status with next unit": the lowest of units 0 to 3 that isn't below the unit asked for, and unit
--- 0 if there is none
-abbrev pub next_from : ℕ → ℕ
-next_from asked = if nat_lt asked 4 then asked else 0
+-- "Get Unit Status with next unit": the lowest of the controller's units that isn't below the unit asked for,
+-- and unit 0 if there is none
+abbrev pub next_from : ℕ → ℕ → ℕ
+next_from first asked =
+    if nat_lt asked first then first else if nat_lt asked (first + 4) then asked else 0
 
 abbrev pub asks_next : List ℕ → Bool
 asks_next bytes =
@@ -46,9 +49,14 @@ asks_next bytes =
     && (bit_and (number_in modifiers_field bytes) next_unit == next_unit)
 
 -- the unit that the command is for
-abbrev pub unit_meant : List ℕ → ℕ
-unit_meant bytes =
-    if asks_next bytes then next_from (number_in unit_field bytes) else number_in unit_field bytes
+abbrev pub unit_meant : Identity → List ℕ → ℕ
+unit_meant identity bytes =
+    if asks_next bytes then next_from identity.first_unit (number_in unit_field bytes)
+    else number_in unit_field bytes
+
+-- the address of a buffer, without the bits that an address on the bus doesn't have
+abbrev pub address_meant : Identity → List ℕ → ℕ
+address_meant identity bytes = number_in address_field bytes % addresses_of identity.bus
 
 abbrev allowed_by : Option Op → ℕ
 allowed_by None = 0
@@ -59,10 +67,12 @@ abbrev pub modifiers_meant : List ℕ → ℕ
 modifiers_meant bytes =
     bit_and (number_in modifiers_field bytes) (allowed_by (op_named (number_in code_field bytes) bytes))
 
--- the text with that unit and those modifiers
-abbrev pub plain_text : List ℕ → List ℕ
-plain_text bytes =
-    with_number modifiers_field (modifiers_meant bytes) (with_number unit_field (unit_meant bytes) bytes)
+-- the text with the drive of that unit, those modifiers and that address
+abbrev pub plain_text : Identity → List ℕ → List ℕ
+plain_text identity bytes =
+    with_number address_field (address_meant identity bytes)
+    (with_number modifiers_field (modifiers_meant bytes)
+    (with_number unit_field (drive_number identity (unit_meant identity bytes)) bytes))
 
 -- ---- what is asked
 
@@ -70,16 +80,17 @@ abbrev pub reply_to_bad : Result Command Bad → Result Command Reply
 reply_to_bad (Ok c) = Ok c
 reply_to_bad (Err bad) = Err (basic_reply (bad_end bad))
 
-abbrev pub asked_by : List ℕ → Option ReplyBody → Result Command Reply
-asked_by bytes (Some answer) =
+abbrev pub asked_by : Identity → List ℕ → Option ReplyBody → Result Command Reply
+asked_by identity bytes (Some answer) =
     Err (record {
       reference = number_in reference_field bytes;
-      unit = number_in unit_field bytes;
+      unit = drive_number identity (number_in unit_field bytes);
       status = SUCCESS;
       body = answer;
     })
-asked_by bytes None = reply_to_bad (read_command (plain_text bytes))
+asked_by identity bytes None = reply_to_bad (read_command (plain_text identity bytes))
 
--- a command to be executed, or the end message of one that is answered at once or is invalid
-abbrev pub read_guest : List ℕ → Result Command Reply
-read_guest bytes = asked_by bytes (body_at_once (number_in code_field bytes) bytes)
+-- a command to be executed, or the end message of one that is answered at once or is invalid; its unit is the
+-- drive that the guest means
+abbrev pub read_guest : Identity → List ℕ → Result Command Reply
+read_guest identity bytes = asked_by identity bytes (body_at_once (number_in code_field bytes) bytes)

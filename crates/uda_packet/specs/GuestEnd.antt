@@ -1,6 +1,6 @@
 -- What a controller for guests reports of itself and of its units.
 -- MSCP Basic Disk Functions Manual: end messages, unit flags, unit and controller identifiers.
-use Rattle.std.specs.Prelude.{ℕ, ◌+◌, ◌*◌, ◌^◌, ◌%◌, ◌==◌, ◌||◌, Bool, true, false, Option, Some, None, List}
+use Rattle.std.specs.Prelude.{ℕ, ◌+◌, ◌-◌, ◌*◌, ◌^◌, ◌%◌, ◌==◌, ◌||◌, Bool, true, false, Option, Some, None, List}
 use Rattle.std.specs.Prelude.{[], ◌∷◌, ◌++◌}
 use Rattle.std.specs.Int.RustNames.{bit_or}
 use Rattle.uda_disk.specs.Disk.{software_protection, hardware_protection}
@@ -25,6 +25,15 @@ use Rattle.uda_packet.specs.Field.{media_type_field, unit_size_field}
 -- the number by which the host knows a drive: the controller's drives have the numbers from the first one on
 abbrev pub unit_number : Identity → ℕ → ℕ
 unit_number identity drive = (identity.first_unit + drive) % 2 ^ 16
+
+-- the drive that the host means by a number; only that of one of the controller's units is below 4
+abbrev pub drive_number : Identity → ℕ → ℕ
+drive_number identity unit = (unit + 2 ^ 16 - identity.first_unit) % 2 ^ 16
+
+-- how many addresses a bus has: those of the UNIBUS have 18 bits, those of the Q-bus 22
+abbrev pub addresses_of : Bus → ℕ
+addresses_of Unibus = 2 ^ 18
+addresses_of Qbus = 2 ^ 22
 
 -- ---- the controller
 

@@ -9,7 +9,8 @@ ghost use Rattle.uda_packet.specs.Field.{number_in, code_field};
 
 use crate::command::{Command, Op};
 use crate::decoding::decode_command;
-use crate::field::{MODIFIERS, NAMED, REFERENCE, Text, UNIT, code_in};
+use crate::field::{ADDRESS, MODIFIERS, NAMED, REFERENCE, Text, UNIT, code_in};
+use crate::guest_end::Identity;
 use crate::reply::{Reply, ReplyBody};
 use crate::status;
 
@@ -24,9 +25,10 @@ const UNITS: u16 = 4;
 
 /// Returns the command that a guest's text asks for, if it is to be executed.
 ///
-/// Modifiers that have no meaning for the command are ignored. A Get Unit Status with the modifier
-/// 0x0001, *next unit*, is for the lowest of units 0 to 3 that isn't below the unit of the
-/// text, and for unit 0 if there is none.
+/// Its unit is the number of the drive that the guest means. Modifiers that have no meaning for the command are
+/// ignored, and so are bits of an address that the bus doesn't have. A Get Unit Status with the modifier 0x0001,
+/// *next unit*, is for the lowest of the controller's units that isn't below the unit of the text, and for unit 0
+/// if there is none.
 ///
 /// # Errors
 ///
@@ -35,14 +37,14 @@ const UNITS: u16 = 4;
 /// Status. For an invalid command, the end message of [`Bad::end`](crate::Bad::end).
 ///
 /// MSCP Basic Disk Functions Manual: command messages, command modifiers.
-pub fn decode_for_guests(text: &[u8; 48]) -> Result<Command, Reply>
-    ensures asked { result ≡ read_guest text.now }
+pub fn decode_for_guests(text: &[u8; 48], identity: Identity) -> Result<Command, Reply>
+    ensures asked { result ≡ read_guest identity text.now }
 {
     match body_at_once(text) {
-        None => decode_command(&plain_text(text)).map_err(|bad| Reply::basic(bad.end())),
+        None => decode_command(&plain_text(text, identity)).map_err(|bad| Reply::basic(bad.end())),
         Some(body) => Err(Reply {
             reference: REFERENCE.get(text),
-            unit: UNIT.get(text),
+            unit: identity.drive_number(UNIT.get(text)),
             status: status::SUCCESS,
             body,
         }),
@@ -69,23 +71,26 @@ fn body_at_once(text: &Text) -> Option<ReplyBody>
 }
 
 // Returns the text with the unit that it is for and the modifiers that have a meaning.
-fn plain_text(text: &Text) -> Text
-    ensures { result ≡ plain_text text.now }
+fn plain_text(text: &Text, identity: Identity) -> Text
+    ensures { result ≡ plain_text identity text.now }
 {
-    let (unit, modifiers) = (unit_meant(text), modifiers_meant(text));
+    let drive = identity.drive_number(unit_meant(text, identity));
+    let modifiers = modifiers_meant(text);
+    let address = identity.bus_address(ADDRESS.get(text));
     let mut plain = *text;
-    UNIT.put(&mut plain, unit);
+    UNIT.put(&mut plain, drive);
     MODIFIERS.put(&mut plain, modifiers);
+    ADDRESS.put(&mut plain, address);
     plain
 }
 
 // Returns the unit that a command is for.
-fn unit_meant(text: &Text) -> u16
-    ensures { result ≡ unit_meant text.now }
+fn unit_meant(text: &Text, identity: Identity) -> u16
+    ensures { result ≡ unit_meant identity text.now }
 {
     let asked = UNIT.get(text);
     if asks_next(text) {
-        next_from(asked)
+        next_from(identity.first_unit, asked)
     } else {
         asked
     }
@@ -99,11 +104,17 @@ fn asks_next(text: &Text) -> bool
     code_in(text) == GET_UNIT_STATUS && modifiers & NEXT_UNIT == NEXT_UNIT
 }
 
-// Returns the lowest unit that isn't below the one asked for, and unit 0 if there is none.
-fn next_from(asked: u16) -> u16
-    ensures { result ≡ next_from asked }
+// Returns the lowest of the controller's units that isn't below the one asked for, and unit 0 if there is none.
+fn next_from(first: u16, asked: u16) -> u16
+    ensures { result ≡ next_from first asked }
 {
-    if asked < UNITS { asked } else { 0 }
+    if asked < first {
+        first
+    } else if asked - first < UNITS {
+        asked
+    } else {
+        0
+    }
 }
 
 // Returns the modifiers that have a meaning for the command.

@@ -2,10 +2,11 @@
 //!
 //! MSCP Basic Disk Functions Manual: end messages, unit flags, unit and controller identifiers.
 
-ghost use Rattle.std.specs.Prelude.{◌≡◌, ◌+◌, ◌*◌, ◌^◌, length};
+ghost use Rattle.std.specs.Prelude.{◌≡◌, ◌+◌, ◌*◌, ◌%◌, ◌^◌, length};
 ghost use Rattle.uda_packet.specs.DriveTypes.{drive_traits};
 ghost use Rattle.uda_packet.specs.Field.{with_entries};
-ghost use Rattle.uda_packet.specs.GuestEnd.{written_guest_end, guest_entries, guest_reply_entries, unit_number, model_of};
+ghost use Rattle.uda_packet.specs.GuestEnd.{written_guest_end, guest_entries, guest_reply_entries, unit_number, drive_number, model_of};
+ghost use Rattle.uda_packet.specs.GuestEnd.{addresses_of};
 ghost use Rattle.uda_packet.specs.GuestEnd.{written_unit_available};
 ghost use Rattle.uda_packet.specs.GuestEnd.{flags_reported, characteristics, controller_entries, unit_flags};
 ghost use Rattle.uda_packet.specs.GuestEnd.{unit_identifier, identity_entries, geometry_entries};
@@ -102,6 +103,24 @@ impl Identity {
         ensures number { result ≡ unit_number self drive }
     {
         self.first_unit.wrapping_add(drive)
+    }
+
+    /// Returns the number of the drive that a guest means by a unit number: 0 to 3 for the controller's units, and
+    /// another number for any other unit.
+    pub fn drive_number(self, unit: u16) -> u16
+        ensures number { result ≡ drive_number self unit }
+    {
+        unit.wrapping_sub(self.first_unit)
+    }
+
+    /// Returns an address without the bits that an address on the bus doesn't have.
+    pub fn bus_address(self, address: u32) -> u32
+        ensures address { result ≡ address % addresses_of self.bus }
+    {
+        match self.bus {
+            Bus::Unibus => address % (1 << 18),
+            Bus::Qbus => address % (1 << 22),
+        }
     }
 
     // The controller's identifier: its model and its class 1, a mass storage controller.

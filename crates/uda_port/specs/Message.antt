@@ -1,7 +1,7 @@
 -- What a command packet says.
 -- UDA50 Programmer's Documentation Kit: message envelopes; MSCP Basic Disk Functions Manual: invalid
 -- commands.
-use Rattle.std.specs.Prelude.{◌≡◌, ℕ, ◌-◌, ◌==◌, nat_le, nat_lt, Bool, List, replicate, Result, Err}
+use Rattle.std.specs.Prelude.{◌≡◌, ℕ, ◌-◌, ◌==◌, nat_le, nat_lt, Bool, true, false, List, replicate, Result, Ok, Err}
 use Rattle.std.specs.Prelude.{if◌then◌else◌}
 use Rattle.uda_mem.specs.Put.{put}
 use Rattle.uda_packet.specs.declared.command.Command.{Command}
@@ -11,6 +11,11 @@ use Rattle.uda_packet.specs.Envelope.{envelope_of}
 use Rattle.uda_packet.specs.Guest.{read_guest, reply_to_bad}
 use Rattle.uda_packet.specs.Reading.{read_command}
 use Rattle.uda_packet.specs.Reply.{basic_reply}
+use Rattle.uda_packet.specs.declared.command.Op.{Op}
+use Rattle.uda_packet.specs.declared.command.Op.TheVariants as op
+use Rattle.uda_packet.specs.GuestEnd.{drive_number}
+use Rattle.uda_mem.specs.Words.{word_at}
+use Rattle.uda_port.specs.declared.guest.Guest.{Guest}
 use Rattle.uda_port.specs.declared.packet.Fetched.{Fetched}
 use Rattle.uda_port.specs.declared.profile.Profile.{Profile}
 use Rattle.uda_port.specs.declared.profile.Profile.TheVariants.{Strict, ForGuests}
@@ -40,7 +45,14 @@ is_length (ForGuests identity) n = nat_le 12 n
 -- what a text asks: a guest has commands that are answered at once, and modifiers that are ignored
 abbrev pub text_asks : Profile → List ℕ → Result Command Reply
 text_asks Strict text = reply_to_bad (read_command text)
-text_asks (ForGuests identity) text = read_guest text
+text_asks (ForGuests identity) text = read_guest identity text
+
+-- the end message of a packet of a length that no command has; a guest's names the drive that the guest means
+abbrev pub length_reply : Profile → List ℕ → Reply
+length_reply Strict text = basic_reply (other_length_end text)
+length_reply (ForGuests identity) text =
+    let end = other_length_end text in
+    record (basic_reply end) { unit = drive_number identity end.unit }
 
 -- A command to be executed, or an end message: that of a packet of a length that no command has, of a text that
 -- is no command's, or of a command that is answered at once.
@@ -48,4 +60,18 @@ abbrev pub message_in : Profile → Fetched → Result Command Reply
 message_in profile p =
     let text = text_read profile p in
     if is_length profile p.words.0 then text_asks profile text
-    else Err (basic_reply (other_length_end text))
+    else Err (length_reply profile text)
+
+-- ---- controller flags
+
+abbrev pub is_controller : Op → Bool
+is_controller op.Controller = true
+is_controller _ = false
+
+-- MSCP: Set Controller Characteristics. The controller keeps the flags of bytes 14 and 15; in the strict profile
+-- it reports none, and keeps none
+abbrev pub flags_kept : Profile → Fetched → Result Command Reply → Guest → Guest
+flags_kept Strict p message g = g
+flags_kept (ForGuests identity) p (Err reply) g = g
+flags_kept (ForGuests identity) p (Ok c) g =
+    if is_controller c.op then record g { flags = word_at (text_by_length p) 14 } else g

@@ -24,7 +24,7 @@ use Rattle.uda_port.specs.Guest.{guest_after, attention_set, first_due}
 use Rattle.uda_port.specs.Packet.{IsLegible}
 use Rattle.uda_port.specs.AtOnce.{replies_at_once, exec_at_once}
 use Rattle.uda_port.specs.Delivery.{Puts, LosesRoom}
-use Rattle.uda_port.specs.Message.{IsSequential, message_in}
+use Rattle.uda_port.specs.Message.{IsSequential, message_in, flags_kept}
 use Rattle.uda_port.specs.Port.{PortState, next_grant, commands_told, responses_told, interrupts_told}
 use Rattle.uda_port.specs.Startup.{dead_port}
 
@@ -66,6 +66,7 @@ pub record FetchesOne (old : PortState) (memory : List ℕ) (new : PortState)
         credits = old.credits - 1;
         interrupts = interrupts_told old (commands_told old memory);
         fetches = old.fetches + 1;
+        guest = flags_kept old.profile packet (message_in old.profile packet) old.guest;
       }
 
 -- the port doesn't look, or doesn't own the next command descriptor

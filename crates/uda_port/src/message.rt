@@ -3,11 +3,13 @@
 //! UDA50 Programmer's Documentation Kit: message envelopes.
 ghost use Rattle.std.specs.Prelude.{◌≡◌, MatchOption, length};
 ghost use Rattle.uda_port.specs.Message.{IsSequential, is_length, message_in, text_by_length, text_read};
-ghost use Rattle.uda_port.specs.Message.{text_asks};
+ghost use Rattle.uda_port.specs.Message.{text_asks, length_reply, flags_kept, is_controller};
+ghost use Rattle.uda_mem.specs.Words.{word_at};
 
+use crate::guest::Guest;
 use crate::packet::{Fetched, TEXT};
 use crate::profile::Profile;
-use uda_packet::{Command, End, Envelope, Reply, decode_command, decode_for_guests};
+use uda_packet::{Command, End, Envelope, Op, Reply, decode_command, decode_for_guests};
 
 /// The bytes that a command has as far as its opcode and modifiers go.
 const HEAD: u16 = 12;
@@ -31,9 +33,57 @@ fn message_of(profile: Profile, packet: &Fetched) -> Result<Command, Reply>
 {
     let text = text_read(profile, packet);
     if !is_length(profile, packet.words.0) {
-        return Err(Reply::basic(End::of_other_length(&text)));
+        return Err(length_reply(profile, &text));
     }
     text_asks(profile, &text)
+}
+
+// The end message of a packet of a length that no command has.
+fn length_reply(profile: Profile, text: &[u8; 48]) -> Reply
+    ensures { result ≡ length_reply profile text.now }
+{
+    let end = End::of_other_length(text);
+    match profile {
+        Profile::Strict => Reply::basic(end),
+        Profile::ForGuests(identity) => Reply {
+            unit: identity.drive_number(end.unit),
+            ..Reply::basic(end)
+        },
+    }
+}
+
+/// Keeps the controller flags of a Set Controller Characteristics, in the profile for guests.
+pub(crate) fn keep_flags(
+    guest: &mut Guest,
+    profile: Profile,
+    packet: &Fetched,
+    message: &Result<Command, Reply>,
+)
+    ensures { guest.new ≡ flags_kept profile packet.now message.now guest.old }
+{
+    let (Profile::ForGuests(_), Ok(command)) = (profile, message) else {
+        return;
+    };
+    if is_controller(&command.op) {
+        guest.flags = flags_in(&text_by_length(packet));
+    }
+}
+
+// Whether the command is Set Controller Characteristics.
+fn is_controller(op: &Op) -> bool
+    ensures { result ≡ is_controller op.now }
+{
+    matches!(op, Op::Controller)
+}
+
+// The controller flags of a text.
+fn flags_in(text: &[u8; 48]) -> u16
+    ensures { result ≡ word_at text.now 14 }
+{
+    let Some(flags) = uda_mem::read_word(text, 14) else {
+        unreachable!()
+    };
+    flags
 }
 
 // What a text asks.
@@ -42,7 +92,7 @@ fn text_asks(profile: Profile, text: &[u8; 48]) -> Result<Command, Reply>
 {
     match profile {
         Profile::Strict => decode_command(text).map_err(|bad| Reply::basic(bad.end())),
-        Profile::ForGuests(_) => decode_for_guests(text),
+        Profile::ForGuests(identity) => decode_for_guests(text, identity),
     }
 }
 

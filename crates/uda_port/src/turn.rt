@@ -17,7 +17,7 @@ ghost use Rattle.uda_port.specs.Packet.{IsLegible};
 ghost use Rattle.uda_port.specs.Delivery.{PutGoes};
 
 use crate::at_once::answer_at_once;
-use crate::message::message_in;
+use crate::message::{keep_flags, message_in};
 use crate::packet::{Delivery, Message, Notice, TEXT};
 use crate::phase::{Fatal, Phase};
 use crate::port::Port;
@@ -210,6 +210,7 @@ impl<S: BlockStore> Port<S> {
         };
         self.credits -= 1;
         self.fetches.add(1);
+        keep_flags(&mut self.guest, self.profile, &fetched, &message);
         match message {
             Ok(command) => self.exec.accept(command),
             Err(reply) => {

@@ -18,7 +18,7 @@ newest-requires-in-Fetched-2 g c =
     let counts = c.pending-before.ensures.count in
     let counted = c.pending-after.ensures.count in
     let fewer : length new.exec.pending ≤ length old.exec.pending =
-      omega (arith, before, after, counts, counted, c.if-after-before-2.true) in
+    omega (arith, before, after, counts, counted, c.if-after-before-2.true) in
     let here = ap (λ (p : PortState). length p.waiting) c.self-2.view_is in
     record { some = omega (arith, one_waits old new more fewer, here) }
 
@@ -32,7 +32,7 @@ newest-requires-in-Fetched-3 g c =
     let counts = c.pending-before.ensures.count in
     let counted = c.pending-after.ensures.count in
     let same : length new.exec.pending ≤ length old.exec.pending =
-      omega (arith, before, after, counts, counted, c.if-after-before.false) in
+    omega (arith, before, after, counts, counted, c.if-after-before.false) in
     let here = ap (λ (p : PortState). length p.waiting) c.self-2.view_is in
     record { some = omega (arith, one_waits old new more same, here) }
 

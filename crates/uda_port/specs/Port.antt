@@ -10,7 +10,7 @@ use Rattle.uda_port.specs.declared.phase.Phase.{Phase}
 use Rattle.uda_port.specs.declared.phase.Phase.TheVariants.{Step1, Poll, Step4, Running}
 use Rattle.uda_port.specs.declared.interrupt.Interrupts.{Interrupts}
 use Rattle.uda_port.specs.Ring.{RingState}
-use Rattle.uda_port.specs.Interrupt.{NO_INTERRUPTS, raised, noted, told_at, word_below}
+use Rattle.uda_port.specs.Interrupt.{NO_INTERRUPTS, raised_by_step, noted, told_at, word_below}
 
 -- the profile, the phase, the executor and the two rings; the ends that wait for delivery, the next one
 -- first; whether the port looks at its command ring; its credits; its interrupts; and since start-up the
@@ -73,9 +73,9 @@ pub record CreditsAgree (port : PortState) : Type 0 where
   pub conserved : port.fetches ≡ port.deliveries + (length port.exec.pending + length port.waiting)
   pub within : length port.exec.pending + length port.waiting ≤ PENDING_LIMIT
 
--- SA shows another phase, and a request is raised
+-- SA shows another step of the start-up, which may raise a request
 abbrev pub port_shows : PortState → Phase → PortState
-port_shows old phase = record old { phase = phase; interrupts = raised old.profile old.interrupts }
+port_shows old phase = record old { phase = phase; interrupts = raised_by_step old.profile old.interrupts }
 
 -- where the host is told of the commands' transition, and of the responses': in the words four and two bytes
 -- below the ring base

@@ -1,11 +1,12 @@
 -- A port as its callers see it, and its credits.
 -- UDA50 Programmer's Documentation Kit: port registers, initialisation, credits.
-use Rattle.std.specs.Prelude.{◌≡◌, ℕ, ◌+◌, ◌-◌, ◌*◌, ◌≤◌, min, Bool, true, false, List, [], length, map}
+use Rattle.std.specs.Prelude.{◌≡◌, ℕ, ◌+◌, ◌-◌, ◌*◌, ◌≤◌, ◌==◌, min, Bool, true, false, List, [], length, map}
 use Rattle.std.specs.Prelude.{Option}
 use Rattle.uda_packet.specs.declared.reply.Reply.{Reply}
 use Rattle.uda_exec.specs.Disks.{ExecState, PENDING_LIMIT}
 use Rattle.uda_exec.specs.Drives.{reset_unit}
 use Rattle.uda_port.specs.declared.profile.Profile.{Profile}
+use Rattle.uda_port.specs.declared.profile.Profile.TheVariants.{Strict, ForGuests}
 use Rattle.uda_port.specs.declared.phase.Phase.{Phase}
 use Rattle.uda_port.specs.declared.phase.Phase.TheVariants.{Step1, Poll, Step4, Running}
 use Rattle.uda_port.specs.declared.interrupt.Interrupts.{Interrupts}
@@ -65,6 +66,11 @@ credits_granted deliveries = 1 + PENDING_LIMIT * min deliveries 1 + (deliveries 
 -- the credits that the next end grants
 abbrev pub next_grant : ℕ → ℕ
 next_grant deliveries = credits_granted (deliveries + 1) - credits_granted deliveries
+
+-- no credit is left to a guest: then its port doesn't fetch; strictly it fetches, which is fatal
+abbrev pub lacks_credit : Profile → ℕ → Bool
+lacks_credit Strict credits = false
+lacks_credit ForGuests credits = credits == 0
 
 -- the credits left are those granted, less one for each command; each command that was fetched is pending, or
 -- its end waits or was delivered; and no more are under way than may be pending

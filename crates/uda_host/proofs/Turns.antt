@@ -30,7 +30,7 @@ use Rattle.uda_port.specs.Delivery.{Puts}
 use Rattle.uda_packet.specs.declared.reply.Reply.{Reply}
 use Rattle.uda_packet.specs.Guest.{reply_to_bad}
 use Rattle.uda_packet.specs.Reply.{basic_reply, strict_end}
-use Rattle.uda_port.specs.Message.{message_in}
+use Rattle.uda_port.specs.Message.{IsSequential, message_in}
 use Rattle.uda_port.specs.Interrupt.{told_at, word_below, memory_told}
 use Rattle.uda_port.specs.Port.{PortState, lacks_credit, CreditsAgree, next_grant, commands_told, responses_told, interrupts_told}
 use Rattle.uda_port.specs.Turn.{port_turn_on, port_with_message, delivery_of, FetchesOne, NothingToFetch, FetchLine, GoesOn, Fails, InFetch, InRest, RunningTurn, TurnGoes}
@@ -84,7 +84,7 @@ module _ {S : Type 0} {h : Inside S} {c : Command} {rest : List Command} (host :
   must_fetch : NothingToFetch (port_turn_on h.port) h.memory → ⊥
   must_fetch nothing =
       let may = ap₂ (λ (looks : Bool) (p : Profile). looks && not (lacks_credit p h.port.credits))
-          (host.looks (omega (arith, ap length were))) host.port.strict in
+      (host.looks (omega (arith, ap length were))) host.port.strict in
       let free = nothing may in not_both posted_seen free.is_next refl free.not_owned
 
   module _ {told : Option ℕ} {p : Fetched} {ring : RingState} {after : List ℕ} (takes : Takes told h.port.commands h.memory p ring after) where
@@ -261,7 +261,8 @@ module _ {S : Type 0} {h : Inside S} (host : IsHost h) (before : PortState) (aft
   fetch_lives WrongEnvelope [] none line = let takes = line.taken.takes in none_owned host none takes.first takes.is_next takes.owned
   fetch_lives WrongEnvelope (c ∷ rest) were line =
       let word = envelope_read host were line.taken.takes in
-      line.not_sequential (record { kind = ap (λ (w : ℕ). w / 16 % 16) word; connection = ap (λ (w : ℕ). w / 256) word })
+      subst (λ (p : Profile). IsSequential p line.packet → ⊥) host.port.strict line.not_sequential
+      (record { kind = ap (λ (w : ℕ). w / 16 % 16) word; connection = ap (λ (w : ℕ). w / 256) word })
   fetch_lives _ cs is line = line
 
   rest_lives : (cause : Fatal) → GoesOn (port_turn_on h.port) h.memory (Err cause) before after → ⊥

@@ -18,7 +18,8 @@ use Rattle.uda_packet.specs.Opcode.{opcode_of, allowed_modifiers, op_named}
 use Rattle.uda_packet.specs.Bad.{bad_end}
 use Rattle.uda_packet.specs.Reading.{read_command}
 use Rattle.uda_packet.specs.Reply.{basic_reply}
-use Rattle.uda_disk.specs.Status.{SUCCESS}
+use Rattle.uda_packet.specs.declared.end.EndBody.TheVariants.{Invalid}
+use Rattle.uda_disk.specs.Status.{SUCCESS, INVALID_OPCODE}
 
 -- ---- commands that are answered when they are fetched
 
@@ -63,6 +64,15 @@ modifiers_meant bytes =
 abbrev pub plain_text : List ℕ → List ℕ
 plain_text bytes =
     with_number modifiers_field (modifiers_meant bytes) (with_number unit_field (unit_meant bytes) bytes)
+
+-- a command on a connection that isn't MSCP's is answered as an unknown opcode is
+abbrev pub other_connection_reply : List ℕ → Reply
+other_connection_reply bytes = basic_reply (record {
+  reference = number_in reference_field bytes;
+  unit = number_in unit_field bytes;
+  status = INVALID_OPCODE;
+  body = Invalid;
+})
 
 -- ---- what is asked
 

@@ -32,7 +32,7 @@ pub use encoding::{encode_command, encode_end};
 pub use end::{End, EndBody, Kind};
 pub use envelope::Envelope;
 pub use flags::Modifiers;
-pub use guest::decode_for_guests;
+pub use guest::{decode_for_guests, other_connection_reply};
 pub use reply::{Reply, ReplyBody, decode_reply, encode_reply};
 pub use transfer::Transfer;
 pub use uda_disk::{UnitFlags, status};

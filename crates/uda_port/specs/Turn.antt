@@ -62,7 +62,7 @@ pub record FetchesOne (old : PortState) (memory : List ℕ) (new : PortState)
   pub takes : Takes (commands_told old memory) old.commands memory packet new.commands memory_after
   pub in_order : TakesFirst old.commands memory packet new.commands memory_after
   pub credit : 0 < old.credits
-  pub sequential : IsSequential packet
+  pub sequential : IsSequential old.profile packet
   pub others : new
       ≡ record (port_with_message old (message_in old.profile packet)) {
         commands = new.commands;
@@ -110,7 +110,7 @@ pub record TakesForeign (old : PortState) (memory : List ℕ) (new : PortState)
   pub packet : Fetched
   pub taken : TakesPacket old memory packet new memory_after
   pub credit : 0 < old.credits
-  pub not_sequential : IsSequential packet → ⊥
+  pub not_sequential : IsSequential old.profile packet → ⊥
 
 -- whether the first line fits, or why it is fatal
 abbrev pub FetchLine : PortState → List ℕ → Result Bool Fatal → PortState → List ℕ → Type 0

@@ -1,6 +1,6 @@
 -- What a turn of the port does to its host.
-use Rattle.std.proofs.Common.{◌≡◌, ℕ, ◌^◌, ◌+◌, ◌-◌, ◌/◌, ◌%◌, ◌<◌, ◌≤◌, true, false, List, [], ◌∷◌, ◌++◌, length, drop, Option, Some, None, refl, sym, ap, ap₂, ◌∙◌, arith, subst, length-append}
-use Rattle.std.specs.Prelude.{Result, Ok, Err, slice_get, nat_eq, map, All, if◌then◌else◌}
+use Rattle.std.proofs.Common.{◌≡◌, ℕ, ◌^◌, ◌+◌, ◌-◌, ◌/◌, ◌%◌, ◌<◌, ◌≤◌, Bool, true, false, List, [], ◌∷◌, ◌++◌, length, drop, Option, Some, None, refl, sym, ap, ap₂, ◌∙◌, arith, subst, length-append}
+use Rattle.std.specs.Prelude.{Result, Ok, Err, slice_get, nat_eq, ◌&&◌, ◌||◌, not, map, All, if◌then◌else◌}
 use Rattle.std.proofs.Math.Seq.{get_or-append_seam}
 use Rattle.std.proofs.lemmas.Bool.{le-leb, lt-leb}
 use Rattle.std.proofs.lemmas.List.{append-nil, append_assoc, length_push, length-drop, drop-drop, map-append, length-map}
@@ -31,10 +31,10 @@ use Rattle.uda_port.specs.Delivery.{Puts}
 use Rattle.uda_packet.specs.declared.reply.Reply.{Reply}
 use Rattle.uda_packet.specs.Guest.{reply_to_bad}
 use Rattle.uda_packet.specs.Reply.{basic_reply, strict_end}
-use Rattle.uda_port.specs.Message.{message_in, flags_kept}
+use Rattle.uda_port.specs.Message.{IsSequential, message_in, flags_kept}
 use Rattle.uda_port.specs.declared.guest.Guest.{Guest}
 use Rattle.uda_port.specs.Interrupt.{told_at, word_below, memory_told}
-use Rattle.uda_port.specs.Port.{PortState, CreditsAgree, next_grant, commands_told, responses_told, interrupts_told}
+use Rattle.uda_port.specs.Port.{PortState, lacks_credit, CreditsAgree, next_grant, commands_told, responses_told, interrupts_told}
 use Rattle.uda_port.specs.Turn.{port_turn_on, port_with_message, delivery_of, FetchesOne, NothingToFetch, FetchLine, GoesOn, Fails, InFetch, InRest, RunningTurn, TurnGoes}
 use Rattle.uda_port.specs.declared.trace.Trace.{Trace}
 use Rattle.uda_port.specs.declared.trace.Trace.TheVariants as trace
@@ -84,7 +84,10 @@ module _ {S : Type 0} {h : Inside S} {c : Command} {rest : List Command} (host :
   posted_seen = commands_seen host ∙ ap (λ (s : Slot). Some s.descriptor) (first_posted rings_were)
 
   must_fetch : NothingToFetch (port_turn_on h.port) h.memory → ⊥
-  must_fetch nothing = let free = nothing (host.looks (omega (arith, ap length were))) in not_both posted_seen free.is_next refl free.not_owned
+  must_fetch nothing =
+      let may = ap₂ (λ (looks : Bool) (p : Profile). looks && not (lacks_credit p h.port.credits))
+      (host.looks (omega (arith, ap length were))) host.port.strict in
+      let free = nothing may in not_both posted_seen free.is_next refl free.not_owned
 
   module _ {told : Option ℕ} {p : Fetched} {ring : RingState} {after : List ℕ} (takes : Takes told h.port.commands h.memory p ring after) where
     first_is : takes.first ≡ owned (command_packet h.port.commands.place)
@@ -219,8 +222,11 @@ module _ {S : Type 0} {h : Inside S} (host : IsHost h) (new : PortState) (after 
       let grant : credits ≡ next_grant port.deliveries = credits_by sent.size ∙ ap (λ (s : Slot). s.credits) sent.holds in
       let w = high_written sent owner_word (omega arith) in
       let open_then = (host.written.opens h.response_place host.rings.looks_within).owned_is in
-      let leaves = λ (r : RingState) (told : Option ℕ). record port { turns = port.turns + 1; looking = false; responses = r; waiting = new.waiting; credits = port.credits + next_grant port.deliveries; interrupts = interrupts_told port told; deliveries = port.deliveries + 1 } in
-      let new_is = one.others ∙ ap₂ leaves (one.puts.advanced ∙ ap ring_advanced host.rings.responses_are) (responses_untold host) in
+      let leaves = λ (r : RingState) (told : Option ℕ) (look : Bool). record port { turns = port.turns + 1; looking = look; responses = r; waiting = new.waiting; credits = port.credits + next_grant port.deliveries; interrupts = interrupts_told port told; deliveries = port.deliveries + 1 } in
+      let ring_is = one.puts.advanced ∙ ap ring_advanced host.rings.responses_are in
+      let untold = responses_untold host in
+      let look_is = ap (λ (p : Profile). lacks_credit p port.credits || false) host.port.strict in
+      let new_is = one.others ∙ (λ i. leaves (ring_is i) (untold i) (look_is i)) in
       let rings = host.rings in let counts = host.counts in
       rw (new_is, left_by sent.size, grant, end_is, ← is) (record {
         host = record {
@@ -270,7 +276,8 @@ module _ {S : Type 0} {h : Inside S} (host : IsHost h) (before : PortState) (aft
   fetch_lives WrongEnvelope [] none line = let takes = line.taken.takes in none_owned host none takes.first takes.is_next takes.owned
   fetch_lives WrongEnvelope (c ∷ rest) were line =
       let word = envelope_read host were line.taken.takes in
-      line.not_sequential (record { kind = ap (λ (w : ℕ). w / 16 % 16) word; connection = ap (λ (w : ℕ). w / 256) word })
+      subst (λ (p : Profile). IsSequential p line.packet → ⊥) host.port.strict line.not_sequential
+      (record { kind = ap (λ (w : ℕ). w / 16 % 16) word; connection = ap (λ (w : ℕ). w / 256) word })
   fetch_lives _ cs is line = line
 
   rest_lives : (cause : Fatal) → GoesOn (port_turn_on h.port) h.memory (Err cause) before after → ⊥

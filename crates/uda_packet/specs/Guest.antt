@@ -20,7 +20,8 @@ use Rattle.uda_packet.specs.Opcode.{opcode_of, allowed_modifiers, op_named}
 use Rattle.uda_packet.specs.Bad.{bad_end}
 use Rattle.uda_packet.specs.Reading.{read_command}
 use Rattle.uda_packet.specs.Reply.{basic_reply}
-use Rattle.uda_disk.specs.Status.{SUCCESS}
+use Rattle.uda_packet.specs.declared.end.EndBody.TheVariants.{Invalid}
+use Rattle.uda_disk.specs.Status.{SUCCESS, INVALID_OPCODE}
 
 -- ---- commands that are answered when they are fetched
 
@@ -73,6 +74,15 @@ plain_text identity bytes =
     with_number address_field (address_meant identity bytes)
     (with_number modifiers_field (modifiers_meant bytes)
     (with_number unit_field (drive_number identity (unit_meant identity bytes)) bytes))
+
+-- a command on a connection that isn't MSCP's is answered as an unknown opcode is
+abbrev pub other_connection_reply : Identity → List ℕ → Reply
+other_connection_reply identity bytes = basic_reply (record {
+  reference = number_in reference_field bytes;
+  unit = drive_number identity (number_in unit_field bytes);
+  status = INVALID_OPCODE;
+  body = Invalid;
+})
 
 -- ---- what is asked
 

@@ -4,11 +4,12 @@
 
 ghost use Rattle.std.specs.Prelude.{◌≡◌};
 ghost use Rattle.uda_packet.specs.Guest.{body_at_once, next_from, asks_next, unit_meant, modifiers_meant};
-ghost use Rattle.uda_packet.specs.Guest.{plain_text, read_guest};
+ghost use Rattle.uda_packet.specs.Guest.{plain_text, read_guest, other_connection_reply};
 ghost use Rattle.uda_packet.specs.Field.{number_in, code_field};
 
 use crate::command::{Command, Op};
 use crate::decoding::decode_command;
+use crate::end::{End, EndBody};
 use crate::field::{ADDRESS, MODIFIERS, NAMED, REFERENCE, Text, UNIT, code_in};
 use crate::guest_end::Identity;
 use crate::reply::{Reply, ReplyBody};
@@ -49,6 +50,21 @@ pub fn decode_for_guests(text: &[u8; 48], identity: Identity) -> Result<Command,
             body,
         }),
     }
+}
+
+/// Returns the end message of a command on a connection that isn't MSCP's: that of an unknown opcode, with the
+/// reference of the text and the drive that the guest means.
+///
+/// MSCP Basic Disk Functions Manual: invalid command end message.
+pub fn other_connection_reply(text: &[u8; 48], identity: Identity) -> Reply
+    ensures reply { result ≡ other_connection_reply identity text.now }
+{
+    Reply::basic(End {
+        reference: REFERENCE.get(text),
+        unit: identity.drive_number(UNIT.get(text)),
+        status: status::INVALID_OPCODE,
+        body: EndBody::Invalid,
+    })
 }
 
 // Returns the body of the answer, if the command is answered when it is fetched.

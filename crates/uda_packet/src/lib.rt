@@ -35,7 +35,7 @@ pub use encoding::{encode_command, encode_end};
 pub use end::{End, EndBody, Kind};
 pub use envelope::Envelope;
 pub use flags::Modifiers;
-pub use guest::decode_for_guests;
+pub use guest::{decode_for_guests, other_connection_reply};
 pub use guest_end::{
     ATTENTION_LENGTH, Bus, Identity, Report, UnitReport, encode_guest_end, encode_unit_available,
 };

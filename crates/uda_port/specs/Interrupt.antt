@@ -1,6 +1,6 @@
 -- Interrupts, and where a host is told that a ring fills or empties.
 -- UDA50 Programmer's Documentation Kit: initialisation, interrupts, ring transitions.
-use Rattle.std.specs.Prelude.{◌≡◌, ℕ, ◌+◌, ◌-◌, ◌*◌, ◌/◌, ◌%◌, ◌≤◌, ◌==◌, nat_le, Bool, false}
+use Rattle.std.specs.Prelude.{◌≡◌, ℕ, ◌+◌, ◌-◌, ◌*◌, ◌/◌, ◌%◌, ◌≤◌, ◌==◌, nat_le, nat_lt, Bool, false}
 use Rattle.std.specs.Prelude.{◌&&◌, ◌||◌, List, Option, Some, None, IfSome, if◌then◌else◌}
 use Rattle.uda_mem.specs.Put.{put}
 use Rattle.uda_mem.specs.Words.{word_bytes}
@@ -16,17 +16,26 @@ use Rattle.uda_port.specs.Ring.{is_owned, RingState, next_descriptor}
 abbrev pub NO_INTERRUPTS : Interrupts
 NO_INTERRUPTS = record { enabled = false; vector = 0; requested = false }
 
--- what the first word asks for: bit 7 enables interrupts, and bits 6-0 are a fourth of their vector; strictly
+-- what the first word asks for: bit 7 enables interrupts by steps of the start-up, and bits 6-0 are a fourth of their vector; strictly
 -- it asks for nothing
 abbrev pub interrupts_asked : Profile → Interrupts → ℕ → Interrupts
 interrupts_asked Strict i first = i
 interrupts_asked (ForGuests identity) i first =
     record { enabled = first / 0x80 % 2 == 1; vector = 4 * (first % 0x80); requested = false }
 
--- a request is raised, where interrupts are enabled; strictly none ever is
+-- a vector of 0 stands for none: then nothing interrupts
+abbrev pub has_vector : Interrupts → Bool
+has_vector i = nat_lt 0 i.vector
+
+-- a ring's transition, or a fatal error, raises a request if there is a vector; strictly none ever is
 abbrev pub raised : Profile → Interrupts → Interrupts
 raised Strict i = i
-raised (ForGuests identity) i = record i { requested = i.requested || i.enabled }
+raised (ForGuests identity) i = record i { requested = i.requested || has_vector i }
+
+-- a step of the start-up raises one if interrupts are enabled too
+abbrev pub raised_by_step : Profile → Interrupts → Interrupts
+raised_by_step Strict i = i
+raised_by_step (ForGuests identity) i = record i { requested = i.requested || (i.enabled && has_vector i) }
 
 -- the vector of the request that waits
 abbrev pub vector_of : Interrupts → Option ℕ

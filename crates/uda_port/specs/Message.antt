@@ -1,14 +1,14 @@
 -- What a command packet says.
 -- UDA50 Programmer's Documentation Kit: message envelopes; MSCP Basic Disk Functions Manual: invalid
 -- commands.
-use Rattle.std.specs.Prelude.{◌≡◌, ℕ, ◌-◌, ◌==◌, nat_le, nat_lt, Bool, true, false, List, replicate, Result, Ok, Err}
+use Rattle.std.specs.Prelude.{◌≡◌, ℕ, ◌-◌, ◌==◌, ◌||◌, nat_le, nat_lt, Bool, true, false, List, replicate, Result, Ok, Err}
 use Rattle.std.specs.Prelude.{if◌then◌else◌}
 use Rattle.uda_mem.specs.Put.{put}
 use Rattle.uda_packet.specs.declared.command.Command.{Command}
 use Rattle.uda_packet.specs.declared.reply.Reply.{Reply}
 use Rattle.uda_packet.specs.Bad.{other_length_end}
 use Rattle.uda_packet.specs.Envelope.{envelope_of}
-use Rattle.uda_packet.specs.Guest.{read_guest, reply_to_bad}
+use Rattle.uda_packet.specs.Guest.{read_guest, reply_to_bad, other_connection_reply}
 use Rattle.uda_packet.specs.Reading.{read_command}
 use Rattle.uda_packet.specs.Reply.{basic_reply}
 use Rattle.uda_packet.specs.declared.command.Op.{Op}
@@ -20,10 +20,18 @@ use Rattle.uda_port.specs.declared.packet.Fetched.{Fetched}
 use Rattle.uda_port.specs.declared.profile.Profile.{Profile}
 use Rattle.uda_port.specs.declared.profile.Profile.TheVariants.{Strict, ForGuests}
 
--- a sequential message of MSCP
-pub record IsSequential (p : Fetched) : Type 0 where
+-- the connections: MSCP's, 0, and a guest's also DUP's, 2, on which every command is invalid
+abbrev pub is_dup : ℕ → Bool
+is_dup connection = connection == 2
+
+abbrev pub HasConnection : Profile → ℕ → Type 0
+HasConnection Strict connection = connection ≡ 0
+HasConnection (ForGuests identity) connection = (connection == 0) || is_dup connection ≡ true
+
+-- a sequential message of such a connection
+pub record IsSequential (profile : Profile) (p : Fetched) : Type 0 where
   pub kind : (envelope_of p.words.0 p.words.1).kind ≡ 0
-  pub connection : (envelope_of p.words.0 p.words.1).connection ≡ 0
+  pub connection : HasConnection profile (envelope_of p.words.0 p.words.1).connection
 
 -- the text of a packet by its length word: of one that is shorter than 48 bytes the bytes behind its length
 -- count as 0, and a longer one is read as far as 48
@@ -56,11 +64,18 @@ length_reply (ForGuests identity) text =
 
 -- A command to be executed, or an end message: that of a packet of a length that no command has, of a text that
 -- is no command's, or of a command that is answered at once.
-abbrev pub message_in : Profile → Fetched → Result Command Reply
-message_in profile p =
+abbrev pub mscp_message : Profile → Fetched → Result Command Reply
+mscp_message profile p =
     let text = text_read profile p in
     if is_length profile p.words.0 then text_asks profile text
     else Err (length_reply profile text)
+
+-- the same of any connection
+abbrev pub message_in : Profile → Fetched → Result Command Reply
+message_in Strict p = mscp_message Strict p
+message_in (ForGuests identity) p =
+    if is_dup (envelope_of p.words.0 p.words.1).connection
+    then Err (other_connection_reply identity (text_by_length p)) else mscp_message (ForGuests identity) p
 
 -- ---- controller flags
 

@@ -1,6 +1,6 @@
 -- A port as its callers see it, and its credits.
 -- UDA50 Programmer's Documentation Kit: port registers, initialisation, credits.
-use Rattle.std.specs.Prelude.{◌≡◌, ℕ, ◌+◌, ◌-◌, ◌*◌, ◌≤◌, min, Bool, true, false, ◌&&◌, List, [], length, map}
+use Rattle.std.specs.Prelude.{◌≡◌, ℕ, ◌+◌, ◌-◌, ◌*◌, ◌≤◌, ◌==◌, min, Bool, true, false, ◌&&◌, List, [], length, map}
 use Rattle.std.specs.Prelude.{Option, None, Some, ◌||◌, option_map, slice_get, set}
 use Rattle.uda_packet.specs.declared.reply.Reply.{Reply}
 use Rattle.uda_exec.specs.Disks.{ExecState, PENDING_LIMIT}
@@ -15,7 +15,7 @@ use Rattle.uda_port.specs.declared.interrupt.Interrupts.{Interrupts}
 use Rattle.uda_port.specs.declared.guest.Guest.{Guest}
 use Rattle.uda_port.specs.Guest.{GUEST_AT_FIRST, guest_restarted, asks_attention}
 use Rattle.uda_port.specs.Ring.{RingState}
-use Rattle.uda_port.specs.Interrupt.{NO_INTERRUPTS, raised, noted, told_at, word_below}
+use Rattle.uda_port.specs.Interrupt.{NO_INTERRUPTS, raised_by_step, noted, told_at, word_below}
 
 -- the profile, the phase, the executor and the two rings; the ends that wait for delivery, the next one
 -- first; whether the port looks at its command ring; its credits; its interrupts; and since start-up the
@@ -77,6 +77,11 @@ credits_granted deliveries = 1 + PENDING_LIMIT * min deliveries 1 + (deliveries 
 abbrev pub next_grant : ℕ → ℕ
 next_grant deliveries = credits_granted (deliveries + 1) - credits_granted deliveries
 
+-- no credit is left to a guest: then its port doesn't fetch; strictly it fetches, which is fatal
+abbrev pub lacks_credit : Profile → ℕ → Bool
+lacks_credit Strict credits = false
+lacks_credit (ForGuests identity) credits = credits == 0
+
 -- the credits left are those granted, less one for each command; each command that was fetched is pending, or
 -- its end waits or was delivered; and no more are under way than may be pending
 pub record CreditsAgree (port : PortState) : Type 0 where
@@ -84,9 +89,9 @@ pub record CreditsAgree (port : PortState) : Type 0 where
   pub conserved : port.fetches ≡ port.deliveries + (length port.exec.pending + length port.waiting)
   pub within : length port.exec.pending + length port.waiting ≤ PENDING_LIMIT
 
--- SA shows another phase, and a request is raised
+-- SA shows another step of the start-up, which may raise a request
 abbrev pub port_shows : PortState → Phase → PortState
-port_shows old phase = record old { phase = phase; interrupts = raised old.profile old.interrupts }
+port_shows old phase = record old { phase = phase; interrupts = raised_by_step old.profile old.interrupts }
 
 -- where the host is told of the commands' transition, and of the responses': in the words four and two bytes
 -- below the ring base

@@ -15,7 +15,7 @@ use Rattle.uda_port.specs.declared.area.Area.{Area}
 use Rattle.uda_packet.specs.declared.guest_end.Bus.{Bus}
 use Rattle.uda_packet.specs.declared.guest_end.Bus.TheVariants.{Unibus, Qbus}
 use Rattle.uda_port.specs.Ring.{is_ring_length}
-use Rattle.uda_port.specs.Interrupt.{interrupts_asked}
+use Rattle.uda_port.specs.Interrupt.{interrupts_asked, raised}
 use Rattle.uda_port.specs.Port.{PortState, port_shows}
 
 -- the codes of the fatal errors
@@ -116,8 +116,12 @@ abbrev pub memory_with_area : Area → List ℕ → List ℕ
 memory_with_area area memory =
     put memory (area.base - area.below) (replicate (area.below + rings_size area) 0)
 
+-- a fatal error, which may raise a request
 abbrev pub dead_port : PortState → Fatal → PortState
-dead_port port cause = port_shows port (Dead cause)
+dead_port port cause = record port {
+  phase = Dead cause;
+  interrupts = raised port.profile port.interrupts;
+}
 
 -- step 1: a word without bit 15 is none; bit 14 asks for wrap; a guest's asks for interrupts
 abbrev pub by_first : PortState → ℕ → PortState

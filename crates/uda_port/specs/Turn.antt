@@ -1,6 +1,6 @@
 -- What a turn of a port does: the first of its lines that fits.
 -- UDA50 Programmer's Documentation Kit: command ring polling, message envelopes, credits, fatal errors.
-use Rattle.std.specs.Prelude.{◌≡◌, ℕ, ◌+◌, ◌-◌, ◌<◌, Bool, true, false, List, [], ◌∷◌, ◌++◌, length}
+use Rattle.std.specs.Prelude.{◌≡◌, ℕ, ◌+◌, ◌-◌, ◌<◌, Bool, true, false, ◌&&◌, ◌||◌, not, List, [], ◌∷◌, ◌++◌, length}
 use Rattle.std.specs.Prelude.{Some, Result, Ok, Err}
 use Rattle.uda_packet.specs.declared.command.Command.{Command}
 use Rattle.uda_packet.specs.declared.end.End.{End}
@@ -25,6 +25,7 @@ use Rattle.uda_port.specs.Packet.{IsLegible}
 use Rattle.uda_port.specs.AtOnce.{replies_at_once, exec_at_once}
 use Rattle.uda_port.specs.Delivery.{Puts, LosesRoom}
 use Rattle.uda_port.specs.Message.{IsSequential, message_in, flags_kept}
+use Rattle.uda_port.specs.Port.{lacks_credit}
 use Rattle.uda_port.specs.Port.{PortState, next_grant, commands_told, responses_told, interrupts_told}
 use Rattle.uda_port.specs.Startup.{dead_port}
 
@@ -52,14 +53,18 @@ port_with_message old (Err r) = record old {
   waiting = old.waiting ++ replies_at_once old.profile r old.exec;
 }
 
+-- a port that looks may fetch, unless its guest has no credit
+abbrev pub may_fetch : PortState → Bool
+may_fetch old = old.looking && not (lacks_credit old.profile old.credits)
+
 pub record FetchesOne (old : PortState) (memory : List ℕ) (new : PortState)
     (memory_after : List ℕ) : Type 0 where
   pub packet : Fetched
-  pub looks : old.looking ≡ true
+  pub looks : may_fetch old ≡ true
   pub takes : Takes (commands_told old memory) old.commands memory packet new.commands memory_after
   pub in_order : TakesFirst old.commands memory packet new.commands memory_after
   pub credit : 0 < old.credits
-  pub sequential : IsSequential packet
+  pub sequential : IsSequential old.profile packet
   pub others : new
       ≡ record (port_with_message old (message_in old.profile packet)) {
         commands = new.commands;
@@ -69,14 +74,14 @@ pub record FetchesOne (old : PortState) (memory : List ℕ) (new : PortState)
         guest = flags_kept old.profile packet (message_in old.profile packet) old.guest;
       }
 
--- the port doesn't look, or doesn't own the next command descriptor
+-- the port may not fetch, or doesn't own the next command descriptor
 abbrev pub NothingToFetch : PortState → List ℕ → Type 0
-NothingToFetch old memory = old.looking ≡ true → FindsNone old.commands memory
+NothingToFetch old memory = may_fetch old ≡ true → FindsNone old.commands memory
 
 -- a packet was taken, and its descriptor given back
 pub record TakesPacket (old : PortState) (memory : List ℕ) (packet : Fetched) (new : PortState)
     (memory_after : List ℕ) : Type 0 where
-  pub looks : old.looking ≡ true
+  pub looks : may_fetch old ≡ true
   pub takes : Takes (commands_told old memory) old.commands memory packet new.commands memory_after
   pub others : new
       ≡ record old {
@@ -86,19 +91,20 @@ pub record TakesPacket (old : PortState) (memory : List ℕ) (packet : Fetched) 
 
 -- fatal: the next command descriptor isn't in memory
 pub record LosesCommandRing (old : PortState) (memory : List ℕ) : Type 0 where
-  pub looks : old.looking ≡ true
+  pub looks : may_fetch old ≡ true
   pub no_descriptor : LosesRing old.commands memory
 
 -- fatal: its packet isn't there to be read
 pub record LosesCommand (old : PortState) (memory : List ℕ) : Type 0 where
-  pub looks : old.looking ≡ true
+  pub looks : may_fetch old ≡ true
   pub no_packet : LosesPacket old.commands memory
 
--- fatal: the host had no credit for it
+-- fatal in the strict profile: the host had no credit for it
 pub record ExceedsCredits (old : PortState) (memory : List ℕ) (new : PortState)
     (memory_after : List ℕ) : Type 0 where
   pub packet : Fetched
   pub taken : TakesPacket old memory packet new memory_after
+  pub strict : old.profile ≡ Strict
   pub no_credit : old.credits ≡ 0
 
 -- fatal: its envelope is of another connection or message type
@@ -107,7 +113,7 @@ pub record TakesForeign (old : PortState) (memory : List ℕ) (new : PortState)
   pub packet : Fetched
   pub taken : TakesPacket old memory packet new memory_after
   pub credit : 0 < old.credits
-  pub not_sequential : IsSequential packet → ⊥
+  pub not_sequential : IsSequential old.profile packet → ⊥
 
 -- whether the first line fits, or why it is fatal
 abbrev pub FetchLine : PortState → List ℕ → Result Bool Fatal → PortState → List ℕ → Type 0
@@ -141,7 +147,7 @@ ExecuteLine old memory true new memory_after = (j : ℕ) × ExecutesOne j old me
 ExecuteLine old memory false new memory_after =
     (old.exec.pending ≡ []) × Unchanged old memory new memory_after
 
--- ---- the third line: the first waiting end is delivered
+-- ---- the third line: the first waiting end is delivered, and a port whose guest had no credit looks again
 
 -- what goes with the next end
 abbrev pub delivery_of : PortState → List ℕ → Delivery
@@ -161,6 +167,7 @@ pub record DeliversOne (old : PortState) (memory : List ℕ) (new : PortState)
   pub others : new ≡ record old {
     responses = new.responses;
     waiting = new.waiting;
+    looking = lacks_credit old.profile old.credits || old.looking;
     credits = old.credits + next_grant old.deliveries;
     interrupts = interrupts_told old (responses_told old memory);
     deliveries = old.deliveries + 1;

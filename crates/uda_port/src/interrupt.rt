@@ -3,7 +3,7 @@
 //! UDA50 Programmer's Documentation Kit: initialisation, interrupts.
 ghost use Rattle.std.specs.Prelude.{◌≡◌};
 ghost use Rattle.uda_port.specs.Interrupt.{NO_INTERRUPTS, interrupts_asked, raised, noted, vector_of};
-ghost use Rattle.uda_port.specs.Interrupt.{served};
+ghost use Rattle.uda_port.specs.Interrupt.{served, has_vector, raised_by_step};
 
 use crate::profile::Profile;
 
@@ -12,15 +12,15 @@ use crate::profile::Profile;
 /// UDA50 Programmer's Documentation Kit: initialisation, interrupts.
 #[derive(Clone, Copy, Debug, PartialEq, Eq)]
 pub struct Interrupts {
-    /// Whether the host enabled them: bit 7 of the word.
+    /// Whether the steps of the start-up interrupt: bit 7 of the word.
     pub enabled: bool,
-    /// The address of their vector: four times bits 6-0 of the word.
+    /// The address of their vector: four times bits 6-0 of the word. If it is 0, nothing interrupts.
     pub vector: u16,
     /// Whether a request waits.
     pub requested: bool,
 }
 
-/// The bit of the first word that enables interrupts.
+/// The bit of the first word that enables interrupts by steps of the start-up.
 const ENABLE: u16 = 7;
 
 /// The bits of the first word that are a fourth of the vector.
@@ -52,14 +52,35 @@ impl Interrupts {
         }
     }
 
-    /// A request is raised, where they are enabled; strictly none ever is.
+    // Whether there is a vector: one of 0 stands for none.
+    fn has_vector(self) -> bool
+        ensures { result ≡ has_vector self }
+    {
+        self.vector > 0
+    }
+
+    /// Raises a request for a ring's transition or a fatal error, if there is a vector; strictly never.
     pub(crate) fn raised(self, profile: Profile) -> Interrupts
         ensures { result ≡ raised profile self }
     {
         match profile {
             Profile::Strict => self,
             Profile::ForGuests(_) => Interrupts {
-                requested: self.requested || self.enabled,
+                requested: self.requested || self.has_vector(),
+                ..self
+            },
+        }
+    }
+
+    /// Raises a request for a step of the start-up, if interrupts are enabled and there is a vector; strictly
+    /// never.
+    pub(crate) fn raised_by_step(self, profile: Profile) -> Interrupts
+        ensures { result ≡ raised_by_step profile self }
+    {
+        match profile {
+            Profile::Strict => self,
+            Profile::ForGuests(_) => Interrupts {
+                requested: self.requested || (self.enabled && self.has_vector()),
                 ..self
             },
         }

@@ -1,15 +1,22 @@
 //! What a command packet says.
 //!
 //! UDA50 Programmer's Documentation Kit: message envelopes.
-ghost use Rattle.std.specs.Prelude.{◌≡◌, MatchOption, length};
+ghost use Rattle.std.specs.Prelude.{◌≡◌, ◌↔◌, IsTrue, MatchOption, length};
 ghost use Rattle.uda_port.specs.Message.{IsSequential, is_length, message_in, text_by_length, text_read};
 ghost use Rattle.uda_port.specs.Message.{text_asks, length_reply, flags_kept, is_controller};
+ghost use Rattle.uda_port.specs.Message.{mscp_message, HasConnection};
+ghost use Rattle.uda_packet.specs.Envelope.{envelope_of};
 ghost use Rattle.uda_mem.specs.Words.{word_at};
 
 use crate::guest::Guest;
 use crate::packet::{Fetched, TEXT};
 use crate::profile::Profile;
-use uda_packet::{Command, End, Envelope, Op, Reply, decode_command, decode_for_guests};
+use uda_packet::{
+    Command, End, Envelope, Op, Reply, decode_command, decode_for_guests, other_connection_reply,
+};
+
+/// The connection of DUP, the diagnostics protocol.
+const DUP: u8 = 2;
 
 /// The bytes that a command has as far as its opcode and modifiers go.
 const HEAD: u16 = 12;
@@ -17,19 +24,43 @@ const HEAD: u16 = 12;
 /// The command of a packet, or the end message of what is none or is answered at once. None where the envelope
 /// is of another connection or message type.
 pub(crate) fn message_in(profile: Profile, packet: &Fetched) -> Option<Result<Command, Reply>>
-    ensures { MatchOption result (IsSequential packet.now → ⊥)
-        (λ message. IsSequential packet.now × (message ≡ message_in profile packet.now)) }
+    ensures { MatchOption result (IsSequential profile packet.now → ⊥)
+        (λ message. IsSequential profile packet.now × (message ≡ message_in profile packet.now)) }
 {
     let envelope = Envelope::of_words(packet.words.0, packet.words.1);
-    if envelope.kind != 0 || envelope.connection != 0 {
+    if envelope.kind != 0 || !has_connection(profile, envelope.connection) {
         return None;
     }
-    Some(message_of(profile, packet))
+    Some(message_of(profile, envelope.connection, packet))
+}
+
+// Whether a host may use a connection: MSCP's, and a guest also DUP's.
+fn has_connection(profile: Profile, connection: u8) -> bool
+    ensures { IsTrue result ↔ HasConnection profile connection }
+{
+    match profile {
+        Profile::Strict => connection == 0,
+        Profile::ForGuests(_) => connection == 0 || connection == DUP,
+    }
 }
 
 // A packet's message.
-fn message_of(profile: Profile, packet: &Fetched) -> Result<Command, Reply>
+fn message_of(profile: Profile, connection: u8, packet: &Fetched) -> Result<Command, Reply>
+    requires { connection ≡ (envelope_of packet.now.words.0 packet.now.words.1).connection }
     ensures { result ≡ message_in profile packet.now }
+{
+    match profile {
+        Profile::ForGuests(identity) if connection == DUP => {
+            Err(other_connection_reply(&text_by_length(packet), identity))
+        }
+        Profile::Strict => mscp_message(profile, packet),
+        Profile::ForGuests(_) => mscp_message(profile, packet),
+    }
+}
+
+// The message of a packet on MSCP's connection.
+fn mscp_message(profile: Profile, packet: &Fetched) -> Result<Command, Reply>
+    ensures { result ≡ mscp_message profile packet.now }
 {
     let text = text_read(profile, packet);
     if !is_length(profile, packet.words.0) {

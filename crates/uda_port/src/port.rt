@@ -209,8 +209,8 @@ impl<S: BlockStore> Port<S> {
     ///
     /// In the profile for guests a request is raised when SA shows a step to which a word of the host
     /// led, or the poll test; when the host is told that a ring fills or empties; and when the port dies.
-    /// All that only where the first word of the start-up enabled interrupts, and never in the strict
-    /// profile. One that waits stays one, and a write to IP drops it.
+    /// A step raises one only if the first word of the start-up has bit 7; and nothing does if the vector is
+    /// 0, or in the strict profile. One that waits stays one, and a write to IP drops it.
     ///
     /// UDA50 Programmer's Documentation Kit: interrupts.
     pub fn take_interrupt(&mut self) -> Option<u16>
@@ -222,12 +222,12 @@ impl<S: BlockStore> Port<S> {
         request
     }
 
-    // SA shows another phase, and a request is raised.
+    // SA shows another step of the start-up, which may raise a request.
     pub(crate) fn show(&mut self, phase: Phase)
         ensures { self.new ≡ port_shows self.old phase }
     {
         self.phase = phase;
-        self.interrupts = self.interrupts.raised(self.profile);
+        self.interrupts = self.interrupts.raised_by_step(self.profile);
     }
 
     /// Which hosts the port serves.

@@ -83,11 +83,12 @@ impl<S: BlockStore> Port<S> {
         }
     }
 
-    /// A fatal error.
+    /// A fatal error, which may raise a request.
     pub(crate) fn die(&mut self, cause: Fatal)
         ensures { self.new ≡ dead_port self.old cause }
     {
-        self.show(Phase::Dead { cause });
+        self.phase = Phase::Dead { cause };
+        self.interrupts = self.interrupts.raised(self.profile);
     }
 
     fn first_word(&mut self, word: u16)

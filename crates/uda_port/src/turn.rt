@@ -9,7 +9,8 @@ ghost use Rattle.circular_buffer.specs.Buffer.{buffer};
 ghost use Rattle.uda_port.specs.Port.{CreditsAgree, next_grant, commands_told, responses_told};
 ghost use Rattle.uda_port.specs.Interrupt.{IsBelow};
 ghost use Rattle.uda_port.specs.Turn.{FetchLine, ExecuteLine, DeliverLine, NotifyLine, RestGoes, LinesGo, RunningTurn};
-ghost use Rattle.uda_port.specs.Turn.{TurnGoes, delivery_of};
+ghost use Rattle.uda_port.specs.Turn.{TurnGoes, delivery_of, may_fetch};
+ghost use Rattle.uda_port.specs.Port.{lacks_credit};
 ghost use Rattle.uda_port.specs.Report.{end_text, report_of, attention_text};
 ghost use Rattle.uda_port.specs.Guest.{first_due};
 ghost use Rattle.uda_port.specs.declared.profile.Profile.TheVariants.{Strict};
@@ -75,7 +76,8 @@ impl<S: BlockStore> Port<S> {
     /// makes the end of status 0x0001. It judges no response's length, and writes an end with the bytes of
     /// its kind: 12, 32, 44 or 48. Where a descriptor that it gives back has its flag, and the one before it
     /// in its ring is the port's, it first writes 1 to the word at 4 (commands) or 2 (responses) bytes below
-    /// the ring base, and raises a request ([`take_interrupt`](Port::take_interrupt)).
+    /// the ring base, and raises a request ([`take_interrupt`](Port::take_interrupt)). While its guest has no
+    /// credit it doesn't fetch, and with the next delivery it looks again.
     ///
     /// A port in start-up answers [`Turn::Idle`] and a dead one [`Turn::Dead`], and neither changes
     /// anything.
@@ -191,7 +193,7 @@ impl<S: BlockStore> Port<S> {
         requires { IsMemory memory.old }
         ensures { FetchLine self.old memory.old result self.new memory.new }
     {
-        if !self.looking {
+        if !self.may_fetch() {
             return Ok(false);
         }
         let told = self.commands_told(memory);
@@ -220,6 +222,23 @@ impl<S: BlockStore> Port<S> {
         Ok(true)
     }
 
+    // Whether the port may fetch: it looks, and its guest has a credit.
+    fn may_fetch(&self) -> bool
+        ensures { result ≡ may_fetch self.now }
+    {
+        self.looking && !self.lacks_credit()
+    }
+
+    // Whether a guest has no credit left; strictly that is found when a command was taken.
+    fn lacks_credit(&self) -> bool
+        ensures { result ≡ lacks_credit self.now.profile self.now.credits }
+    {
+        match self.profile {
+            Profile::Strict => false,
+            Profile::ForGuests(_) => self.credits == 0,
+        }
+    }
+
     // The second line: executes a pending command, where there is one.
     fn execute(&mut self, memory: &mut [u8]) -> bool
         requires { IsMemory memory.old }
@@ -245,6 +264,7 @@ impl<S: BlockStore> Port<S> {
         ensures { DeliverLine self.old memory.old result self.new memory.new }
     {
         let delivery = self.delivery(memory);
+        let looks = self.lacks_credit() || self.looking;
         let message = self.end_text(&end);
         match put_message(&mut self.responses, memory, delivery, &message) {
             Err(RingFault::Ring) => return Err(Fatal::RingRead),
@@ -254,6 +274,7 @@ impl<S: BlockStore> Port<S> {
         }
         release(&mut self.waiting, end);
         self.interrupts.note(self.profile, delivery.told);
+        self.looking = looks;
         self.credits += delivery.credits;
         self.begun = true;
         self.deliveries.add(1);

@@ -5,7 +5,9 @@ ghost use Rattle.uda_mem.specs.Slices.{IsMemory};
 ghost use Rattle.uda_c.specs.declared.call_status.CallStatus.TheVariants.{Took, Done};
 ghost use Rattle.uda_c.specs.Controllers.{controller_at_start, Attaches, Detaches, TurnsWhereMemory};
 ghost use Rattle.uda_c.specs.Controllers.{FailsAt, drive_failing, TakesTurn, memory_refusal, IsSound};
-ghost use Rattle.uda_c.specs.Controllers.{GivesBack, image_answer, image_at, bytes_at};
+ghost use Rattle.uda_port.specs.Port.{port_at_start, port_asked};
+ghost use Rattle.uda_port.specs.Interrupt.{vector_of, served};
+ghost use Rattle.uda_c.specs.Controllers.{WritesSa, GivesBack, image_answer, image_at, bytes_at};
 ghost use Rattle.uda_c.specs.LentImage.{lent_state, IsWhole};
 ghost use Rattle.uda_c.specs.Slots.{empty_slot, is_empty};
 ghost use Rattle.uda_exec.specs.Drives.{drive_state};
@@ -17,6 +19,7 @@ use crate::lent_image::LentImage;
 use crate::slot::Slot;
 use crate::unit_images::UnitImages;
 use std::alloc::Global;
+use std::marker::Model;
 use uda_exec::Exec;
 use uda_image::{BLOCK_LIMIT, Drive};
 use uda_port::{Port, Trace, Turn};
@@ -26,6 +29,17 @@ use uda_port::{Port, Trace, Turn};
 pub struct Controller {
     pub port: Port<LentImage>,
     pub last: Option<Trace>,
+}
+
+impl Model for Controller {
+    ghost use Rattle.uda_disk.specs.Units.{AllFaithful};
+    ghost use Rattle.uda_c.specs.ControllerState.{ControllerState};
+
+    ghost Value = { ControllerState };
+
+    ghost view = { λ c. record { port = c.port; last = c.last } };
+
+    ghost invariant = { λ c. AllFaithful c.port.exec.units };
 }
 
 impl Controller {
@@ -50,6 +64,44 @@ impl Controller {
         ensures sound { IsSound self.now.port }
     {
         self.port.keep();
+    }
+
+    /// The guest writes IP.
+    #[tactic(auto, using(crate::proofs::FaithfulUnits::start_faithful))]
+    pub fn write_ip(&mut self, word: u16)
+        ensures starts { self.new ≡ record self.old {
+          port = port_at_start self.old.port.profile self.old.port.exec;
+        } }
+    {
+        self.port.write_ip(word);
+    }
+
+    /// The guest reads IP.
+    #[tactic(auto, using(crate::proofs::FaithfulUnits::asked_faithful))]
+    pub fn read_ip(&mut self) -> u16
+        ensures zero { result ≡ 0 }
+        ensures looks { self.new ≡ record self.old { port = port_asked self.old.port.phase self.old.port } }
+    {
+        self.port.read_ip()
+    }
+
+    /// The guest writes SA.
+    #[tactic(auto, using(crate::proofs::FaithfulUnits::word_faithful))]
+    pub fn write_sa(&mut self, word: u16, memory: &mut [u8])
+        ensures steps { WritesSa self.old memory.old word self.new memory.new }
+    {
+        self.port.write_sa_in(word, memory);
+    }
+
+    /// Takes the request of an interrupt that waits.
+    #[tactic(auto, using(crate::proofs::FaithfulUnits::same_faithful))]
+    pub fn take_interrupt(&mut self) -> Option<u16>
+        ensures vector { result ≡ vector_of self.old.port.interrupts }
+        ensures gone { self.new ≡ record self.old {
+          port = record self.old.port { interrupts = served self.old.port.interrupts };
+        } }
+    {
+        self.port.take_interrupt()
     }
 
     /// Takes the bytes that C lends as the image of a unit, or leaves them where they are.

@@ -133,7 +133,7 @@ pub extern "C" fn uda50_write_ip(handle: &mut Handle, word: u16)
 {
     if let Some(controller) = handle.get() {
         controller.keep();
-        controller.port.write_ip(word);
+        controller.write_ip(word);
         controller.keep();
     }
 }
@@ -149,7 +149,7 @@ pub extern "C" fn uda50_read_ip(handle: &mut Handle) -> u16
     match handle.get() {
         Some(controller) => {
             controller.keep();
-            let answer = controller.port.read_ip();
+            let answer = controller.read_ip();
             controller.keep();
             answer
         }
@@ -166,7 +166,7 @@ pub extern "C" fn uda50_write_sa(handle: &mut Handle, word: u16, memory: &mut [u
 {
     if let Some(controller) = handle.get() {
         controller.keep();
-        controller.port.write_sa_in(word, memory);
+        controller.write_sa(word, memory);
         controller.keep();
     }
 }
@@ -221,7 +221,7 @@ pub extern "C" fn uda50_take_interrupt(handle: &mut Handle, vector: &mut u16) ->
         return false;
     };
     controller.keep();
-    let request = controller.port.take_interrupt();
+    let request = controller.take_interrupt();
     controller.keep();
     match request {
         Some(address) => {

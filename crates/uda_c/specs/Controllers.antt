@@ -140,6 +140,16 @@ pub record Detaches (old : Exchange) (unit : ℕ) (answer : CallStatus) (new : E
   pub given_back : answer ≡ Done → option_map (λ image. image.bytes) (image_at old.0 unit) ≡ Some new.1.held
   pub refused : answer ≢ Done → new ≡ old
 
+-- the handle has a controller of which this unit has this image
+abbrev pub HasImage : Option ControllerState → ℕ → Lending → Type 0
+HasImage (Some c) unit image = image_at c unit ≡ Some image
+HasImage None unit image = ⊥
+
+-- the handle had one of which this unit had an image of these bytes
+abbrev pub HadBytes : Option ControllerState → ℕ → List ℕ → Type 0
+HadBytes (Some c) unit bytes = option_map (λ image. image.bytes) (image_at c unit) ≡ Some bytes
+HadBytes None unit bytes = ⊥
+
 -- the bytes of a unit's image, and none if it has no image
 abbrev pub bytes_of : Option Lending → List ℕ
 bytes_of (Some image) = image.bytes

@@ -7,7 +7,7 @@ ghost use Rattle.uda_c.specs.CallStatus.{status_code};
 ghost use Rattle.uda_c.specs.declared.call_status.CallStatus.{CallStatus};
 ghost use Rattle.uda_c.specs.declared.call_status.CallStatus.TheVariants.{Done, NoController};
 ghost use Rattle.uda_c.specs.Controllers.{OnHandle, AreSound, HoldsSound, MakesNew, Frees, GivesBack};
-ghost use Rattle.uda_c.specs.Controllers.{Attaches, Detaches, WritesSa};
+ghost use Rattle.uda_c.specs.Controllers.{Attaches, Detaches, HasImage, HadBytes, WritesSa};
 ghost use Rattle.uda_c.specs.Controllers.{FailsAt, TurnsWhereMemory, TakesInterrupt};
 ghost use Rattle.uda_c.specs.Runs.{RunsWhereMemory};
 ghost use Rattle.uda_c.specs.Snapshot.{port_snapshot};
@@ -50,6 +50,7 @@ pub extern "C" fn uda50_new(alloc: Global, handle: &mut Handle, compatible: bool
 pub extern "C" fn uda50_free(alloc: Global, handle: &mut Handle, images: &mut UnitImages) -> u32
     ensures frees { (answer : CallStatus) × (result ≡ status_code answer)
         × Frees handle.old.value images.old answer handle.new.value images.new }
+    ensures done { result ≡ 0 → handle.new.value ≡ None }
     ensures sound { AreSound handle.old.value handle.new.value }
 {
     let answer = give_back(handle, images);
@@ -72,6 +73,8 @@ pub extern "C" fn uda50_attach(
         ((result ≡ status_code NoController) × (image.new ≡ image.old))
         (λ old new. (answer : CallStatus) × (result ≡ status_code answer)
         × Attaches (old, image.old) unit write_protected answer (new, image.new)) }
+    ensures done { result ≡ 0
+        → HasImage handle.new.value unit (record { bytes = image.old.held; hard = write_protected }) }
     ensures sound { AreSound handle.old.value handle.new.value }
 {
     match handle.get() {
@@ -92,6 +95,7 @@ pub extern "C" fn uda50_detach(handle: &mut Handle, unit: u32, image: &mut Slot)
         ((result ≡ status_code NoController) × (image.new ≡ image.old))
         (λ old new. (answer : CallStatus) × (result ≡ status_code answer)
         × Detaches (old, image.old) unit answer (new, image.new)) }
+    ensures done { result ≡ 0 → HadBytes handle.old.value unit image.new.held }
     ensures sound { AreSound handle.old.value handle.new.value }
 {
     match handle.get() {

@@ -10,7 +10,7 @@ use Rattle.uda_exec.specs.declared.drive_unit.UnitLook.{UnitLook}
 use Rattle.uda_exec.specs.Drives.{DriveState, drive_in, fresh_unit, handed_back, look_of, look_at, in_mode, with_drive, with_mode}
 use Rattle.uda_port.specs.Port.{PortState}
 use Rattle.uda_c.specs.declared.call_status.CallStatus.TheVariants.{Done, NoSuchUnit, NotAttached}
-use Rattle.uda_c.specs.declared.controller.Controller.{Controller}
+use Rattle.uda_c.specs.ControllerState.{ControllerState}
 use Rattle.uda_c.specs.LentImage.{failing_from_now}
 use Rattle.uda_c.specs.Controllers.{FailsAt, drive_failing, unit_failing}
 
@@ -65,7 +65,7 @@ unit_fails units u call look drive failing e back fails =
     ∙ ap (λ (o : Option (Option UnitState)). set units u (option_map (unit_failing call) (unwrap_or o None))) (sym s.here)
 
 -- the three calls that do it
-pub fails_at : (old : Controller) (u call : ℕ) (look : UnitLook) (drive failing : DriveState) (out back new : PortState)
+pub fails_at : (old : ControllerState) (u call : ℕ) (look : UnitLook) (drive failing : DriveState) (out back new : PortState)
     → nat_lt 3 u ≡ false → look_at (slice_get old.port.exec.units u) ≡ Some look
     → Some drive ≡ handed_back old.port.exec.units u None → failing ≡ drive_failing call drive
     → out ≡ record old.port { exec = with_drive old.port.exec u None }

@@ -16,7 +16,7 @@ use Rattle.circular_buffer.proofs.Crosses.{Cells-send, Deed-send}
 use Rattle.circular_buffer.specs.contracts.cells.Deed as Deed
 use Rattle.uda_c.proofs.Crosses.{lent_send}
 use Rattle.uda_c.specs.Held.{heap, held}
-use Rattle.uda_c.specs.declared.controller.Controller.{Controller}
+use Rattle.uda_c.specs.ControllerState.{ControllerState}
 use Rattle.uda_c.specs.contracts.controller.Controller.{the_row as X}
 use Rattle.uda_c.specs.contracts.handle.Handle.{the_row, the_type}
 
@@ -26,7 +26,7 @@ deed_send R = Deed-send R Z ghosts frees
 controller_send : IsSend X
 controller_send = search (sendable, crosses, lent_send, Cells-send, deed_send) depth 80 fits 30000
 
-held-Keyless : (p : Ptr) (m : Option Controller) → Keyless (held p m)
+held-Keyless : (p : Ptr) (m : Option ControllerState) → Keyless (held p m)
 held-Keyless p None = tt
 held-Keyless p (Some c) = (lies X controller_send p c, frees.frees heap (raw (lone X.mir)) p)
 

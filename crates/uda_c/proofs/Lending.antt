@@ -10,7 +10,7 @@ use Rattle.uda_exec.specs.declared.drive_unit.UnitLook.{UnitLook}
 use Rattle.uda_exec.specs.Drives.{DriveState, drive_in, fresh_unit, handed_back, look_at, with_drive}
 use Rattle.uda_port.specs.Port.{PortState}
 use Rattle.uda_c.proofs.FailingUnits.{seen, handed}
-use Rattle.uda_c.specs.declared.controller.Controller.{Controller}
+use Rattle.uda_c.specs.ControllerState.{ControllerState}
 use Rattle.uda_c.specs.declared.call_status.CallStatus.TheVariants.{Done, NoSuchUnit, AlreadyAttached, NotAttached, NotEmpty, HasController}
 use Rattle.uda_c.specs.declared.slot.Slot.{Slot}
 use Rattle.uda_c.specs.declared.lent.Lent.{Lent}
@@ -28,7 +28,7 @@ attached units u lending there whole =
     lending.bytes whole.0 whole.1)
 
 -- the calls that do it
-pub attaches : (old : Controller) (u : ℕ) (slot after : Slot) (hard : Bool) (bytes : List ℕ) (store :
+pub attaches : (old : ControllerState) (u : ℕ) (slot after : Slot) (hard : Bool) (bytes : List ℕ) (store :
     LentBlocks) (new : PortState)
     → u ≤ 3 → has_image old u ≡ false → bytes ≡ slot.held → IsWhole bytes → after ≡ empty_slot
     → image_answer (length slot.held) ≡ Done → store ≡ record { bytes = bytes; left = None }
@@ -73,7 +73,7 @@ pub full : (slot : Slot) → length slot.held ≢ 0 → false ≡ is_empty slot
 full slot some = sym (ne_eqb (length slot.held) 0 some)
 
 -- an image isn't put into a slot that has bytes
-pub not_put : (old : Controller) (u : ℕ) (look : UnitLook) (slot after : Slot) (lent : Lent) → u ≤ 3
+pub not_put : (old : ControllerState) (u : ℕ) (look : UnitLook) (slot after : Slot) (lent : Lent) → u ≤ 3
     → look_at (slice_get old.port.exec.units u) ≡ Some look → length slot.held ≢ 0 → lent ≡ lent_in slot
     → after ≡ slot_of lent
     → Detaches (old, slot) u NotEmpty (old, after)
@@ -102,8 +102,28 @@ given_back units u look drive bytes e back are =
     ∙ ap Some (sym (are ∙ ap (λ (d : DriveState). concat d.store.blocks) drive_is))
 
 -- a handle that has a controller keeps it
-pub controller_stays : (old new : Option Controller) {b : Bool} (compatible : Bool) → b ≡ is_some old
+pub controller_stays : (old new : Option ControllerState) {b : Bool} (compatible : Bool) → b ≡ is_some old
     → b ≡ true → new ≡ old
     → MakesNew old compatible HasController new
 controller_stays (Some c) new compatible is has stays = (refl, stays)
 controller_stays None new compatible is has stays = let no : false ≡ true = sym is ∙ has in absurd (cc)
+
+-- the calls that give a unit's image back
+pub detaches : (old : ControllerState) (u : ℕ) (look : UnitLook) (slot after : Slot) (lent : Lent)
+    (drive : DriveState) (new : PortState)
+    → u ≤ 3 → look_at (slice_get old.port.exec.units u) ≡ Some look → slot.held ≡ []
+    → Some drive ≡ handed_back old.port.exec.units u None → lent.held ≡ concat drive.store.blocks
+    → after ≡ slot_of lent → new ≡ record old.port { exec = with_drive old.port.exec u None }
+    → Detaches (old, slot) u Done (record old { port = new }, after)
+detaches old u look slot after lent drive new low e empty back are put is =
+    let units = old.port.exec.units in record {
+      answer_is = sym (ap (λ b. if b then NoSuchUnit else if has_image old u then
+          (if length slot.held == 0 then Done else NotEmpty) else NotAttached) (le-ltb 3 u low)
+          ∙ ap (λ (o : Option UnitLook).
+          if is_some o then (if length slot.held == 0 then Done else NotEmpty) else NotAttached) e
+          ∙ ap (λ (bytes : List ℕ). if length bytes == 0 then Done else NotEmpty) empty);
+      detached = λ _. ap (λ (p : PortState). record old { port = p }) is;
+      given_back = λ _. given_back units u look drive after.held e back
+          (ap (λ (s : Slot). s.held) put ∙ are);
+      refused = λ no. absurd (no refl);
+    }

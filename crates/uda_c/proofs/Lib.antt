@@ -6,3 +6,4 @@ pub mod Images
 pub mod RunLaws
 pub mod FailingUnits
 pub mod Lending
+pub mod FaithfulUnits

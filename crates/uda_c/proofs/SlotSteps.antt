@@ -105,7 +105,8 @@ module _ {M : Type 1} {𝓤 : Ura M} {𝓛 : Logic 𝓤} {K : Type 0} {Γ : List
       ) $ fjoin t $ s)
 
   pub lent_made : K → (p : Ptr) (n : ℕ) (xs : List ℕ) → n < 2 ^ 64
-      → Step K 𝓛 (‵ (L.own_val (record { at = p; len = n; held = xs }) (word p n ∷ [])) ∷ Γ) G (‵ (lies p n xs)
+      → Step K 𝓛 (‵ (L.own_val (record { at = p; len = n; held = xs }) (word p n ∷ [])) ∷ Γ) G (‵ (lies p n
+      xs)
       ∷ Γ) G
   lent_made t p n xs fn = step (λ s.
       nothing t $ flt_i t n (2 ^ 64) fn $ feq_i t (List Val) (vint w64 n ∷ []) (vint w64 n ∷ []) refl $

@@ -5,7 +5,7 @@ use Rattle.std.specs.Prelude.{nat_lt, length, is_some, option_map, set, unwrap_o
 use Rattle.std.specs.List.{concat}
 use Rattle.uda_mem.specs.Slices.{IsMemory}
 use Rattle.uda_image.specs.Limits.{block_limit}
-use Rattle.uda_disk.specs.Units.{UnitState, AreImages}
+use Rattle.uda_disk.specs.Units.{UnitState, AllFaithful, AreImages}
 use Rattle.uda_exec.specs.Drives.{DriveState, with_drive, look_at}
 use Rattle.uda_port.specs.declared.profile.Profile.{Profile}
 use Rattle.uda_port.specs.declared.profile.Profile.TheVariants.{Strict, ForGuests}
@@ -19,39 +19,41 @@ use Rattle.uda_c.specs.declared.call_status.CallStatus.{CallStatus}
 use Rattle.uda_c.specs.declared.call_status.CallStatus.TheVariants.{Done, Took, NoSuchUnit, AlreadyAttached, NotAttached}
 use Rattle.uda_c.specs.declared.call_status.CallStatus.TheVariants.{NoController, HasController, NoMemory, NotEmpty}
 use Rattle.uda_c.specs.declared.call_status.CallStatus.TheVariants.{BadLength, TooLarge}
-use Rattle.uda_c.specs.declared.controller.Controller.{Controller}
+use Rattle.uda_c.specs.ControllerState.{ControllerState}
 use Rattle.uda_c.specs.declared.slot.Slot.{Slot}
 use Rattle.uda_c.specs.declared.unit_images.UnitImages.{UnitImages}
 use Rattle.uda_c.specs.Slots.{empty_slot, are_empty}
 use Rattle.uda_c.specs.LentImage.{lent_state, failing_from_now}
 
--- what is true of every port: four units, whose images are images, and credits that agree
+-- what is true of the port of every controller: it has four units; they read back what was written to them,
+-- and have exactly the blocks of their size; and its credits agree
 pub record IsSound (port : PortState) : Type 0 where
   pub four : length port.exec.units ≡ 4
+  pub faithful : AllFaithful port.exec.units
   pub images : AreImages port.exec.units
   pub credits : CreditsAgree port
 
 -- a call on a handle that holds no controller does this, and the handle holds none afterwards; one on a
 -- handle that holds a controller does that to it
-abbrev pub OnHandle : Option Controller → Option Controller → Type 0
-    → (Controller → Controller → Type 0) → Type 0
+abbrev pub OnHandle : Option ControllerState → Option ControllerState → Type 0
+    → (ControllerState → ControllerState → Type 0) → Type 0
 OnHandle None None without with = without
 OnHandle (Some old) (Some new) without with = with old new
 OnHandle _ _ without with = ⊥
 
 -- what is true of the port of every controller that a handle holds, before a call and after it
-abbrev pub HoldsSound : Option Controller → Type 0
+abbrev pub HoldsSound : Option ControllerState → Type 0
 HoldsSound None = Unit
 HoldsSound (Some c) = IsSound c.port
 
-abbrev pub AreSound : Option Controller → Option Controller → Type 0
+abbrev pub AreSound : Option ControllerState → Option ControllerState → Type 0
 AreSound old new = HoldsSound old × HoldsSound new
 
 abbrev pub profile_of : Bool → Profile
 profile_of compatible = if compatible then ForGuests else Strict
 
 -- a controller at first: no unit has an image, and the port stands in step 1
-abbrev pub controller_at_start : Bool → Controller
+abbrev pub controller_at_start : Bool → ControllerState
 controller_at_start compatible = record {
   port = port_at_start (profile_of compatible)
       (record { units = None ∷ None ∷ None ∷ None ∷ []; pending = [] });
@@ -59,7 +61,7 @@ controller_at_start compatible = record {
 }
 
 -- whether a unit has an image
-abbrev pub has_image : Controller → ℕ → Bool
+abbrev pub has_image : ControllerState → ℕ → Bool
 has_image c unit = is_some (look_at (slice_get c.port.exec.units unit))
 
 -- what so many bytes are answered as an image
@@ -70,21 +72,21 @@ image_answer bytes =
     else BadLength
 
 -- what they are answered for a unit
-abbrev pub attach_answer : Controller → ℕ → ℕ → CallStatus
+abbrev pub attach_answer : ControllerState → ℕ → ℕ → CallStatus
 attach_answer c unit bytes =
     if nat_lt 3 unit then NoSuchUnit
     else if has_image c unit then AlreadyAttached
     else image_answer bytes
 
 -- what is answered of a unit that is to have an image
-abbrev pub unit_answer : Controller → ℕ → CallStatus
+abbrev pub unit_answer : ControllerState → ℕ → CallStatus
 unit_answer c unit =
     if nat_lt 3 unit then NoSuchUnit
     else if has_image c unit then Done
     else NotAttached
 
 -- what is answered where the image is to go into a slot that has so many bytes
-abbrev pub detach_answer : Controller → ℕ → ℕ → CallStatus
+abbrev pub detach_answer : ControllerState → ℕ → ℕ → CallStatus
 detach_answer c unit bytes =
     if nat_lt 3 unit then NoSuchUnit
     else if has_image c unit then (if bytes == 0 then Done else NotEmpty)
@@ -104,7 +106,7 @@ image_in (Some (Some unit)) = Some (image_of unit)
 image_in _ = None
 
 -- the image that a unit has, if it has one
-abbrev pub image_at : Controller → ℕ → Option Lending
+abbrev pub image_at : ControllerState → ℕ → Option Lending
 image_at c unit = image_in (slice_get c.port.exec.units unit)
 
 -- they as a unit's drive
@@ -113,13 +115,13 @@ lent_drive lending =
     record { store = lent_state (record { bytes = lending.bytes; left = None }); hard = lending.hard }
 
 -- the controller with this drive as that unit, or with none there
-abbrev pub controller_with : Controller → ℕ → Option DriveState → Controller
+abbrev pub controller_with : ControllerState → ℕ → Option DriveState → ControllerState
 controller_with c unit drive =
     record c { port = record c.port { exec = with_drive c.port.exec unit drive } }
 
 -- a controller, and a slot for an image
 abbrev pub Exchange : Type 0
-Exchange = Controller × Slot
+Exchange = ControllerState × Slot
 
 -- the image in the slot, with this protection, becomes a unit's, and C has it no more; or nothing changes
 pub record Attaches (old : Exchange) (unit : ℕ) (hard : Bool) (answer : CallStatus) (new : Exchange)
@@ -138,16 +140,26 @@ pub record Detaches (old : Exchange) (unit : ℕ) (answer : CallStatus) (new : E
   pub given_back : answer ≡ Done → option_map (λ image. image.bytes) (image_at old.0 unit) ≡ Some new.1.held
   pub refused : answer ≢ Done → new ≡ old
 
+-- the handle has a controller of which this unit has this image
+abbrev pub HasImage : Option ControllerState → ℕ → Lending → Type 0
+HasImage (Some c) unit image = image_at c unit ≡ Some image
+HasImage None unit image = ⊥
+
+-- the handle had one of which this unit had an image of these bytes
+abbrev pub HadBytes : Option ControllerState → ℕ → List ℕ → Type 0
+HadBytes (Some c) unit bytes = option_map (λ image. image.bytes) (image_at c unit) ≡ Some bytes
+HadBytes None unit bytes = ⊥
+
 -- the bytes of a unit's image, and none if it has no image
 abbrev pub bytes_of : Option Lending → List ℕ
 bytes_of (Some image) = image.bytes
 bytes_of None = []
 
-abbrev pub bytes_at : Controller → ℕ → List ℕ
+abbrev pub bytes_at : ControllerState → ℕ → List ℕ
 bytes_at c unit = bytes_of (image_at c unit)
 
 -- each slot has the bytes of its unit's image
-pub record HasImagesOf (c : Controller) (images : UnitImages) : Type 0 where
+pub record HasImagesOf (c : ControllerState) (images : UnitImages) : Type 0 where
   pub unit_0 : images.unit_0.held ≡ bytes_at c 0
   pub unit_1 : images.unit_1.held ≡ bytes_at c 1
   pub unit_2 : images.unit_2.held ≡ bytes_at c 2
@@ -158,27 +170,28 @@ abbrev pub free_answer : UnitImages → CallStatus
 free_answer images = if are_empty images then Done else NotEmpty
 
 -- all images go into the slots, each as the commands left it; or nothing changes
-pub record GivesBack (old : Controller × UnitImages) (answer : CallStatus) (new : Controller × UnitImages)
-    : Type 0 where
+pub record GivesBack (old : ControllerState × UnitImages) (answer : CallStatus)
+    (new : ControllerState × UnitImages) : Type 0 where
   pub answer_is : answer ≡ free_answer old.1
   pub given_back : answer ≡ Done → HasImagesOf old.0 new.1
   pub refused : answer ≢ Done → new ≡ old
 
 -- a controller goes, and C has the images of its units again; or nothing changes
-pub record FreesOne (old : Controller) (images : UnitImages) (answer : CallStatus) (new : Option Controller)
-    (images_after : UnitImages) : Type 0 where
+pub record FreesOne (old : ControllerState) (images : UnitImages) (answer : CallStatus)
+    (new : Option ControllerState) (images_after : UnitImages) : Type 0 where
   pub answer_is : answer ≡ free_answer images
   pub freed : answer ≡ Done → new ≡ None
   pub given_back : answer ≡ Done → HasImagesOf old images_after
   pub refused : answer ≢ Done → (new ≡ Some old) × (images_after ≡ images)
 
-abbrev pub Frees : Option Controller → UnitImages → CallStatus → Option Controller → UnitImages → Type 0
+abbrev pub Frees : Option ControllerState → UnitImages → CallStatus → Option ControllerState → UnitImages
+    → Type 0
 Frees (Some c) images answer new images_after = FreesOne c images answer new images_after
 Frees None images answer new images_after =
     (answer ≡ NoController) × (new ≡ None) × (images_after ≡ images)
 
 -- a handle without a controller gets one, or none if an allocation fails; one that has a controller keeps it
-abbrev pub MakesNew : Option Controller → Bool → CallStatus → Option Controller → Type 0
+abbrev pub MakesNew : Option ControllerState → Bool → CallStatus → Option ControllerState → Type 0
 MakesNew (Some c) compatible answer new = (answer ≡ HasController) × (new ≡ Some c)
 MakesNew None compatible answer None = answer ≡ NoMemory
 MakesNew None compatible answer (Some c) = (answer ≡ Done) × (c ≡ controller_at_start compatible)
@@ -192,7 +205,7 @@ abbrev pub unit_failing : ℕ → UnitState → UnitState
 unit_failing call unit = record unit { store = failing_from_now call unit.store }
 
 -- the controller with unit u so
-abbrev pub controller_failing : Controller → ℕ → ℕ → Controller
+abbrev pub controller_failing : ControllerState → ℕ → ℕ → ControllerState
 controller_failing c u call = record c {
   port = record c.port {
     exec = record c.port.exec {
@@ -202,19 +215,20 @@ controller_failing c u call = record c {
   };
 }
 
-pub record FailsAt (old : Controller) (unit call : ℕ) (answer : CallStatus) (new : Controller) : Type 0 where
+pub record FailsAt (old : ControllerState) (unit call : ℕ) (answer : CallStatus) (new : ControllerState)
+    : Type 0 where
   pub answer_is : answer ≡ unit_answer old unit
   pub fails : answer ≡ Done → new ≡ controller_failing old unit call
   pub refused : answer ≢ Done → new ≡ old
 
 -- the guest writes SA
-pub record WritesSa (old : Controller) (memory : List ℕ) (word : ℕ) (new : Controller)
+pub record WritesSa (old : ControllerState) (memory : List ℕ) (word : ℕ) (new : ControllerState)
     (memory_after : List ℕ) : Type 0 where
   pub steps : (new.port, memory_after) ≡ by_word old.port.phase old.port memory word
   pub last_stays : new.last ≡ old.last
 
 -- a turn of the port, in memory that a port works in, is kept as the last
-pub record TakesTurn (old : Controller) (memory : List ℕ) (answer : CallStatus) (new : Controller)
+pub record TakesTurn (old : ControllerState) (memory : List ℕ) (answer : CallStatus) (new : ControllerState)
     (memory_after : List ℕ) : Type 0 where
   pub trace : Trace
   pub answer_is : answer ≡ Took (turn_of trace)
@@ -227,14 +241,14 @@ abbrev pub memory_refusal : List ℕ → CallStatus
 memory_refusal memory = if length memory % 2 == 0 then TooLarge else BadLength
 
 -- it is refused
-pub record RefusesMemory (old : Controller) (memory : List ℕ) (answer : CallStatus) (new : Controller)
-    (memory_after : List ℕ) : Type 0 where
+pub record RefusesMemory (old : ControllerState) (memory : List ℕ) (answer : CallStatus)
+    (new : ControllerState) (memory_after : List ℕ) : Type 0 where
   pub answer_is : answer ≡ memory_refusal memory
   pub stays : new ≡ old
   pub memory_stays : memory_after ≡ memory
 
-pub record TurnsWhereMemory (old : Controller) (memory : List ℕ) (answer : CallStatus) (new : Controller)
-    (memory_after : List ℕ) : Type 0 where
+pub record TurnsWhereMemory (old : ControllerState) (memory : List ℕ) (answer : CallStatus)
+    (new : ControllerState) (memory_after : List ℕ) : Type 0 where
   pub turns : IsMemory memory → TakesTurn old memory answer new memory_after
   pub refuses : (IsMemory memory → ⊥) → RefusesMemory old memory answer new memory_after
 
@@ -243,7 +257,7 @@ abbrev pub TellsVector : Option ℕ → ℕ → Bool → ℕ → Type 0
 TellsVector (Some address) before told after = (told ≡ true) × (after ≡ address)
 TellsVector None before told after = (told ≡ false) × (after ≡ before)
 
-pub record TakesInterrupt (old : Controller) (before : ℕ) (told : Bool) (new : Controller)
+pub record TakesInterrupt (old : ControllerState) (before : ℕ) (told : Bool) (new : ControllerState)
     (after : ℕ) : Type 0 where
   pub vector : TellsVector (vector_of old.port.interrupts) before told after
   pub gone : new ≡ record old { port = record old.port { interrupts = served old.port.interrupts } }

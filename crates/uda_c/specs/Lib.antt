@@ -6,6 +6,7 @@ pub mod SlotOwns
 pub mod Slots
 pub mod LentImage
 pub mod CallStatus
+pub mod ControllerState
 pub mod Controllers
 pub mod Snapshot
 pub mod Last

@@ -5,12 +5,12 @@ use Rattle.uda_port.specs.declared.turn.Turn.{Turn}
 use Rattle.uda_port.specs.declared.turn.Turn.TheVariants as turn
 use Rattle.uda_c.specs.declared.call_status.CallStatus.{CallStatus}
 use Rattle.uda_c.specs.declared.call_status.CallStatus.TheVariants.{Done, Took}
-use Rattle.uda_c.specs.declared.controller.Controller.{Controller}
+use Rattle.uda_c.specs.ControllerState.{ControllerState}
 use Rattle.uda_c.specs.Controllers.{TakesTurn, RefusesMemory}
 
 -- a controller, and the guest's memory
 abbrev pub Machine : Type 0
-Machine = Controller × List ℕ
+Machine = ControllerState × List ℕ
 
 -- a turn of a port that is idle or dead
 abbrev pub does_nothing : Turn → Bool

@@ -5,7 +5,9 @@ ghost use Rattle.uda_mem.specs.Slices.{IsMemory};
 ghost use Rattle.uda_c.specs.declared.call_status.CallStatus.TheVariants.{Took, Done};
 ghost use Rattle.uda_c.specs.Controllers.{controller_at_start, Attaches, Detaches, TurnsWhereMemory};
 ghost use Rattle.uda_c.specs.Controllers.{FailsAt, drive_failing, TakesTurn, memory_refusal, IsSound};
-ghost use Rattle.uda_c.specs.Controllers.{GivesBack, image_answer, image_at, bytes_at};
+ghost use Rattle.uda_port.specs.Port.{port_at_start, port_asked};
+ghost use Rattle.uda_port.specs.Interrupt.{vector_of, served};
+ghost use Rattle.uda_c.specs.Controllers.{WritesSa, GivesBack, image_answer, image_at, bytes_at};
 ghost use Rattle.uda_c.specs.LentImage.{lent_state, IsWhole};
 ghost use Rattle.uda_c.specs.Slots.{empty_slot, is_empty};
 ghost use Rattle.uda_exec.specs.Drives.{drive_state};
@@ -17,6 +19,7 @@ use crate::lent_image::LentImage;
 use crate::slot::Slot;
 use crate::unit_images::UnitImages;
 use std::alloc::Global;
+use std::marker::Model;
 use uda_exec::Exec;
 use uda_image::{BLOCK_LIMIT, Drive};
 use uda_port::{Port, Trace, Turn};
@@ -28,8 +31,19 @@ pub struct Controller {
     pub last: Option<Trace>,
 }
 
+impl Model for Controller {
+    ghost use Rattle.uda_disk.specs.Units.{AllFaithful};
+    ghost use Rattle.uda_c.specs.ControllerState.{ControllerState};
+
+    ghost Value = { ControllerState };
+
+    ghost view = { λ c. record { port = c.port; last = c.last } };
+
+    ghost invariant = { λ c. AllFaithful c.port.exec.units };
+}
+
 impl Controller {
-    /// A controller without drives, whose port stands in step 1. None where memory is lacking.
+    /// Makes a controller without drives, whose port is in step 1. Returns None if an allocation fails.
     pub fn new(alloc: Global, for_guests: bool) -> Option<Controller>
         ensures start { IfSome result (λ c. c ≡ controller_at_start for_guests) }
     {
@@ -45,14 +59,52 @@ impl Controller {
         }
     }
 
-    /// What is true of every controller, told.
+    /// States what is true of every controller. It does nothing.
     pub fn keep(&self)
         ensures sound { IsSound self.now.port }
     {
         self.port.keep();
     }
 
-    /// Takes the bytes that C lends as the image of a unit, or leaves them where they are.
+    /// Writes IP for the guest.
+    #[tactic(auto, using(crate::proofs::FaithfulUnits::start_faithful))]
+    pub fn write_ip(&mut self, word: u16)
+        ensures starts { self.new ≡ record self.old {
+          port = port_at_start self.old.port.profile self.old.port.exec;
+        } }
+    {
+        self.port.write_ip(word);
+    }
+
+    /// Reads IP for the guest.
+    #[tactic(auto, using(crate::proofs::FaithfulUnits::asked_faithful))]
+    pub fn read_ip(&mut self) -> u16
+        ensures zero { result ≡ 0 }
+        ensures looks { self.new ≡ record self.old { port = port_asked self.old.port.phase self.old.port } }
+    {
+        self.port.read_ip()
+    }
+
+    /// Writes SA for the guest.
+    #[tactic(auto, using(crate::proofs::FaithfulUnits::word_faithful))]
+    pub fn write_sa(&mut self, word: u16, memory: &mut [u8])
+        ensures steps { WritesSa self.old memory.old word self.new memory.new }
+    {
+        self.port.write_sa_in(word, memory);
+    }
+
+    /// Takes the pending interrupt request, if there is one.
+    #[tactic(auto, using(crate::proofs::FaithfulUnits::same_faithful))]
+    pub fn take_interrupt(&mut self) -> Option<u16>
+        ensures vector { result ≡ vector_of self.old.port.interrupts }
+        ensures gone { self.new ≡ record self.old {
+          port = record self.old.port { interrupts = served self.old.port.interrupts };
+        } }
+    {
+        self.port.take_interrupt()
+    }
+
+    /// Takes the bytes of C's slot as the image of a unit, or leaves them there.
     pub fn attach(&mut self, unit: u32, image: &mut Slot, hard: bool) -> CallStatus
         ensures attaches { Attaches (self.old, image.old) unit hard result (self.new, image.new) }
     {
@@ -73,7 +125,7 @@ impl Controller {
         }
     }
 
-    /// Gives the image of a unit back to C.
+    /// Puts the image of a unit into C's empty slot.
     #[tactic(auto, using(crate::proofs::Lending::put_back))]
     pub fn detach(&mut self, unit: u32, image: &mut Slot) -> CallStatus
         ensures detaches { Detaches (self.old, image.old) unit result (self.new, image.new) }
@@ -95,7 +147,7 @@ impl Controller {
         CallStatus::Done
     }
 
-    /// Gives the images of all units back to C, unless a slot for them has one.
+    /// Puts the images of all units into C's slots, if all of these are empty.
     pub fn give_back(&mut self, images: &mut UnitImages) -> CallStatus
         ensures gives_back { GivesBack (self.old, images.old) result (self.new, images.new) }
     {
@@ -109,7 +161,7 @@ impl Controller {
         CallStatus::Done
     }
 
-    // Gives the image of a unit back to C, if it has one.
+    // Puts the image of a unit into C's empty slot, if the unit has one.
     fn give_back_one(&mut self, unit: u32, image: &mut Slot)
         requires low { unit ≤ 3 }
         requires empty { IsTrue (is_empty image.old) }
@@ -119,7 +171,7 @@ impl Controller {
         self.detach(unit, image);
     }
 
-    /// Has the image of a unit fail at a call, counted from now on.
+    /// Makes one block call of a unit's image fail, counted from now on.
     pub fn fail_at(&mut self, unit: u32, call: u32) -> CallStatus
         ensures fails { FailsAt self.old unit call result self.new }
     {
@@ -137,7 +189,7 @@ impl Controller {
         CallStatus::Done
     }
 
-    /// One turn of the port in the guest's memory.
+    /// Runs one turn of the port in the guest's memory.
     pub fn turn(&mut self, memory: &mut [u8]) -> CallStatus
         ensures goes { TurnsWhereMemory self.old memory.old result self.new memory.new }
     {
@@ -147,7 +199,7 @@ impl Controller {
         }
     }
 
-    /// Turns, one after another, up to the first that does nothing, and no more than `limit`.
+    /// Runs up to `limit` turns, and stops after the first that does nothing.
     pub fn run(&mut self, limit: u32, memory: &mut [u8]) -> CallStatus
         ensures runs { RunsWhereMemory limit (self.old, memory.old) result (self.new, memory.new) }
     {

@@ -1,5 +1,5 @@
-//! The functions that C calls. Each answers on every handle: on one without a controller, as on one that
-//! was never made or was freed, as `include/uda50.h` says.
+//! The functions that C calls. Each accepts every handle, also one without a controller, which was never made or
+//! was freed, as `include/uda50.h` says.
 ghost use Rattle.std.specs.Prelude.{None, false, is_some, ◌≡◌};
 ghost use Rattle.uda_port.specs.Port.{port_at_start, port_asked};
 ghost use Rattle.uda_port.specs.Startup.{sa_of};
@@ -7,7 +7,7 @@ ghost use Rattle.uda_c.specs.CallStatus.{status_code};
 ghost use Rattle.uda_c.specs.declared.call_status.CallStatus.{CallStatus};
 ghost use Rattle.uda_c.specs.declared.call_status.CallStatus.TheVariants.{Done, NoController};
 ghost use Rattle.uda_c.specs.Controllers.{OnHandle, AreSound, HoldsSound, MakesNew, Frees, GivesBack};
-ghost use Rattle.uda_c.specs.Controllers.{Attaches, Detaches, WritesSa};
+ghost use Rattle.uda_c.specs.Controllers.{Attaches, Detaches, HasImage, HadBytes, WritesSa};
 ghost use Rattle.uda_c.specs.Controllers.{FailsAt, TurnsWhereMemory, TakesInterrupt};
 ghost use Rattle.uda_c.specs.Runs.{RunsWhereMemory};
 ghost use Rattle.uda_c.specs.Snapshot.{port_snapshot};
@@ -50,6 +50,7 @@ pub extern "C" fn uda50_new(alloc: Global, handle: &mut Handle, compatible: bool
 pub extern "C" fn uda50_free(alloc: Global, handle: &mut Handle, images: &mut UnitImages) -> u32
     ensures frees { (answer : CallStatus) × (result ≡ status_code answer)
         × Frees handle.old.value images.old answer handle.new.value images.new }
+    ensures done { result ≡ 0 → handle.new.value ≡ None }
     ensures sound { AreSound handle.old.value handle.new.value }
 {
     let answer = give_back(handle, images);
@@ -59,8 +60,8 @@ pub extern "C" fn uda50_free(alloc: Global, handle: &mut Handle, images: &mut Un
     answer.code()
 }
 
-/// The image of a unit: its bytes are the library's until they are detached. C has them no more then, and
-/// where it is refused it has them as they were.
+/// Attaches an image to a unit, and leaves C's struct empty. If the image is refused, C has its bytes as they
+/// were.
 #[unsafe(no_mangle)]
 pub extern "C" fn uda50_attach(
     handle: &mut Handle,
@@ -72,6 +73,8 @@ pub extern "C" fn uda50_attach(
         ((result ≡ status_code NoController) × (image.new ≡ image.old))
         (λ old new. (answer : CallStatus) × (result ≡ status_code answer)
         × Attaches (old, image.old) unit write_protected answer (new, image.new)) }
+    ensures done { result ≡ 0
+        → HasImage handle.new.value unit (record { bytes = image.old.held; hard = write_protected }) }
     ensures sound { AreSound handle.old.value handle.new.value }
 {
     match handle.get() {
@@ -85,13 +88,14 @@ pub extern "C" fn uda50_attach(
     }
 }
 
-/// Gives the image of a unit back: C has its bytes again, as the commands left them.
+/// Detaches the image of a unit, and puts its bytes into C's empty struct, as the commands left them.
 #[unsafe(no_mangle)]
 pub extern "C" fn uda50_detach(handle: &mut Handle, unit: u32, image: &mut Slot) -> u32
     ensures detaches { OnHandle handle.old.value handle.new.value
         ((result ≡ status_code NoController) × (image.new ≡ image.old))
         (λ old new. (answer : CallStatus) × (result ≡ status_code answer)
         × Detaches (old, image.old) unit answer (new, image.new)) }
+    ensures done { result ≡ 0 → HadBytes handle.old.value unit image.new.held }
     ensures sound { AreSound handle.old.value handle.new.value }
 {
     match handle.get() {
@@ -105,7 +109,7 @@ pub extern "C" fn uda50_detach(handle: &mut Handle, unit: u32, image: &mut Slot)
     }
 }
 
-/// Has the image of a unit fail at a call, counted from now on.
+/// Makes one block call of a unit's image fail, counted from now on.
 #[unsafe(no_mangle)]
 pub extern "C" fn uda50_inject_failure(handle: &mut Handle, unit: u32, call: u32) -> u32
     ensures fails { OnHandle handle.old.value handle.new.value (result ≡ status_code NoController)
@@ -124,7 +128,7 @@ pub extern "C" fn uda50_inject_failure(handle: &mut Handle, unit: u32, call: u32
     }
 }
 
-/// The guest writes IP.
+/// Writes IP for the guest.
 #[unsafe(no_mangle)]
 pub extern "C" fn uda50_write_ip(handle: &mut Handle, word: u16)
     ensures starts { OnHandle handle.old.value handle.new.value Unit
@@ -133,12 +137,12 @@ pub extern "C" fn uda50_write_ip(handle: &mut Handle, word: u16)
 {
     if let Some(controller) = handle.get() {
         controller.keep();
-        controller.port.write_ip(word);
+        controller.write_ip(word);
         controller.keep();
     }
 }
 
-/// The guest reads IP.
+/// Reads IP for the guest, which starts the polling of a running port.
 #[unsafe(no_mangle)]
 pub extern "C" fn uda50_read_ip(handle: &mut Handle) -> u16
     ensures zero { result ≡ 0 }
@@ -149,7 +153,7 @@ pub extern "C" fn uda50_read_ip(handle: &mut Handle) -> u16
     match handle.get() {
         Some(controller) => {
             controller.keep();
-            let answer = controller.port.read_ip();
+            let answer = controller.read_ip();
             controller.keep();
             answer
         }
@@ -157,7 +161,7 @@ pub extern "C" fn uda50_read_ip(handle: &mut Handle) -> u16
     }
 }
 
-/// The guest writes SA.
+/// Writes SA for the guest.
 #[unsafe(no_mangle)]
 pub extern "C" fn uda50_write_sa(handle: &mut Handle, word: u16, memory: &mut [u8])
     ensures steps { OnHandle handle.old.value handle.new.value (memory.new ≡ memory.old)
@@ -166,12 +170,12 @@ pub extern "C" fn uda50_write_sa(handle: &mut Handle, word: u16, memory: &mut [u
 {
     if let Some(controller) = handle.get() {
         controller.keep();
-        controller.port.write_sa_in(word, memory);
+        controller.write_sa(word, memory);
         controller.keep();
     }
 }
 
-/// The guest reads SA.
+/// Reads SA for the guest.
 #[unsafe(no_mangle)]
 pub extern "C" fn uda50_read_sa(handle: &mut Handle) -> u16
     ensures sa { OnHandle handle.old.value handle.new.value (result ≡ 0)
@@ -189,7 +193,7 @@ pub extern "C" fn uda50_read_sa(handle: &mut Handle) -> u16
     }
 }
 
-/// One turn of the port in the guest's memory.
+/// Runs one turn of the port in the guest's memory.
 #[unsafe(no_mangle)]
 pub extern "C" fn uda50_turn(handle: &mut Handle, memory: &mut [u8]) -> u32
     ensures goes { OnHandle handle.old.value handle.new.value
@@ -209,7 +213,7 @@ pub extern "C" fn uda50_turn(handle: &mut Handle, memory: &mut [u8]) -> u32
     }
 }
 
-/// Takes the request of an interrupt that waits.
+/// Takes the pending interrupt request, if there is one.
 #[unsafe(no_mangle)]
 pub extern "C" fn uda50_take_interrupt(handle: &mut Handle, vector: &mut u16) -> bool
     ensures takes { OnHandle handle.old.value handle.new.value
@@ -221,7 +225,7 @@ pub extern "C" fn uda50_take_interrupt(handle: &mut Handle, vector: &mut u16) ->
         return false;
     };
     controller.keep();
-    let request = controller.port.take_interrupt();
+    let request = controller.take_interrupt();
     controller.keep();
     match request {
         Some(address) => {
@@ -232,7 +236,7 @@ pub extern "C" fn uda50_take_interrupt(handle: &mut Handle, vector: &mut u16) ->
     }
 }
 
-/// Turns of the port, one after another, up to the first that does nothing, and no more than `turns`.
+/// Runs up to `turns` turns of the port, and stops after the first that does nothing.
 #[unsafe(no_mangle)]
 pub extern "C" fn uda50_run(handle: &mut Handle, turns: u32, memory: &mut [u8]) -> u32
     ensures runs { OnHandle handle.old.value handle.new.value
@@ -252,7 +256,7 @@ pub extern "C" fn uda50_run(handle: &mut Handle, turns: u32, memory: &mut [u8]) 
     }
 }
 
-/// What there is to be seen of the port.
+/// Copies the state of the port into C's struct.
 #[unsafe(no_mangle)]
 pub extern "C" fn uda50_get_state(handle: &mut Handle, state: &mut PortSnapshot) -> u32
     ensures shows { OnHandle handle.old.value handle.new.value
@@ -270,7 +274,7 @@ pub extern "C" fn uda50_get_state(handle: &mut Handle, state: &mut PortSnapshot)
     }
 }
 
-/// What the last turn did.
+/// Copies what the last turn did into C's struct.
 #[unsafe(no_mangle)]
 pub extern "C" fn uda50_get_last_turn(handle: &mut Handle, turn: &mut TurnRecord) -> u32
     ensures tells { OnHandle handle.old.value handle.new.value
@@ -288,7 +292,7 @@ pub extern "C" fn uda50_get_last_turn(handle: &mut Handle, turn: &mut TurnRecord
     }
 }
 
-/// The line of the last turn, as a text that ends with a 0, as far as the buffer has room.
+/// Writes the line of the last turn into C's buffer, as much of it as leaves room for the 0 that ends it.
 #[unsafe(no_mangle)]
 pub extern "C" fn uda50_format_last_turn(
     alloc: Global,

@@ -1,4 +1,4 @@
-//! Where C hands an image over, and where it gets it back.
+//! The struct in which C hands over an image and gets it back.
 ghost use Rattle.uda_c.specs.SlotOwns.{slot_owns};
 ghost use Rattle.std.specs.Prelude.{List, ℕ};
 

@@ -1,4 +1,4 @@
-//! Where C gets its images back when a controller goes.
+//! The structs in which C gets its images back when it frees a controller.
 ghost use Rattle.std.specs.Prelude.{◌≡◌};
 ghost use Rattle.uda_c.specs.Slots.{are_empty};
 

@@ -1,16 +1,48 @@
-use Rattle.std.proofs.Common.{sym}
+use Rattle.std.proofs.Common.{refl, sym, ap, subst, ◌∙◌, None}
+use Rattle.uda_exec.specs.Drives.{drive_state}
+use Rattle.uda_c.specs.declared.call_status.CallStatus.TheVariants.{Done, NotEmpty}
+use Rattle.uda_c.specs.ControllerState.{ControllerState}
+use Rattle.uda_c.specs.Controllers.{Detaches}
+use Rattle.uda_c.specs.LentImage.{lent_state}
+use Rattle.uda_c.proofs.FaithfulUnits.{drive_faithful}
 use Rattle.uda_c.proofs.FailingUnits.{is_handed}
-use Rattle.uda_c.proofs.Lending.{not_put}
+use Rattle.uda_c.proofs.Lending.{not_put, detaches}
 use Rattle.uda_c.proofs.controller.Controller.detach.Goals as goal
-
-pub returns-in_default-set_drive : goal.returns-in_default-set_drive
-returns-in_default-set_drive c =
-    absurd (is_handed c.args.self.now.port.exec.units c.args.unit c.in-Some._look (sym
-    c.in-Some.ensures.look) c.in_default-set_drive.ensures.handed_back)
+use Rattle.uda_c.proofs.controller.Controller.detach.Goals.{in-Some-set_drive, in_default-set_drive}
 
 pub returns-in-Some-take : goal.returns-in-Some-take
-returns-in-Some-take c = let took = c.in-Some-take.ensures.took in record {
-  detaches = not_put c.args.self.now c.args.unit c.in-Some._look c.args.image.now c.put.new.self
-      c.in-Some-take.lent
-      c.if-unit-gt3.false (sym c.in-Some.ensures.look) took.1 took.0 c.put.ensures.value;
-}
+returns-in-Some-take c =
+    let took = c.in-Some-take.ensures.took in
+    let was : ControllerState = record { port = c.self.inside.port; last = c.self.inside.last } in
+    let after = c.put.new.self in
+    record {
+      detaches = subst (λ (old : ControllerState).
+          Detaches (old, c.args.image.now) c.args.unit NotEmpty (old, after)) c.self.view_is
+          (not_put was c.args.unit c.in-Some._look c.args.image.now after c.in-Some-take.lent
+          c.if-unit-gt3.false (sym c.in-Some.ensures.look) took.1 took.0 c.put.ensures.value);
+    }
+
+pub invariant_of-self : goal.invariant_of-self
+invariant_of-self c =
+    drive_faithful c.self.inside.port c.set_drive.new.self c.args.unit None refl c.set_drive.ensures.set
+    c.self.invariant
+
+pub returns : goal.returns
+returns c =
+    let was : ControllerState = record { port = c.self.inside.port; last = c.self.inside.last } in
+    let new : ControllerState = record { port = c.set_drive.new.self; last = c.self.inside.last } in
+    let after = c.match-set_drive.image in
+    let look = sym c.in-Some.ensures.look in
+    elim c.match-set_drive.branch [
+      | in-Some-set_drive w ↦ record {
+        detaches = subst (λ (old : ControllerState).
+            Detaches (old, c.args.image.now) c.args.unit Done (new, after)) c.self.view_is
+            (detaches was c.args.unit c.in-Some._look c.args.image.now after w.into_lent.result
+            (drive_state lent_state w.in-Some-set_drive.drive) new.port c.if-unit-gt3.false look
+            c.in_default-take.ensures.took.0 w.in-Some-set_drive.ensures.handed_back
+            w.into_lent.ensures.blocks (w.image-is ∙ w.put-in-Some-set_drive.ensures.value)
+            c.set_drive.ensures.set);
+      }
+      | in_default-set_drive w ↦ absurd (is_handed was.port.exec.units c.args.unit c.in-Some._look look
+          w.in_default-set_drive.ensures.handed_back)
+    ]

@@ -37,7 +37,7 @@ use Rattle.std.specs.Option.{option_copied_mut}
 use Rattle.uda_c.specs.Held.{held}
 use Rattle.uda_c.specs.LendsController.{with_value, handle_follows}
 use Rattle.uda_c.proofs.HandleSteps.{handle, word, cell, right, handle_opens, handle_closes, handle_made, holds}
-use Rattle.uda_c.specs.declared.controller.Controller.{Controller}
+use Rattle.uda_c.specs.ControllerState.{ControllerState}
 use Rattle.uda_c.specs.declared.handle.Handle.{Handle}
 use Rattle.uda_c.specs.contracts.controller.Controller.{the_row as X}
 use Rattle.uda_c.specs.contracts.handle.Handle.{the_row as R}
@@ -51,19 +51,19 @@ stayed = (stay_dropped (mut_ref_to (0 ∷ []) tt (plain (λ _. R))) no, tt)
 module _ {M : Type 1} {𝓤 : Ura M} (𝓛 : Logic 𝓤) (at_mem : Memory → SProp 𝓤) (run : Routine → Fun 𝓤) (C : Calls 𝓤 𝓛.H) (Λ : Loops 𝓤 𝓛.H) (κ : Lft) (q : Share) (b o : ℕ) (γ : GName) where
   open 𝓛 use {H, A}
 
-  abbrev self : Ptr → Option Controller → MutBor Handle
+  abbrev self : Ptr → Option ControllerState → MutBor Handle
   self p m = record { ref_ptr = (b, o); ghost_name = γ; now = record { at = p; value = m } }
 
-  abbrev bound : Ptr → Option Controller → (walk_of 𝓛 f.ended stayed (f.clauses 𝓛 at_mem run)).Ghost
+  abbrev bound : Ptr → Option ControllerState → (walk_of 𝓛 f.ended stayed (f.clauses 𝓛 at_mem run)).Ghost
   bound p m = (((κ, tt), (q, tt), tt, (self p m, tt), (vptr b o ∷ [], tt)), tt)
 
-  abbrev Post : Ptr → Option Controller → Val → SProp 𝓤
+  abbrev Post : Ptr → Option ControllerState → Val → SProp 𝓤
   Post p m = (walk_of 𝓛 f.ended stayed (f.clauses 𝓛 at_mem run)).post (bound p m)
 
   abbrev Lent : RattleType
   Lent = MutRef (named 0) κ X
 
-  abbrev Had : Ptr → Option Controller → List (Item 𝓤)
+  abbrev Had : Ptr → Option ControllerState → List (Item 𝓤)
   Had p m = ‵ (fobs γ (R.coded.code (self p m).now)) ∷ ‵ (fbor κ (Borrowed (mem R) b o γ)) ∷ ‵ (flft κ q) ∷ []
 
   module _ (p : Ptr) (pb po : ℕ) (e : p ≡ block_ptr pb po) where
@@ -71,7 +71,7 @@ module _ {M : Type 1} {𝓤 : Ura M} (𝓛 : Logic 𝓤) (at_mem : Memory → SP
     abbrev Rest : Fml
     Rest = fsep (right pb po) (cell b o p)
 
-    back : (w : Controller) → ent 𝓤 (sep 𝓤 (sem 𝓛 ((mem X).own_at w pb po)) (sem 𝓛 Rest)) (sem 𝓛 ((mem R).own_at (handle p (Some w)) b o))
+    back : (w : ControllerState) → ent 𝓤 (sep 𝓤 (sem 𝓛 ((mem X).own_at w pb po)) (sem 𝓛 Rest)) (sem 𝓛 ((mem R).own_at (handle p (Some w)) b o))
     unfolding part_of
     back w =
         qed 𝓛 (‵ (part_at X full_share w pb po) ∷ ‵ Rest ∷ []) ∵ move ! (1 ∷ []) $ fsplit ! $ move ! (2 ∷ 0 ∷ []) $ fjoin ! $
@@ -79,14 +79,14 @@ module _ {M : Type 1} {𝓤 : Ura M} (𝓛 : Logic 𝓤) (at_mem : Memory → SP
         fpack ! (List Val) (λ vs. fsep (cell_at full_share R.mir vs b o) (R.own_val (handle p (Some w)) vs)) (word p ∷ []) $ done !
 
   -- what is lent, or none, and what the handle ends with
-  exits : (p : Ptr) (m : Option Controller) (v : Val) (r : Option (MutBor Controller)) → option_copied_mut r ≡ m
+  exits : (p : Ptr) (m : Option ControllerState) (v : Val) (r : Option (MutBor ControllerState)) → option_copied_mut r ≡ m
       → ent 𝓤 (sep 𝓤 (sem 𝓛 ((Opt.the_row Lent).own_val r (v ∷ []))) (sep 𝓤 (A.lft κ q) (sem 𝓛 (handle_follows (self p m) r)))) (Post p m v)
   exits p m v r is =
       qed 𝓛 (‵ ((Opt.the_row Lent).own_val r (v ∷ [])) ∷ ‵ (flft κ q) ∷ ‵ (handle_follows (self p m) r) ∷ []) ∵
       suffices ! _ (ends_at 𝓛 f.ended stayed (f.clauses 𝓛 at_mem run) (bound p m) v r (tt, tt) (tt, tt)) $
       nothing ! $ nothing ! $ fjoin ! $ join ! $ nothing ! $ move ! (2 ∷ 0 ∷ []) $ join ! $ join ! $ frame ! $ says ! is $ done !
 
-  walk : (p : Ptr) (m : Option Controller) → ent 𝓤 (⋆ 𝓛 (Had p m)) (WpFn 𝓤 H C Λ code.function (vptr b o ∷ []) (Post p m))
+  walk : (p : Ptr) (m : Option ControllerState) → ent 𝓤 (⋆ 𝓛 (Had p m)) (WpFn 𝓤 H C Λ code.function (vptr b o ∷ []) (Post p m))
   unfolding follows_by
   walk p m =
       let h = (self p m).now in
@@ -99,7 +99,7 @@ module _ {M : Type 1} {𝓤 : Ura M} (𝓛 : Logic 𝓤) (at_mem : Memory → SP
       sets ! (of_opd ! (get ! refl)) refl (tt, record { fits = lit< tt }) $ sets ! (of_opd ! (get ! refl)) refl (tt, record { fits = lit< tt }) $
       sets ! (bin ! (get ! refl) (lit ! tt) tt) refl (tt, tt) $ first ! $ branches ! (get ! refl)
       (λ _. sets ! (agg ! (and_then ! (lit ! tt) (no_more !))) refl (tt, (record { fits = lit< tt }, tt)) $
-      rewrite ! 0 (λ (s : Ptr). ‵ (cell b o s)) (sym e) refl $ feq_i ! Ptr p null_ptr e $ rewrite ! 0 (λ (k : Option Controller). ‵ (held p k)) (sym is_none) refl $ handle_closes ! tt p m b o $
+      rewrite ! 0 (λ (s : Ptr). ‵ (cell b o s)) (sym e) refl $ feq_i ! Ptr p null_ptr e $ rewrite ! 0 (λ (k : Option ControllerState). ‵ (held p k)) (sym is_none) refl $ handle_closes ! tt p m b o $
       use1 𝓛 (‵ (fres γ (R.coded.code h))) (𝓛.names.obs-res γ (R.coded.code h)) $ move ! (1 ∷ []) $ drop ! $ move ! (1 ∷ 0 ∷ []) $
       use0 𝓛 (‵ ((Opt.the_row Lent).own_val None (live 0 vnil ∷ []))) (none_of 𝓛 Lent) $
       returns_within ! (Post p m) refl (look_at ! 0 refl) $ free_all ! refl $ keep ! (0 ∷ 1 ∷ 2 ∷ []) $ by ! (exits p m (live 0 vnil) None (sym is_none)))
@@ -116,7 +116,7 @@ module _ {M : Type 1} {𝓤 : Ura M} (𝓛 : Logic 𝓤) (at_mem : Memory → SP
       rewrite ! 2 (λ (s : Ptr). ‵ (cell b o s)) (sym e) refl $ move ! (0 ∷ 2 ∷ []) $ fjoin ! $ move ! (2 ∷ 3 ∷ 4 ∷ 1 ∷ 0 ∷ []) $ group ! 5 $
       use1 𝓛 (later (some (λ (δ : GName). ‵ (Lent.own_val (record { ref_ptr = (pb, po); ghost_name = δ; now = x }) (vptr pb po ∷ [])) ⊛ ‵ (flft κ q) ⊛ ‵ (follows R X γ δ (with_value h)))))
       (lends_Part 𝓛 R X (with_value h) (named 0) κ q b o pb po γ (sem 𝓛 (Rest p pb po e)) (back p pb po e) (R.coded.code h) (R.coded.code h) x) $ await ! tt $ pick ! (λ δ. split3 ! $
-      let r : MutBor Controller = record { ref_ptr = (pb, po); ghost_name = δ; now = x } in
+      let r : MutBor ControllerState = record { ref_ptr = (pb, po); ghost_name = δ; now = x } in
       use1 𝓛 (‵ ((Opt.the_row Lent).own_val (Some r) (live 1 (vcons (vptr pb po) vnil) ∷ []))) (Some-of 𝓛 Lent r (vptr pb po)) $
       returns ! (look_at ! 0 refl) $ free_all ! refl $ keep ! (0 ∷ 1 ∷ 2 ∷ []) $ by ! (exits p m (live 1 (vcons (vptr pb po) vnil)) (Some r) (sym is_some))))))
 

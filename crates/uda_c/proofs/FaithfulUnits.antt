@@ -1,0 +1,210 @@
+-- The units of a controller are faithful, and each call of its port leaves them so.
+use Rattle.std.proofs.Common.{◌≡◌, ℕ, zero, suc, Bool, true, false, List, [], ◌∷◌, set, Option, Some, None, Result, Ok, Err, refl, sym, ap, ◌∙◌}
+use Rattle.std.specs.Prelude.{map, option_map, slice_get, unwrap_or, if◌then◌else◌}
+use Rattle.std.proofs.lemmas.Option.{slice_get-map}
+use Rattle.uda_packet.specs.declared.command.Command.{Command}
+use Rattle.uda_packet.specs.declared.end.End.{End}
+use Rattle.uda_disk.specs.declared.mode.Mode.{Mode}
+use Rattle.uda_disk.specs.Units.{UnitState, Units, Nature, nature_of, natures_of, is_faithful, AllFaithful}
+use Rattle.uda_exec.specs.Drives.{DriveState, fresh_unit, reset_unit, in_mode, with_drive, with_mode}
+use Rattle.uda_exec.specs.Disks.{ExecState}
+use Rattle.uda_port.specs.declared.phase.Phase.{Phase}
+use Rattle.uda_port.specs.declared.phase.Phase.TheVariants.{Step1, Step2, Step3, Purge, Poll, Step4, Running, Dead}
+use Rattle.uda_port.specs.declared.phase.Fatal.{Fatal}
+use Rattle.uda_port.specs.declared.phase.Fatal.TheVariants.{PacketRead, PacketWrite, RingRead, RingWrite, CreditsExceeded, WrongEnvelope, StartUpWord}
+use Rattle.uda_port.specs.declared.profile.Profile.{Profile}
+use Rattle.uda_port.specs.declared.turn.Turn.{Turn}
+use Rattle.uda_port.specs.declared.turn.Turn.TheVariants.{Fetched, Executed, Delivered, Idle, Dead as DeadTurn}
+use Rattle.uda_port.specs.Port.{PortState, port_at_start, port_asked}
+use Rattle.uda_port.specs.Message.{message_in}
+use Rattle.uda_port.specs.Startup.{has_bit, area_of, has_area, refuses_second, refuses_third, asks_test, by_word}
+use Rattle.uda_port.specs.Turn.{port_turn_on, port_with_message, TurnGoes, RunningTurn, GoesOn, Fails, InFetch, InRest, FetchLine}
+
+-- ---- what changes no unit's nature leaves them faithful
+
+abbrev natures : PortState → List (Option Nature)
+natures port = natures_of port.exec.units
+
+abbrev nature_faithful : Option (Option Nature) → Bool
+nature_faithful (Some (Some nature)) = nature.faithful
+nature_faithful _ = true
+
+by_nature : (o : Option (Option UnitState))
+    → is_faithful o ≡ nature_faithful (option_map (option_map nature_of) o)
+by_nature (Some (Some unit)) = refl
+by_nature (Some None) = refl
+by_nature None = refl
+
+of_natures : (units : Units) (u : ℕ) → is_faithful (slice_get units u) ≡ nature_faithful (slice_get
+    (natures_of units) u)
+of_natures units u = by_nature (slice_get units u)
+    ∙ ap nature_faithful (sym (slice_get-map (option_map nature_of) units u))
+
+along : (old new : PortState) → natures new ≡ natures old → AllFaithful old.exec.units
+    → AllFaithful new.exec.units
+along old new same all u = of_natures new.exec.units u
+    ∙ ap (λ (ns : List (Option Nature)). nature_faithful (slice_get ns u)) same
+    ∙ sym (of_natures old.exec.units u) ∙ all u
+
+-- ---- a turn
+
+message_natures : (old : PortState) (message : Result Command End)
+    → natures (port_with_message old message) ≡ natures old
+message_natures old (Ok c) = refl
+message_natures old (Err e) = refl
+
+fetch_natures : (cause : Fatal) (old : PortState) (memory : List ℕ) (new : PortState) (after : List ℕ)
+    → FetchLine old memory (Err cause) new after → natures new ≡ natures old
+fetch_natures PacketRead old memory new after line = ap natures line.1.state
+fetch_natures RingRead old memory new after line = ap natures line.1.state
+fetch_natures CreditsExceeded old memory new after line = ap natures line.taken.others
+fetch_natures WrongEnvelope old memory new after line = ap natures line.taken.others
+fetch_natures PacketWrite old memory new after line = absurd line
+fetch_natures RingWrite old memory new after line = absurd line
+fetch_natures StartUpWord old memory new after line = absurd line
+
+rest_natures : (cause : Fatal) (old : PortState) (memory : List ℕ) (new : PortState) (after : List ℕ)
+    → GoesOn old memory (Err cause) new after → natures new ≡ natures old
+rest_natures PacketWrite old memory new after goes = ap natures goes.rest.1.1.state
+rest_natures RingRead old memory new after goes = ap natures goes.rest.1.1.state
+rest_natures PacketRead old memory new after goes = absurd goes.rest.1
+rest_natures CreditsExceeded old memory new after goes = absurd goes.rest.1
+rest_natures WrongEnvelope old memory new after goes = absurd goes.rest.1
+rest_natures RingWrite old memory new after goes = absurd goes.rest.1
+rest_natures StartUpWord old memory new after goes = absurd goes.rest.1
+
+fails_natures : (cause : Fatal) (old : PortState) (memory : List ℕ) (new : PortState) (after : List ℕ)
+    → Fails cause old memory new after → natures new ≡ natures old
+fails_natures cause old memory new after (InFetch line) = fetch_natures cause old memory new after line
+fails_natures cause old memory new after (InRest goes) = rest_natures cause old memory new after goes
+
+running_natures : (turn : Turn) (old : PortState) (memory : List ℕ) (new : PortState) (after : List ℕ)
+    → RunningTurn old memory turn new after → natures new ≡ natures old
+running_natures Fetched old memory new after goes =
+    ap natures goes.others ∙ message_natures (port_turn_on old) (message_in old.profile goes.packet)
+running_natures Executed old memory new after goes = goes.rest.1.executes.executes.natures_stay
+running_natures Delivered old memory new after goes = ap natures goes.rest.1.others
+running_natures Idle old memory new after goes = ap natures goes.rest.1.1.state
+running_natures DeadTurn old memory new after goes =
+    ap natures goes.died ∙ fails_natures goes.cause (port_turn_on old) memory goes.before after goes.fails
+
+turn_natures : (p : Phase) (turn : Turn) (old : PortState) (memory : List ℕ) (new : PortState) (after : List
+    ℕ)
+    → TurnGoes p old memory turn new after → natures new ≡ natures old
+turn_natures Running turn old memory new after goes = running_natures turn old memory new after goes
+turn_natures (Dead before) turn old memory new after goes = ap natures goes.unchanged.state
+turn_natures Step1 turn old memory new after goes = ap natures goes.unchanged.state
+turn_natures (Step2 first) turn old memory new after goes = ap natures goes.unchanged.state
+turn_natures (Step3 first second) turn old memory new after goes = ap natures goes.unchanged.state
+turn_natures Purge turn old memory new after goes = ap natures goes.unchanged.state
+turn_natures Poll turn old memory new after goes = ap natures goes.unchanged.state
+turn_natures Step4 turn old memory new after goes = ap natures goes.unchanged.state
+
+pub turn_faithful : (turn : Turn) (old : PortState) (memory : List ℕ) (new : PortState) (after : List ℕ)
+    → TurnGoes old.phase old memory turn new after → AllFaithful old.exec.units → AllFaithful new.exec.units
+turn_faithful turn old memory new after goes =
+    along old new (turn_natures old.phase turn old memory new after goes)
+
+-- ---- the registers
+
+chosen : (a : Bool) (one other : PortState) (same : List (Option Nature)) → natures one ≡ same
+    → natures other ≡ same
+    → natures (if a then one else other) ≡ same
+chosen true one other same h k = h
+chosen false one other same h k = k
+
+chosen_pair : (a : Bool) (one other : PortState × List ℕ) (same : List (Option Nature)) → natures one.0 ≡ same
+    → natures other.0 ≡ same → natures (if a then one else other).0 ≡ same
+chosen_pair true one other same h k = h
+chosen_pair false one other same h k = k
+
+word_natures : (p : Phase) (old : PortState) (memory : List ℕ) (word : ℕ)
+    → natures (by_word p old memory word).0 ≡ natures old
+word_natures Step1 old memory word =
+    chosen (has_bit word 15) _ old _ (chosen (has_bit word 14) _ _ _ refl refl) refl
+word_natures (Step2 first) old memory word = chosen (refuses_second old.profile word) _ _ _ refl refl
+word_natures (Step3 first second) old memory word =
+    chosen_pair (refuses_third old.profile word) _ _ _ refl
+    (chosen_pair (has_area (area_of old.profile first second word) _) _ _ _
+    (chosen (asks_test old.profile word) _ _ _ refl refl) refl)
+word_natures Purge old memory word = chosen _ _ old _ refl refl
+word_natures Poll old memory word = refl
+word_natures Step4 old memory word = chosen (has_bit word 0) _ old _ refl refl
+word_natures Running old memory word = refl
+word_natures (Dead cause) old memory word = refl
+
+pub word_faithful : (old : PortState) (memory : List ℕ) (word : ℕ) (new : PortState) (after : List ℕ)
+    → (new, after) ≡ by_word old.phase old memory word → AllFaithful old.exec.units
+    → AllFaithful new.exec.units
+word_faithful old memory word new after is = along old new
+    (ap (λ (x : PortState × List ℕ). natures x.0) is ∙ word_natures old.phase old memory word)
+
+asked_natures : (p : Phase) (old : PortState) → natures (port_asked p old) ≡ natures old
+asked_natures Running old = refl
+asked_natures Poll old = refl
+asked_natures Step1 old = refl
+asked_natures (Step2 first) old = refl
+asked_natures (Step3 first second) old = refl
+asked_natures Purge old = refl
+asked_natures Step4 old = refl
+asked_natures (Dead cause) old = refl
+
+pub asked_faithful : (old new : PortState) → new ≡ port_asked old.phase old → AllFaithful old.exec.units
+    → AllFaithful new.exec.units
+asked_faithful old new is = along old new (ap natures is ∙ asked_natures old.phase old)
+
+reset_faithful : (o : Option (Option UnitState)) → is_faithful (option_map reset_unit o) ≡ is_faithful o
+reset_faithful (Some (Some unit)) = refl
+reset_faithful (Some None) = refl
+reset_faithful None = refl
+
+pub start_faithful : (profile : Profile) (exec : ExecState) (new : PortState)
+    → new ≡ port_at_start profile exec
+    → AllFaithful exec.units → AllFaithful new.exec.units
+start_faithful profile exec new is all u =
+    ap (λ (p : PortState). is_faithful (slice_get p.exec.units u)) is
+    ∙ ap is_faithful (slice_get-map reset_unit exec.units u)
+    ∙ reset_faithful (slice_get exec.units u) ∙ all u
+
+pub same_faithful : (old new : PortState) → new.exec ≡ old.exec → AllFaithful old.exec.units
+    → AllFaithful new.exec.units
+same_faithful old new is = along old new (ap (λ (e : ExecState). natures_of e.units) is)
+
+-- ---- drives
+
+set_faithful : (units : Units) (u : ℕ) (x : Option UnitState) → is_faithful (Some x) ≡ true
+    → AllFaithful units
+    → (k : ℕ) → is_faithful (slice_get (set units u x) k) ≡ true
+set_faithful [] u x new all k = all k
+set_faithful (y ∷ ys) zero x new all zero = new
+set_faithful (y ∷ ys) zero x new all (suc k) = all (suc k)
+set_faithful (y ∷ ys) (suc u) x new all zero = all zero
+set_faithful (y ∷ ys) (suc u) x new all (suc k) = set_faithful ys u x new (λ j. all (suc j)) k
+
+pub drive_faithful : (old new : PortState) (u : ℕ) (drive : Option DriveState)
+    → is_faithful (Some (option_map fresh_unit drive)) ≡ true
+    → new ≡ record old { exec = with_drive old.exec u drive } → AllFaithful old.exec.units
+    → AllFaithful new.exec.units
+drive_faithful old new u drive given is all k =
+    ap (λ (p : PortState). is_faithful (slice_get p.exec.units k)) is
+    ∙ set_faithful old.exec.units u (option_map fresh_unit drive) given all k
+
+moded : (m : Mode) (o : Option (Option UnitState)) → is_faithful o ≡ true
+    → is_faithful (Some (in_mode m (unwrap_or o None))) ≡ true
+moded m (Some (Some unit)) h = h
+moded m (Some None) h = refl
+moded m None h = refl
+
+pub mode_faithful : (old new : PortState) (u : ℕ) (m : Mode)
+    → new ≡ record old { exec = with_mode old.exec u m } → AllFaithful old.exec.units
+    → AllFaithful new.exec.units
+mode_faithful old new u m is all k =
+    ap (λ (p : PortState). is_faithful (slice_get p.exec.units k)) is
+    ∙ set_faithful old.exec.units u _ (moded m (slice_get old.exec.units u) (all u)) all k
+
+pub none_faithful : (u : ℕ) → is_faithful (slice_get (None ∷ None ∷ None ∷ None ∷ []) u) ≡ true
+none_faithful zero = refl
+none_faithful (suc zero) = refl
+none_faithful (suc (suc zero)) = refl
+none_faithful (suc (suc (suc zero))) = refl
+none_faithful (suc (suc (suc (suc u)))) = refl

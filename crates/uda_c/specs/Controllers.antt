@@ -1,5 +1,5 @@
 -- What the calls of C do to a controller, and to what a handle holds.
-use Rattle.std.specs.Prelude.{◌≡◌, ◌≢◌, ℕ, ◌/◌, ◌%◌, ◌==◌, Bool, true}
+use Rattle.std.specs.Prelude.{◌≡◌, ◌≢◌, ℕ, ◌/◌, ◌%◌, ◌==◌, ◌||◌, Bool, true}
 use Rattle.std.specs.Prelude.{false, List, [], ◌∷◌, Option, Some, None, slice_get}
 use Rattle.std.specs.Prelude.{nat_lt, length, is_some, option_map, set, unwrap_or, if◌then◌else◌}
 use Rattle.std.specs.List.{concat}
@@ -10,7 +10,8 @@ use Rattle.uda_exec.specs.Drives.{DriveState, with_drive, look_at}
 use Rattle.uda_port.specs.declared.profile.Profile.{Profile}
 use Rattle.uda_port.specs.declared.profile.Profile.TheVariants.{Strict, ForGuests}
 use Rattle.uda_port.specs.declared.trace.Trace.{Trace}
-use Rattle.uda_port.specs.Port.{PortState, CreditsAgree, port_at_start}
+use Rattle.uda_port.specs.Guest.{usual_identity}
+use Rattle.uda_port.specs.Port.{PortState, CreditsAgree, port_at_start, port_with_drive, read_only_at, with_type}
 use Rattle.uda_port.specs.Interrupt.{vector_of, served}
 use Rattle.uda_port.specs.Startup.{by_word}
 use Rattle.uda_port.specs.Turn.{TurnGoes}
@@ -50,7 +51,7 @@ abbrev pub AreSound : Option ControllerState → Option ControllerState → Type
 AreSound old new = HoldsSound old × HoldsSound new
 
 abbrev pub profile_of : Bool → Profile
-profile_of compatible = if compatible then ForGuests else Strict
+profile_of compatible = if compatible then ForGuests usual_identity else Strict
 
 -- a controller at first: no unit has an image, and the port stands in step 1
 abbrev pub controller_at_start : Bool → ControllerState
@@ -117,7 +118,7 @@ lent_drive lending =
 -- the controller with this drive as that unit, or with none there
 abbrev pub controller_with : ControllerState → ℕ → Option DriveState → ControllerState
 controller_with c unit drive =
-    record c { port = record c.port { exec = with_drive c.port.exec unit drive } }
+    record c { port = port_with_drive c.port unit drive }
 
 -- a controller, and a slot for an image
 abbrev pub Exchange : Type 0
@@ -129,7 +130,8 @@ pub record Attaches (old : Exchange) (unit : ℕ) (hard : Bool) (answer : CallSt
   pub answer_is : answer ≡ attach_answer old.0 unit (length old.1.held)
   pub attached : answer ≡ Done
       → new.0 ≡ controller_with old.0 unit (Some (lent_drive (record { bytes = old.1.held; hard = hard })))
-  pub has : answer ≡ Done → image_at new.0 unit ≡ Some (record { bytes = old.1.held; hard = hard })
+  pub has : answer ≡ Done
+      → image_at new.0 unit ≡ Some (record { bytes = old.1.held; hard = read_only_at old.0.port unit || hard })
   pub taken : answer ≡ Done → new.1 ≡ empty_slot
   pub refused : answer ≢ Done → new ≡ old
 
@@ -192,9 +194,9 @@ Frees None images answer new images_after =
 
 -- a handle without a controller gets one, or none if an allocation fails; one that has a controller keeps it
 abbrev pub MakesNew : Option ControllerState → Bool → CallStatus → Option ControllerState → Type 0
-MakesNew (Some c) compatible answer new = (answer ≡ HasController) × (new ≡ Some c)
-MakesNew None compatible answer None = answer ≡ NoMemory
-MakesNew None compatible answer (Some c) = (answer ≡ Done) × (c ≡ controller_at_start compatible)
+MakesNew (Some c) profile answer new = (answer ≡ HasController) × (new ≡ Some c)
+MakesNew None profile answer None = answer ≡ NoMemory
+MakesNew None profile answer (Some c) = (answer ≡ Done) × (c ≡ controller_at_start profile)
 
 -- a drive whose store fails at a call, counted from now on
 abbrev pub drive_failing : ℕ → DriveState → DriveState

@@ -5,7 +5,7 @@ use Rattle.uda_port.specs.declared.phase.Phase.TheVariants.{Step1, Step2, Step3,
 use Rattle.uda_port.specs.declared.phase.Phase.TheVariants.{Running, Dead}
 use Rattle.uda_port.specs.Port.{PortState}
 use Rattle.uda_port.specs.Ring.{RingState}
-use Rattle.uda_port.specs.Startup.{sa_of}
+use Rattle.uda_port.specs.Startup.{sa_shown}
 use Rattle.uda_c.specs.declared.snapshot.RingSnapshot.{RingSnapshot}
 use Rattle.uda_c.specs.declared.snapshot.PortSnapshot.{PortSnapshot}
 
@@ -30,7 +30,7 @@ port_snapshot port = record {
   commands = ring_snapshot port.commands;
   pending = length port.exec.pending;
   queued = length port.waiting;
-  sa = sa_of port.phase;
+  sa = sa_shown port;
   credits = port.credits;
   polling = if port.looking then 1 else 0;
   vector = port.interrupts.vector;

@@ -1,19 +1,19 @@
 -- A port as its callers see it, and its credits.
 -- UDA50 Programmer's Documentation Kit: port registers, initialisation, credits.
 use Rattle.std.specs.Prelude.{◌≡◌, ℕ, ◌+◌, ◌-◌, ◌*◌, ◌≤◌, ◌==◌, min, Bool, true, false, ◌&&◌, List, [], length, map}
-use Rattle.std.specs.Prelude.{Option, None, Some, ◌||◌, option_map, slice_get, set}
+use Rattle.std.specs.Prelude.{is_some, Option, None, Some, ◌||◌, option_map, slice_get, set}
 use Rattle.uda_packet.specs.declared.reply.Reply.{Reply}
 use Rattle.uda_exec.specs.Disks.{ExecState, PENDING_LIMIT}
 use Rattle.uda_packet.specs.declared.drive_type.DriveType.{DriveType}
 use Rattle.uda_packet.specs.DriveTypes.{drive_traits}
-use Rattle.uda_exec.specs.Drives.{DriveState, reset_unit}
+use Rattle.uda_exec.specs.Drives.{DriveState, reset_unit, with_drive}
 use Rattle.uda_port.specs.declared.profile.Profile.{Profile}
 use Rattle.uda_port.specs.declared.profile.Profile.TheVariants.{Strict, ForGuests}
 use Rattle.uda_port.specs.declared.phase.Phase.{Phase}
 use Rattle.uda_port.specs.declared.phase.Phase.TheVariants.{Step1, Poll, Step4, Running}
 use Rattle.uda_port.specs.declared.interrupt.Interrupts.{Interrupts}
 use Rattle.uda_port.specs.declared.guest.Guest.{Guest}
-use Rattle.uda_port.specs.Guest.{GUEST_AT_FIRST, guest_restarted, asks_attention}
+use Rattle.uda_port.specs.Guest.{attention_set, GUEST_AT_FIRST, guest_restarted, asks_attention}
 use Rattle.uda_port.specs.Ring.{RingState}
 use Rattle.uda_port.specs.Interrupt.{NO_INTERRUPTS, raised_by_step, noted, told_at, word_below}
 
@@ -143,3 +143,10 @@ drive_put port unit drive = protected_drive (read_only_at port unit) drive
 abbrev pub with_type : PortState → ℕ → DriveType → PortState
 with_type old unit kind =
     record old { guest = record old.guest { types = set old.guest.types unit kind } }
+
+-- a port with this drive as that unit, or with none there
+abbrev pub port_with_drive : PortState → ℕ → Option DriveState → PortState
+port_with_drive old unit drive = record old {
+  exec = with_drive old.exec unit (drive_put old unit drive);
+  guest = attention_set old.guest unit (attention_due old (is_some drive));
+}

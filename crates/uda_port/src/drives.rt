@@ -4,7 +4,7 @@
 ghost use Rattle.std.specs.Prelude.{◌≡◌, ◌↔◌, ◌<◌, if◌then◌else◌, IsTrue, None, length, slice_get, option_map, is_some};
 ghost use Rattle.uda_disk.specs.Units.{AreImages};
 ghost use Rattle.uda_exec.specs.Drives.{drive_state, handed_back, look_at, with_drive, with_mode};
-ghost use Rattle.uda_port.specs.Port.{CreditsAgree, attention_due, drive_put, protected_drive};
+ghost use Rattle.uda_port.specs.Port.{CreditsAgree, attention_due, drive_put, protected_drive, port_with_drive};
 ghost use Rattle.uda_port.specs.Guest.{attention_set};
 ghost use Rattle.uda_port.specs.Port.{read_only_at, with_type};
 
@@ -34,11 +34,7 @@ impl<S: BlockStore> Port<S> {
         ensures handed_back { option_map (drive_state S.state) result
             ≡ handed_back self.old.exec.units unit
             (drive_put self.old unit (option_map (drive_state S.state) drive)) }
-        ensures set { self.new ≡ record self.old {
-          exec = with_drive self.old.exec unit
-              (drive_put self.old unit (option_map (drive_state S.state) drive));
-          guest = attention_set self.old.guest unit (attention_due self.old (is_some drive));
-        } }
+        ensures set { self.new ≡ port_with_drive self.old unit (option_map (drive_state S.state) drive) }
         ensures credits { CreditsAgree self.new }
         ensures four { length self.new.exec.units ≡ 4 }
         ensures images { AreImages self.new.exec.units }
@@ -47,6 +43,25 @@ impl<S: BlockStore> Port<S> {
         let read_only = self.is_read_only(unit);
         let old = self.exec.set_drive(unit, protected(drive, read_only));
         self.guest.set_attention(unit, due);
+        self.keep();
+        old
+    }
+
+    /// Puts a drive in the place of a unit's as [`set_drive`](Port::set_drive) does, for whoever has taken a drive
+    /// out, has done something to its store and puts it back: no guest learns of it, and its type doesn't count.
+    ///
+    /// MSCP Basic Disk Functions Manual: unit states.
+    pub fn exchange_drive(&mut self, unit: usize, drive: Option<Drive<S>>) -> Option<Drive<S>>
+        ensures handed_back { option_map (drive_state S.state) result
+            ≡ handed_back self.old.exec.units unit (option_map (drive_state S.state) drive) }
+        ensures set { self.new ≡ record self.old {
+          exec = with_drive self.old.exec unit (option_map (drive_state S.state) drive);
+        } }
+        ensures credits { CreditsAgree self.new }
+        ensures four { length self.new.exec.units ≡ 4 }
+        ensures images { AreImages self.new.exec.units }
+    {
+        let old = self.exec.set_drive(unit, drive);
         self.keep();
         old
     }

@@ -70,7 +70,8 @@ enum {
     UDA_PHASE_POLL = 5,    /* it waits for a read of IP */
     UDA_PHASE_STEP_4 = 6,
     UDA_PHASE_RUNNING = 7,
-    UDA_PHASE_DEAD = 8
+    UDA_PHASE_DEAD = 8,
+    UDA_PHASE_WRAP = 9     /* SA shows each word that is written to it, until IP is written */
 };
 
 /* Makes a controller without images, whose port stands in step 1 of its start-up: for guests as they were
@@ -133,7 +134,7 @@ typedef struct {
 
 /* What is to be seen of a port. Before a start-up has told where its rings are, each is one descriptor at 0. */
 typedef struct {
-    uint32_t phase;       /* UDA_PHASE_STEP_1 to UDA_PHASE_DEAD */
+    uint32_t phase;       /* UDA_PHASE_STEP_1 to UDA_PHASE_WRAP */
     uda50_ring responses;
     uda50_ring commands;
     uint32_t pending;     /* commands that were fetched and not yet executed */

@@ -15,7 +15,7 @@ use Rattle.uda_port.specs.declared.profile.Profile.{Profile}
 use Rattle.uda_port.specs.declared.profile.Profile.TheVariants.{Strict, ForGuests}
 use Rattle.uda_port.specs.AtOnce.{replies_aborted, replies_for, exec_for, replies_at_once, exec_at_once}
 use Rattle.uda_port.specs.declared.phase.Phase.{Phase}
-use Rattle.uda_port.specs.declared.phase.Phase.TheVariants.{Step1, Step2, Step3, Purge, Poll, Step4, Running, Dead as DeadPhase}
+use Rattle.uda_port.specs.declared.phase.Phase.TheVariants.{Step1, Step2, Step3, Wrap, Purge, Poll, Step4, Running, Dead as DeadPhase}
 use Rattle.uda_port.specs.declared.turn.Turn.TheVariants as turn
 use Rattle.uda_port.specs.Port.{PortState}
 use Rattle.uda_port.specs.Message.{message_in}
@@ -91,6 +91,7 @@ fetched Step1 old memory new memory_after goes = absurd (cc)
 fetched (Step2 first) old memory new memory_after goes = absurd (cc)
 fetched (Step3 first second) old memory new memory_after goes = absurd (cc)
 fetched Step4 old memory new memory_after goes = absurd (cc)
+fetched (Wrap word) old memory new memory_after goes = absurd (cc)
 fetched Purge old memory new memory_after goes = absurd (cc)
 fetched Poll old memory new memory_after goes = absurd (cc)
 fetched (DeadPhase cause) old memory new memory_after goes = absurd (cc)
@@ -103,6 +104,7 @@ executed Step1 old memory new memory_after goes = absurd (cc)
 executed (Step2 first) old memory new memory_after goes = absurd (cc)
 executed (Step3 first second) old memory new memory_after goes = absurd (cc)
 executed Step4 old memory new memory_after goes = absurd (cc)
+executed (Wrap word) old memory new memory_after goes = absurd (cc)
 executed Purge old memory new memory_after goes = absurd (cc)
 executed Poll old memory new memory_after goes = absurd (cc)
 executed (DeadPhase cause) old memory new memory_after goes = absurd (cc)
@@ -114,6 +116,7 @@ delivered Step1 old memory new memory_after goes = absurd (cc)
 delivered (Step2 first) old memory new memory_after goes = absurd (cc)
 delivered (Step3 first second) old memory new memory_after goes = absurd (cc)
 delivered Step4 old memory new memory_after goes = absurd (cc)
+delivered (Wrap word) old memory new memory_after goes = absurd (cc)
 delivered Purge old memory new memory_after goes = absurd (cc)
 delivered Poll old memory new memory_after goes = absurd (cc)
 delivered (DeadPhase cause) old memory new memory_after goes = absurd (cc)
@@ -124,6 +127,7 @@ died Step1 old memory new memory_after is goes = absurd (cc)
 died (Step2 first) old memory new memory_after is goes = absurd (cc)
 died (Step3 first second) old memory new memory_after is goes = absurd (cc)
 died Step4 old memory new memory_after is goes = absurd (cc)
+died (Wrap word) old memory new memory_after is goes = absurd (cc)
 died Purge old memory new memory_after is goes = absurd (cc)
 died Poll old memory new memory_after is goes = absurd (cc)
 died (DeadPhase cause) old memory new memory_after is goes = subst IsDead (is ∙ sym (ap (λ (p : PortState). p.phase) goes.unchanged.state)) tt

@@ -107,8 +107,12 @@ fetched : {S : Type 0} {h : Inside S} {c : Command} {rest : List Command} (new :
 fetched {h = h} {c} {rest} new after host were agree goes =
     let port = h.port in let place = port.commands.place in let pending = port.exec.pending in let takes = goes.takes in
     let sound : IsSound c = subst IsSound (get_or-append_seam pending c rest c) ((rw were at host.sound) (length pending) c (omega (arith, length-append pending (c ∷ rest)))) in
-    let read : ℕ → List ℕ → Result Command Reply = λ size text. if nat_eq size 48 then reply_to_bad (read_command text) else Err (basic_reply (other_length_end text)) in
-    let message : message_in port.profile goes.packet ≡ Ok c = ap (λ (p : Profile). message_in p goes.packet) host.port.strict ∙ ap₂ read (size_read host were takes) (text_read host were takes) ∙ ap reply_to_bad sound.legible in
+    let read : ℕ → List ℕ → Result Command Reply = λ size text.
+    if nat_eq size 48 then reply_to_bad (read_command text)
+    else Err (basic_reply (other_length_end text)) in
+    let message : message_in port.profile goes.packet ≡ Ok c =
+    ap (λ (p : Profile). message_in p goes.packet) host.port.strict
+    ∙ ap₂ read (size_read host were takes) (text_read host were takes) ∙ ap reply_to_bad sound.legible in
     let untold : commands_told port h.memory ≡ None = ap (λ (p : Profile). told_at p (word_below port.responses.base 4) h.memory port.commands) host.port.strict in
     let leaves = λ (m : Result Command Reply) (r : RingState) (told : Option ℕ). record (port_with_message (port_turn_on port) m) { commands = r; credits = port.credits - 1; interrupts = interrupts_told port told; fetches = port.fetches + 1 } in
     let ring_is = takes.advanced ∙ ap ring_advanced host.rings.commands_are in
@@ -146,7 +150,8 @@ executed {h = h} new after host none agree goes =
     let sound : All IsSound pending = rw before at host.sound in
     let above = (All-at IsSound pending goes.rest.0 one.executes.command sound taken.stands).above in
     let rings = host.rings in let counts = host.counts in
-    let waits : map strict_end (h.port.waiting ++ basic_reply one.end ∷ []) ≡ map strict_end h.port.waiting ++ one.end ∷ [] =
+    let waits : map strict_end (h.port.waiting ++ basic_reply one.end ∷ [])
+    ≡ map strict_end h.port.waiting ++ one.end ∷ [] =
     map-append strict_end h.port.waiting (basic_reply one.end ∷ []) in
     rw one.others (record {
       host = record {
@@ -181,7 +186,8 @@ delivery_written {h = h} r ring after host fits puts =
     let second : address_of puts.first - 2 ≡ response_packet place + 2 = omega arith in
     let text : address_of puts.first ≡ response_packet place + 4 = omega arith in
     let e : End = strict_end r in
-    let text_is : end_text h.port.profile r ≡ written_end e = ap (λ (p : Profile). end_text p r) host.port.strict in
+    let text_is : end_text h.port.profile r ≡ written_end e =
+    ap (λ (p : Profile). end_text p r) host.port.strict in
     let long = ap length text_is ∙ length-written_end e in
     let untold = responses_untold host in
     let is = puts.written ∙ (λ i. put (memory_told (put (put (put h.memory (text i) (text_is i)) (size i) (word_bytes (long i))) (second i) (word_bytes credits)) (untold i)) (at i) (word_bytes (high i))) in
@@ -205,7 +211,9 @@ module _ {S : Type 0} {h : Inside S} (host : IsHost h) (new : PortState) (after 
   sent = delivery_written lines.rest.1.end new.responses after host (omega arith) lines.rest.1.puts
 
   pub end_read : (read : Option End) → (length after ≡ memory_size → read ≡ read_end (part after (response_packet h.response_place + 4) 48)) → read ≡ Some (strict_end lines.rest.1.end)
-  end_read read by = by sent.size ∙ ap read_end (ap (λ (s : Slot). s.text) sent.holds) ∙ subst (λ (p : Profile). IsLegible p lines.rest.1.end) host.port.strict lines.rest.1.legible
+  end_read read by =
+      let legible = subst (λ (p : Profile). IsLegible p lines.rest.1.end) host.port.strict lines.rest.1.legible in
+      by sent.size ∙ ap read_end (ap (λ (s : Slot). s.text) sent.holds) ∙ legible
 
   pub host_takes : {value : HostState} {left : List ℕ} {end : End} {credits : ℕ} → host_view h ≡ value → CreditsAgree new → (length after ≡ memory_size → Some end ≡ read_end (part after (response_packet h.response_place + 4) 48))
       → (length after ≡ memory_size → credits ≡ word_at after (response_packet h.response_place + 2)) → (length after ≡ memory_size → left ≡ memory_reopened after h.response_place)

@@ -43,8 +43,8 @@ same_cause a b is = cc
 of_word : (met cause : Fatal) (word : ℕ) (old new : PortState) (memory : List ℕ) → new ≡ dead_port old met → new.phase ≡ Dead cause → FatalWord met word old memory → FatalWord cause word old memory
 of_word met cause word old new memory is dead fatal = subst (λ (x : Fatal). FatalWord x word old memory) (same_cause met cause (sym (phases new (dead_port old met) is) ∙ dead)) fatal
 
-first_word : (cause : Fatal) (word : ℕ) (old new : PortState) (memory : List ℕ) (profile : Profile) (step wrap : Bool)
-    → old.phase ≡ Step1 → old.profile ≡ profile → has_bit word 15 ≡ step → has_bit word 14 ≡ wrap
+first_word : (cause : Fatal) (word : ℕ) (old new : PortState) (memory : List ℕ) (profile : Profile)
+    (step wrap : Bool) → old.phase ≡ Step1 → old.profile ≡ profile → has_bit word 15 ≡ step → has_bit word 14 ≡ wrap
     → new ≡ (
     if step then (
     if wrap then wrap_by profile old word
@@ -102,7 +102,9 @@ fourth_word cause word old new false p is dead = let same = phases new _ is in a
 -- a port that is dead after a word was dead before it, or the word was fatal
 fatal_word : (cause : Fatal) (word : ℕ) (p : Phase) (old new : PortState) (memory memory_after : List ℕ) → old.phase ≡ p → (new, memory_after) ≡ by_word p old memory word → new.phase ≡ Dead cause
     → (old.phase ≡ Dead cause) ⊎ FatalWord cause word old memory
-fatal_word cause word Step1 old new memory memory_after p is dead = inr (first_word cause word old new memory old.profile _ _ p refl refl refl (ap (λ (x : PortState × List ℕ). x.0) is) dead)
+fatal_word cause word Step1 old new memory memory_after p is dead =
+    let first = ap (λ (x : PortState × List ℕ). x.0) is in
+    inr (first_word cause word old new memory old.profile _ _ p refl refl refl first dead)
 fatal_word cause word (Step2 first) old new memory memory_after p is dead = inr (second_word cause first word old new memory old.profile _ p refl refl (ap (λ (x : PortState × List ℕ). x.0) is) dead)
 fatal_word cause word (Step3 first second) old new memory memory_after p is dead = inr (third_word cause first second word old new memory memory_after old.profile _ _ p refl refl refl is dead)
 fatal_word cause word (Wrap before) old new memory memory_after p is dead =
@@ -146,7 +148,8 @@ fails_of cause old memory before memory_after (InFetch line) = fails_fetch cause
 fails_of cause old memory before memory_after (InRest goes) = fails_rest cause old memory before memory_after goes
 
 -- a message leaves the phase
-message_phase : (old : PortState) (message : Result Command Reply) → (port_with_message old message).phase ≡ old.phase
+message_phase : (old : PortState) (message : Result Command Reply)
+    → (port_with_message old message).phase ≡ old.phase
 message_phase old (Ok c) = refl
 message_phase old (Err e) = refl
 
@@ -170,7 +173,8 @@ fatal_turn cause turn (Dead before) old new memory memory_after p goes dead = in
 fatal_turn cause turn Step1 old new memory memory_after p goes dead = inl (sym (phases new old goes.unchanged.state) ∙ dead)
 fatal_turn cause turn (Step2 first) old new memory memory_after p goes dead = inl (sym (phases new old goes.unchanged.state) ∙ dead)
 fatal_turn cause turn (Step3 first second) old new memory memory_after p goes dead = inl (sym (phases new old goes.unchanged.state) ∙ dead)
-fatal_turn cause turn (Wrap before) old new memory memory_after p goes dead = inl (sym (phases new old goes.unchanged.state) ∙ dead)
+fatal_turn cause turn (Wrap before) old new memory memory_after p goes dead =
+    inl (sym (phases new old goes.unchanged.state) ∙ dead)
 fatal_turn cause turn Purge old new memory memory_after p goes dead = inl (sym (phases new old goes.unchanged.state) ∙ dead)
 fatal_turn cause turn Poll old new memory memory_after p goes dead = inl (sym (phases new old goes.unchanged.state) ∙ dead)
 fatal_turn cause turn Step4 old new memory memory_after p goes dead = inl (sym (phases new old goes.unchanged.state) ∙ dead)

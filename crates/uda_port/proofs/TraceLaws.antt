@@ -33,11 +33,12 @@ ends_with xs zs y x is last =
     let same : Some y ≡ Some x = sym (last-is xs y) ∙ rw is at last in
     is ∙ ap (λ z. xs ++ z ∷ []) (cc)
 
--- a fetch: a command is pending, last; or an end message waits, last; or it took a command out, whose end message
--- waits before another
+-- a fetch: a command is pending, last; or an end message waits, last; or it took a command out, whose end
+-- message waits before another
 pub data OneMore (old new : PortState) : Type 0 where
   ACommand : (c : Command) → new.exec.pending ≡ old.exec.pending ++ c ∷ [] → OneMore old new
-  AnEnd : (e : Reply) → new.exec.pending ≡ old.exec.pending → new.waiting ≡ old.waiting ++ e ∷ [] → OneMore old new
+  AnEnd : (e : Reply) → new.exec.pending ≡ old.exec.pending
+      → new.waiting ≡ old.waiting ++ e ∷ [] → OneMore old new
   AnAbort : (c e : Reply) → length new.exec.pending + 1 ≡ length old.exec.pending
       → new.waiting ≡ old.waiting ++ c ∷ e ∷ [] → OneMore old new
 
@@ -61,7 +62,8 @@ answer_of old new (Basic b) r pending waiting = AnEnd r pending waiting
 answer_of old new (Abort named) r pending waiting =
     abort_of old new r named (oldest_named r.unit named old.exec.pending) refl pending waiting
 answer_of old new (CommandStatus named progress) r pending waiting =
-    AnEnd (record r { body = CommandStatus named (progress_of r.unit named old.exec.pending) }) pending waiting
+    let told = record r { body = CommandStatus named (progress_of r.unit named old.exec.pending) } in
+    AnEnd told pending waiting
 answer_of old new AccessPaths r pending waiting = AnEnd r pending waiting
 answer_of old new CompareController r pending waiting = AnEnd r pending waiting
 answer_of old new Flush r pending waiting = AnEnd r pending waiting
@@ -182,7 +184,8 @@ told_abort old new e (AnAbort taken end less is) fewer last =
           ∙ append_assoc old.waiting (taken ∷ []) (e ∷ []),
     )
 
-pub told_first : (old new : List Reply) (put e : Reply) → old ≡ put ∷ new → slice_get old 0 ≡ Some e → old ≡ e ∷ new
+pub told_first : (old new : List Reply) (put e : Reply) → old ≡ put ∷ new → slice_get old 0 ≡ Some e
+    → old ≡ e ∷ new
 told_first old new put e is first =
     let same : Some put ≡ Some e = rw is at first in
     is ∙ ap (λ (x : Reply). x ∷ new) (cc)

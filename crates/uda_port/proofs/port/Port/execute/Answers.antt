@@ -35,6 +35,11 @@ returns g c =
       record {
         end = c.in-Some.end;
         executes = c.in-Some.ensures.executes.1;
-        others = rw (c.hold.ensures.last, c.basic.ensures.reply, c.add.ensures, c.pending-pending.ensures.count) refl;
+        others = rw (
+          c.hold.ensures.last,
+          c.basic.ensures.reply,
+          c.add.ensures,
+          c.pending-pending.ensures.count,
+        ) refl;
       },
     )

@@ -61,7 +61,9 @@ enum {
     UDA50_BAD_LENGTH = 69,       /* an image isn't one or more whole blocks, or guest memory has an odd length */
     UDA50_TOO_LARGE = 70,        /* an image has more than 891,072 blocks, or guest memory more than 4 MB */
     UDA50_NOT_EMPTY = 71,        /* a struct that an image is to be put into isn't empty */
-    UDA50_HAS_CONTROLLER = 72    /* the handle has a controller */
+    UDA50_HAS_CONTROLLER = 72,   /* the handle has a controller */
+    UDA50_NO_SUCH_BUS = 73,      /* the bus isn't UDA50_UNIBUS or UDA50_QBUS */
+    UDA50_NO_SUCH_TYPE = 74      /* the drive type isn't UDA50_RX50 to UDA50_RRD40 */
 };
 
 /* What a turn did, as uda50_turn and uda50_run return it. */
@@ -82,6 +84,28 @@ enum {
     UDA50_ABORTED = 9          /* it fetched an Abort that took a pending command out: both end messages are queued */
 };
 
+/* The buses of a controller of the compatible profile: a UDA50's with addresses of 18 bits, and an RQDX3's of 22. */
+enum { UDA50_UNIBUS = 0, UDA50_QBUS = 1 };
+
+/* The drive types that such a controller reports. */
+enum {
+    UDA50_RX50 = 0,
+    UDA50_RX33 = 1,
+    UDA50_RD51 = 2,
+    UDA50_RD31 = 3,
+    UDA50_RD52 = 4,
+    UDA50_RD53 = 5,
+    UDA50_RD54 = 6,
+    UDA50_RA60 = 7,
+    UDA50_RA81 = 8,
+    UDA50_RA82 = 9,
+    UDA50_RA71 = 10,
+    UDA50_RA72 = 11,
+    UDA50_RA90 = 12,
+    UDA50_RA92 = 13,
+    UDA50_RRD40 = 14
+};
+
 /* The port's phases. */
 enum {
     UDA50_PHASE_STEP_1 = 1,
@@ -91,7 +115,8 @@ enum {
     UDA50_PHASE_POLL_TEST = 5,  /* it waits for a read of IP */
     UDA50_PHASE_STEP_4 = 6,
     UDA50_PHASE_RUNNING = 7,
-    UDA50_PHASE_DEAD = 8
+    UDA50_PHASE_DEAD = 8,
+    UDA50_PHASE_WRAP = 9 /* SA shows each word that is written to it, until IP is written */
 };
 
 /* ---- Lifecycle ---- */
@@ -104,6 +129,12 @@ uint32_t uda50_version(void);
    UDA50_HAS_CONTROLLER or UDA50_NO_MEMORY. */
 uint32_t uda50_new(uda50 *handle, bool compatible);
 
+/* Makes a controller of the compatible profile as uda50_new does, on a bus, whose units the guest knows by the numbers
+   from first_unit on: a PDP-11's second controller usually has 4 to 7. uda50_new makes one on a UNIBUS, with units from
+   0 on. Calls of this library number the units 0 to 3 all the same. Returns UDA50_OK, or the first that holds of
+   UDA50_NO_SUCH_BUS, UDA50_HAS_CONTROLLER and UDA50_NO_MEMORY. */
+uint32_t uda50_new_as(uda50 *handle, uint32_t bus, uint16_t first_unit);
+
 /* Frees the controller. images[n] is then the image of unit n, as the commands left it, or empty if the unit has
    none. Returns UDA50_OK, or the first that holds of UDA50_NO_CONTROLLER and UDA50_NOT_EMPTY. */
 uint32_t uda50_free(uda50 *handle, uda50_image images[UDA50_UNITS]);
@@ -114,6 +145,12 @@ uint32_t uda50_free(uda50 *handle, uda50_image images[UDA50_UNITS]);
    no command changes the image. Then *image is empty. Returns UDA50_OK, or the first that holds of
    UDA50_NO_CONTROLLER, UDA50_NO_SUCH_UNIT, UDA50_ALREADY_ATTACHED, UDA50_BAD_LENGTH and UDA50_TOO_LARGE. */
 uint32_t uda50_attach(uda50 *handle, uint32_t unit, uda50_image *image, bool write_protected);
+
+/* Sets the drive type of a unit without an image: UDA50_RX50 to UDA50_RRD40, at first UDA50_RA81. A guest of the
+   compatible profile learns it, with an image or without. The size of a unit is that of its image, whatever the type.
+   An image of an RRD40 is write-protected. Returns UDA50_OK, or the first that holds of UDA50_NO_CONTROLLER,
+   UDA50_NO_SUCH_UNIT, UDA50_NO_SUCH_TYPE and UDA50_ALREADY_ATTACHED. */
+uint32_t uda50_set_type(uda50 *handle, uint32_t unit, uint32_t drive_type);
 
 /* Takes a unit's image away. *image is then that image, as the commands left it. Returns UDA50_OK, or the first that
    holds of UDA50_NO_CONTROLLER, UDA50_NO_SUCH_UNIT, UDA50_NOT_ATTACHED and UDA50_NOT_EMPTY. */
@@ -165,7 +202,7 @@ typedef struct {
 
 /* The state of a port. Until the initialization has set the rings, each is one descriptor at 0. */
 typedef struct {
-    uint32_t phase;       /* UDA50_PHASE_STEP_1 to UDA50_PHASE_DEAD */
+    uint32_t phase;       /* UDA50_PHASE_STEP_1 to UDA50_PHASE_WRAP */
     uda50_ring responses;
     uda50_ring commands;
     uint32_t pending;     /* commands that were fetched and not yet executed */

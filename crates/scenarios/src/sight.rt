@@ -83,6 +83,7 @@ pub fn write_phase(phase: Phase, came: &mut String) -> Result<(), Fault> {
         Phase::Step1 => "step1",
         Phase::Step2 { .. } => "step2",
         Phase::Step3 { .. } => "step3",
+        Phase::Wrap { .. } => "wrap",
         Phase::Purge => "purge",
         Phase::Poll => "poll",
         Phase::Step4 => "step4",

@@ -1,23 +1,27 @@
 -- The units of a controller are faithful, and each call of its port leaves them so.
 use Rattle.std.proofs.Common.{◌≡◌, ℕ, zero, suc, Bool, true, false, List, [], ◌∷◌, set, Option, Some, None, Result, Ok, Err, refl, sym, ap, ◌∙◌}
-use Rattle.std.specs.Prelude.{map, option_map, slice_get, unwrap_or, if◌then◌else◌}
+use Rattle.std.specs.Prelude.{option_map, slice_get, unwrap_or, if◌then◌else◌}
 use Rattle.std.proofs.lemmas.Option.{slice_get-map}
 use Rattle.uda_packet.specs.declared.command.Command.{Command}
-use Rattle.uda_packet.specs.declared.end.End.{End}
+use Rattle.uda_packet.specs.declared.reply.Reply.{Reply}
+use Rattle.uda_packet.specs.declared.reply.ReplyBody.{ReplyBody}
+use Rattle.uda_packet.specs.declared.reply.ReplyBody.TheVariants.{Basic, Abort, CommandStatus, AccessPaths, CompareController, Flush}
+use Rattle.uda_port.specs.AtOnce.{exec_for, exec_at_once}
+use Rattle.uda_port.specs.declared.profile.Profile.TheVariants.{Strict, ForGuests}
 use Rattle.uda_disk.specs.declared.mode.Mode.{Mode}
 use Rattle.uda_disk.specs.Units.{UnitState, Units, Nature, nature_of, natures_of, is_faithful, AllFaithful}
 use Rattle.uda_exec.specs.Drives.{DriveState, fresh_unit, reset_unit, in_mode, with_drive, with_mode}
 use Rattle.uda_exec.specs.Disks.{ExecState}
 use Rattle.uda_port.specs.declared.phase.Phase.{Phase}
-use Rattle.uda_port.specs.declared.phase.Phase.TheVariants.{Step1, Step2, Step3, Purge, Poll, Step4, Running, Dead}
+use Rattle.uda_port.specs.declared.phase.Phase.TheVariants.{Step1, Step2, Step3, Wrap, Purge, Poll, Step4, Running, Dead}
 use Rattle.uda_port.specs.declared.phase.Fatal.{Fatal}
 use Rattle.uda_port.specs.declared.phase.Fatal.TheVariants.{PacketRead, PacketWrite, RingRead, RingWrite, CreditsExceeded, WrongEnvelope, StartUpWord}
 use Rattle.uda_port.specs.declared.profile.Profile.{Profile}
 use Rattle.uda_port.specs.declared.turn.Turn.{Turn}
-use Rattle.uda_port.specs.declared.turn.Turn.TheVariants.{Fetched, Executed, Delivered, Idle, Dead as DeadTurn}
-use Rattle.uda_port.specs.Port.{PortState, port_at_start, port_asked}
+use Rattle.uda_port.specs.declared.turn.Turn.TheVariants.{Fetched, Executed, Delivered, Notified, Idle, Dead as DeadTurn}
+use Rattle.uda_port.specs.Port.{PortState, port_restarted, port_asked, port_with_drive, drive_put, protected_drive, read_only_at}
 use Rattle.uda_port.specs.Message.{message_in}
-use Rattle.uda_port.specs.Startup.{has_bit, area_of, has_area, refuses_second, refuses_third, asks_test, by_word}
+use Rattle.uda_port.specs.Startup.{has_bit, wrap_by, area_of, has_area, refuses_second, refuses_third, asks_test, by_word}
 use Rattle.uda_port.specs.Turn.{port_turn_on, port_with_message, TurnGoes, RunningTurn, GoesOn, Fails, InFetch, InRest, FetchLine}
 
 -- ---- what changes no unit's nature leaves them faithful
@@ -48,10 +52,24 @@ along old new same all u = of_natures new.exec.units u
 
 -- ---- a turn
 
-message_natures : (old : PortState) (message : Result Command End)
+guest_natures : (b : ReplyBody) (r : Reply) (exec : ExecState)
+    → natures_of (exec_for b r exec).units ≡ natures_of exec.units
+guest_natures (Basic b) r exec = refl
+guest_natures (Abort named) r exec = refl
+guest_natures (CommandStatus named progress) r exec = refl
+guest_natures AccessPaths r exec = refl
+guest_natures CompareController r exec = refl
+guest_natures Flush r exec = refl
+
+at_once_natures : (profile : Profile) (r : Reply) (exec : ExecState)
+    → natures_of (exec_at_once profile r exec).units ≡ natures_of exec.units
+at_once_natures Strict r exec = refl
+at_once_natures (ForGuests identity) r exec = guest_natures r.body r exec
+
+message_natures : (old : PortState) (message : Result Command Reply)
     → natures (port_with_message old message) ≡ natures old
 message_natures old (Ok c) = refl
-message_natures old (Err e) = refl
+message_natures old (Err r) = at_once_natures old.profile r old.exec
 
 fetch_natures : (cause : Fatal) (old : PortState) (memory : List ℕ) (new : PortState) (after : List ℕ)
     → FetchLine old memory (Err cause) new after → natures new ≡ natures old
@@ -84,6 +102,7 @@ running_natures Fetched old memory new after goes =
     ap natures goes.others ∙ message_natures (port_turn_on old) (message_in old.profile goes.packet)
 running_natures Executed old memory new after goes = goes.rest.1.executes.executes.natures_stay
 running_natures Delivered old memory new after goes = ap natures goes.rest.1.others
+running_natures Notified old memory new after goes = ap natures goes.rest.1.others
 running_natures Idle old memory new after goes = ap natures goes.rest.1.1.state
 running_natures DeadTurn old memory new after goes =
     ap natures goes.died ∙ fails_natures goes.cause (port_turn_on old) memory goes.before after goes.fails
@@ -99,6 +118,7 @@ turn_natures (Step3 first second) turn old memory new after goes = ap natures go
 turn_natures Purge turn old memory new after goes = ap natures goes.unchanged.state
 turn_natures Poll turn old memory new after goes = ap natures goes.unchanged.state
 turn_natures Step4 turn old memory new after goes = ap natures goes.unchanged.state
+turn_natures (Wrap word) turn old memory new after goes = ap natures goes.unchanged.state
 
 pub turn_faithful : (turn : Turn) (old : PortState) (memory : List ℕ) (new : PortState) (after : List ℕ)
     → TurnGoes old.phase old memory turn new after → AllFaithful old.exec.units → AllFaithful new.exec.units
@@ -118,10 +138,16 @@ chosen_pair : (a : Bool) (one other : PortState × List ℕ) (same : List (Optio
 chosen_pair true one other same h k = h
 chosen_pair false one other same h k = k
 
+wrap_natures : (profile : Profile) (old : PortState) (word : ℕ) → natures (wrap_by profile old word)
+  ≡ natures old
+wrap_natures Strict old word = refl
+wrap_natures (ForGuests identity) old word = refl
+
 word_natures : (p : Phase) (old : PortState) (memory : List ℕ) (word : ℕ)
     → natures (by_word p old memory word).0 ≡ natures old
 word_natures Step1 old memory word =
-    chosen (has_bit word 15) _ old _ (chosen (has_bit word 14) _ _ _ refl refl) refl
+    chosen (has_bit word 15) _ old _ (chosen (has_bit word 14) _ _ _ (wrap_natures old.profile old word) refl)
+      refl
 word_natures (Step2 first) old memory word = chosen (refuses_second old.profile word) _ _ _ refl refl
 word_natures (Step3 first second) old memory word =
     chosen_pair (refuses_third old.profile word) _ _ _ refl
@@ -132,6 +158,7 @@ word_natures Poll old memory word = refl
 word_natures Step4 old memory word = chosen (has_bit word 0) _ old _ refl refl
 word_natures Running old memory word = refl
 word_natures (Dead cause) old memory word = refl
+word_natures (Wrap before) old memory word = refl
 
 pub word_faithful : (old : PortState) (memory : List ℕ) (word : ℕ) (new : PortState) (after : List ℕ)
     → (new, after) ≡ by_word old.phase old memory word → AllFaithful old.exec.units
@@ -148,6 +175,7 @@ asked_natures (Step3 first second) old = refl
 asked_natures Purge old = refl
 asked_natures Step4 old = refl
 asked_natures (Dead cause) old = refl
+asked_natures (Wrap word) old = refl
 
 pub asked_faithful : (old new : PortState) → new ≡ port_asked old.phase old → AllFaithful old.exec.units
     → AllFaithful new.exec.units
@@ -158,13 +186,12 @@ reset_faithful (Some (Some unit)) = refl
 reset_faithful (Some None) = refl
 reset_faithful None = refl
 
-pub start_faithful : (profile : Profile) (exec : ExecState) (new : PortState)
-    → new ≡ port_at_start profile exec
-    → AllFaithful exec.units → AllFaithful new.exec.units
-start_faithful profile exec new is all u =
+pub start_faithful : (old new : PortState) → new ≡ port_restarted old → AllFaithful old.exec.units
+    → AllFaithful new.exec.units
+start_faithful old new is all u =
     ap (λ (p : PortState). is_faithful (slice_get p.exec.units u)) is
-    ∙ ap is_faithful (slice_get-map reset_unit exec.units u)
-    ∙ reset_faithful (slice_get exec.units u) ∙ all u
+    ∙ ap is_faithful (slice_get-map reset_unit old.exec.units u)
+    ∙ reset_faithful (slice_get old.exec.units u) ∙ all u
 
 pub same_faithful : (old new : PortState) → new.exec ≡ old.exec → AllFaithful old.exec.units
     → AllFaithful new.exec.units
@@ -188,6 +215,21 @@ pub drive_faithful : (old new : PortState) (u : ℕ) (drive : Option DriveState)
 drive_faithful old new u drive given is all k =
     ap (λ (p : PortState). is_faithful (slice_get p.exec.units k)) is
     ∙ set_faithful old.exec.units u (option_map fresh_unit drive) given all k
+
+-- the same of a drive that a guest learns of
+put_is : (read_only : Bool) (drive : Option DriveState) → is_faithful (Some (option_map fresh_unit drive))
+  ≡ true
+    → is_faithful (Some (option_map fresh_unit (protected_drive read_only drive))) ≡ true
+put_is read_only None given = refl
+put_is read_only (Some drive) given = given
+
+pub put_faithful : (old new : PortState) (u : ℕ) (drive : Option DriveState)
+    → is_faithful (Some (option_map fresh_unit drive)) ≡ true → new ≡ port_with_drive old u drive
+    → AllFaithful old.exec.units → AllFaithful new.exec.units
+put_faithful old new u drive given is all k =
+    ap (λ (p : PortState). is_faithful (slice_get p.exec.units k)) is
+    ∙ set_faithful old.exec.units u (option_map fresh_unit (drive_put old u drive))
+    (put_is (read_only_at old u) drive given) all k
 
 moded : (m : Mode) (o : Option (Option UnitState)) → is_faithful o ≡ true
     → is_faithful (Some (in_mode m (unwrap_or o None))) ≡ true

@@ -1,14 +1,15 @@
 -- Images that are lent, and given back.
 use Rattle.std.proofs.Common.{◌≡◌, ◌≢◌, ℕ, ◌<◌, ◌≤◌, Bool, true, false, List, [], length, length-set, set, Option, Some, None, refl, sym, ap, subst, ◌∙◌, arith}
-use Rattle.std.specs.Prelude.{◌==◌, option_map, slice_get, unwrap_or, is_some, if◌then◌else◌}
+use Rattle.uda_port.specs.declared.profile.Profile.{Profile}
+use Rattle.std.specs.Prelude.{◌==◌, ◌||◌, option_map, slice_get, unwrap_or, is_some, if◌then◌else◌}
 use Rattle.std.specs.List.{concat}
 use Rattle.std.proofs.lemmas.Bool.{le-ltb, ne_eqb}
 use Rattle.uda_disk.proofs.Slots.{slice_get-set_same}
 use Rattle.uda_disk.specs.Units.{UnitState}
 use Rattle.uda_image.proofs.ImageLaws.{concat-blocks_of}
 use Rattle.uda_exec.specs.declared.drive_unit.UnitLook.{UnitLook}
-use Rattle.uda_exec.specs.Drives.{DriveState, drive_in, fresh_unit, handed_back, look_at, with_drive}
-use Rattle.uda_port.specs.Port.{PortState}
+use Rattle.uda_exec.specs.Drives.{DriveState, drive_in, fresh_unit, handed_back, look_at}
+use Rattle.uda_port.specs.Port.{PortState, port_with_drive, read_only_at}
 use Rattle.uda_c.proofs.FailingUnits.{seen, handed}
 use Rattle.uda_c.specs.ControllerState.{ControllerState}
 use Rattle.uda_c.specs.declared.call_status.CallStatus.TheVariants.{Done, NoSuchUnit, AlreadyAttached, NotAttached, NotEmpty, HasController}
@@ -32,24 +33,19 @@ pub attaches : (old : ControllerState) (u : ℕ) (slot after : Slot) (hard : Boo
     LentBlocks) (new : PortState)
     → u ≤ 3 → has_image old u ≡ false → bytes ≡ slot.held → IsWhole bytes → after ≡ empty_slot
     → image_answer (length slot.held) ≡ Done → store ≡ record { bytes = bytes; left = None }
-    → new ≡ record old.port {
-      exec = with_drive old.port.exec u (Some (record {
-        store = lent_state store;
-        hard = hard;
-      }));
-    }
+    → new ≡ port_with_drive old.port u (Some (record { store = lent_state store; hard = hard }))
     → length new.exec.units ≡ 4 → Attaches (old, slot) u hard Done (record old { port = new }, after)
 attaches old u slot after hard bytes store new low free are whole gone fits store_is new_is four =
     let units : List (Option UnitState) = old.port.exec.units in
     let lending : Lending = record { bytes = slot.held; hard = hard } in
+    let kept : Lending = record { bytes = slot.held; hard = read_only_at old.port u || hard } in
     let drive_is : record { store = lent_state store; hard = hard } ≡ lent_drive lending =
     ap (λ (s : LentBlocks). record { store = lent_state s; hard = hard }) (store_is
     ∙ ap (λ (b : List ℕ). record { bytes = b; left = None }) are) in
-    let is : new ≡ record old.port { exec = with_drive old.port.exec u (Some (lent_drive lending)) } =
-    new_is ∙ ap (λ (d : DriveState). record old.port { exec = with_drive old.port.exec u (Some d) })
-    drive_is in
+    let is : new ≡ port_with_drive old.port u (Some (lent_drive lending)) =
+    new_is ∙ ap (λ (d : DriveState). port_with_drive old.port u (Some d)) drive_is in
     let long : length units ≡ 4 =
-    sym (length-set units u (Some (fresh_unit (lent_drive lending))))
+    sym (length-set units u (Some (fresh_unit (lent_drive kept))))
     ∙ sym (ap (λ (p : PortState). length p.exec.units) is) ∙ four in
     record {
       answer_is = sym (ap (λ b. if b then NoSuchUnit else if has_image old u then AlreadyAttached else
@@ -57,7 +53,7 @@ attaches old u slot after hard bytes store new low free are whole gone fits stor
           ∙ ap (λ b. if b then AlreadyAttached else image_answer (length slot.held)) free ∙ fits);
       attached = λ _. ap (λ (p : PortState). record old { port = p }) is;
       has = λ _. ap (λ (p : PortState). image_in (slice_get p.exec.units u)) is
-          ∙ attached units u lending (omega (arith, low, long)) (subst IsWhole are whole);
+          ∙ attached units u kept (omega (arith, low, long)) (subst IsWhole are whole);
       taken = λ _. gone;
       refused = λ no. absurd (no refl);
     }
@@ -102,18 +98,18 @@ given_back units u look drive bytes e back are =
     ∙ ap Some (sym (are ∙ ap (λ (d : DriveState). concat d.store.blocks) drive_is))
 
 -- a handle that has a controller keeps it
-pub controller_stays : (old new : Option ControllerState) {b : Bool} (compatible : Bool) → b ≡ is_some old
+pub controller_stays : (old new : Option ControllerState) {b : Bool} (profile : Profile) → b ≡ is_some old
     → b ≡ true → new ≡ old
-    → MakesNew old compatible HasController new
-controller_stays (Some c) new compatible is has stays = (refl, stays)
-controller_stays None new compatible is has stays = let no : false ≡ true = sym is ∙ has in absurd (cc)
+    → MakesNew old profile HasController new
+controller_stays (Some c) new profile is has stays = (refl, stays)
+controller_stays None new profile is has stays = let no : false ≡ true = sym is ∙ has in absurd (cc)
 
 -- the calls that give a unit's image back
 pub detaches : (old : ControllerState) (u : ℕ) (look : UnitLook) (slot after : Slot) (lent : Lent)
     (drive : DriveState) (new : PortState)
     → u ≤ 3 → look_at (slice_get old.port.exec.units u) ≡ Some look → slot.held ≡ []
     → Some drive ≡ handed_back old.port.exec.units u None → lent.held ≡ concat drive.store.blocks
-    → after ≡ slot_of lent → new ≡ record old.port { exec = with_drive old.port.exec u None }
+    → after ≡ slot_of lent → new ≡ port_with_drive old.port u None
     → Detaches (old, slot) u Done (record old { port = new }, after)
 detaches old u look slot after lent drive new low e empty back are put is =
     let units = old.port.exec.units in record {

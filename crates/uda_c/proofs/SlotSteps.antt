@@ -1,23 +1,24 @@
 -- Steps for the walks of a slot's methods. Assumes `Logic`.
---     lent_out                       what bytes that are lent own is taken apart: where they lie, and the words of the struct
+-- lent_out what bytes that are lent own is taken apart: where they lie, and the words of the struct
 --     slot_in                        bytes are what a slot of that length owns
---     slot_opens, slot_closes        a `&mut` to a slot is opened, which gives what it holds and its one cell, and closed at another value
-use Rattle.std.proofs.Common.{◌≡◌, ℕ, zero, suc, ◌<◌, ◌^◌, List, [], ◌∷◌, ◌++◌, length, refl, sym, ap, subst, ◌∙◌, arith}
+-- slot_opens, slot_closes a `&mut` to a slot is opened, which gives what it holds and its one cell, and
+-- closed at another value
+use Rattle.std.proofs.Common.{◌≡◌, ℕ, zero, suc, ◌<◌, ◌^◌, List, [], ◌∷◌, ◌++◌, length, refl, ap, ◌∙◌, arith}
 use seplogic.Ra.Ura.{Ura}
 use base.Fraction.{full_share}
 use base.Logic.{id⊢}
 use base.Fml.{Lft, GName, Share, Fml, fsep, feq, flft, fobs, fauth, fbor, fobor}
 use base.Stored.{Gv}
 use mir.Syntax.{w64}
-use mir.Val.{Val, vint, vptr, vstruct, vcons, vnil, of_list}
+use mir.Val.{Val, vint, vstruct, vcons, vnil, of_list}
 use types.Logic.{Logic}
 use types.Kit.{Item, Goal, Soaks, Seq, Step, step, ‵, ◌$◌, move, drop, use1, rewrite, fsplit, fjoin, fpick, fpack, feq_i, feq_l, flt_i, flt_l}
 use types.SemTy.{Body as Borrowed}
-use denote.RattleType.{RattleType, Valss}
+use denote.RattleType.{Valss}
 use denote.Array.{Array}
 use denote.Builtin.{u8, usize}
 use denote.Memory.{mem, cell_at, part_at}
-use denote.RawPtr.{Ptr, RawPtr, block_ptr, null_ptr, ptr_val, in_a_block, lies_at}
+use denote.RawPtr.{Ptr, RawPtr, block_ptr, ptr_val, in_a_block, lies_at}
 use denote.RawPtr.Bytes.{bytes, bytes_apart, bytes_whole}
 use denote.Steps.{nothing, opens, closes}
 use denote.Struct.Struct.{within}

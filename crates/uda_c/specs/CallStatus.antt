@@ -5,7 +5,7 @@ use Rattle.uda_port.specs.declared.turn.Turn.TheVariants as turn
 use Rattle.uda_c.specs.declared.call_status.CallStatus.{CallStatus}
 use Rattle.uda_c.specs.declared.call_status.CallStatus.TheVariants.{Done, Took, NoController, NoMemory, NoSuchUnit}
 use Rattle.uda_c.specs.declared.call_status.CallStatus.TheVariants.{AlreadyAttached, NotAttached, BadLength, TooLarge}
-use Rattle.uda_c.specs.declared.call_status.CallStatus.TheVariants.{NotEmpty, HasController}
+use Rattle.uda_c.specs.declared.call_status.CallStatus.TheVariants.{NotEmpty, HasController, NoSuchBus, NoSuchType}
 
 abbrev pub turn_code : Turn → ℕ
 turn_code turn.Idle = 0
@@ -27,3 +27,5 @@ status_code BadLength = 69
 status_code TooLarge = 70
 status_code NotEmpty = 71
 status_code HasController = 72
+status_code NoSuchBus = 73
+status_code NoSuchType = 74

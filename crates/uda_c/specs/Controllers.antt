@@ -6,7 +6,7 @@ use Rattle.std.specs.List.{concat}
 use Rattle.uda_mem.specs.Slices.{IsMemory}
 use Rattle.uda_image.specs.Limits.{block_limit}
 use Rattle.uda_disk.specs.Units.{UnitState, AllFaithful, AreImages}
-use Rattle.uda_exec.specs.Drives.{DriveState, with_drive, look_at}
+use Rattle.uda_exec.specs.Drives.{DriveState, look_at}
 use Rattle.uda_port.specs.declared.profile.Profile.{Profile}
 use Rattle.uda_port.specs.declared.profile.Profile.TheVariants.{Strict, ForGuests}
 use Rattle.uda_port.specs.declared.trace.Trace.{Trace}
@@ -19,6 +19,9 @@ use Rattle.uda_port.specs.Trace.{turn_of, Traces}
 use Rattle.uda_c.specs.declared.call_status.CallStatus.{CallStatus}
 use Rattle.uda_c.specs.declared.call_status.CallStatus.TheVariants.{Done, Took, NoSuchUnit, AlreadyAttached, NotAttached}
 use Rattle.uda_c.specs.declared.call_status.CallStatus.TheVariants.{NoController, HasController, NoMemory, NotEmpty}
+use Rattle.uda_c.specs.declared.call_status.CallStatus.TheVariants.{NoSuchBus, NoSuchType}
+use Rattle.uda_packet.specs.declared.drive_type.DriveType.{DriveType}
+use Rattle.uda_packet.specs.declared.guest_end.Bus.{Bus}
 use Rattle.uda_c.specs.declared.call_status.CallStatus.TheVariants.{BadLength, TooLarge}
 use Rattle.uda_c.specs.ControllerState.{ControllerState}
 use Rattle.uda_c.specs.declared.slot.Slot.{Slot}
@@ -54,9 +57,9 @@ abbrev pub profile_of : Bool → Profile
 profile_of compatible = if compatible then ForGuests usual_identity else Strict
 
 -- a controller at first: no unit has an image, and the port stands in step 1
-abbrev pub controller_at_start : Bool → ControllerState
-controller_at_start compatible = record {
-  port = port_at_start (profile_of compatible)
+abbrev pub controller_at_start : Profile → ControllerState
+controller_at_start profile = record {
+  port = port_at_start profile
       (record { units = None ∷ None ∷ None ∷ None ∷ []; pending = [] });
   last = None;
 }
@@ -119,6 +122,11 @@ lent_drive lending =
 abbrev pub controller_with : ControllerState → ℕ → Option DriveState → ControllerState
 controller_with c unit drive =
     record c { port = port_with_drive c.port unit drive }
+
+-- whether the drive of a handle's unit can't write, by its type
+abbrev pub is_read_only : Option ControllerState → ℕ → Bool
+is_read_only None unit = false
+is_read_only (Some c) unit = read_only_at c.port unit
 
 -- a controller, and a slot for an image
 abbrev pub Exchange : Type 0
@@ -193,7 +201,7 @@ Frees None images answer new images_after =
     (answer ≡ NoController) × (new ≡ None) × (images_after ≡ images)
 
 -- a handle without a controller gets one, or none if an allocation fails; one that has a controller keeps it
-abbrev pub MakesNew : Option ControllerState → Bool → CallStatus → Option ControllerState → Type 0
+abbrev pub MakesNew : Option ControllerState → Profile → CallStatus → Option ControllerState → Type 0
 MakesNew (Some c) profile answer new = (answer ≡ HasController) × (new ≡ Some c)
 MakesNew None profile answer None = answer ≡ NoMemory
 MakesNew None profile answer (Some c) = (answer ≡ Done) × (c ≡ controller_at_start profile)
@@ -263,3 +271,32 @@ pub record TakesInterrupt (old : ControllerState) (before : ℕ) (told : Bool) (
     (after : ℕ) : Type 0 where
   pub vector : TellsVector (vector_of old.port.interrupts) before told after
   pub gone : new ≡ record old { port = record old.port { interrupts = served old.port.interrupts } }
+
+-- ---- the compatible profile's controller
+
+-- a controller on the bus that C names, whose units have the numbers from this one on; or there is no such bus
+abbrev pub MakesAs : Option ControllerState → Option Bus → ℕ → CallStatus → Option ControllerState → Type 0
+MakesAs old None first answer new = (answer ≡ NoSuchBus) × (new ≡ old)
+MakesAs old (Some bus) first answer new =
+    MakesNew old (ForGuests (record { bus = bus; first_unit = first })) answer new
+
+abbrev pub refusal_of_new : Option Bus → CallStatus
+refusal_of_new None = NoSuchBus
+refusal_of_new (Some bus) = HasController
+
+-- what is answered if a unit is to be of a type
+abbrev pub type_answer : ControllerState → ℕ → Option DriveType → CallStatus
+type_answer c unit kind =
+    if nat_lt 3 unit then NoSuchUnit
+    else if is_some kind then (if has_image c unit then AlreadyAttached else Done)
+    else NoSuchType
+
+abbrev pub port_typed : PortState → ℕ → Option DriveType → PortState
+port_typed port unit None = port
+port_typed port unit (Some kind) = with_type port unit kind
+
+pub record SetsType (old : ControllerState) (unit : ℕ) (kind : Option DriveType) (answer : CallStatus)
+    (new : ControllerState) : Type 0 where
+  pub answer_is : answer ≡ type_answer old unit kind
+  pub typed : answer ≡ Done → new ≡ record old { port = port_typed old.port unit kind }
+  pub refused : answer ≢ Done → new ≡ old

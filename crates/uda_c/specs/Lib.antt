@@ -1,3 +1,4 @@
+pub mod Choices
 pub mod Held
 pub mod LendsController
 pub mod Lies

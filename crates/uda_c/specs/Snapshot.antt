@@ -1,7 +1,7 @@
 -- What C is shown of a port.
 use Rattle.std.specs.Prelude.{ℕ, length, if◌then◌else◌}
 use Rattle.uda_port.specs.declared.phase.Phase.{Phase}
-use Rattle.uda_port.specs.declared.phase.Phase.TheVariants.{Step1, Step2, Step3, Purge, Poll, Step4}
+use Rattle.uda_port.specs.declared.phase.Phase.TheVariants.{Step1, Step2, Step3, Purge, Poll, Step4, Wrap}
 use Rattle.uda_port.specs.declared.phase.Phase.TheVariants.{Running, Dead}
 use Rattle.uda_port.specs.Port.{PortState}
 use Rattle.uda_port.specs.Ring.{RingState}
@@ -9,7 +9,7 @@ use Rattle.uda_port.specs.Startup.{sa_shown}
 use Rattle.uda_c.specs.declared.snapshot.RingSnapshot.{RingSnapshot}
 use Rattle.uda_c.specs.declared.snapshot.PortSnapshot.{PortSnapshot}
 
--- the number by which C knows a phase: in the order of a start-up
+-- the number by which C knows a phase: in the order of a start-up, and 9 for wrap mode
 abbrev pub phase_number : Phase → ℕ
 phase_number Step1 = 1
 phase_number (Step2 first) = 2
@@ -19,6 +19,7 @@ phase_number Poll = 5
 phase_number Step4 = 6
 phase_number Running = 7
 phase_number (Dead cause) = 8
+phase_number (Wrap word) = 9
 
 abbrev pub ring_snapshot : RingState → RingSnapshot
 ring_snapshot ring = record { base = ring.base; count = ring.count; next = ring.place }

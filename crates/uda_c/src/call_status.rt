@@ -29,6 +29,10 @@ pub enum CallStatus {
     NotEmpty,
     /// The handle has a controller.
     HasController,
+    /// There is no such bus.
+    NoSuchBus,
+    /// There is no such drive type.
+    NoSuchType,
 }
 
 impl CallStatus {
@@ -55,6 +59,8 @@ impl CallStatus {
             CallStatus::TooLarge => 70,
             CallStatus::NotEmpty => 71,
             CallStatus::HasController => 72,
+            CallStatus::NoSuchBus => 73,
+            CallStatus::NoSuchType => 74,
         }
     }
 }

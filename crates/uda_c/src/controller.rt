@@ -3,9 +3,9 @@ ghost use Rattle.std.specs.Prelude.{◌≡◌, ◌≢◌, ◌≤◌, ◌/◌, �
 ghost use Rattle.uda_image.specs.Limits.{block_limit};
 ghost use Rattle.uda_mem.specs.Slices.{IsMemory};
 ghost use Rattle.uda_c.specs.declared.call_status.CallStatus.TheVariants.{Took, Done};
-ghost use Rattle.uda_c.specs.Controllers.{controller_at_start, Attaches, Detaches, TurnsWhereMemory};
+ghost use Rattle.uda_c.specs.Controllers.{controller_at_start, SetsType, Attaches, Detaches, TurnsWhereMemory};
 ghost use Rattle.uda_c.specs.Controllers.{FailsAt, drive_failing, TakesTurn, memory_refusal, IsSound};
-ghost use Rattle.uda_port.specs.Port.{port_at_start, port_asked};
+ghost use Rattle.uda_port.specs.Port.{port_restarted, port_asked};
 ghost use Rattle.uda_port.specs.Interrupt.{vector_of, served};
 ghost use Rattle.uda_c.specs.Controllers.{WritesSa, GivesBack, image_answer, image_at, bytes_at};
 ghost use Rattle.uda_c.specs.LentImage.{lent_state, IsWhole};
@@ -22,7 +22,8 @@ use std::alloc::Global;
 use std::marker::Model;
 use uda_exec::Exec;
 use uda_image::{BLOCK_LIMIT, Drive};
-use uda_port::{Port, Trace, Turn};
+use uda_packet::DriveType;
+use uda_port::{Port, Profile, Trace, Turn};
 
 /// A port over the images that C has lent, and what its last turn did.
 #[derive(Drop)]
@@ -44,14 +45,13 @@ impl Model for Controller {
 
 impl Controller {
     /// Makes a controller without drives, whose port is in step 1. Returns None if an allocation fails.
-    pub fn new(alloc: Global, for_guests: bool) -> Option<Controller>
-        ensures start { IfSome result (λ c. c ≡ controller_at_start for_guests) }
+    pub fn new(alloc: Global, profile: Profile) -> Option<Controller>
+        ensures start { IfSome result (λ c. c ≡ controller_at_start profile) }
     {
         let exec = Exec::new([None, None, None, None]);
-        let port = if for_guests {
-            Port::for_guests(alloc, exec)
-        } else {
-            Port::new(alloc, exec)
+        let port = match profile {
+            Profile::Strict => Port::new(alloc, exec),
+            Profile::ForGuests(identity) => Port::for_guests_as(alloc, identity, exec),
         };
         match port {
             Ok(port) => Some(Controller { port, last: None }),
@@ -69,9 +69,7 @@ impl Controller {
     /// Writes IP for the guest.
     #[tactic(auto, using(crate::proofs::FaithfulUnits::start_faithful))]
     pub fn write_ip(&mut self, word: u16)
-        ensures starts { self.new ≡ record self.old {
-          port = port_at_start self.old.port.profile self.old.port.exec;
-        } }
+        ensures starts { self.new ≡ record self.old { port = port_restarted self.old.port } }
     {
         self.port.write_ip(word);
     }
@@ -182,11 +180,29 @@ impl Controller {
         let Some(look) = self.port.unit(unit) else {
             return CallStatus::NotAttached;
         };
-        if let Some(drive) = self.port.set_drive(unit, None) {
-            self.port.set_drive(unit, Some(failing(drive, call)));
+        if let Some(drive) = self.port.exchange_drive(unit, None) {
+            self.port.exchange_drive(unit, Some(failing(drive, call)));
             self.port.restore_mode(unit, look.mode);
         }
         CallStatus::Done
+    }
+
+    /// Sets the drive type of a unit without an image.
+    pub fn set_type(&mut self, unit: u32, kind: Option<DriveType>) -> CallStatus
+        ensures sets { SetsType self.old unit kind result self.new }
+    {
+        let unit = unit as usize;
+        if unit > 3 {
+            return CallStatus::NoSuchUnit;
+        }
+        let Some(kind) = kind else {
+            return CallStatus::NoSuchType;
+        };
+        if self.port.set_type(unit, kind) {
+            CallStatus::Done
+        } else {
+            CallStatus::AlreadyAttached
+        }
     }
 
     /// Runs one turn of the port in the guest's memory.

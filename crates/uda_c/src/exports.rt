@@ -1,12 +1,13 @@
 //! The functions that C calls. Each accepts every handle, also one without a controller, which was never made or
 //! was freed, as `include/uda50.h` says.
-ghost use Rattle.std.specs.Prelude.{None, false, is_some, ◌≡◌};
-ghost use Rattle.uda_port.specs.Port.{port_at_start, port_asked};
-ghost use Rattle.uda_port.specs.Startup.{sa_of};
+ghost use Rattle.std.specs.Prelude.{None, false, is_some, ◌≡◌, ◌||◌};
+ghost use Rattle.uda_port.specs.Port.{port_restarted, port_asked};
+ghost use Rattle.uda_port.specs.Startup.{sa_shown};
 ghost use Rattle.uda_c.specs.CallStatus.{status_code};
+ghost use Rattle.uda_c.specs.Choices.{bus_of, type_of};
 ghost use Rattle.uda_c.specs.declared.call_status.CallStatus.{CallStatus};
 ghost use Rattle.uda_c.specs.declared.call_status.CallStatus.TheVariants.{Done, NoController};
-ghost use Rattle.uda_c.specs.Controllers.{OnHandle, AreSound, HoldsSound, MakesNew, Frees, GivesBack};
+ghost use Rattle.uda_c.specs.Controllers.{OnHandle, AreSound, HoldsSound, MakesNew, MakesAs, SetsType, refusal_of_new, profile_of, is_read_only, Frees, GivesBack};
 ghost use Rattle.uda_c.specs.Controllers.{Attaches, Detaches, HasImage, HadBytes, WritesSa};
 ghost use Rattle.uda_c.specs.Controllers.{FailsAt, TurnsWhereMemory, TakesInterrupt};
 ghost use Rattle.uda_c.specs.Runs.{RunsWhereMemory};
@@ -14,6 +15,7 @@ ghost use Rattle.uda_c.specs.Snapshot.{port_snapshot};
 ghost use Rattle.uda_c.specs.Last.{turn_record, TellsLine};
 
 use crate::call_status::CallStatus;
+use crate::choices::{bus_of, type_of};
 use crate::controller::Controller;
 use crate::handle::Handle;
 use crate::last::{TurnRecord, put_last_line};
@@ -22,6 +24,8 @@ use crate::snapshot::PortSnapshot;
 use crate::unit_images::UnitImages;
 use loose::Loose;
 use std::alloc::Global;
+use uda_packet::Identity;
+use uda_port::{Profile, USUAL_IDENTITY};
 
 /// Returns the library's version: 10000 times the major number, 100 times the minor, and the patch number.
 #[unsafe(no_mangle)]
@@ -36,13 +40,54 @@ pub extern "C" fn uda50_version() -> u32
 #[unsafe(no_mangle)]
 pub extern "C" fn uda50_new(alloc: Global, handle: &mut Handle, compatible: bool) -> u32
     ensures made { (answer : CallStatus) × (result ≡ status_code answer)
-        × MakesNew handle.old.value compatible answer handle.new.value }
+        × MakesNew handle.old.value (profile_of compatible) answer handle.new.value }
     ensures sound { AreSound handle.old.value handle.new.value }
 {
     if has_controller(handle) {
         return CallStatus::HasController.code();
     }
-    make(alloc, handle, compatible).code()
+    make(alloc, handle, profile_of(compatible)).code()
+}
+
+/// Makes a controller of the compatible profile, on a bus, whose units have the numbers from `first_unit` on. A
+/// handle that has a controller keeps it. If an allocation fails the handle has none.
+#[unsafe(no_mangle)]
+pub extern "C" fn uda50_new_as(alloc: Global, handle: &mut Handle, bus: u32, first_unit: u16) -> u32
+    ensures made { (answer : CallStatus) × (result ≡ status_code answer)
+        × MakesAs handle.old.value (bus_of bus) first_unit answer handle.new.value }
+    ensures sound { AreSound handle.old.value handle.new.value }
+{
+    if has_controller(handle) {
+        return refuse_new(bus).code();
+    }
+    match bus_of(bus) {
+        Some(bus) => make(
+            alloc,
+            handle,
+            Profile::ForGuests(Identity { bus, first_unit }),
+        )
+        .code(),
+        None => CallStatus::NoSuchBus.code(),
+    }
+}
+
+/// Sets the drive type of a unit without an image.
+#[unsafe(no_mangle)]
+pub extern "C" fn uda50_set_type(handle: &mut Handle, unit: u32, drive_type: u32) -> u32
+    ensures sets { OnHandle handle.old.value handle.new.value (result ≡ status_code NoController)
+        (λ old new. (answer : CallStatus) × (result ≡ status_code answer)
+        × SetsType old unit (type_of drive_type) answer new) }
+    ensures sound { AreSound handle.old.value handle.new.value }
+{
+    match handle.get() {
+        Some(controller) => {
+            controller.keep();
+            let answer = controller.set_type(unit, type_of(drive_type)).code();
+            controller.keep();
+            answer
+        }
+        None => CallStatus::NoController.code(),
+    }
 }
 
 /// Frees the controller and gives C the images of its units. If a slot for them has one, nothing changes.
@@ -74,7 +119,10 @@ pub extern "C" fn uda50_attach(
         (λ old new. (answer : CallStatus) × (result ≡ status_code answer)
         × Attaches (old, image.old) unit write_protected answer (new, image.new)) }
     ensures done { result ≡ 0
-        → HasImage handle.new.value unit (record { bytes = image.old.held; hard = write_protected }) }
+        → HasImage handle.new.value unit (record {
+          bytes = image.old.held;
+          hard = is_read_only handle.old.value unit || write_protected;
+        }) }
     ensures sound { AreSound handle.old.value handle.new.value }
 {
     match handle.get() {
@@ -132,7 +180,7 @@ pub extern "C" fn uda50_inject_failure(handle: &mut Handle, unit: u32, call: u32
 #[unsafe(no_mangle)]
 pub extern "C" fn uda50_write_ip(handle: &mut Handle, word: u16)
     ensures starts { OnHandle handle.old.value handle.new.value Unit
-        (λ old new. new ≡ record old { port = port_at_start old.port.profile old.port.exec }) }
+        (λ old new. new ≡ record old { port = port_restarted old.port }) }
     ensures sound { AreSound handle.old.value handle.new.value }
 {
     if let Some(controller) = handle.get() {
@@ -179,7 +227,7 @@ pub extern "C" fn uda50_write_sa(handle: &mut Handle, word: u16, memory: &mut [u
 #[unsafe(no_mangle)]
 pub extern "C" fn uda50_read_sa(handle: &mut Handle) -> u16
     ensures sa { OnHandle handle.old.value handle.new.value (result ≡ 0)
-        (λ old new. (result ≡ sa_of old.port.phase) × (new ≡ old)) }
+        (λ old new. (result ≡ sa_shown old.port) × (new ≡ old)) }
     ensures sound { AreSound handle.old.value handle.new.value }
 {
     match handle.get() {
@@ -316,6 +364,16 @@ pub extern "C" fn uda50_format_last_turn(
     }
 }
 
+// Returns what C is answered if its handle has a controller already.
+fn refuse_new(bus: u32) -> CallStatus
+    ensures { result ≡ refusal_of_new (bus_of bus) }
+{
+    match bus_of(bus) {
+        Some(_) => CallStatus::HasController,
+        None => CallStatus::NoSuchBus,
+    }
+}
+
 // Returns whether the handle has a controller.
 fn has_controller(handle: &mut Handle) -> bool
     ensures value { result ≡ is_some handle.old.value }
@@ -356,13 +414,24 @@ fn release(alloc: Global, handle: &mut Handle)
     }
 }
 
+// Returns the profile that C asks for. The compatible one is of a controller on a UNIBUS, with units from 0 on.
+fn profile_of(compatible: bool) -> Profile
+    ensures { result ≡ profile_of compatible }
+{
+    if compatible {
+        Profile::ForGuests(USUAL_IDENTITY)
+    } else {
+        Profile::Strict
+    }
+}
+
 // Puts a new controller into an empty handle.
-fn make(alloc: Global, handle: &mut Handle, compatible: bool) -> CallStatus
+fn make(alloc: Global, handle: &mut Handle, profile: Profile) -> CallStatus
     requires { handle.old.value ≡ None }
-    ensures made { MakesNew None compatible result handle.new.value }
+    ensures made { MakesNew None profile result handle.new.value }
     ensures sound { HoldsSound handle.new.value }
 {
-    let Some(controller) = Controller::new(alloc, compatible) else {
+    let Some(controller) = Controller::new(alloc, profile) else {
         return CallStatus::NoMemory;
     };
     controller.keep();

@@ -2,6 +2,7 @@
 #![tactic(auto)]
 
 mod call_status;
+mod choices;
 mod controller;
 mod exports;
 mod handle;

@@ -54,6 +54,7 @@ fn phase_number(phase: Phase) -> u32
         Phase::Step4 => 6,
         Phase::Running => 7,
         Phase::Dead { .. } => 8,
+        Phase::Wrap { .. } => 9,
     }
 }
 

@@ -27,11 +27,15 @@ module _ (p : Command → Bool) (xs : List Command) where
   at_place n is false past =
       let beyond : length xs ≤ n = grind (arith, nat_tests) in
       let whole : take n xs ≡ xs = take_all n xs beyond in
-      let none : drop (n + 1) xs ≡ [] = drop_all (n + 1) xs (omega (arith, beyond)) in
-      (find_at p xs ∙ ap (slice_get xs) is ∙ slice_get_past xs n beyond, rw (is, whole, none, append-nil) refl)
+      let none : drop (n + 1) xs ≡ [] = drop_all (n + 1) xs (omega (arith, beyond)) in (
+        find_at p xs ∙ ap (slice_get xs) is ∙ slice_get_past xs n beyond,
+        rw (is, whole, none, append-nil) refl,
+      )
 
   pub is_at : (r : Option ℕ) → r ≡ position p xs → IsAt r
-  is_at r is = subst IsAt (sym is) (at_place (position_or_len p xs) refl (nat_lt (position_or_len p xs) (length xs)) refl)
+  is_at r is =
+      let n = position_or_len p xs in
+      subst IsAt (sym is) (at_place n refl (nat_lt n (length xs)) refl)
 
 -- the place is one of the list
 pub place_within : (p : Command → Bool) (xs : List Command) (i : ℕ) → Some i ≡ position p xs → i < length xs
@@ -50,8 +54,8 @@ abbrev pub Fewer : (Command → Bool) → List Command → Option Command → Ty
 Fewer p xs (Some c) = length (others p xs) + 1 ≡ length xs
 Fewer p xs None = others p xs ≡ xs
 
-fewer_at : (p : Command → Bool) (xs : List Command) (r : Option ℕ) → r ≡ position p xs → (found : Option Command)
-    → found ≡ find p xs → Fewer p xs found
+fewer_at : (p : Command → Bool) (xs : List Command) (r : Option ℕ) → r ≡ position p xs
+    → (found : Option Command) → found ≡ find p xs → Fewer p xs found
 fewer_at p xs (Some i) at None is =
     let here = (is_at p xs (Some i) at).0 in
     absurd (some_there xs i (place_within p xs i at) (sym here ∙ sym is))

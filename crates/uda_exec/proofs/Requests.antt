@@ -20,7 +20,13 @@ pub record Asks (o : Op) (act : Act) : Type 0 where
 
 asks_if : (o : Op) (memory : List ℕ) → IfSome (act_of o memory) (Asks o)
 asks_if op.Controller memory = tt
-asks_if (op.Read bytes address lbn) memory = record { speaks = refl; moving = refl; count = refl; blank = λ status. refl; brings = λ blocks. omega (arith, length-take bytes (concat blocks)) }
+asks_if (op.Read bytes address lbn) memory = record {
+  speaks = refl;
+  moving = refl;
+  count = refl;
+  blank = λ status. refl;
+  brings = λ blocks. omega (arith, length-take bytes (concat blocks));
+}
 asks_if (op.Write bytes address lbn) memory = record {
   speaks = refl;
   moving = refl;
@@ -28,11 +34,16 @@ asks_if (op.Write bytes address lbn) memory = record {
   blank = λ status. refl;
   brings = λ blocks. zero-le;
 }
-asks_if op.Status memory = record { speaks = refl; moving = refl; count = refl; blank = λ status. refl; brings = λ blocks. zero-le }
-asks_if op.Available memory = record { speaks = refl; moving = refl; count = refl; blank = λ status. refl; brings = λ blocks. zero-le }
-asks_if (op.Online soft) memory = record { speaks = refl; moving = refl; count = refl; blank = λ status. refl; brings = λ blocks. zero-le }
-asks_if (op.Access bytes lbn) memory = record { speaks = refl; moving = refl; count = refl; blank = λ status. refl; brings = λ blocks. zero-le }
-asks_if (op.Erase bytes lbn) memory = record { speaks = refl; moving = refl; count = refl; blank = λ status. refl; brings = λ blocks. zero-le }
+asks_if op.Status memory =
+    record { speaks = refl; moving = refl; count = refl; blank = λ status. refl; brings = λ blocks. zero-le }
+asks_if op.Available memory =
+    record { speaks = refl; moving = refl; count = refl; blank = λ status. refl; brings = λ blocks. zero-le }
+asks_if (op.Online soft) memory =
+    record { speaks = refl; moving = refl; count = refl; blank = λ status. refl; brings = λ blocks. zero-le }
+asks_if (op.Access bytes lbn) memory =
+    record { speaks = refl; moving = refl; count = refl; blank = λ status. refl; brings = λ blocks. zero-le }
+asks_if (op.Erase bytes lbn) memory =
+    record { speaks = refl; moving = refl; count = refl; blank = λ status. refl; brings = λ blocks. zero-le }
 
 pub asks : (o : Op) (memory : List ℕ) (act : Act) → act_of o memory ≡ Some act → Asks o act
 asks o memory act is = subst (λ (a : Option Act). IfSome a (Asks o)) is (asks_if o memory)
@@ -72,5 +83,6 @@ act_by-put None o memory at bytes h = refl
 act_by-put (Some t) o memory at bytes h = ap (λ (a : Act). Some a) (asks_by-put t.kind t memory at bytes h)
 
 pub act_of-put : (o : Op) (memory : List ℕ) (at : ℕ) (bytes : List ℕ)
-    → (Meet at (length bytes) (buffer_start o) (room_of o) → ⊥) → act_of o (put memory at bytes) ≡ act_of o memory
+    → (Meet at (length bytes) (buffer_start o) (room_of o) → ⊥)
+    → act_of o (put memory at bytes) ≡ act_of o memory
 act_of-put o memory at bytes h = act_by-put (transfer_of o) o memory at bytes h

@@ -26,7 +26,8 @@ pub record HostThat (P : HostState → Type 0) {S : Type 0} (h : Inside S) : Typ
 pub adds_up : {S : Type 0} {h : Inside S} → IsHost h → AddsUp (host_view h)
 adds_up {h = h} host =
     let due = length-append h.port.exec.pending (unfetched h) in
-    let waits : length (map strict_end h.port.waiting) ≡ length h.port.waiting = length-map h.port.waiting strict_end in
+    let waits : length (map strict_end h.port.waiting) ≡ length h.port.waiting =
+    length-map h.port.waiting strict_end in
     let agree = host.agree in let counts = host.counts in
     record {
       runs = host.port.runs;

@@ -109,8 +109,12 @@ fetched : {S : Type 0} {h : Inside S} {c : Command} {rest : List Command} (new :
 fetched {h = h} {c} {rest} new after host were agree goes =
     let port = h.port in let place = port.commands.place in let pending = port.exec.pending in let takes = goes.takes in
     let sound : IsSound c = subst IsSound (get_or-append_seam pending c rest c) ((rw were at host.sound) (length pending) c (omega (arith, length-append pending (c ∷ rest)))) in
-    let read : ℕ → List ℕ → Result Command Reply = λ size text. if nat_eq size 48 then reply_to_bad (read_command text) else Err (basic_reply (other_length_end text)) in
-    let message : message_in port.profile goes.packet ≡ Ok c = ap (λ (p : Profile). message_in p goes.packet) host.port.strict ∙ ap₂ read (size_read host were takes) (text_read host were takes) ∙ ap reply_to_bad sound.legible in
+    let read : ℕ → List ℕ → Result Command Reply = λ size text.
+    if nat_eq size 48 then reply_to_bad (read_command text)
+    else Err (basic_reply (other_length_end text)) in
+    let message : message_in port.profile goes.packet ≡ Ok c =
+    ap (λ (p : Profile). message_in p goes.packet) host.port.strict
+    ∙ ap₂ read (size_read host were takes) (text_read host were takes) ∙ ap reply_to_bad sound.legible in
     let untold : commands_told port h.memory ≡ None = ap (λ (p : Profile). told_at p (word_below port.responses.base 4) h.memory port.commands) host.port.strict in
     let kept : flags_kept port.profile goes.packet (message_in port.profile goes.packet) port.guest ≡ port.guest =
       ap (λ (p : Profile). flags_kept p goes.packet (message_in p goes.packet) port.guest) host.port.strict in
@@ -150,7 +154,8 @@ executed {h = h} new after host none agree goes =
     let sound : All IsSound pending = rw before at host.sound in
     let above = (All-at IsSound pending goes.rest.0 one.executes.command sound taken.stands).above in
     let rings = host.rings in let counts = host.counts in
-    let waits : map strict_end (h.port.waiting ++ basic_reply one.end ∷ []) ≡ map strict_end h.port.waiting ++ one.end ∷ [] =
+    let waits : map strict_end (h.port.waiting ++ basic_reply one.end ∷ [])
+    ≡ map strict_end h.port.waiting ++ one.end ∷ [] =
     map-append strict_end h.port.waiting (basic_reply one.end ∷ []) in
     rw one.others (record {
       host = record {

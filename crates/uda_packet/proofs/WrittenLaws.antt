@@ -287,7 +287,8 @@ module _ (reference unit status : ℕ) where
         entries = row.entries;
         long = row.long;
         text = λ h.
-            basic_is_read (whole_text reference unit status (end_code b) (answer_entries unit status b)) b (row.text h);
+            basic_is_read
+            (whole_text reference unit status (end_code b) (answer_entries unit status b)) b (row.text h);
       }
   reply_lawful (Abort named) =
       record { entries = refl; long = refl; text = λ h. one (λ x. Some (Abort x)) (long_back named h) }

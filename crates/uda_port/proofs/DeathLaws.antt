@@ -6,7 +6,7 @@ use borrow.Author.Tests.{ltb-true, ltb-false}
 use Rattle.uda_packet.specs.declared.command.Command.{Command}
 use Rattle.uda_packet.specs.declared.reply.Reply.{Reply}
 use Rattle.uda_port.specs.declared.phase.Phase.{Phase}
-use Rattle.uda_port.specs.declared.phase.Phase.TheVariants.{Step1, Step2, Step3, Purge, Poll, Step4, Running, Dead}
+use Rattle.uda_port.specs.declared.phase.Phase.TheVariants.{Step1, Step2, Step3, Wrap, Purge, Poll, Step4, Running, Dead}
 use Rattle.uda_port.specs.declared.phase.Fatal.{Fatal}
 use Rattle.uda_port.specs.declared.phase.Fatal.TheVariants.{PacketRead, PacketWrite, RingRead, RingWrite, CreditsExceeded, WrongEnvelope, StartUpWord}
 use Rattle.uda_port.specs.declared.profile.Profile.{Profile}
@@ -17,7 +17,7 @@ use Rattle.uda_port.specs.declared.play.HostEvent.{HostEvent}
 use Rattle.uda_port.specs.declared.play.HostEvent.TheVariants.{WriteIp, ReadIp, WriteSa, Word, Turn as TurnEvent}
 use Rattle.uda_port.specs.Port.{PortState, port_shows, port_asked}
 use Rattle.uda_port.specs.Interrupt.{interrupts_asked}
-use Rattle.uda_port.specs.Startup.{has_bit, area_of, has_area, refuses_second, refuses_third, asks_test, after_third, by_word, dead_port, port_with_rings, memory_with_area}
+use Rattle.uda_port.specs.Startup.{has_bit, area_of, has_area, refuses_second, refuses_third, asks_test, after_third, by_word, dead_port, port_with_rings, memory_with_area, wrap_by}
 use Rattle.uda_port.specs.Turn.{port_turn_on, port_with_message, TurnGoes, RunningTurn, GoesOn, Fails, InFetch, InRest, FetchLine}
 use Rattle.uda_port.specs.Message.{message_in}
 use Rattle.uda_port.specs.Play.{EventGoes, Played, FatalTurn, FatalWord, MeetsCause, LeavesIp, DiedOf, StaysDead, DeathHasCause}
@@ -43,11 +43,22 @@ same_cause a b is = cc
 of_word : (met cause : Fatal) (word : ℕ) (old new : PortState) (memory : List ℕ) → new ≡ dead_port old met → new.phase ≡ Dead cause → FatalWord met word old memory → FatalWord cause word old memory
 of_word met cause word old new memory is dead fatal = subst (λ (x : Fatal). FatalWord x word old memory) (same_cause met cause (sym (phases new (dead_port old met) is) ∙ dead)) fatal
 
-first_word : (cause : Fatal) (word : ℕ) (old new : PortState) (memory : List ℕ) (step wrap : Bool) → old.phase ≡ Step1 → has_bit word 15 ≡ step → has_bit word 14 ≡ wrap
-    → new ≡ (if step then (if wrap then dead_port old StartUpWord else port_shows (record old { interrupts = interrupts_asked old.profile old.interrupts word }) (Step2 word)) else old) → new.phase ≡ Dead cause → FatalWord cause word old memory
-first_word cause word old new memory true true p step wrap is dead = of_word StartUpWord cause word old new memory is dead (rw p (step, wrap))
-first_word cause word old new memory true false p step wrap is dead = let same = phases new _ is in absurd (cc)
-first_word cause word old new memory false wrap' p step wrap is dead = let same = phases new _ is in absurd (cc)
+first_word : (cause : Fatal) (word : ℕ) (old new : PortState) (memory : List ℕ) (profile : Profile)
+    (step wrap : Bool) → old.phase ≡ Step1 → old.profile ≡ profile → has_bit word 15 ≡ step → has_bit word 14 ≡ wrap
+    → new ≡ (
+    if step then (
+    if wrap then wrap_by profile old word
+    else port_shows (record old { interrupts = interrupts_asked old.profile old.interrupts word }) (Step2 word)
+    ) else old)
+    → new.phase ≡ Dead cause → FatalWord cause word old memory
+first_word cause word old new memory Strict true true p q step wrap is dead =
+    of_word StartUpWord cause word old new memory is dead (rw (p, q) (step, wrap))
+first_word cause word old new memory (ForGuests identity) true true p q step wrap is dead =
+    let same = phases new _ is in absurd (cc)
+first_word cause word old new memory profile' true false p q step wrap is dead =
+    let same = phases new _ is in absurd (cc)
+first_word cause word old new memory profile' false wrap' p q step wrap is dead =
+    let same = phases new _ is in absurd (cc)
 
 second_word : (cause : Fatal) (first word : ℕ) (old new : PortState) (memory : List ℕ) (profile : Profile) (refuses : Bool) → old.phase ≡ Step2 first → old.profile ≡ profile → refuses_second profile word ≡ refuses
     → new ≡ (if refuses then dead_port old StartUpWord else port_shows old (Step3 first word)) → new.phase ≡ Dead cause → FatalWord cause word old memory
@@ -91,9 +102,13 @@ fourth_word cause word old new false p is dead = let same = phases new _ is in a
 -- a port that is dead after a word was dead before it, or the word was fatal
 fatal_word : (cause : Fatal) (word : ℕ) (p : Phase) (old new : PortState) (memory memory_after : List ℕ) → old.phase ≡ p → (new, memory_after) ≡ by_word p old memory word → new.phase ≡ Dead cause
     → (old.phase ≡ Dead cause) ⊎ FatalWord cause word old memory
-fatal_word cause word Step1 old new memory memory_after p is dead = inr (first_word cause word old new memory _ _ p refl refl (ap (λ (x : PortState × List ℕ). x.0) is) dead)
+fatal_word cause word Step1 old new memory memory_after p is dead =
+    let first = ap (λ (x : PortState × List ℕ). x.0) is in
+    inr (first_word cause word old new memory old.profile _ _ p refl refl refl first dead)
 fatal_word cause word (Step2 first) old new memory memory_after p is dead = inr (second_word cause first word old new memory old.profile _ p refl refl (ap (λ (x : PortState × List ℕ). x.0) is) dead)
 fatal_word cause word (Step3 first second) old new memory memory_after p is dead = inr (third_word cause first second word old new memory memory_after old.profile _ _ p refl refl refl is dead)
+fatal_word cause word (Wrap before) old new memory memory_after p is dead =
+    let same = phases new _ (ap (λ (x : PortState × List ℕ). x.0) is) in absurd (cc)
 fatal_word cause word Purge old new memory memory_after p is dead = absurd (purge_word cause word old new _ p (ap (λ (x : PortState × List ℕ). x.0) is) dead)
 fatal_word cause word Poll old new memory memory_after p is dead = inl (sym (phases new old (ap (λ (x : PortState × List ℕ). x.0) is)) ∙ dead)
 fatal_word cause word Step4 old new memory memory_after p is dead = absurd (fourth_word cause word old new _ p (ap (λ (x : PortState × List ℕ). x.0) is) dead)
@@ -133,7 +148,8 @@ fails_of cause old memory before memory_after (InFetch line) = fails_fetch cause
 fails_of cause old memory before memory_after (InRest goes) = fails_rest cause old memory before memory_after goes
 
 -- a message leaves the phase
-message_phase : (old : PortState) (message : Result Command Reply) → (port_with_message old message).phase ≡ old.phase
+message_phase : (old : PortState) (message : Result Command Reply)
+    → (port_with_message old message).phase ≡ old.phase
 message_phase old (Ok c) = refl
 message_phase old (Err e) = refl
 
@@ -159,6 +175,8 @@ fatal_turn cause turn (Dead before) old new memory memory_after p goes dead = in
 fatal_turn cause turn Step1 old new memory memory_after p goes dead = inl (sym (phases new old goes.unchanged.state) ∙ dead)
 fatal_turn cause turn (Step2 first) old new memory memory_after p goes dead = inl (sym (phases new old goes.unchanged.state) ∙ dead)
 fatal_turn cause turn (Step3 first second) old new memory memory_after p goes dead = inl (sym (phases new old goes.unchanged.state) ∙ dead)
+fatal_turn cause turn (Wrap before) old new memory memory_after p goes dead =
+    inl (sym (phases new old goes.unchanged.state) ∙ dead)
 fatal_turn cause turn Purge old new memory memory_after p goes dead = inl (sym (phases new old goes.unchanged.state) ∙ dead)
 fatal_turn cause turn Poll old new memory memory_after p goes dead = inl (sym (phases new old goes.unchanged.state) ∙ dead)
 fatal_turn cause turn Step4 old new memory memory_after p goes dead = inl (sym (phases new old goes.unchanged.state) ∙ dead)
@@ -171,6 +189,7 @@ asked_dead cause Running old is dead = dead
 asked_dead cause Step1 old is dead = dead
 asked_dead cause (Step2 first) old is dead = dead
 asked_dead cause (Step3 first second) old is dead = dead
+asked_dead cause (Wrap before) old is dead = dead
 asked_dead cause Purge old is dead = dead
 asked_dead cause Poll old is dead = absurd (cc)
 asked_dead cause Step4 old is dead = dead
@@ -181,6 +200,7 @@ still_dead cause Running old is dead = dead
 still_dead cause Step1 old is dead = dead
 still_dead cause (Step2 first) old is dead = dead
 still_dead cause (Step3 first second) old is dead = dead
+still_dead cause (Wrap before) old is dead = dead
 still_dead cause Purge old is dead = dead
 still_dead cause Poll old is dead = absurd (cc)
 still_dead cause Step4 old is dead = dead
@@ -240,6 +260,7 @@ dead_word cause word (Dead before) old new memory memory_after is dead = ap (λ 
 dead_word cause word Step1 old new memory memory_after is dead = absurd (cc dead)
 dead_word cause word (Step2 first) old new memory memory_after is dead = absurd (cc dead)
 dead_word cause word (Step3 first second) old new memory memory_after is dead = absurd (cc dead)
+dead_word cause word (Wrap before) old new memory memory_after is dead = absurd (cc dead)
 dead_word cause word Purge old new memory memory_after is dead = absurd (cc dead)
 dead_word cause word Poll old new memory memory_after is dead = absurd (cc dead)
 dead_word cause word Step4 old new memory memory_after is dead = absurd (cc dead)
@@ -250,6 +271,7 @@ dead_turn cause turn (Dead before) old new memory memory_after goes dead = goes.
 dead_turn cause turn Step1 old new memory memory_after goes dead = goes.unchanged.state
 dead_turn cause turn (Step2 first) old new memory memory_after goes dead = goes.unchanged.state
 dead_turn cause turn (Step3 first second) old new memory memory_after goes dead = goes.unchanged.state
+dead_turn cause turn (Wrap before) old new memory memory_after goes dead = goes.unchanged.state
 dead_turn cause turn Purge old new memory memory_after goes dead = goes.unchanged.state
 dead_turn cause turn Poll old new memory memory_after goes dead = goes.unchanged.state
 dead_turn cause turn Step4 old new memory memory_after goes dead = goes.unchanged.state

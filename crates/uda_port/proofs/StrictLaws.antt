@@ -28,7 +28,9 @@ use Rattle.uda_port.specs.Startup.{has_bit, ring_base, response_count, command_c
 -- ---- texts
 
 strict_message : (p : Fetched) → message_in Strict p
-    ≡ (if p.words.0 == 48 then reply_to_bad (read_command p.text) else Err (basic_reply (other_length_end p.text)))
+    ≡ (
+    if p.words.0 == 48 then reply_to_bad (read_command p.text)
+    else Err (basic_reply (other_length_end p.text)))
 strict_message p = refl
 
 strict_text : (guest : Guest) (units : Units) (e : End) → text_by Strict guest units (basic_reply e) ≡ written_end e

@@ -15,7 +15,7 @@ use Rattle.uda_port.specs.declared.profile.Profile.{Profile}
 use Rattle.uda_port.specs.declared.profile.Profile.TheVariants.{Strict, ForGuests}
 use Rattle.uda_port.specs.AtOnce.{replies_aborted, replies_for, exec_for, replies_at_once, exec_at_once}
 use Rattle.uda_port.specs.declared.phase.Phase.{Phase}
-use Rattle.uda_port.specs.declared.phase.Phase.TheVariants.{Step1, Step2, Step3, Purge, Poll, Step4, Running, Dead as DeadPhase}
+use Rattle.uda_port.specs.declared.phase.Phase.TheVariants.{Step1, Step2, Step3, Wrap, Purge, Poll, Step4, Running, Dead as DeadPhase}
 use Rattle.uda_port.specs.declared.turn.Turn.TheVariants as turn
 use Rattle.uda_port.specs.Port.{PortState}
 use Rattle.uda_port.specs.Message.{message_in}
@@ -33,11 +33,12 @@ ends_with xs zs y x is last =
     let same : Some y ≡ Some x = sym (last-is xs y) ∙ rw is at last in
     is ∙ ap (λ z. xs ++ z ∷ []) (cc)
 
--- a fetch: a command is pending, last; or an end message waits, last; or it took a command out, whose end message
--- waits before another
+-- a fetch: a command is pending, last; or an end message waits, last; or it took a command out, whose end
+-- message waits before another
 pub data OneMore (old new : PortState) : Type 0 where
   ACommand : (c : Command) → new.exec.pending ≡ old.exec.pending ++ c ∷ [] → OneMore old new
-  AnEnd : (e : Reply) → new.exec.pending ≡ old.exec.pending → new.waiting ≡ old.waiting ++ e ∷ [] → OneMore old new
+  AnEnd : (e : Reply) → new.exec.pending ≡ old.exec.pending
+      → new.waiting ≡ old.waiting ++ e ∷ [] → OneMore old new
   AnAbort : (c e : Reply) → length new.exec.pending + 1 ≡ length old.exec.pending
       → new.waiting ≡ old.waiting ++ c ∷ e ∷ [] → OneMore old new
 
@@ -61,7 +62,8 @@ answer_of old new (Basic b) r pending waiting = AnEnd r pending waiting
 answer_of old new (Abort named) r pending waiting =
     abort_of old new r named (oldest_named r.unit named old.exec.pending) refl pending waiting
 answer_of old new (CommandStatus named progress) r pending waiting =
-    AnEnd (record r { body = CommandStatus named (progress_of r.unit named old.exec.pending) }) pending waiting
+    let told = record r { body = CommandStatus named (progress_of r.unit named old.exec.pending) } in
+    AnEnd told pending waiting
 answer_of old new AccessPaths r pending waiting = AnEnd r pending waiting
 answer_of old new CompareController r pending waiting = AnEnd r pending waiting
 answer_of old new Flush r pending waiting = AnEnd r pending waiting
@@ -100,6 +102,7 @@ fetched Step1 old memory new memory_after goes = absurd (cc)
 fetched (Step2 first) old memory new memory_after goes = absurd (cc)
 fetched (Step3 first second) old memory new memory_after goes = absurd (cc)
 fetched Step4 old memory new memory_after goes = absurd (cc)
+fetched (Wrap word) old memory new memory_after goes = absurd (cc)
 fetched Purge old memory new memory_after goes = absurd (cc)
 fetched Poll old memory new memory_after goes = absurd (cc)
 fetched (DeadPhase cause) old memory new memory_after goes = absurd (cc)
@@ -114,6 +117,7 @@ notified Step4 old memory new memory_after goes = absurd (cc)
 notified Purge old memory new memory_after goes = absurd (cc)
 notified Poll old memory new memory_after goes = absurd (cc)
 notified (DeadPhase cause) old memory new memory_after goes = absurd (cc)
+notified (Wrap word) old memory new memory_after goes = absurd (cc)
 
 pub executed : (phase : Phase) (old : PortState) (memory : List ℕ) (new : PortState) (memory_after : List ℕ) → TurnGoes phase old memory turn.Executed new memory_after
     → (end : Reply) × (new.waiting ≡ old.waiting ++ end ∷ [])
@@ -123,6 +127,7 @@ executed Step1 old memory new memory_after goes = absurd (cc)
 executed (Step2 first) old memory new memory_after goes = absurd (cc)
 executed (Step3 first second) old memory new memory_after goes = absurd (cc)
 executed Step4 old memory new memory_after goes = absurd (cc)
+executed (Wrap word) old memory new memory_after goes = absurd (cc)
 executed Purge old memory new memory_after goes = absurd (cc)
 executed Poll old memory new memory_after goes = absurd (cc)
 executed (DeadPhase cause) old memory new memory_after goes = absurd (cc)
@@ -134,6 +139,7 @@ delivered Step1 old memory new memory_after goes = absurd (cc)
 delivered (Step2 first) old memory new memory_after goes = absurd (cc)
 delivered (Step3 first second) old memory new memory_after goes = absurd (cc)
 delivered Step4 old memory new memory_after goes = absurd (cc)
+delivered (Wrap word) old memory new memory_after goes = absurd (cc)
 delivered Purge old memory new memory_after goes = absurd (cc)
 delivered Poll old memory new memory_after goes = absurd (cc)
 delivered (DeadPhase cause) old memory new memory_after goes = absurd (cc)
@@ -144,6 +150,7 @@ died Step1 old memory new memory_after is goes = absurd (cc)
 died (Step2 first) old memory new memory_after is goes = absurd (cc)
 died (Step3 first second) old memory new memory_after is goes = absurd (cc)
 died Step4 old memory new memory_after is goes = absurd (cc)
+died (Wrap word) old memory new memory_after is goes = absurd (cc)
 died Purge old memory new memory_after is goes = absurd (cc)
 died Poll old memory new memory_after is goes = absurd (cc)
 died (DeadPhase cause) old memory new memory_after is goes = subst IsDead (is ∙ sym (ap (λ (p : PortState). p.phase) goes.unchanged.state)) tt
@@ -198,7 +205,8 @@ told_abort old new e (AnAbort taken end less is) fewer last =
           ∙ append_assoc old.waiting (taken ∷ []) (e ∷ []),
     )
 
-pub told_first : (old new : List Reply) (put e : Reply) → old ≡ put ∷ new → slice_get old 0 ≡ Some e → old ≡ e ∷ new
+pub told_first : (old new : List Reply) (put e : Reply) → old ≡ put ∷ new → slice_get old 0 ≡ Some e
+    → old ≡ e ∷ new
 told_first old new put e is first =
     let same : Some put ≡ Some e = rw is at first in
     is ∙ ap (λ (x : Reply). x ∷ new) (cc)

@@ -59,7 +59,7 @@ IsHighPart (ForGuests identity) word = ⊤
 
 -- a word of the start-up asks for what this port hasn't
 abbrev pub AsksMore : Phase → Profile → ℕ → Type 0
-AsksMore Step1 profile word = (has_bit word 15 ≡ true) × (has_bit word 14 ≡ true)
+AsksMore Step1 Strict word = (has_bit word 15 ≡ true) × (has_bit word 14 ≡ true)
 AsksMore (Step2 first) Strict word = has_bit word 0 ≡ true
 AsksMore (Step3 first second) Strict word = 3 < word
 AsksMore _ profile word = ⊥

@@ -4,7 +4,7 @@ use Rattle.std.specs.Prelude.{◌≡◌, ℕ, ◌+◌, ◌-◌, ◌*◌, ◌/◌
 use Rattle.std.specs.Prelude.{nat_lt, IsTrue, List, length, replicate, if◌then◌else◌}
 use Rattle.uda_mem.specs.Put.{put}
 use Rattle.uda_port.specs.declared.phase.Phase.{Phase}
-use Rattle.uda_port.specs.declared.phase.Phase.TheVariants.{Step1, Step2, Step3, Purge, Poll, Step4}
+use Rattle.uda_port.specs.declared.phase.Phase.TheVariants.{Step1, Step2, Step3, Wrap, Purge, Poll, Step4}
 use Rattle.uda_port.specs.declared.phase.Phase.TheVariants.{Running, Dead}
 use Rattle.uda_port.specs.declared.phase.Fatal.{Fatal}
 use Rattle.uda_port.specs.declared.phase.Fatal.TheVariants.{PacketRead, PacketWrite, RingRead, RingWrite}
@@ -28,13 +28,14 @@ code_of CreditsExceeded = 10
 code_of WrongEnvelope = 14
 code_of StartUpWord = 19
 
--- SA as the host reads it: S1 in step 1; S2 with the high byte of the first word; S3 with its low byte; 0
--- during the purge and poll test; S4 with module 6 and version 3; 0 while the port runs; ER with the code of
+-- SA as the host reads it: S1 in step 1; S2 with the high byte of the first word; S3 with its low byte; in wrap
+-- mode the last word that was written; 0 during the purge and poll test; S4 with module 6 and version 3; 0 while the port runs; ER with the code of
 -- a fatal error
 abbrev pub sa_of : Phase → ℕ
 sa_of Step1 = 0x0800
 sa_of (Step2 first) = 0x1000 + first / 256
 sa_of (Step3 first second) = 0x2000 + first % 256
+sa_of (Wrap word) = word
 sa_of Purge = 0
 sa_of Poll = 0
 sa_of Step4 = 0x4063
@@ -123,12 +124,17 @@ dead_port port cause = record port {
   interrupts = raised port.profile port.interrupts;
 }
 
+-- wrap mode, by bit 14 of the first word, which the strict profile hasn't
+abbrev pub wrap_by : Profile → PortState → ℕ → PortState
+wrap_by Strict old word = dead_port old StartUpWord
+wrap_by (ForGuests identity) old word = record old { phase = Wrap word }
+
 -- step 1: a word without bit 15 is none; bit 14 asks for wrap; a guest's asks for interrupts
 abbrev pub by_first : PortState → ℕ → PortState
 by_first old word =
     let asked = record old { interrupts = interrupts_asked old.profile old.interrupts word } in
     if has_bit word 15 then
-    (if has_bit word 14 then dead_port old StartUpWord else port_shows asked (Step2 word))
+    (if has_bit word 14 then wrap_by old.profile old word else port_shows asked (Step2 word))
     else old
 
 -- what the strict profile hasn't: purge interrupts, by bit 0 of the second word, and any bit of the third but
@@ -185,6 +191,7 @@ abbrev pub by_word : Phase → PortState → List ℕ → ℕ → PortState × L
 by_word Step1 old memory word = (by_first old word, memory)
 by_word (Step2 first) old memory word = (by_second old first word, memory)
 by_word (Step3 first second) old memory word = by_third old memory first second word
+by_word (Wrap before) old memory word = (record old { phase = Wrap word }, memory)
 by_word Purge old memory word = (by_purge old word, memory)
 by_word Poll old memory word = (old, memory)
 by_word Step4 old memory word = (by_fourth old word, memory)

@@ -30,7 +30,7 @@ pub use no_port::NoPort;
 pub use packet::Fetched;
 pub use phase::{Fatal, Phase};
 pub use play::HostEvent;
-pub use port::Port;
+pub use port::{Port, USUAL_IDENTITY};
 pub use profile::Profile;
 pub use ring::{RING_BASE_LIMIT, Ring, RingFault};
 pub use trace::Trace;

@@ -26,6 +26,11 @@ pub enum Phase {
         /// The second word.
         second: u16,
     },
+    /// Wrap mode, of a port for guests: SA shows each word that is written to it, until IP is written.
+    Wrap {
+        /// The last word that was written.
+        word: u16,
+    },
     /// It waits for 0 in SA, the purge test.
     Purge,
     /// It waits for a read of IP, the poll test.
@@ -99,8 +104,8 @@ impl fmt::Display for Fatal {
 impl Error for Fatal {}
 
 impl Phase {
-    /// What SA shows: the step and its echo, 0 during the purge and poll test and while the port runs, or
-    /// bit 15 with the code of the fatal error.
+    /// What SA shows: the step and its echo, in wrap mode the last word that was written, 0 during the purge and
+    /// poll test and while the port runs, or bit 15 with the code of the fatal error.
     ///
     /// UDA50 Programmer's Documentation Kit: initialisation.
     pub fn sa(self) -> u16
@@ -110,6 +115,7 @@ impl Phase {
             Phase::Step1 => 0x0800,
             Phase::Step2 { first } => 0x1000 | first >> 8,
             Phase::Step3 { first, .. } => 0x2000 | first & 0xff,
+            Phase::Wrap { word } => word,
             Phase::Step4 => 0x4063,
             Phase::Purge | Phase::Poll | Phase::Running => 0,
             Phase::Dead { cause } => 0x8000 | cause.code(),

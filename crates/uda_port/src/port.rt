@@ -22,8 +22,8 @@ use uda_exec::{Exec, PENDING};
 use uda_image::BlockStore;
 use uda_packet::{Bus, Identity, Reply};
 
-// The controller whose kind nobody has chosen.
-const USUAL_IDENTITY: Identity = Identity {
+/// The controller of [`Port::for_guests`]: on a UNIBUS, with units from 0 on.
+pub const USUAL_IDENTITY: Identity = Identity {
     bus: Bus::Unibus,
     first_unit: 0,
 };

@@ -4,7 +4,7 @@
 ghost use Rattle.std.specs.Prelude.{◌≡◌, ◌≤◌, ◌<◌};
 ghost use Rattle.uda_port.specs.Startup.{sa_shown, guest_sa, by_first, by_second, by_third, by_purge, by_fourth, by_word};
 ghost use Rattle.uda_port.specs.Startup.{has_bit, refuses_second, refuses_third, asks_test, after_third};
-ghost use Rattle.uda_port.specs.Startup.{IsArea, port_with_rings, dead_port};
+ghost use Rattle.uda_port.specs.Startup.{IsArea, port_with_rings, dead_port, wrap_by};
 
 use crate::area::Area;
 use crate::phase::{Fatal, Phase};
@@ -77,6 +77,7 @@ impl<S: BlockStore> Port<S> {
             Phase::Step1 => self.first_word(word),
             Phase::Step2 { first } => self.second_word(first, word),
             Phase::Step3 { first, second } => self.third_word(first, second, word, memory),
+            Phase::Wrap { .. } => self.phase = Phase::Wrap { word },
             Phase::Purge => self.purge_word(word),
             Phase::Step4 => self.fourth_word(word),
             Phase::Poll | Phase::Running | Phase::Dead { .. } => {}
@@ -98,10 +99,20 @@ impl<S: BlockStore> Port<S> {
             return;
         }
         if has_bit(word, WRAP) {
-            return self.die(Fatal::StartUpWord);
+            return self.wrap(word);
         }
         self.interrupts = self.interrupts.asked(self.profile, word);
         self.show(Phase::Step2 { first: word });
+    }
+
+    // Wrap mode, which the strict profile hasn't.
+    fn wrap(&mut self, word: u16)
+        ensures { self.new ≡ wrap_by self.old.profile self.old word }
+    {
+        match self.profile {
+            Profile::Strict => self.die(Fatal::StartUpWord),
+            Profile::ForGuests(_) => self.phase = Phase::Wrap { word },
+        }
     }
 
     fn second_word(&mut self, first: u16, word: u16)

@@ -128,6 +128,7 @@ impl<S: BlockStore> Port<S> {
             Phase::Step1 => Turn::Idle,
             Phase::Step2 { .. } => Turn::Idle,
             Phase::Step3 { .. } => Turn::Idle,
+            Phase::Wrap { .. } => Turn::Idle,
             Phase::Purge => Turn::Idle,
             Phase::Poll => Turn::Idle,
             Phase::Step4 => Turn::Idle,

@@ -1,10 +1,10 @@
-use Rattle.std.proofs.Common.{refl, sym, ap, subst, ◌∙◌, None}
+use Rattle.std.proofs.Common.{refl, sym, subst, ◌∙◌, None}
 use Rattle.uda_exec.specs.Drives.{drive_state}
 use Rattle.uda_c.specs.declared.call_status.CallStatus.TheVariants.{Done, NotEmpty}
 use Rattle.uda_c.specs.ControllerState.{ControllerState}
 use Rattle.uda_c.specs.Controllers.{Detaches}
 use Rattle.uda_c.specs.LentImage.{lent_state}
-use Rattle.uda_c.proofs.FaithfulUnits.{drive_faithful}
+use Rattle.uda_c.proofs.FaithfulUnits.{put_faithful}
 use Rattle.uda_c.proofs.FailingUnits.{is_handed}
 use Rattle.uda_c.proofs.Lending.{not_put, detaches}
 use Rattle.uda_c.proofs.controller.Controller.detach.Goals as goal
@@ -24,7 +24,7 @@ returns-in-Some-take c =
 
 pub invariant_of-self : goal.invariant_of-self
 invariant_of-self c =
-    drive_faithful c.self.inside.port c.set_drive.new.self c.args.unit None refl c.set_drive.ensures.set
+    put_faithful c.self.inside.port c.set_drive.new.self c.args.unit None refl c.set_drive.ensures.set
     c.self.invariant
 
 pub returns : goal.returns

@@ -1,6 +1,6 @@
 use Rattle.std.proofs.Common.{refl, sym, subst, Some, None}
 use Rattle.std.proofs.lemmas.Bool.{le-ltb}
-use Rattle.uda_exec.specs.Drives.{DriveState, drive_state}
+use Rattle.uda_exec.specs.Drives.{drive_state}
 use Rattle.uda_c.specs.declared.call_status.CallStatus.TheVariants.{Done}
 use Rattle.uda_c.specs.ControllerState.{ControllerState}
 use Rattle.uda_c.specs.Controllers.{FailsAt}
@@ -12,33 +12,36 @@ use Rattle.uda_c.proofs.controller.Controller.fail_at.Goals as goal
 pub invariant_of-self : goal.invariant_of-self
 invariant_of-self c =
     let was = c.self.inside.port in
-    let out = c.set_drive.new.self in
-    let back = c.set_drive-in-Some-set_drive.new.self in
+    let out = c.exchange_drive.new.self in
+    let back = c.exchange_drive-in-Some-exchange_drive.new.self in
     let failing = drive_state lent_state c.failing.result in
     mode_faithful back c.restore_mode.new.self c.args.unit c.in-Some.look.mode c.restore_mode.ensures.mode
-    (drive_faithful out back c.args.unit (Some failing) refl c.set_drive-in-Some-set_drive.ensures.set
-    (drive_faithful was out c.args.unit None refl c.set_drive.ensures.set c.self.invariant))
+    (drive_faithful out back c.args.unit (Some failing) refl
+      c.exchange_drive-in-Some-exchange_drive.ensures.set
+    (drive_faithful was out c.args.unit None refl c.exchange_drive.ensures.set c.self.invariant))
 
-pub invariant_of-self-in_default-set_drive : goal.invariant_of-self-in_default-set_drive
-invariant_of-self-in_default-set_drive c =
-    drive_faithful c.self.inside.port c.set_drive.new.self c.args.unit None refl c.set_drive.ensures.set
+pub invariant_of-self-in_default-exchange_drive : goal.invariant_of-self-in_default-exchange_drive
+invariant_of-self-in_default-exchange_drive c =
+    drive_faithful c.self.inside.port c.exchange_drive.new.self c.args.unit None refl
+      c.exchange_drive.ensures.set
     c.self.invariant
 
-pub returns-in-Some-set_drive : goal.returns-in-Some-set_drive
-returns-in-Some-set_drive c =
+pub returns-in-Some-exchange_drive : goal.returns-in-Some-exchange_drive
+returns-in-Some-exchange_drive c =
     let was : ControllerState = record { port = c.self.inside.port; last = c.self.inside.last } in
     let new : ControllerState = record { port = c.restore_mode.new.self; last = c.self.inside.last } in
-    let drive = drive_state lent_state c.in-Some-set_drive.drive in
+    let drive = drive_state lent_state c.in-Some-exchange_drive.drive in
     let failing = drive_state lent_state c.failing.result in
     record {
       fails = subst (λ (old : ControllerState). FailsAt old c.args.unit c.args.call Done new) c.self.view_is
-          (fails_at was c.args.unit c.args.call c.in-Some.look drive failing c.set_drive.new.self
-          c.set_drive-in-Some-set_drive.new.self new.port (le-ltb 3 c.args.unit c.if-unit-gt3.false)
-          (sym c.in-Some.ensures.look) c.in-Some-set_drive.ensures.handed_back c.failing.ensures.store
-          c.set_drive.ensures.set c.set_drive-in-Some-set_drive.ensures.set c.restore_mode.ensures.mode);
+          (fails_at was c.args.unit c.args.call c.in-Some.look drive failing c.exchange_drive.new.self
+          c.exchange_drive-in-Some-exchange_drive.new.self new.port (le-ltb 3 c.args.unit c.if-unit-gt3.false)
+          (sym c.in-Some.ensures.look) c.in-Some-exchange_drive.ensures.handed_back c.failing.ensures.store
+          c.exchange_drive.ensures.set c.exchange_drive-in-Some-exchange_drive.ensures.set
+            c.restore_mode.ensures.mode);
     }
 
-pub returns-in_default-set_drive : goal.returns-in_default-set_drive
-returns-in_default-set_drive c =
+pub returns-in_default-exchange_drive : goal.returns-in_default-exchange_drive
+returns-in_default-exchange_drive c =
     absurd (is_handed c.self.inside.port.exec.units c.args.unit c.in-Some.look (sym c.in-Some.ensures.look)
-    c.in_default-set_drive.ensures.handed_back)
+    c.in_default-exchange_drive.ensures.handed_back)

@@ -3,5 +3,4 @@ use Rattle.uda_c.proofs.controller.Controller.write_ip.Goals as goal
 
 pub invariant_of-self : goal.invariant_of-self
 invariant_of-self c =
-    let was = c.self.inside.port in
-    start_faithful was.profile was.exec c.write_ip.new.self c.write_ip.ensures.starts c.self.invariant
+    start_faithful c.self.inside.port c.write_ip.new.self c.write_ip.ensures.starts c.self.invariant

@@ -1,5 +1,5 @@
 -- `take` hands out the bytes of a slot, and leaves none.
-use Rattle.std.proofs.Common.{◌≡◌, ℕ, zero, suc, ◌<◌, ◌^◌, List, [], ◌∷◌, ◌++◌, length, refl, sym, ap, ◌∙◌, subst, lit<, arith}
+use Rattle.std.proofs.Common.{◌≡◌, ℕ, suc, ◌<◌, ◌^◌, List, [], ◌∷◌, ◌++◌, refl, sym, ap, ◌∙◌, subst, lit<, arith}
 use Rattle.std.proofs.raw_atomic.Walks.{proved_at, leaves}
 use lib.Dec.{eqb→eq}
 use base.Logic.{SProp, ent, emp, id⊢}

@@ -17,7 +17,8 @@ pub returns-clause-end : goal.returns-clause-end
 returns-clause-end g c =
     let p : Command → Bool = is_named c.args.unit c.args.reference in
     let items : List Command = c.self.inside.pending.items in
-    let at : Some c.in_ok-place.place ≡ position p items = rw c.as_slice.ensures.value at c.in_ok-place.ensures in
+    let at : Some c.in_ok-place.place ≡ position p items =
+    rw c.as_slice.ensures.value at c.in_ok-place.ensures in
     let first = (is_at p items (Some c.in_ok-place.place) at).0 in
     let here : slice_get items c.in_ok-place.place ≡ Some c.remove-named.result =
     slice_get_read items _ _ _ refl (place_within p items _ at) c.remove-named.ensures.value in
@@ -28,5 +29,6 @@ pub returns-clause-taken : goal.returns-clause-taken
 returns-clause-taken g c =
     let p : Command → Bool = is_named c.args.unit c.args.reference in
     let items : List Command = c.self.inside.pending.items in
-    let at : Some c.in_ok-place.place ≡ position p items = rw c.as_slice.ensures.value at c.in_ok-place.ensures in
+    let at : Some c.in_ok-place.place ≡ position p items =
+    rw c.as_slice.ensures.value at c.in_ok-place.ensures in
     rw (← c.self.view_is, c.remove-named.ensures.items, (is_at p items (Some c.in_ok-place.place) at).1) refl

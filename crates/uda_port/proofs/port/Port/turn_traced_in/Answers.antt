@@ -46,12 +46,15 @@ newest-requires-in-Executed g c =
 pub unwrap-requires-in-Delivered : goal.unwrap-requires-in-Delivered
 unwrap-requires-in-Delivered g c =
     let taken = delivered _ c.args.self.now _ c.turn_in-turn.new.self _ c.in-Delivered.ensures.goes in
-    let first = c.copied-first.ensures ∙ c.front.ensures ∙ ap (λ (p : PortState). slice_get p.waiting 0) c.self.view_is ∙ ap (λ (w : List Reply). slice_get w 0) taken.1 in
+    let first =
+    c.copied-first.ensures ∙ c.front.ensures ∙ ap (λ (p : PortState). slice_get p.waiting 0) c.self.view_is
+    ∙ ap (λ (w : List Reply). slice_get w 0) taken.1 in
     subst IsSome (sym first) refl
 
 pub cause_of-requires : goal.cause_of-requires
 cause_of-requires g c =
-    let dead = died c.args.self.now.phase c.args.self.now _ c.turn_in-turn.new.self _ refl c.in-Dead.ensures.goes in
+    let dead =
+    died c.args.self.now.phase c.args.self.now _ c.turn_in-turn.new.self _ refl c.in-Dead.ensures.goes in
     record { dead = subst IsDead (sym (ap (λ (p : PortState). p.phase) c.self-2.view_is)) dead }
 
 pub returns-clause-goes : goal.returns-clause-goes
@@ -80,14 +83,21 @@ returns-clause-tells g c =
     elim c.match-turn.branch [
       | in-Fetched w ↦
           let grown = w.if-after-before.true in
-          let more : length old.exec.pending < length new.exec.pending = omega (arith, first, then, before, after, grown) in
-          let last = subst (λ (p : PortState). last_item p.exec.pending ≡ Some w.unwrap.result) c.self-2.view_is (sym w.newest.ensures.newest ∙ w.unwrap.ensures) in
-          rw w.result-is (told_command old new w.unwrap.result (fetched _ old _ new _ w.in-Fetched.ensures.goes) more last)
+          let more : length old.exec.pending < length new.exec.pending =
+          omega (arith, first, then, before, after, grown) in
+          let last =
+          subst (λ (p : PortState). last_item p.exec.pending ≡ Some w.unwrap.result) c.self-2.view_is
+          (sym w.newest.ensures.newest ∙ w.unwrap.ensures) in
+          let one = fetched _ old _ new _ w.in-Fetched.ensures.goes in
+          rw w.result-is (told_command old new w.unwrap.result one more last)
       | in-Fetched-2 w ↦
           let shrunk = w.if-after-before-2.true in
-          let less : length new.exec.pending < length old.exec.pending = omega (arith, first, then, before, after, shrunk) in
+          let less : length new.exec.pending < length old.exec.pending =
+          omega (arith, first, then, before, after, shrunk) in
           let e = w.newest-in-Fetched-2.result in
-          let last = subst (λ (p : PortState). last_item p.waiting ≡ Some e) c.self-2.view_is w.newest-in-Fetched-2.ensures.newest in
+          let last =
+          subst (λ (p : PortState). last_item p.waiting ≡ Some e) c.self-2.view_is
+          w.newest-in-Fetched-2.ensures.newest in
           rw w.result-is (told_abort old new e (fetched _ old _ new _ w.in-Fetched-2.ensures.goes) less last)
       | in-Fetched-3 w ↦
           let grown = w.if-after-before.false in
@@ -95,7 +105,9 @@ returns-clause-tells g c =
           let same : length new.exec.pending ≡ length old.exec.pending =
           omega (arith, first, then, before, after, grown, shrunk) in
           let e = w.newest-in-Fetched-3.result in
-          let last = subst (λ (p : PortState). last_item p.waiting ≡ Some e) c.self-2.view_is w.newest-in-Fetched-3.ensures.newest in
+          let last =
+          subst (λ (p : PortState). last_item p.waiting ≡ Some e) c.self-2.view_is
+          w.newest-in-Fetched-3.ensures.newest in
           let waits = told_answer old new e (fetched _ old _ new _ w.in-Fetched-3.ensures.goes) same last in
           rw (w.result-is, w.reply_trace.ensures.trace) (told_by_body old new e.body e waits)
       | in-Executed w ↦

@@ -1,14 +1,14 @@
 /* uda50.h: a simulated UDA50 disk controller, as for an emulator of a PDP-11 or a VAX.
 
-   The functions stand in groups: lifecycle, drives, registers, turns, inspection, and failures for tests.
+   The functions are in groups: lifecycle, drives, registers, turns, inspection, and failures for tests.
 
    A `uda50` is the handle of one controller. Set it to zero before its first use, pass its address, and neither copy
    it nor write into it. Every function accepts every handle. On a handle without a controller it changes nothing
    and returns UDA50_NO_CONTROLLER, or 0 or false where its result is no status.
 
-   No pointer that is passed is null, but in an image without bytes. No two of handle, image structs, images, guest
-   memory and what a call fills overlap; the library can't detect that they do. One array for two units is such an
-   overlap, and so is an image in guest memory.
+   Pass no null pointer; only the `at` of an empty image may be null. The handle, image structs, images, guest memory
+   and what a call fills must not overlap, and the library can't detect an overlap. One array for two units is one,
+   and so is an image inside guest memory.
 
    Guest memory is passed to each call that uses it, as a pointer and a number of bytes. The library reads and
    writes it in place during that call alone, so the next call may pass other memory. No other thread writes it

@@ -124,9 +124,9 @@ void uda50_write_ip(uda50 *handle, uint16_t word);
 /* The guest reads IP: a running port begins to poll its command ring. Returns 0. */
 uint16_t uda50_read_ip(uda50 *handle);
 
-/* The guest writes SA: a step of the initialization. Step 3 sets the communication area in guest memory, the rings and
-   the words before them, to zero; if it isn't whole within `length` bytes, the port dies and the memory is as it was.
-   Any length is accepted, also an odd one. */
+/* The guest writes SA: a step of the initialization. Step 3 sets the communication area in guest memory, which is the
+   rings and the words before them, to zero. If the area isn't whole within `length` bytes, the port dies and memory
+   is as it was. Any length is accepted, also an odd one. */
 void uda50_write_sa(uda50 *handle, uint16_t word, uint8_t *memory, size_t length);
 
 /* The guest reads SA. Returns the word of the step, 0 while the port runs, or bit 15 with the code of the fatal

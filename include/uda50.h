@@ -1,14 +1,14 @@
 /* uda50.h: a simulated UDA50 disk controller, as for an emulator of a PDP-11 or a VAX.
 
-   The functions stand in groups: lifecycle, drives, registers, turns, inspection, and failures for tests.
+   The functions are in groups: lifecycle, drives, registers, turns, inspection, and failures for tests.
 
    A `uda50` is the handle of one controller. Set it to zero before its first use, pass its address, and neither copy
    it nor write into it. Every function accepts every handle. On a handle without a controller it changes nothing
    and returns UDA50_NO_CONTROLLER, or 0 or false where its result is no status.
 
-   No pointer that is passed is null, but in an image without bytes. No two of handle, image structs, images, guest
-   memory and what a call fills overlap; the library can't detect that they do. One array for two units is such an
-   overlap, and so is an image in guest memory.
+   Pass no null pointer; only the `at` of an empty image may be null. The handle, image structs, images, guest memory
+   and what a call fills must not overlap, and the library can't detect an overlap. One array for two units is one,
+   and so is an image inside guest memory.
 
    Guest memory is passed to each call that uses it, as a pointer and a number of bytes. The library reads and
    writes it in place during that call alone, so the next call may pass other memory. No other thread writes it
@@ -164,8 +164,9 @@ void uda50_write_ip(uda50 *handle, uint16_t word);
 /* The guest reads IP: a running port begins to poll its command ring. Returns 0. */
 uint16_t uda50_read_ip(uda50 *handle);
 
-/* The guest writes SA: a step of the initialization. Step 3 sets the rings in guest memory to zero; if they aren't
-   whole within `length` bytes, the port dies and the memory is as it was. Any length is accepted, also an odd one. */
+/* The guest writes SA: a step of the initialization. Step 3 sets the communication area in guest memory, which is the
+   rings and the words before them, to zero. If the area isn't whole within `length` bytes, the port dies and memory
+   is as it was. Any length is accepted, also an odd one. */
 void uda50_write_sa(uda50 *handle, uint16_t word, uint8_t *memory, size_t length);
 
 /* The guest reads SA. Returns the word of the step, 0 while the port runs, or bit 15 with the code of the fatal

@@ -1,5 +1,5 @@
-//! The functions that C calls. Each accepts every handle, also one without a controller, which was never made or
-//! was freed, as `include/uda50.h` says.
+//! The functions that C calls, as `include/uda50.h` declares them. Each accepts every handle, also one without a
+//! controller, which was never made or was freed.
 ghost use Rattle.std.specs.Prelude.{None, false, is_some, ◌≡◌, ◌||◌};
 ghost use Rattle.uda_port.specs.Port.{port_restarted, port_asked};
 ghost use Rattle.uda_port.specs.Startup.{sa_shown};

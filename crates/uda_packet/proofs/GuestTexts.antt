@@ -8,9 +8,9 @@ use Rattle.uda_packet.specs.declared.end.EndBody.TheVariants as body
 use Rattle.uda_packet.specs.declared.guest_end.Report.{Report}
 use Rattle.uda_packet.specs.declared.guest_end.UnitReport.{UnitReport}
 use Rattle.uda_packet.specs.Field.{Entry, ◌holds◌, text_of, with_entries, with_number, reference_field, unit_field, code_field, status_field}
-use Rattle.uda_packet.specs.GuestEnd.{written_guest_end, written_unit_available, unit_available, identity_entries, guest_entries, guest_reply_entries, controller_entries, status_entries, online_entries, unit_number}
+use Rattle.uda_packet.specs.GuestEnd.{written_guest_end, written_unit_available, unit_available, identity_entries, guest_entries, basic_entries, guest_reply_entries, controller_entries, status_entries, online_entries, unit_number}
 use Rattle.uda_packet.specs.Reply.{reply_code}
-use Rattle.uda_disk.specs.Status.{SUCCESS}
+use Rattle.uda_disk.specs.Status.{SUCCESS, ABORTED}
 
 module _ (reference number code status : ℕ) where
   abbrev head_and : List Entry → List Entry
@@ -42,8 +42,12 @@ module _ (reference number code status : ℕ) where
   of_body r (body.Online flags size) = of_online r.unit
   of_body r (body.Moved which moved) = refl
 
+  of_basic : (gone : Bool) (r : Report) (b : EndBody) → IsWrittenAtOnce (basic_entries gone r number status b)
+  of_basic true r b = refl
+  of_basic false r b = of_body r b
+
   of_reply : (r : Report) (b : ReplyBody) → IsWrittenAtOnce (guest_reply_entries r number status b)
-  of_reply r (Basic b) = of_body r b
+  of_reply r (Basic b) = of_basic (status == ABORTED) r b
   of_reply r (Abort named) = refl
   of_reply r (CommandStatus named progress) = refl
   of_reply r AccessPaths = refl

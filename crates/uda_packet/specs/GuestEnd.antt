@@ -4,7 +4,7 @@ use Rattle.std.specs.Prelude.{ℕ, ◌+◌, ◌-◌, ◌*◌, ◌^◌, ◌%◌, 
 use Rattle.std.specs.Prelude.{[], ◌∷◌, ◌++◌}
 use Rattle.std.specs.Int.RustNames.{bit_or}
 use Rattle.uda_disk.specs.Disk.{software_protection, hardware_protection}
-use Rattle.uda_disk.specs.Status.{SUCCESS}
+use Rattle.uda_disk.specs.Status.{SUCCESS, ABORTED}
 use Rattle.uda_packet.specs.declared.drive_type.DriveTraits.{DriveTraits}
 use Rattle.uda_packet.specs.declared.reply.Reply.{Reply}
 use Rattle.uda_packet.specs.declared.reply.ReplyBody.{ReplyBody}
@@ -114,9 +114,14 @@ guest_entries r number status body.Available = []
 guest_entries r number status (body.Online flags size) = online_entries r.unit number
 guest_entries r number status (body.Moved which moved) = byte_count_field holds moved ∷ []
 
--- the same of a message that only the profile for guests knows: what it answers
+-- the end message of a command that was aborted reports nothing
+abbrev pub basic_entries : Bool → Report → ℕ → ℕ → EndBody → List Entry
+basic_entries true r number status b = []
+basic_entries false r number status b = guest_entries r number status b
+
+-- the same of any message; one that only the profile for guests knows has what it answers
 abbrev pub guest_reply_entries : Report → ℕ → ℕ → ReplyBody → List Entry
-guest_reply_entries r number status (Basic b) = guest_entries r number status b
+guest_reply_entries r number status (Basic b) = basic_entries (status == ABORTED) r number status b
 guest_reply_entries r number status b = reply_entries number status b
 
 -- the text that an end message for a guest is written as

@@ -20,7 +20,7 @@ use crate::field::{
     SHADOW_UNIT, STATUS, TIME_OUT, TRACK, Text, UNIT_FLAGS, UNIT_SIZE,
 };
 use crate::reply::{Reply, ReplyBody};
-use crate::status::SUCCESS;
+use crate::status::{ABORTED, SUCCESS};
 
 /// The bus that a controller is on: it decides which controller a guest sees.
 #[derive(Clone, Copy, Debug, PartialEq, Eq)]
@@ -67,8 +67,8 @@ pub struct Report {
 /// Returns the text of an end message as a guest reads it.
 ///
 /// The unit of `end` is the number of a drive, and the text has the number by which the guest knows it. What the
-/// text says of the controller and of the unit comes from `report`, not from the body. Every byte that no field
-/// names is 0.
+/// text says of the controller and of the unit comes from `report`, not from the body. The end message of a command
+/// that was aborted says nothing of them. Every byte that no field names is 0.
 ///
 /// MSCP Basic Disk Functions Manual: end messages.
 pub fn encode_guest_end(end: &Reply, report: &Report) -> [u8; 48]
@@ -140,6 +140,7 @@ impl Report {
         ensures { text.new ≡ with_entries (guest_reply_entries self.now number status body) text.old }
     {
         match body {
+            ReplyBody::Basic(_) if status == ABORTED => {}
             ReplyBody::Basic(body) => self.put(text, number, status, body),
             other => other.put(text, number, status),
         }

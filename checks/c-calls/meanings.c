@@ -46,7 +46,7 @@ static void rings(void)
     uda50_state state;
 
     EXPECT(state_of(&uda).phase, UDA50_PHASE_STEP_1);
-    EXPECT(state_of(&uda).sa, 0x0800);
+    EXPECT(state_of(&uda).sa, 0x0940);
     EXPECT_TURN(UDA50_NO_TURN, 0, 0, 0, 0, 0, 0);
     start(&uda);
     state = state_of(&uda);
@@ -167,6 +167,39 @@ static void arguments(void)
     EXPECT(images[3].length, 0);
 }
 
+/* The arguments of uda50_new_as and uda50_set_type, and what the guest learns by them. */
+static void identity(void)
+{
+    uda50 other = { 0 };
+    uda50_image images[UDA50_UNITS] = { { NULL, 0 } }, image = { disks[1], sizeof disks[1] };
+
+    EXPECT(uda50_set_type(&other, 0, UDA50_RA81), UDA50_NO_CONTROLLER);
+    EXPECT(uda50_new_as(&other, 2, 4), UDA50_NO_SUCH_BUS);
+    EXPECT(uda50_new_as(&other, UDA50_QBUS, 4), UDA50_OK);
+    EXPECT(uda50_new_as(&other, UDA50_UNIBUS, 0), UDA50_HAS_CONTROLLER);
+    EXPECT(uda50_read_sa(&other), 0x0b40);
+    EXPECT(uda50_set_type(&other, 4, UDA50_RX50), UDA50_NO_SUCH_UNIT);
+    EXPECT(uda50_set_type(&other, 1, UDA50_RRD40 + 1), UDA50_NO_SUCH_TYPE);
+    EXPECT(uda50_set_type(&other, 1, UDA50_RX50), UDA50_OK);
+    EXPECT(uda50_set_type(&other, 2, UDA50_RRD40), UDA50_OK);
+    EXPECT(uda50_attach(&other, 2, &image, false), UDA50_OK);
+    EXPECT(uda50_set_type(&other, 2, UDA50_RX50), UDA50_ALREADY_ATTACHED);
+    start(&other);
+    EXPECT(status_of(&other, (command){ SET_CONTROLLER, 4, 1, 0x800000, 0 }), 0); /* with the flag 0x0080 */
+    EXPECT(status_of(&other, (command){ GET_UNIT_STATUS, 5, 2, 0, 0 }), 0x0023);
+    EXPECT(get16(response_at(1) + 14), 0x8080);
+    EXPECT(memory[response_at(1) + 26], 7);
+    EXPECT(status_of(&other, (command){ GET_UNIT_STATUS, 6, 3, 0, 0 }), 0x0004);
+    EXPECT(get16(response_at(2) + 14), 0xa080); /* an RRD40 is write-protected */
+    EXPECT(uda50_detach(&other, 2, &images[2]), UDA50_OK);
+    EXPECT(uda50_attach(&other, 0, &images[2], false), UDA50_OK);
+    give_response(3);
+    EXPECT(uda50_turn(&other, memory, SIZE), UDA50_NOTIFIED);
+    EXPECT(get16(response_at(3) + 4), 4);
+    EXPECT(memory[response_at(3) + 8], 0x40);
+    EXPECT(uda50_free(&other, images), UDA50_OK);
+}
+
 int main(void)
 {
     uda50_image one = { disks[1], sizeof disks[1] }, two = { disks[2], sizeof disks[2] };
@@ -181,5 +214,6 @@ int main(void)
     transfers();
     death();
     arguments();
+    identity();
     return ended();
 }

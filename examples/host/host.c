@@ -10,7 +10,7 @@
 
 enum { SIZE = 65536, RINGS = 0x1000, RESPONSE = 0x2004, COMMAND = 0x3004, BUFFER = 0x4000 };
 
-enum { GET_UNIT_STATUS = 3, SET_CONTROLLER = 4, ONLINE = 9, READ = 33, WRITE = 34 };
+enum { GET_UNIT_STATUS = 3, SET_CONTROLLER = 4, ONLINE = 9, FIRST_TRANSFER = 16, READ = 33, WRITE = 34 };
 
 static uint8_t memory[SIZE];
 static uda50 uda;
@@ -71,8 +71,11 @@ static bool post(const char *name, uint8_t opcode, uint16_t unit, uint32_t bytes
         printf("%s: answer %u, SA reads %04x\n", name, (unsigned)turn, uda50_read_sa(&uda));
         return false;
     }
-    printf("%-18s reference %u, end %02x, status %04x, bytes %u\n", name, (unsigned)get32(RESPONSE),
-           memory[RESPONSE + 8], (unsigned)get16(RESPONSE + 10), (unsigned)get32(RESPONSE + 12));
+    printf("%-18s reference %u, end %02x, status %04x", name, (unsigned)get32(RESPONSE), memory[RESPONSE + 8],
+           (unsigned)get16(RESPONSE + 10));
+    if (opcode >= FIRST_TRANSFER)
+        printf(", bytes %u", (unsigned)get32(RESPONSE + 12));
+    printf("\n");
     return true;
 }
 

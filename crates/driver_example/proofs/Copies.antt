@@ -24,12 +24,12 @@ use Rattle.driver_example.specs.Copy.{CanCopy, blocks_in, IsCopied}
 -- ---- what is known of a unit's disk
 
 image_in : (slots : List (Option UnitState)) (u : ℕ) (disk : Disk) → AllFaithful slots → AreImages slots
-  → slice_get (disks_of slots) u ≡ Some (Some disk) → IsImage disk.size disk.blocks
+    → slice_get (disks_of slots) u ≡ Some (Some disk) → IsImage disk.size disk.blocks
 image_in slots u disk faithful images here = by (slice_get slots u) refl
-  (sym (slice_get-map (option_map disk_of) slots u) ∙ here)
+    (sym (slice_get-map (option_map disk_of) slots u) ∙ here)
   where
     by : (slot : Option (Option UnitState)) → slice_get slots u ≡ slot → option_map (option_map disk_of) slot
-      ≡ Some (Some disk) → IsImage disk.size disk.blocks
+        ≡ Some (Some disk) → IsImage disk.size disk.blocks
     by None at is = absurd (cc)
     by (Some None) at is = absurd (cc)
     by (Some (Some unit)) at is =
@@ -44,7 +44,7 @@ online_step : (u : ℕ) (disks : Disks) (disk : Disk) → slice_get disks u ≡ 
     → step (record { unit = u; act = Online false }) disks
     ≡ (answer_on Done (Online false) disk, slice_set disks u (Some (disk_after Done (Online false) disk)))
 online_step u disks disk here = ap (λ (slot : Option (Option Disk)).
-  serve_by Done (record { unit = u; act = Online false }) (bar_at (Online false) slot) disks) here
+    serve_by Done (record { unit = u; act = Online false }) (bar_at (Online false) slot) disks) here
 
 is_online : (mode : Mode) → (mode_after (Online false) mode).online ≡ true
 is_online mode = by mode.online refl
@@ -55,11 +55,11 @@ is_online mode = by mode.online refl
 
 -- a list of requests, the first of which does this
 plain_more : (r : Request) (rest : List Request) (disks next left : Disks) (answer : Answer)
-  (later : List Answer) → step r disks ≡ (answer, next) → plain next rest ≡ (later, left)
-  → plain disks (r ∷ rest) ≡ (answer ∷ later, left)
+    (later : List Answer) → step r disks ≡ (answer, next) → plain next rest ≡ (later, left)
+    → plain disks (r ∷ rest) ≡ (answer ∷ later, left)
 plain_more r rest disks next left answer later now later_is =
     ap (λ (x : Answer × Disks). (x.0 ∷ (plain x.1 rest).0, (plain x.1 rest).1)) now
-      ∙ ap (λ (y : List Answer × Disks). (answer ∷ y.0, y.1)) later_is
+    ∙ ap (λ (y : List Answer × Disks). (answer ∷ y.0, y.1)) later_is
 
 last_is : (front : List Answer) (l a b c : Answer) → front ++ l ∷ [] ≡ a ∷ b ∷ c ∷ [] → l ≡ c
 last_is (x ∷ y ∷ []) l a b c h = cc
@@ -91,7 +91,7 @@ abbrev pub asked : ℕ → List Request
 asked n = first ∷ second ∷ third n ∷ []
 
 module _ (units : Units) (n : ℕ) (faithful : AllFaithful units) (images : AreImages units)
-  (can : CanCopy units n) where
+    (can : CanCopy units n) where
   abbrev read_all : Act
   read_all = Read 0 (512 * n)
 
@@ -109,16 +109,17 @@ module _ (units : Units) (n : ℕ) (faithful : AllFaithful units) (images : AreI
 
   to_one : slice_get one 1 ≡ Some (Some can.target)
   to_one = slice_get-set_other start 0 1 (Some (on can.source)) (λ same. absurd (omega (arith, same)))
-    ∙ can.to
+      ∙ can.to
 
   from_two : slice_get two 0 ≡ Some (Some (on can.source))
   from_two = slice_get-set_other one 1 0 (Some (on can.target)) (λ same. absurd (omega (arith, same)))
-    ∙ slice_get-set_same start 0 (Some (on can.source)) (slice_get_within start 0 (Some can.source) can.from)
+      ∙ slice_get-set_same start 0 (Some (on can.source))
+      (slice_get_within start 0 (Some can.source) can.from)
 
   to_three : slice_get three 1 ≡ Some (Some (on can.target))
   to_three = slice_get-set_other two 0 1 (Some (disk_after Done read_all (on can.source)))
-    (λ same. absurd (omega (arith, same))) ∙ slice_get-set_same one 1 (Some (on can.target))
-    (slice_get_within one 1 (Some can.target) to_one)
+      (λ same. absurd (omega (arith, same))) ∙ slice_get-set_same one 1 (Some (on can.target))
+      (slice_get_within one 1 (Some can.target) to_one)
 
   image_s : IsImage can.source.size can.source.blocks
   image_s = image_in units 0 can.source faithful images can.from
@@ -141,36 +142,40 @@ module _ (units : Units) (n : ℕ) (faithful : AllFaithful units) (images : AreI
 
   all_read : answer_on Done read_all (on can.source) ≡ Data SUCCESS (concat can.source.blocks)
   all_read = ap (λ (k : ℕ). answer_on Done (Read 0 (512 * k)) (on can.source)) (sym can.source_size)
-    ∙ whole_read (on can.source) (image-on can.source image_s)
-    ∙ ap (λ (b : List (List ℕ)). Data SUCCESS (concat b)) (blocks-on can.source)
+      ∙ whole_read (on can.source) (image-on can.source image_s)
+      ∙ ap (λ (b : List (List ℕ)). Data SUCCESS (concat b)) (blocks-on can.source)
 
-  read_run : plain start (asked n) ≡ (answer_on Done (Online false) can.source ∷ answer_on Done
-    (Online false) can.target ∷ answer_on Done read_all (on can.source) ∷ [], three)
+  read_run : plain start (asked n) ≡ (
+    answer_on Done (Online false) can.source ∷ answer_on Done
+        (Online false) can.target ∷ answer_on Done read_all (on can.source) ∷ [],
+    three,
+  )
   read_run =
       plain_more first (second ∷ third n ∷ []) start one three _ _ (online_step 0 start can.source can.from)
       (plain_more second (third n ∷ []) one two three _ _ (online_step 1 one can.target to_one)
       (plain_more (third n) [] two three three _ []
-        (allowed_is_done (third n) _ (on can.source) two refl may_read read_short from_two) refl))
+      (allowed_is_done (third n) _ (on can.source) two refl may_read read_short from_two) refl))
 
   -- what was read are the blocks of unit 0, joined
   pub bytes_read : (between : Units) (front : List Answer) (status : ℕ) (bytes : List ℕ)
-    → IsPlainRun units (asked n) (front ++ Data status bytes ∷ []) between → bytes ≡ concat can.source.blocks
+      → IsPlainRun units (asked n) (front ++ Data status bytes ∷ []) between
+      → bytes ≡ concat can.source.blocks
   bytes_read between front status bytes run =
       let told = ap (λ (x : List Answer × Disks). x.0) (run ∙ read_run) in
       let last : Data status bytes ≡ Data SUCCESS (concat can.source.blocks) =
-        last_is front (Data status bytes) _ _ _ told ∙ all_read in
+      last_is front (Data status bytes) _ _ _ told ∙ all_read in
       cc
 
   -- and once they are written to unit 1, it has them
   module _ (between after : Units) (told written : List Answer) (bytes : List ℕ)
-    (run : IsPlainRun units (asked n) told between) (are : bytes ≡ concat can.source.blocks)
+      (run : IsPlainRun units (asked n) told between) (are : bytes ≡ concat can.source.blocks)
       (next : IsPlainRun between (record { unit = 1; act = Write 0 bytes } ∷ []) written after) where
     between_is : disks_of between ≡ three
     between_is = ap (λ (x : List Answer × Disks). x.1) (run ∙ read_run)
 
     counted : length bytes ≡ 512 * n
     counted = ap length are ∙ length-concat_blocks can.source.blocks image_s.whole
-      ∙ omega (arith, image_s.counted, can.source_size)
+        ∙ omega (arith, image_s.counted, can.source_size)
 
     may_write : IsAllowed (record { lbn = 0; bytes = length bytes; writes = true }) (on can.target)
     may_write = record {
@@ -188,7 +193,7 @@ module _ (units : Units) (n : ℕ) (faithful : AllFaithful units) (images : AreI
     left : disks_of after ≡ slice_set three 1 (Some (disk_after Done (Write 0 bytes) (on can.target)))
     left =
         ap (λ (x : List Answer × Disks). x.1) next
-          ∙ ap (λ (ds : Disks). (plain ds (record { unit = 1; act = Write 0 bytes } ∷ [])).1) between_is
+        ∙ ap (λ (ds : Disks). (plain ds (record { unit = 1; act = Write 0 bytes } ∷ [])).1) between_is
         ∙ ap (λ (x : List Answer × Disks). x.1)
         (plain_more (record { unit = 1; act = Write 0 bytes }) [] three _ _ _ []
         (allowed_is_done (record { unit = 1; act = Write 0 bytes }) _
@@ -199,7 +204,7 @@ module _ (units : Units) (n : ℕ) (faithful : AllFaithful units) (images : AreI
 
     all_written : (disk_after Done (Write 0 bytes) (on can.target)).blocks ≡ can.source.blocks
     all_written = ap (λ (b : List ℕ). (disk_after Done (Write 0 b) (on can.target)).blocks) are
-      ∙ whole_write (on can.target) can.source.blocks (image-on can.target image_t) fits
+        ∙ whole_write (on can.target) can.source.blocks (image-on can.target image_t) fits
 
     stays : (disk_after Done read_all (on can.source)).blocks ≡ can.source.blocks
     stays = unwritten_stays Done read_all (on can.source) refl ∙ blocks-on can.source
@@ -209,9 +214,9 @@ module _ (units : Units) (n : ℕ) (faithful : AllFaithful units) (images : AreI
         let now = Some (disk_after Done (Write 0 bytes) (on can.target)) in
         let was = ap blocks_in can.from in
         let at_1 = ap (λ (ds : Disks). slice_get ds 1) left ∙ slice_get-set_same three 1 now
-          (slice_get_within three 1 (Some (on can.target)) to_three) in
+        (slice_get_within three 1 (Some (on can.target)) to_three) in
         let at_0 = ap (λ (ds : Disks). slice_get ds 0) left ∙ slice_get-set_other three 1 0 now
-          (λ same. absurd (omega (arith, same)))
+        (λ same. absurd (omega (arith, same)))
         ∙ slice_get-set_same two 0 (Some (disk_after Done read_all (on can.source)))
         (slice_get_within two 0 (Some (on can.source)) from_two) in
         record {

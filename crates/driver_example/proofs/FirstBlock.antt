@@ -12,11 +12,11 @@ abbrev first : Request
 first = record { unit = 0; act = Read 0 512 }
 
 pub read_whole : (units units_after : Units) (told front : List Answer) (block : List ℕ)
-  → SeemsPlain units (first ∷ []) told units_after → length told ≡ 1
+    → SeemsPlain units (first ∷ []) told units_after → length told ≡ 1
     → told ≡ front ++ Data SUCCESS block ∷ [] → length block ≡ 512
 read_whole units units_after told [] block seems one is =
     done_is_whole (Read 0 512) _ (Data SUCCESS block)
-      (seems.answered 0 first _ (Data SUCCESS block) refl refl
-      (ap (λ (answers : List Answer). slice_get answers 0) is)) refl
+    (seems.answered 0 first _ (Data SUCCESS block) refl refl
+    (ap (λ (answers : List Answer). slice_get answers 0) is)) refl
 read_whole units units_after told (x ∷ more) block seems one is =
-  absurd (omega (arith, one, ap length is, length-append more (Data SUCCESS block ∷ [])))
+    absurd (omega (arith, one, ap length is, length-append more (Data SUCCESS block ∷ [])))

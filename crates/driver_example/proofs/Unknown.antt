@@ -27,10 +27,10 @@ none_there (a ∷ b ∷ c ∷ d ∷ e ∷ more) four = absurd (omega (arith, fou
 
 plainly : (disks : Disks) → slice_get disks 7 ≡ None → (plain disks (seven ∷ [])).0 ≡ unknown ∷ []
 plainly disks none = ap (λ (slot : Option (Option Disk)).
-  (serve_by Done seven (bar_at ask.Status slot) disks).0 ∷ []) none
+    (serve_by Done seven (bar_at ask.Status slot) disks).0 ∷ []) none
 
 only_one : (told : List Answer) → length told ≡ 1
-  → ((now : Answer) → slice_get told 0 ≡ Some now → now ≡ unknown) → told ≡ unknown ∷ []
+    → ((now : Answer) → slice_get told 0 ≡ Some now → now ≡ unknown) → told ≡ unknown ∷ []
 only_one (x ∷ []) one is = ap (λ (y : Answer). y ∷ []) (is x refl)
 only_one [] one is = absurd (omega (arith, one))
 only_one (x ∷ y ∷ more) one is = absurd (omega (arith, one))
@@ -39,6 +39,6 @@ pub told_unknown : (units units_after : Units) (told : List Answer) → length u
     → SeemsPlain units (seven ∷ []) told units_after → told ≡ unknown ∷ []
 told_unknown units units_after told four one seems =
     only_one told one
-      (λ now here. (seems.answered 0 seven unknown now refl
-      (ap (λ (xs : List Answer). slice_get xs 0) (plainly (disks_of units) (none_there units four)))
-      here).same refl)
+    (λ now here. (seems.answered 0 seven unknown now refl
+    (ap (λ (xs : List Answer). slice_get xs 0) (plainly (disks_of units) (none_there units four)))
+    here).same refl)

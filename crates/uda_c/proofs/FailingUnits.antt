@@ -28,14 +28,14 @@ seen None look e = absurd (cc)
 
 -- and it is that which is handed back
 pub handed : (units : List (Option UnitState)) (u : ℕ) (unit : UnitState) → slice_get units u
-  ≡ Some (Some unit)
+    ≡ Some (Some unit)
     → handed_back units u None ≡ Some (drive_in unit)
 handed units u unit here =
     ap (λ (o : Option (Option DriveState)). unwrap_or o None)
     (slice_get-map (option_map drive_in) units u ∙ ap (option_map (option_map drive_in)) here)
 
 pub is_handed : (units : List (Option UnitState)) (u : ℕ) (look : UnitLook) → look_at (slice_get units u)
-  ≡ Some look
+    ≡ Some look
     → None ≡ handed_back units u None → ⊥
 is_handed units u look e none =
     let s = seen (slice_get units u) look e in
@@ -61,10 +61,10 @@ unit_fails units u call look drive failing e back fails =
     let got : slice_get (set units u b) u ≡ Some b =
     slice_get-set_same units u b (slice_get_within units u (Some s.unit) s.here) in
     let store = ap (λ (d : DriveState). d.store) fails
-      ∙ ap (λ (d : DriveState). failing_from_now call d.store) drive_is in
+    ∙ ap (λ (d : DriveState). failing_from_now call d.store) drive_is in
     let mode = ap (λ (l : UnitLook). l.mode) s.look_is in
     ap (λ (xs : List (Option UnitState)). set xs u (in_mode look.mode (unwrap_or (slice_get xs u) None)))
-      (set-set units u None b)
+    (set-set units u None b)
     ∙ ap (λ (o : Option (Option UnitState)). set (set units u b) u (in_mode look.mode (unwrap_or o None))) got
     ∙ set-set units u b (in_mode look.mode b)
     ∙ ap (set units u) (ap₂ (λ x y. Some (record { store = x; mode = y })) store mode)
@@ -73,7 +73,7 @@ unit_fails units u call look drive failing e back fails =
 
 -- the three calls that do it
 pub fails_at : (old : ControllerState) (u call : ℕ) (look : UnitLook) (drive failing : DriveState)
-  (out back new : PortState)
+    (out back new : PortState)
     → nat_lt 3 u ≡ false → look_at (slice_get old.port.exec.units u) ≡ Some look
     → Some drive ≡ handed_back old.port.exec.units u None → failing ≡ drive_failing call drive
     → out ≡ record old.port { exec = with_drive old.port.exec u None }
@@ -82,8 +82,8 @@ pub fails_at : (old : ControllerState) (u call : ℕ) (look : UnitLook) (drive f
     → FailsAt old u call Done (record old { port = new })
 fails_at old u call look drive failing out back new there e given fails out_is back_is new_is = record {
   answer_is =
-    sym (ap (λ b. if b then NoSuchUnit else if is_some (look_at (slice_get old.port.exec.units u)) then Done
-    else NotAttached) there
+      sym (ap (λ b. if b then NoSuchUnit else if is_some (look_at (slice_get old.port.exec.units u)) then Done
+      else NotAttached) there
       ∙ ap (λ (o : Option UnitLook). if is_some o then Done else NotAttached) e);
   fails = λ _. ap (λ (p : PortState). record old { port = p }) (new_is
       ∙ ap (λ (p : PortState). record p { exec = with_mode p.exec u look.mode }) (back_is

@@ -139,7 +139,7 @@ chosen_pair true one other same h k = h
 chosen_pair false one other same h k = k
 
 wrap_natures : (profile : Profile) (old : PortState) (word : ℕ) → natures (wrap_by profile old word)
-  ≡ natures old
+    ≡ natures old
 wrap_natures Strict old word = refl
 wrap_natures (ForGuests identity) old word = refl
 
@@ -147,7 +147,7 @@ word_natures : (p : Phase) (old : PortState) (memory : List ℕ) (word : ℕ)
     → natures (by_word p old memory word).0 ≡ natures old
 word_natures Step1 old memory word =
     chosen (has_bit word 15) _ old _ (chosen (has_bit word 14) _ _ _ (wrap_natures old.profile old word) refl)
-      refl
+    refl
 word_natures (Step2 first) old memory word = chosen (refuses_second old.profile word) _ _ _ refl refl
 word_natures (Step3 first second) old memory word =
     chosen_pair (refuses_third old.profile word) _ _ _ refl
@@ -218,7 +218,7 @@ drive_faithful old new u drive given is all k =
 
 -- the same of a drive that a guest learns of
 put_is : (read_only : Bool) (drive : Option DriveState) → is_faithful (Some (option_map fresh_unit drive))
-  ≡ true
+    ≡ true
     → is_faithful (Some (option_map fresh_unit (protected_drive read_only drive))) ≡ true
 put_is read_only None given = refl
 put_is read_only (Some drive) given = given

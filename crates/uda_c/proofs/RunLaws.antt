@@ -8,7 +8,7 @@ use Rattle.uda_c.specs.Runs.{Machine, TakesTurns, does_nothing}
 
 -- a turn, and then the rest of the run
 pub run_on : (limit k : ℕ) (before : CallStatus) (old : Machine) (turn : Turn) (next : Machine)
-  (answer : CallStatus) (new : Machine)
+    (answer : CallStatus) (new : Machine)
     → k < limit → does_nothing turn ≡ false → TakesTurn old.0 old.1 (Took turn) next.0 next.1
     → TakesTurns (limit - (k + 1)) (Took turn) next answer new → TakesTurns (limit - k) before old answer new
 run_on limit k before old turn next answer new h goes takes rest =

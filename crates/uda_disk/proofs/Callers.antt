@@ -27,16 +27,22 @@ nothing_bars e disk a =
     let even : nat_eq (e.bytes % 2) 0 ≡ true = eq-eqb (e.bytes % 2) 0 a.even in
     let begins : nat_le disk.size e.lbn ≡ false = (let low = a.begins in grind (arith, nat_tests)) in
     let ends : nat_lt disk.size (e.lbn + blocks_for e.bytes) ≡ false =
-      le-ltb disk.size (e.lbn + blocks_for e.bytes) a.ends in
-    rw (a.online, even, begins, ends, unprotected e.writes disk.mode.hard a.not_hard,
-      unprotected e.writes disk.mode.soft a.not_soft) refl
+    le-ltb disk.size (e.lbn + blocks_for e.bytes) a.ends in
+    rw (
+      a.online,
+      even,
+      begins,
+      ends,
+      unprotected e.writes disk.mode.hard a.not_hard,
+      unprotected e.writes disk.mode.soft a.not_soft,
+    ) refl
 
 pub allowed_is_done : AllowedIsDone
 allowed_is_done r e disk disks is a short here =
     let none : refusal_on (extent_of r.act) disk.size disk.mode ≡ None =
-      ap (λ (x : Option Extent). refusal_on x disk.size disk.mode) is ∙ nothing_bars e disk a in
+    ap (λ (x : Option Extent). refusal_on x disk.size disk.mode) is ∙ nothing_bars e disk a in
     let free : bar disks r ≡ Free disk = ap (bar_at r.act) here
-      ∙ ap (λ (f : Option Refusal). bar_by f disk) none in
+    ∙ ap (λ (f : Option Refusal). bar_by f disk) none in
     let served : step r disks ≡ serve_as Done r disks = rw short refl in
     served ∙ ap (λ (b : Bar). serve_by Done r b disks) free
 
@@ -44,7 +50,7 @@ pub whole_count : WholeCount
 whole_count n = omega arith
 
 length-concat : (blocks : List (List ℕ)) → All (λ block. length block ≡ 512) blocks → length (concat blocks)
-  ≡ 512 * length blocks
+    ≡ 512 * length blocks
 length-concat [] h = omega arith
 length-concat (b ∷ bs) h =
     let rest = length-concat bs (All-tail (λ block. length block ≡ 512) b bs h) in
@@ -53,28 +59,28 @@ length-concat (b ∷ bs) h =
 
 -- blocks with anything behind them, cut again
 cut : (blocks : List (List ℕ)) (behind : List ℕ) → All (λ block. length block ≡ 512) blocks
-  → first_chunks 512 (length blocks) (concat blocks ++ behind) ≡ blocks
+    → first_chunks 512 (length blocks) (concat blocks ++ behind) ≡ blocks
 cut [] behind h = refl
 cut (b ∷ bs) behind h =
     let head : length b ≡ 512 = All-head (λ block. length block ≡ 512) b bs h in
     let joined : (b ++ concat bs) ++ behind ≡ b ++ (concat bs ++ behind) =
-      append_assoc b (concat bs) behind in
+    append_assoc b (concat bs) behind in
     let first : take 512 ((b ++ concat bs) ++ behind) ≡ b = ap (take 512) joined
-      ∙ take-append-le 512 b (concat bs ++ behind) (omega (arith, head))
-      ∙ take_all 512 b (omega (arith, head)) in
+    ∙ take-append-le 512 b (concat bs ++ behind) (omega (arith, head))
+    ∙ take_all 512 b (omega (arith, head)) in
     let later : drop 512 ((b ++ concat bs) ++ behind) ≡ concat bs ++ behind =
     ap (drop 512) joined ∙ drop-append-le 512 b (concat bs ++ behind) (omega (arith, head))
-      ∙ ap (λ (l : List ℕ). l ++ (concat bs ++ behind)) (drop_all 512 b (omega (arith, head))) in
+    ∙ ap (λ (l : List ℕ). l ++ (concat bs ++ behind)) (drop_all 512 b (omega (arith, head))) in
     ap₂ (λ (x : List ℕ) (xs : List (List ℕ)). x ∷ xs) first
-      (ap (first_chunks 512 (length bs)) later ∙ cut bs behind
-      (All-tail (λ block. length block ≡ 512) b bs h))
+    (ap (first_chunks 512 (length bs)) later ∙ cut bs behind
+    (All-tail (λ block. length block ≡ 512) b bs h))
 
 pub joined_and_cut : JoinedAndCut
 joined_and_cut blocks h =
     let count : blocks_for (length (concat blocks)) ≡ length blocks = ap blocks_for (length-concat blocks h)
-      ∙ whole_count (length blocks) in
+    ∙ whole_count (length blocks) in
     ap (λ (n : ℕ). first_chunks 512 n (concat blocks ++ replicate 512 0)) count
-      ∙ cut blocks (replicate 512 0) h
+    ∙ cut blocks (replicate 512 0) h
 
 pub unwritten_stays : UnwrittenStays
 unwritten_stays o (Write lbn payload) disk h = absurd (cc)
@@ -88,12 +94,12 @@ part_whole blocks n size = take_all n blocks (omega (arith, size))
 pub whole_read : WholeRead
 whole_read disk image =
     let all : part disk.blocks 0 (blocks_for (512 * disk.size)) ≡ disk.blocks = ap (part disk.blocks 0)
-      (whole_count disk.size) ∙ part_whole disk.blocks disk.size image.counted in
+    (whole_count disk.size) ∙ part_whole disk.blocks disk.size image.counted in
     let bytes : take (512 * disk.size) (concat disk.blocks) ≡ concat disk.blocks =
-      take_all _ _ (omega (arith, length-concat disk.blocks image.whole, image.counted)) in
+    take_all _ _ (omega (arith, length-concat disk.blocks image.whole, image.counted)) in
     ap (λ (b : List (List ℕ)). Data SUCCESS (take (512 * disk.size) (take (512 * disk.size) (concat b)))) all
     ∙ ap (λ (l : List ℕ). Data SUCCESS (take (512 * disk.size) l)) bytes ∙ ap (Data SUCCESS) bytes
 
 pub whole_write : WholeWrite
 whole_write disk blocks own image = ap (put disk.blocks 0) (joined_and_cut blocks image.whole)
-  ∙ put-whole disk.blocks blocks (image.counted ∙ sym own.counted)
+    ∙ put-whole disk.blocks blocks (image.counted ∙ sym own.counted)

@@ -15,7 +15,7 @@ is_error a = nat_eq (status_of a) DRIVE_ERROR
 
 -- a transfer that is free tells its loss, so what tells none is as if nothing was lost
 free-clean : (k : ℕ) (left : List ℕ) (unit : ℕ) (act : Act) (disks : Disks) (d : Disk)
-  → is_error (answer_by (Lost k left) act (Free d)) ≡ false
+    → is_error (answer_by (Lost k left) act (Free d)) ≡ false
     → serve_by (Lost k left) (record { unit = unit; act = act }) (Free d) disks
     ≡ serve_by Done (record { unit = unit; act = act }) (Free d) disks
 free-clean k left unit (Read lbn bytes) disks d h = absurd (cc)
@@ -25,8 +25,8 @@ free-clean k left unit (Erase lbn bytes) disks d h = absurd (cc)
 free-clean k left unit _ disks d h = refl
 
 bar-clean : (k : ℕ) (left : List ℕ) (r : Request) (disks : Disks) (b : Bar)
-  → is_error (answer_by (Lost k left) r.act b) ≡ false → serve_by (Lost k left) r b disks
-  ≡ serve_by Done r b disks
+    → is_error (answer_by (Lost k left) r.act b) ≡ false → serve_by (Lost k left) r b disks
+    ≡ serve_by Done r b disks
 bar-clean k left r disks (Barred refusal) h = refl
 bar-clean k left r disks (Free d) h = free-clean k left r.unit r.act disks d h
 
@@ -35,12 +35,12 @@ chosen o r disks b = if b then (TooLong, disks) else serve_by o r (bar disks r) 
 
 -- what tells no drive error is as if nothing was lost
 step-clean : (o : Outcome) (r : Request) (disks : Disks) → is_error (step_as o r disks).0 ≡ false
-  → step_as o r disks ≡ step r disks
+    → step_as o r disks ≡ step r disks
 step-clean Done r disks h = refl
 step-clean (Lost k left) r disks h = by (too_long r) h
   where
     by : (b : Bool) → is_error (chosen (Lost k left) r disks b).0 ≡ false → chosen (Lost k left) r disks b
-      ≡ chosen Done r disks b
+        ≡ chosen Done r disks b
     by true e = refl
     by false e = bar-clean k left r disks (bar disks r) e
 
@@ -55,8 +55,8 @@ no_error r a h = by (is_error a) refl
     by true e = let one : tells_error r.unit r a ≡ 1 = rw (own, e) refl in absurd (omega arith)
 
 plain_as-clean : (xs : List FixedRequest) (disks : Disks)
-  → ((u : ℕ) → drive_errors u (requests_of xs) (plain_as disks xs).0 ≡ 0) → plain_as disks xs
-  ≡ plain disks (requests_of xs)
+    → ((u : ℕ) → drive_errors u (requests_of xs) (plain_as disks xs).0 ≡ 0) → plain_as disks xs
+    ≡ plain disks (requests_of xs)
 plain_as-clean [] disks h = refl
 plain_as-clean (d ∷ ds) disks h =
     let r = d.request in
@@ -72,7 +72,7 @@ losses_told start requests answers left h none =
     let at : List Answer → List Request → Type 0 = λ as' rs. (u : ℕ) → drive_errors u rs as' ≡ 0 in
     let given : (u : ℕ) → drive_errors u (requests_of h.fixed) (plain_as start h.fixed).0 ≡ 0 = λ u.
     ap (λ (x : List Answer × Disks). drive_errors u (requests_of h.fixed) x.0) h.gives
-      ∙ ap (λ (rs : List Request). drive_errors u rs answers) h.are_requests ∙ none u in
+    ∙ ap (λ (rs : List Request). drive_errors u rs answers) h.are_requests ∙ none u in
     sym h.gives ∙ plain_as-clean h.fixed start given ∙ ap (plain start) h.are_requests
 
 -- TooLong tells no drive error
@@ -85,7 +85,7 @@ tells-long u r = by (nat_eq r.unit u)
 
 -- an answer that is told in place of TooLong
 pub errors-set : (u : ℕ) (requests : List Request) (told : List Answer) (k : ℕ) (r : Request) (a : Answer)
-  → slice_get requests k ≡ Some r → slice_get told k ≡ Some TooLong
+    → slice_get requests k ≡ Some r → slice_get told k ≡ Some TooLong
     → drive_errors u requests (slice_set told k a) ≡ drive_errors u requests told + tells_error u r a
 errors-set u [] told k r a at blank = absurd (cc)
 errors-set u (q ∷ rest) [] k r a at blank = absurd (cc)
@@ -96,8 +96,8 @@ errors-set u (q ∷ rest) (t ∷ ts) (suc k) r a at blank = omega (arith, errors
 
 -- one more request, whose answer is still to come, tells none
 pub errors-push : (u : ℕ) (requests : List Request) (told : List Answer) (r : Request)
-  → length told ≡ length requests → drive_errors u (requests ++ r ∷ []) (told ++ TooLong ∷ [])
-  ≡ drive_errors u requests told
+    → length told ≡ length requests → drive_errors u (requests ++ r ∷ []) (told ++ TooLong ∷ [])
+    ≡ drive_errors u requests told
 errors-push u [] [] r size = omega (arith, tells-long u r)
 errors-push u (q ∷ rest) (t ∷ ts) r size = omega (arith, errors-push u rest ts r (omega arith))
 errors-push u _ _ r size = absurd (omega arith)

@@ -17,18 +17,18 @@ refusal-clean UnitUnknown = refl
 refusal-clean _ = refl
 
 barred-clean : (o : Outcome) (act : Act) (refusal : Refusal) → is_error (answer_by o act (Barred refusal))
-  ≡ false
+    ≡ false
 barred-clean o (Online protect) refusal = refusal-clean refusal
 barred-clean o _ refusal = refusal-clean refusal
 
 -- nor is what a request tells of which nothing is lost
 status-clean : (online : Bool) → (let n : ℕ = if online then SUCCESS else AVAILABLE in nat_eq n DRIVE_ERROR)
-  ≡ false
+    ≡ false
 status-clean true = refl
 status-clean false = refl
 
 online-clean : (online : Bool) → (let n : ℕ = if online then ALREADY_ONLINE else SUCCESS in
-  nat_eq n DRIVE_ERROR) ≡ false
+    nat_eq n DRIVE_ERROR) ≡ false
 online-clean true = refl
 online-clean false = refl
 
@@ -40,7 +40,7 @@ done-clean _ (Free d) = refl
 
 -- and one that is lost tells one
 lost-told : (k : ℕ) (left : List ℕ) (act : Act) (b : Bar) → is_free b ≡ true → k < blocks_named act
-  → is_error (answer_by (Lost k left) act b) ≡ true
+    → is_error (answer_by (Lost k left) act b) ≡ true
 lost-told k left act (Barred refusal) h l = absurd (cc)
 lost-told k left (Read lbn bytes) (Free d) h l = refl
 lost-told k left (Access lbn bytes) (Free d) h l = refl
@@ -49,13 +49,13 @@ lost-told k left (Erase lbn bytes) (Free d) h l = refl
 lost-told k left _ (Free d) h l = absurd (omega arith)
 
 by_outcome : (o : Outcome) (act : Act) (b : Bar) → FitsCount (blocks_named act) o
-  → (is_lost o ≡ true → is_free b ≡ true) → is_error (answer_by o act b) ≡ is_lost o
+    → (is_lost o ≡ true → is_free b ≡ true) → is_error (answer_by o act b) ≡ is_lost o
 by_outcome Done act b f acts = done-clean act b
 by_outcome (Lost k left) act b f acts = lost-told k left act b (acts refl) f.0
 
 pub error-lost : (o : Outcome) (r : Request) (disks : Disks) → too_long r ≡ false
-  → FitsCount (blocks_named r.act) o → (is_lost o ≡ true → is_free (bar disks r) ≡ true)
-  → is_error (step_as o r disks).0 ≡ is_lost o
+    → FitsCount (blocks_named r.act) o → (is_lost o ≡ true → is_free (bar disks r) ≡ true)
+    → is_error (step_as o r disks).0 ≡ is_lost o
 error-lost o r disks short f acts =
     let is : step_as o r disks ≡ serve_as o r disks = rw short refl in
     ap (λ (x : Answer × Disks). is_error x.0) is ∙ by_outcome o r.act (bar disks r) f acts

@@ -21,7 +21,7 @@ use Rattle.uda_disk.proofs.Lists.{slice_get-last, slice_get-before}
 use Rattle.uda_driver.specs.Blank.{Prepared, IsBlank, AreBlank}
 
 pub blank_more : (requests : List CodeRequest) (i : ℕ) (answers : List CodeAnswer) (request : CodeRequest)
-  (a : CodeAnswer) → length answers ≡ i → i < length requests → request ≡ get_or requests i request
+    (a : CodeAnswer) → length answers ≡ i → i < length requests → request ≡ get_or requests i request
     → (too_long (request_value request) ≡ true → a ≡ TooLong)
     → (too_long (request_value request) ≡ false → Prepared (request_value request) a)
     → AreBlank (request_values requests) 0 answers → AreBlank (request_values requests) 0 (answers ++ a ∷ [])
@@ -32,31 +32,34 @@ blank_more requests i answers request a size lt is long room all k r b le at tol
           let b_is : a ≡ b = cc in
           let stands : slice_get (request_values requests) k ≡ Some (request_value request) =
           ap (slice_get (request_values requests)) same ∙ slice_get-map request_value requests i
-            ∙ ap (option_map request_value) (slice_get-get_or requests i request lt
-            ∙ ap (λ (x : CodeRequest). Some x) (sym is)) in
+          ∙ ap (option_map request_value) (slice_get-get_or requests i request lt
+          ∙ ap (λ (x : CodeRequest). Some x) (sym is)) in
           let both : Some r ≡ Some (request_value request) = sym at ∙ stands in
           let r_is : request_value request ≡ r = cc in
           subst₂ IsBlank r_is b_is (record { long = long; room = room })
       | inr other ↦
-          let low : k < length answers = omega (arith, slice_get_within (answers ++ a ∷ []) k b told,
-            length_push answers a) in
+          let low : k < length answers = omega (
+            arith,
+            slice_get_within (answers ++ a ∷ []) k b told,
+            length_push answers a,
+          ) in
           all k r b le at (sym (slice_get-before answers a k low) ∙ told)
     ]
 
 -- ---- an answer by its end reads no more of a buffer than its command has
 
 small_read : (unit lbn bytes size : ℕ) → too_long (record { unit = unit; act = Read lbn bytes }) ≡ false
-  → size ≡ 16384 → bytes ≤ size
+    → size ≡ 16384 → bytes ≤ size
 small_read unit lbn bytes size short is = grind (arith, nat_tests)
 
 answer-in_buffer : (unit : ℕ) (act : Act) (e : End) (memory : List ℕ) (address size : ℕ)
-  → too_long (record { unit = unit; act = act }) ≡ false → size ≡ 16384
+    → too_long (record { unit = unit; act = act }) ≡ false → size ≡ 16384
     → answer_of act e (take (room_of (op_of act 0)) (part memory address size)) ≡ answer_of act e
     (part memory (buffer_start (op_of act address)) (room_of (op_of act address)))
 unfolding part
 answer-in_buffer unit (Read lbn bytes) e memory address size short is =
     ap (λ (b : List ℕ). Data e.status (take (bytes_of e.body) b))
-      (take-take bytes size (drop address memory) (small_read unit lbn bytes size short is))
+    (take-take bytes size (drop address memory) (small_read unit lbn bytes size short is))
 answer-in_buffer unit (Online protect) e memory address size short is = refl
 answer-in_buffer unit Available e memory address size short is = refl
 answer-in_buffer unit Status e memory address size short is = refl
@@ -66,9 +69,9 @@ answer-in_buffer unit (Erase lbn bytes) e memory address size short is = refl
 
 -- the answer that is told is by the request's end and its buffer
 pub answer_told : (r : Request) (e : End) (memory : List ℕ) (address : ℕ) (told : CodeAnswer)
-  → too_long r ≡ false
+    → too_long r ≡ false
     → answer_value told ≡ answer_of r.act e (take (room_of (op_of r.act 0)) (part memory address 16384))
     → answer_value told ≡ answer_of r.act e
     (part memory (buffer_start (op_of r.act address)) (room_of (op_of r.act address)))
 answer_told r e memory address told short tells = tells
-  ∙ answer-in_buffer r.unit r.act e memory address 16384 short refl
+    ∙ answer-in_buffer r.unit r.act e memory address 16384 short refl

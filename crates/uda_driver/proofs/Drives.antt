@@ -9,7 +9,7 @@ drives_in_fresh (Some drive ∷ rest) = ap (λ l. Some drive ∷ l) (drives_in_f
 
 -- units that are fresh stay so in a reset
 pub reset_fresh : (drives : List (Option DriveState)) → map reset_unit (fresh_units drives)
-  ≡ fresh_units drives
+    ≡ fresh_units drives
 reset_fresh [] = refl
 reset_fresh (None ∷ rest) = ap (λ l. None ∷ l) (reset_fresh rest)
 reset_fresh (Some drive ∷ rest) = λ i. Some (fresh_unit drive) ∷ reset_fresh rest i

@@ -17,16 +17,16 @@ use Rattle.uda_driver.specs.declared.buffers.Out.{Out}
 
 -- what stands in a list where an item was set is that item, or stood there
 pub set_at : {A : Type 0} (xs : List A) (i k : ℕ) (a b : A) → i < length xs → slice_get (set xs i a) k
-  ≡ Some b → ((k ≡ i) × (a ≡ b)) ⊎ ((k ≢ i) × (slice_get xs k ≡ Some b))
+    ≡ Some b → ((k ≡ i) × (a ≡ b)) ⊎ ((k ≢ i) × (slice_get xs k ≡ Some b))
 set_at xs i k a b within stands = elim (cases_eq k i) [
   | inl same ↦ (let both : Some a ≡ Some b = sym (slice_get-set_same xs i a within)
-    ∙ ap (slice_get (set xs i a)) (sym same) ∙ stands in let is : a ≡ b = cc in inl (same, is))
+      ∙ ap (slice_get (set xs i a)) (sym same) ∙ stands in let is : a ≡ b = cc in inl (same, is))
   | inr other ↦ inr (other, sym (slice_get-set_other xs i k a other) ∙ stands)
 ]
 
 -- where one was taken back, what is out was so with another buffer
 pub freed_at : (out : List (Option Out)) (number k : ℕ) (one : Out) → number < length out
-  → slice_get (set out number None) k ≡ Some (Some one) → (k ≢ number) × (slice_get out k ≡ Some (Some one))
+    → slice_get (set out number None) k ≡ Some (Some one) → (k ≢ number) × (slice_get out k ≡ Some (Some one))
 freed_at out number k one within stands = elim (set_at out number k None (Some one) within stands) [
   | inl it ↦ (let is = it.1 in absurd (cc))
   | inr it ↦ it
@@ -35,7 +35,7 @@ freed_at out number k one within stands = elim (set_at out number k None (Some o
 -- ---- how many are out
 
 pub count-taken : (out : List (Option Out)) (number : ℕ) (one : Out) → slice_get out number ≡ Some None
-  → count_out (set out number (Some one)) ≡ count_out out + 1
+    → count_out (set out number (Some one)) ≡ count_out out + 1
 count-taken [] number one free = absurd (cc)
 count-taken (None ∷ rest) zero one free = omega arith
 count-taken (Some other ∷ rest) zero one free = absurd (cc)
@@ -43,7 +43,7 @@ count-taken (None ∷ rest) (suc number) one free = count-taken rest number one 
 count-taken (Some other ∷ rest) (suc number) one free = omega (arith, count-taken rest number one free)
 
 pub count-freed : (out : List (Option Out)) (number : ℕ) (one : Out) → slice_get out number ≡ Some (Some one)
-  → count_out (set out number None) + 1 ≡ count_out out
+    → count_out (set out number None) + 1 ≡ count_out out
 count-freed [] number one stands = absurd (cc)
 count-freed (None ∷ rest) zero one stands = absurd (cc)
 count-freed (Some other ∷ rest) zero one stands = omega arith
@@ -55,7 +55,7 @@ pub some_free : (out : List (Option Out)) → count_out out < length out → Has
 some_free [] few = absurd (omega arith)
 some_free (None ∷ rest) few = record { number = 0; stands = refl }
 some_free (Some one ∷ rest) few =
-  let it = some_free rest (omega arith) in record { number = suc it.number; stands = it.stands }
+    let it = some_free rest (omega arith) in record { number = suc it.number; stands = it.stands }
 
 -- ---- clashes
 
@@ -65,26 +65,27 @@ clashing_out r (None ∷ rest) met = clashing_out r rest met
 clashing_out r (Some one ∷ rest) met = omega arith
 
 pub no_clash_at : (r : Request) (out : List (Option Out)) (number : ℕ) (one : Out) → clashes_with_any r out
-  ≡ false → slice_get out number ≡ Some (Some one) → clashes_with r (Some one) ≡ false
+    ≡ false → slice_get out number ≡ Some (Some one) → clashes_with r (Some one) ≡ false
 no_clash_at r out number one none stands = by (clashes_with r (Some one)) refl
   where
     by : (met : Bool) → clashes_with r (Some one) ≡ met → met ≡ false
     by false is = refl
     by true is =
-      let some = list_any_at (clashes_with r) out number None (slice_get_within out number (Some one) stands)
+        let some = list_any_at (clashes_with r) out number None
+        (slice_get_within out number (Some one) stands)
         (ap (clashes_with r) (get_or_from_slice_get out number (Some one) None stands) ∙ is) in
-      sym some ∙ none
+        sym some ∙ none
 
 -- one more clashes as it does, and else those that were out
 pub clashes-taken : (r : Request) (out : List (Option Out)) (number : ℕ) (one : Out) → slice_get out number
-  ≡ Some None
+    ≡ Some None
     → clashes_with_any r (set out number (Some one)) ≡ clashes_with r (Some one) || clashes_with_any r out
 clashes-taken r [] number one free = absurd (cc)
 clashes-taken r (None ∷ rest) zero one free = refl
 clashes-taken r (Some other ∷ rest) zero one free = absurd (cc)
 clashes-taken r (slot ∷ rest) (suc number) one free =
     ap (λ (b : Bool). clashes_with r slot || b) (clashes-taken r rest number one free)
-      ∙ between (clashes_with r slot) (clashes_with r (Some one)) (clashes_with_any r rest)
+    ∙ between (clashes_with r slot) (clashes_with r (Some one)) (clashes_with_any r rest)
   where
     between : (a b c : Bool) → a || (b || c) ≡ b || (a || c)
     between true true c = refl
@@ -95,37 +96,41 @@ clashes-taken r (slot ∷ rest) (suc number) one free =
 
 -- a buffer that passes isn't missed
 pub never_missed : (p : Option Out → Bool) (out : List (Option Out)) (number : ℕ) (slot : Option Out)
-  → slice_get out number ≡ Some slot → p slot ≡ true → None ≡ position p out → ⊥
+    → slice_get out number ≡ Some slot → p slot ≡ true → None ≡ position p out → ⊥
 never_missed p out number slot stands passes none = elim (cases_lt (position_or_len p out) (length out)) [
   | inl low ↦ (let is : None ≡ Some (position_or_len p out) = none
-    ∙ rw (lt-ltb (position_or_len p out) (length out) low) refl in cc)
+      ∙ rw (lt-ltb (position_or_len p out) (length out) low) refl in cc)
   | inr past ↦
       let fails = fails_before_first p out number None
-        (omega (arith, past, slice_get_within out number slot stands)) in
+      (omega (arith, past, slice_get_within out number slot stands)) in
       let same = get_or_from_slice_get out number slot None stands in
       let both : true ≡ false = sym passes ∙ ap p (sym same) ∙ fails in absurd (cc)
 ]
 
 -- what the first that passes holds
 pub record IsFound (p : Option Out → Bool) (out : List (Option Out)) (number : ℕ)
-  (slot : Option Out) : Type 0 where
+    (slot : Option Out) : Type 0 where
   pub low : number < length out
   pub stands : slice_get out number ≡ Some slot
   pub passes : p slot ≡ true
 
 pub is_found : (p : Option Out → Bool) (out : List (Option Out)) (number : ℕ) (d slot : Option Out)
-  → Some number ≡ position p out → slot ≡ get_or out number d → IsFound p out number slot
+    → Some number ≡ position p out → slot ≡ get_or out number d → IsFound p out number slot
 is_found p out number d slot is same =
     let it = position-Some p out number d (sym is) in
-    record { low = it.0; stands = slice_get-get_or out number d it.0 ∙ ap Some (sym same); passes = ap p same
-      ∙ it.1 }
+    record {
+      low = it.0;
+      stands = slice_get-get_or out number d it.0 ∙ ap Some (sym same);
+      passes = ap p same
+          ∙ it.1;
+    }
 
 pub found_free : (out : List (Option Out)) (number : ℕ) → Some number ≡ position (λ slot. is_none slot) out
-  → IsFound (λ slot. is_none slot) out number None
+    → IsFound (λ slot. is_none slot) out number None
 found_free out number is = by (get_or out number None)
-  (is_found (λ slot. is_none slot) out number None _ is refl)
+    (is_found (λ slot. is_none slot) out number None _ is refl)
   where
     by : (slot : Option Out) → IsFound (λ s. is_none s) out number slot
-      → IsFound (λ s. is_none s) out number None
+        → IsFound (λ s. is_none s) out number None
     by None found = found
     by (Some one) found = let passes = found.passes in absurd (cc)

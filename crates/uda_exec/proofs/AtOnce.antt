@@ -23,37 +23,47 @@ unfolding part
 take-part xs at n m h = take-take m n (drop at xs) h
 
 -- no byte behind the chunks counts
-chunks-front : (count : ℕ) (bytes : List ℕ) → first_chunks 512 count (take (512 * count) bytes) ≡ first_chunks 512 count bytes
+chunks-front : (count : ℕ) (bytes : List ℕ) → first_chunks 512 count (take (512 * count) bytes)
+    ≡ first_chunks 512 count bytes
 unfolding part
 chunks-front count bytes =
     let left = length-first_chunks count (take (512 * count) bytes) in
     same_lists _ _ (left ∙ sym (length-first_chunks count bytes)) (λ i d below.
     let within : i < count = omega (arith, left) in
-    get_or-chunks count (take (512 * count) bytes) i d within ∙ part-part bytes 0 (512 * count) (512 * i) 512 (omega arith)
+    get_or-chunks count (take (512 * count) bytes) i d within ∙ part-part bytes 0 (512 * count) (512 * i) 512
+    (omega arith)
     ∙ ap (λ j. part bytes j 512) (omega arith) ∙ sym (get_or-chunks count bytes i d within))
 
 -- nothing was moved, and nothing changed
-pub none_ahead : (t : Transfer) (old new : StoreState) (memory memory_after : List ℕ) → new ≡ old → memory_after ≡ memory → Progress t 0 old memory new memory_after
+pub none_ahead : (t : Transfer) (old new : StoreState) (memory memory_after : List ℕ) → new ≡ old
+    → memory_after ≡ memory → Progress t 0 old memory new memory_after
 none_ahead t old new memory memory_after same kept = rw (same, kept) (progress_none t old memory)
 
 -- bytes that came to a range's front changed no more than the range
-pub changes_front : (old : List ℕ) (at n : ℕ) (to new : List ℕ) → new ≡ put old at to → length to ≤ n → ChangesAt old at n new
-changes_front old at n to new landed size = rw landed (changes_by_put old at n at to (omega arith) (omega arith))
+pub changes_front : (old : List ℕ) (at n : ℕ) (to new : List ℕ) → new ≡ put old at to → length to ≤ n
+    → ChangesAt old at n new
+changes_front old at n to new landed size =
+    rw landed (changes_by_put old at n at to (omega arith) (omega arith))
 
 -- the bytes that stood there already change nothing
-pub same_put_back : (memory : List ℕ) (at n : ℕ) (to new : List ℕ) → new ≡ put memory at to → to ≡ part memory at n → new ≡ memory
+pub same_put_back : (memory : List ℕ) (at n : ℕ) (to new : List ℕ) → new ≡ put memory at to
+    → to ≡ part memory at n → new ≡ memory
 same_put_back memory at n to new landed same = landed ∙ ap (put memory at) same ∙ put-part memory at n
 
 module _ (t : Transfer) (count : ℕ) (old : StoreState) (memory : List ℕ) (whole : 512 * count ≤ t.bytes) where
-  pub reads_ahead : IsImage old.size old.blocks → t.lbn + block_count t ≤ old.size → t.kind ≡ Read → (new : StoreState) (to after : List ℕ) → ReadsBlocks old t.lbn count new to
+  pub reads_ahead : IsImage old.size old.blocks → t.lbn + block_count t ≤ old.size → t.kind ≡ Read
+      → (new : StoreState) (to after : List ℕ) → ReadsBlocks old t.lbn count new to
       → after ≡ put memory t.buffer to → Progress t count old memory new after
   reads_ahead image on_unit is new to after r stands =
       let here : List (List ℕ) = part old.blocks t.lbn count in
-      let due : take count (part old.blocks t.lbn (block_count t)) ≡ here = take-part old.blocks t.lbn (block_count t) count (omega arith) in
+      let due : take count (part old.blocks t.lbn (block_count t)) ≡ here = take-part old.blocks t.lbn
+      (block_count t) count (omega arith) in
       let many : length here ≡ count = length-part-le old.blocks t.lbn count (omega (arith, image.counted)) in
-      let size : length (concat here) ≡ 512 * count = length-concat_blocks here (AreBlocks-part old.blocks t.lbn count (λ some. image.whole)) ∙ ap (λ i. 512 * i) many in
+      let size : length (concat here) ≡ 512 * count = length-concat_blocks here
+      (AreBlocks-part old.blocks t.lbn count (λ some. image.whole)) ∙ ap (λ i. 512 * i) many in
       let landed : to ≡ take t.bytes (concat (take count (part old.blocks t.lbn (block_count t)))) =
-      r.value ∙ sym (ap (λ (bs : List (List ℕ)). take t.bytes (concat bs)) due ∙ take_all t.bytes (concat here) (omega (arith, size))) in
+      r.value ∙ sym (ap (λ (bs : List (List ℕ)). take t.bytes (concat bs)) due
+      ∙ take_all t.bytes (concat here) (omega (arith, size))) in
       record {
         stand = record {
           in_memory = stands ∙ rw is (ap (λ (b : List ℕ). put memory t.buffer b) landed);
@@ -63,47 +73,62 @@ module _ (t : Transfer) (count : ℕ) (old : StoreState) (memory : List ℕ) (wh
         calls = r.calls;
       }
 
-  pub writes_ahead : t.buffer + t.bytes ≤ length memory → t.kind ≡ Write → (new : StoreState) → WritesBlocks old t.lbn count new (part memory t.buffer (512 * count))
+  pub writes_ahead : t.buffer + t.bytes ≤ length memory → t.kind ≡ Write → (new : StoreState)
+      → WritesBlocks old t.lbn count new (part memory t.buffer (512 * count))
       → Progress t count old memory new memory
   writes_ahead room is new w =
       let bytes : List ℕ = part memory t.buffer t.bytes in
       let zeros : List ℕ = replicate 512 0 in
       let size : length bytes ≡ t.bytes = length-part-le memory t.buffer t.bytes room in
       let front : take (512 * count) (bytes ++ zeros) ≡ part memory t.buffer (512 * count) =
-      take-append-le (512 * count) bytes zeros (omega (arith, size)) ∙ take-part memory t.buffer t.bytes (512 * count) whole in
-      let due : take count (in_blocks (bytes_at memory t.buffer t.bytes)) ≡ first_chunks 512 count (part memory t.buffer (512 * count)) =
+      take-append-le (512 * count) bytes zeros (omega (arith, size)) ∙ take-part memory t.buffer t.bytes
+      (512 * count) whole in
+      let due : take count (in_blocks (bytes_at memory t.buffer t.bytes)) ≡ first_chunks 512 count
+      (part memory t.buffer (512 * count)) =
       ap (λ (b : List ℕ). take count (in_blocks b)) (bytes_at-within memory t.buffer t.bytes room)
-      ∙ take-chunks count (blocks_for (length bytes)) (bytes ++ zeros) (omega (arith, size)) ∙ sym (chunks-front count (bytes ++ zeros)) ∙ ap (λ (b : List ℕ). first_chunks 512 count b) front in
+      ∙ take-chunks count (blocks_for (length bytes)) (bytes ++ zeros) (omega (arith, size))
+      ∙ sym (chunks-front count (bytes ++ zeros)) ∙ ap (λ (b : List ℕ). first_chunks 512 count b) front in
       record {
         stand = record {
           in_memory = rw is (sym (put-nil memory t.buffer));
-          in_store = rw is (ap (λ (s : StoreState). s.blocks) w.written ∙ ap (λ (bs : List (List ℕ)). put old.blocks t.lbn bs) (sym due));
+          in_store = rw is (ap (λ (s : StoreState). s.blocks) w.written
+              ∙ ap (λ (bs : List (List ℕ)). put old.blocks t.lbn bs) (sym due));
         };
         failures_stay = ap (λ (s : StoreState). s.failures) w.written;
         calls = w.calls;
       }
 
-module _ (t : Transfer) (k count : ℕ) (old : StoreState) (memory : List ℕ) (now : StoreState) (memory_now : List ℕ)
+module _ (t : Transfer) (k count : ℕ) (old : StoreState) (memory : List ℕ) (now : StoreState)
+    (memory_now : List ℕ)
     (h : Progress t k old memory now memory_now) (new : StoreState) where
   -- the zeros of so many blocks come to those of the first k
-  erased_on : k + count ≤ block_count t → put (put old.blocks t.lbn (take k (replicate (block_count t) (replicate 512 0)))) (t.lbn + k) (replicate count (replicate 512 0))
+  erased_on : k + count ≤ block_count t
+      → put (put old.blocks t.lbn (take k (replicate (block_count t) (replicate 512 0)))) (t.lbn + k)
+      (replicate count (replicate 512 0))
       ≡ put old.blocks t.lbn (take (k + count) (replicate (block_count t) (replicate 512 0)))
   erased_on within =
       let block : List ℕ = replicate 512 0 in
-      let front : take k (replicate (block_count t) block) ≡ replicate k block = take-replicate k (block_count t) block (omega arith) in
-      let both : take (k + count) (replicate (block_count t) block) ≡ replicate (k + count) block = take-replicate (k + count) (block_count t) block (omega arith) in
+      let front : take k (replicate (block_count t) block) ≡ replicate k block =
+      take-replicate k (block_count t) block (omega arith) in
+      let both : take (k + count) (replicate (block_count t) block) ≡ replicate (k + count) block =
+      take-replicate (k + count) (block_count t) block (omega arith) in
       ap (λ (b : List (List ℕ)). put (put old.blocks t.lbn b) (t.lbn + k) (replicate count block)) front
-      ∙ put-put_next old.blocks t.lbn (replicate k block) (replicate count block) (t.lbn + k) (ap (λ i. t.lbn + i) (sym (length-replicate k block)))
-      ∙ ap (λ (b : List (List ℕ)). put old.blocks t.lbn b) (replicate-append-replicate k count block ∙ sym both)
+      ∙ put-put_next old.blocks t.lbn (replicate k block) (replicate count block) (t.lbn + k)
+      (ap (λ i. t.lbn + i) (sym (length-replicate k block)))
+      ∙ ap (λ (b : List (List ℕ)). put old.blocks t.lbn b)
+      (replicate-append-replicate k count block ∙ sym both)
 
-  pub erases_on : t.kind ≡ Erase → k + count ≤ block_count t → Erased now (t.lbn + k) count new → Progress t (k + count) old memory new memory_now
+  pub erases_on : t.kind ≡ Erase → k + count ≤ block_count t → Erased now (t.lbn + k) count new
+      → Progress t (k + count) old memory new memory_now
   erases_on is within e =
-      let before : now.blocks ≡ put old.blocks t.lbn (take k (replicate (block_count t) (replicate 512 0))) = rw is at h.stand.in_store in
+      let before : now.blocks ≡ put old.blocks t.lbn (take k (replicate (block_count t) (replicate 512 0))) =
+      rw is at h.stand.in_store in
       record {
         stand = record {
           in_memory = h.stand.in_memory ∙ rw is refl;
           in_store = rw is (ap (λ (s : StoreState). s.blocks) e.written
-              ∙ ap (λ (b : List (List ℕ)). put b (t.lbn + k) (replicate count (replicate 512 0))) before ∙ erased_on within);
+              ∙ ap (λ (b : List (List ℕ)). put b (t.lbn + k) (replicate count (replicate 512 0))) before
+              ∙ erased_on within);
         };
         failures_stay = ap (λ (s : StoreState). s.failures) e.written ∙ h.failures_stay;
         calls = go_more k count old.fails_in now.fails_in new.fails_in h.calls e.calls;
@@ -130,27 +155,35 @@ erased_none old n = record {
 pub accessed_none : (old : StoreState) → Accessed old 0 old
 accessed_none old = record { state_stays = refl; calls = go_none old.fails_in }
 
-pub accessed_more : (old now new : StoreState) (n done piece : ℕ) (to : List ℕ) → Accessed old done now → ReadsBlocks now n piece new to → Accessed old (done + piece) new
+pub accessed_more : (old now new : StoreState) (n done piece : ℕ) (to : List ℕ) → Accessed old done now
+    → ReadsBlocks now n piece new to → Accessed old (done + piece) new
 accessed_more old now new n done piece to before r = record {
-  state_stays = r.state_stays ∙ ap (λ (s : StoreState). record s { fails_in = new.fails_in }) before.state_stays;
+  state_stays = r.state_stays ∙ ap (λ (s : StoreState). record s { fails_in = new.fails_in })
+      before.state_stays;
   calls = go_more done piece old.fails_in now.fails_in new.fails_in before.calls r.calls;
 }
 
 -- zeros in so many chunks
-chunks-zeros : (count : ℕ) (from : List ℕ) → from ≡ replicate (512 * count) 0 → first_chunks 512 count from ≡ replicate count (replicate 512 0)
-chunks-zeros count from e = ap (λ (b : List ℕ). first_chunks 512 count b) e ∙ first_chunks-replicate 512 count 0
+chunks-zeros : (count : ℕ) (from : List ℕ) → from ≡ replicate (512 * count) 0 → first_chunks 512 count from
+    ≡ replicate count (replicate 512 0)
+chunks-zeros count from e = ap (λ (b : List ℕ). first_chunks 512 count b) e
+    ∙ first_chunks-replicate 512 count 0
 
-pub erased_more : (old now new : StoreState) (n done piece : ℕ) (from : List ℕ) → from ≡ replicate (512 * piece) 0 → Erased old n done now → WritesBlocks now (n + done) piece new from
+pub erased_more : (old now new : StoreState) (n done piece : ℕ) (from : List ℕ)
+    → from ≡ replicate (512 * piece) 0 → Erased old n done now → WritesBlocks now (n + done) piece new from
     → Erased old n (done + piece) new
 erased_more old now new n done piece from zeros before w =
     let block : List ℕ = replicate 512 0 in
     let more : List (List ℕ) = first_chunks 512 piece from in
-    let both : put (put old.blocks n (replicate done block)) (n + done) more ≡ put old.blocks n (replicate (done + piece) block) =
-    put-put_next old.blocks n (replicate done block) more (n + done) (ap (λ i. n + i) (sym (length-replicate done block)))
+    let both : put (put old.blocks n (replicate done block)) (n + done) more ≡ put old.blocks n
+    (replicate (done + piece) block) =
+    put-put_next old.blocks n (replicate done block) more (n + done)
+    (ap (λ i. n + i) (sym (length-replicate done block)))
     ∙ ap (λ (b : List (List ℕ)). put old.blocks n (replicate done block ++ b)) (chunks-zeros piece from zeros)
     ∙ ap (λ (b : List (List ℕ)). put old.blocks n b) (replicate-append-replicate done piece block) in
     record {
-      written = w.written ∙ ap (λ (s : StoreState). record s { blocks = put s.blocks (n + done) more; fails_in = new.fails_in }) before.written
+      written = w.written ∙ ap (λ (s : StoreState).
+          record s { blocks = put s.blocks (n + done) more; fails_in = new.fails_in }) before.written
           ∙ ap (λ (b : List (List ℕ)). record old { blocks = b; fails_in = new.fails_in }) both;
       calls = go_more done piece old.fails_in now.fails_in new.fails_in before.calls w.calls;
     }

@@ -11,22 +11,30 @@ use Rattle.uda_disk.specs.Request.{blocks_for, in_blocks, first_block}
 use Rattle.uda_exec.specs.Commands.{bytes_at}
 
 -- of a block's bytes or more the first block is the first 512
-pub first_block-whole : (memory : List ℕ) (at n : ℕ) → 512 ≤ n → at + n ≤ length memory → first_block (part memory at n) ≡ part memory at 512
+pub first_block-whole : (memory : List ℕ) (at n : ℕ) → 512 ≤ n → at + n ≤ length memory
+    → first_block (part memory at n) ≡ part memory at 512
 unfolding part
 first_block-whole memory at n h room =
-    let size : length (take n (drop at memory)) ≡ n = length-take-le n (drop at memory) (omega (arith, length-drop at memory)) in
-    take-append-le 512 (take n (drop at memory)) (replicate 512 0) (omega (arith, size)) ∙ take-take 512 n (drop at memory) h
+    let size : length (take n (drop at memory)) ≡ n = length-take-le n (drop at memory)
+    (omega (arith, length-drop at memory)) in
+    take-append-le 512 (take n (drop at memory)) (replicate 512 0) (omega (arith, size))
+    ∙ take-take 512 n (drop at memory) h
 
 -- what lies in memory is the front of some block
-pub keeps_front : (memory : List ℕ) (at n : ℕ) → at + n ≤ length memory → memory ≡ put memory at (take n (part memory at n ++ replicate (512 - n) 0))
+pub keeps_front : (memory : List ℕ) (at n : ℕ) → at + n ≤ length memory
+    → memory ≡ put memory at (take n (part memory at n ++ replicate (512 - n) 0))
 keeps_front memory at n room =
-    sym (ap (λ (b : List ℕ). put memory at b) (take_at (part memory at n) (replicate (512 - n) 0) n (length-part-le memory at n room)) ∙ put-part memory at n)
+    sym (ap (λ (b : List ℕ). put memory at b)
+    (take_at (part memory at n) (replicate (512 - n) 0) n (length-part-le memory at n room))
+    ∙ put-part memory at n)
 
 -- a part of a part
-pub part-part : {A : Type 0} (xs : List A) (at n i m : ℕ) → i + m ≤ n → part (part xs at n) i m ≡ part xs (at + i) m
+pub part-part : {A : Type 0} (xs : List A) (at n i m : ℕ) → i + m ≤ n → part (part xs at n) i m
+    ≡ part xs (at + i) m
 part-part xs at n i m h =
     let outer = length-part xs at n in
-    same_lists _ _ (length-part (part xs at n) i m ∙ omega arith ∙ sym (length-part xs (at + i) m)) (λ k d below.
+    same_lists _ _ (length-part (part xs at n) i m ∙ omega arith ∙ sym (length-part xs (at + i) m))
+    (λ k d below.
     let within : k < m = omega (arith, length-part (part xs at n) i m) in
     get_or-part (part xs at n) i m k d within ∙ get_or-part xs at n (i + k) d (omega arith)
     ∙ ap (λ j. get_or xs j d) (omega arith) ∙ sym (get_or-part xs (at + i) m k d within))
@@ -35,17 +43,20 @@ part-part xs at n i m h =
 abbrev pub AreBlocks : List (List ℕ) → Type 0
 AreBlocks blocks = All (λ block. length block ≡ 512) blocks
 
-pub length-concat_blocks : (blocks : List (List ℕ)) → AreBlocks blocks → length (concat blocks) ≡ 512 * length blocks
+pub length-concat_blocks : (blocks : List (List ℕ)) → AreBlocks blocks → length (concat blocks)
+    ≡ 512 * length blocks
 length-concat_blocks [] h = omega arith
 length-concat_blocks (b ∷ bs) h =
     let rest = length-concat_blocks bs (All-tail (λ block. length block ≡ 512) b bs h) in
     let head : length b ≡ 512 = All-head (λ block. length block ≡ 512) b bs h in
     simp length-append (omega arith)
 
-pub AreBlocks-part : (blocks : List (List ℕ)) (at n : ℕ) → (0 < n → AreBlocks blocks) → AreBlocks (part blocks at n)
+pub AreBlocks-part : (blocks : List (List ℕ)) (at n : ℕ) → (0 < n → AreBlocks blocks)
+    → AreBlocks (part blocks at n)
 unfolding part
 AreBlocks-part blocks at zero h = All-nil (λ block. length block ≡ 512)
-AreBlocks-part blocks at (suc n) h = All-take (λ block. length block ≡ 512) (suc n) (drop at blocks) (All-drop (λ block. length block ≡ 512) at blocks (h (omega arith)))
+AreBlocks-part blocks at (suc n) h = All-take (λ block. length block ≡ 512) (suc n) (drop at blocks)
+    (All-drop (λ block. length block ≡ 512) at blocks (h (omega arith)))
 
 pub AreBlocks-take : (blocks : List (List ℕ)) (n : ℕ) → AreBlocks blocks → AreBlocks (take n blocks)
 AreBlocks-take blocks n h = All-take (λ block. length block ≡ 512) n blocks h
@@ -54,16 +65,19 @@ pub AreBlocks-in_blocks : (bytes : List ℕ) → AreBlocks (in_blocks bytes)
 AreBlocks-in_blocks bytes =
     let zeros : List ℕ = replicate 512 0 in
     let none : length zeros ≡ 512 = length-replicate {A = ℕ} 512 0 in
-    All-first_chunks (blocks_for (length bytes)) (bytes ++ zeros) (omega (arith, length-append bytes zeros, none))
+    All-first_chunks (blocks_for (length bytes)) (bytes ++ zeros)
+    (omega (arith, length-append bytes zeros, none))
 
 -- ---- the bytes of a buffer
 
 pub length-bytes_at : (memory : List ℕ) (at n : ℕ) → length (bytes_at memory at n) ≡ n
 length-bytes_at memory at n =
     let there : List ℕ = part memory at n in
-    length-append there (replicate (n - length there) 0) ∙ omega (arith, length-part memory at n, length-replicate {A = ℕ} (n - length there) 0)
+    length-append there (replicate (n - length there) 0)
+    ∙ omega (arith, length-part memory at n, length-replicate {A = ℕ} (n - length there) 0)
 
-pub bytes_at-within : (memory : List ℕ) (at n : ℕ) → at + n ≤ length memory → bytes_at memory at n ≡ part memory at n
+pub bytes_at-within : (memory : List ℕ) (at n : ℕ) → at + n ≤ length memory → bytes_at memory at n
+    ≡ part memory at n
 bytes_at-within memory at n room =
     let there : List ℕ = part memory at n in
     let none : n - length there ≡ 0 = omega (arith, length-part-le memory at n room) in

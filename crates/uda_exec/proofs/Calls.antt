@@ -6,25 +6,32 @@ pub go_none : (left : Option ℕ) → GoWell 0 left left
 go_none None = record { before = tt; sooner = refl }
 go_none (Some left) = record { before = λ some. some; sooner = ap Some (omega arith) }
 
-pub go_more : (n m : ℕ) (old now new : Option ℕ) → GoWell n old now → GoWell m now new → GoWell (n + m) old new
+pub go_more : (n m : ℕ) (old now new : Option ℕ) → GoWell n old now → GoWell m now new
+    → GoWell (n + m) old new
 go_more n m None now new before more =
     let last : GoWell m None new = subst (λ (left : Option ℕ). GoWell m left new) before.sooner more in
     record { before = tt; sooner = last.sooner }
 go_more n m (Some left) now new before more =
-    let last : GoWell m (Some (left - n)) new = subst (λ (left : Option ℕ). GoWell m left new) before.sooner more in
+    let last : GoWell m (Some (left - n)) new = subst (λ (left : Option ℕ). GoWell m left new) before.sooner
+    more in
     record {
-      before = λ some. let behind = before.before some in let further = last.before (omega arith) in omega arith;
+      before = λ some. let behind = before.before some in let further = last.before (omega arith) in
+          omega arith;
       sooner = last.sooner ∙ ap Some (omega arith);
     }
 
 pub go_next : (n : ℕ) (old now new : Option ℕ) → GoWell n old now → GoWell 1 now new → GoWell (suc n) old new
-go_next n old now new before next = subst (λ (calls : ℕ). GoWell calls old new) (add-one n) (go_more n 1 old now new before next)
+go_next n old now new before next = subst (λ (calls : ℕ). GoWell calls old new) (add-one n)
+    (go_more n 1 old now new before next)
 
-pub fails_then : (n : ℕ) (old now new : Option ℕ) → GoWell n old now → FailsAfter 0 now new → FailsAfter n old new
+pub fails_then : (n : ℕ) (old now new : Option ℕ) → GoWell n old now → FailsAfter 0 now new
+    → FailsAfter n old new
 fails_then n None now new before fails =
-    let last : FailsAfter 0 None new = subst (λ (left : Option ℕ). FailsAfter 0 left new) before.sooner fails in
+    let last : FailsAfter 0 None new = subst (λ (left : Option ℕ). FailsAfter 0 left new) before.sooner
+    fails in
     record { now = tt; over = last.over }
 fails_then n (Some left) now new before fails =
-    let last : FailsAfter 0 (Some (left - n)) new = subst (λ (left : Option ℕ). FailsAfter 0 left new) before.sooner fails in
+    let last : FailsAfter 0 (Some (left - n)) new =
+    subst (λ (left : Option ℕ). FailsAfter 0 left new) before.sooner fails in
     let here = last.now in
     record { now = omega arith; over = last.over }

@@ -7,16 +7,21 @@ use Rattle.uda_packet.specs.declared.command.Op.TheVariants.{Read}
 use Rattle.uda_exec.proofs.Words.{put, part, Op, landing_of, room_of, ChangesAt}
 
 -- a write inside the range
-pub changes_by_put : (old : List ℕ) (at n place : ℕ) (bytes : List ℕ) → at ≤ place → place + length bytes ≤ at + n → ChangesAt old at n (put old place bytes)
+pub changes_by_put : (old : List ℕ) (at n place : ℕ) (bytes : List ℕ) → at ≤ place
+    → place + length bytes ≤ at + n → ChangesAt old at n (put old place bytes)
 changes_by_put old at n place bytes from to =
-    let new = put old place bytes in let size = length-part new at n in let stays = length-put old place bytes in
+    let new = put old place bytes in
+    let size = length-part new at n in let stays = length-put old place bytes in
     same_lists _ _ (stays ∙ sym (length-put old at (part new at n))) (λ k d below.
     let within : k < length old = omega arith in
     elim (cases_lt k at) [
-      | inl low ↦ get_or-put_before old place bytes k d within (omega arith) ∙ sym (get_or-put_before old at (part new at n) k d within low)
+      | inl low ↦ get_or-put_before old place bytes k d within (omega arith)
+          ∙ sym (get_or-put_before old at (part new at n) k d within low)
       | inr from ↦ elim (cases_lt k (at + n)) [
-        | inl to ↦ sym (get_or-put_at old at (part new at n) k d within from (omega arith) ∙ get_or-part new at n (k - at) d (omega arith) ∙ ap (λ i. get_or new i d) (omega arith))
-        | inr high ↦ get_or-put_behind old place bytes k d within (omega arith) ∙ sym (get_or-put_behind old at (part new at n) k d within (omega arith))
+        | inl to ↦ sym (get_or-put_at old at (part new at n) k d within from (omega arith)
+            ∙ get_or-part new at n (k - at) d (omega arith) ∙ ap (λ i. get_or new i d) (omega arith))
+        | inr high ↦ get_or-put_behind old place bytes k d within (omega arith)
+            ∙ sym (get_or-put_behind old at (part new at n) k d within (omega arith))
       ]
     ])
 
@@ -32,8 +37,10 @@ length-changes old new at n h = ap length h ∙ length-put old at (part new at n
 
 pub changes_again : (a b c : List ℕ) (at n : ℕ) → ChangesAt a at n b → ChangesAt b at n c → ChangesAt a at n c
 changes_again a b c at n h g =
-    let size_b = length-part b at n in let size_c = length-part c at n in let same = length-changes b c at n g in
-    let over : put (put a at (part b at n)) at (part c at n) ≡ put a at (part c at n) = put-put_same a at (part b at n) (part c at n) (omega arith) in
+    let size_b = length-part b at n in
+    let size_c = length-part c at n in let same = length-changes b c at n g in
+    let over : put (put a at (part b at n)) at (part c at n) ≡ put a at (part c at n) =
+    put-put_same a at (part b at n) (part c at n) (omega arith) in
     g ∙ ap (λ (m : List ℕ). put m at (part c at n)) h ∙ over
 
 -- a command changes no more of its buffer than there is

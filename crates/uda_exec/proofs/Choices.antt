@@ -8,22 +8,26 @@ use Rattle.uda_exec.proofs.Words.{Command, may_pass, MayGo}
 
 -- a command may pass each of the first n
 abbrev pub PassesFirst : List Command → ℕ → Command → Type 0
-PassesFirst pending n command = (i : ℕ) (older : Command) → i < n → slice_get pending i ≡ Some older → may_pass older command ≡ true
+PassesFirst pending n command = (i : ℕ) (older : Command) → i < n → slice_get pending i ≡ Some older
+    → may_pass older command ≡ true
 
 -- and one more, which stands before this place
-pub passes_next : (pending : List Command) (place n : ℕ) (command d : Command) → n < length (take place pending) → may_pass (get_or (take place pending) n d) command ≡ true
+pub passes_next : (pending : List Command) (place n : ℕ) (command d : Command)
+    → n < length (take place pending) → may_pass (get_or (take place pending) n d) command ≡ true
     → PassesFirst pending n command → PassesFirst pending (n + 1) command
 passes_next pending place n command d inside may before i older below at = elim (cases_lt i n) [
   | inl low ↦ before i older low at
   | inr high ↦
       let same : n ≡ i = omega arith in
       let here : get_or (take place pending) n d ≡ older =
-      get_or-take place pending n d (omega (arith, length-take place pending)) ∙ ap (λ k. get_or pending k d) same ∙ get_or_from_slice_get pending i older d at in
+      get_or-take place pending n d (omega (arith, length-take place pending))
+      ∙ ap (λ k. get_or pending k d) same ∙ get_or_from_slice_get pending i older d at in
       rw here at may
 ]
 
 -- one that may pass all before its place may go
-pub goes_if : (pending : List Command) (place n : ℕ) (d : Command) → place < length pending → length (take place pending) ≤ n → PassesFirst pending n (get_or pending place d) → MayGo pending place
+pub goes_if : (pending : List Command) (place n : ℕ) (d : Command) → place < length pending
+    → length (take place pending) ≤ n → PassesFirst pending n (get_or pending place d) → MayGo pending place
 goes_if pending place n d within whole passes = record {
   stands = within;
   passes = λ i older younger below at_i at_place.

@@ -9,25 +9,31 @@ use Rattle.uda_disk.proofs.InBlocks.{get_or-in_blocks}
 use Rattle.uda_exec.proofs.Blocks.{bytes_at-within, part-part}
 
 -- what one block's move may end in
-abbrev pub EndsBlock : Transfer → ℕ → StoreState → List ℕ → StoreState → List ℕ → Result Unit StoreError → Type 0
+abbrev pub EndsBlock : Transfer → ℕ → StoreState → List ℕ → StoreState → List ℕ → Result Unit StoreError
+    → Type 0
 EndsBlock t k old memory new memory_after result =
-    MatchResult result (λ _. MovesBlock t k old memory new memory_after) (λ _. LosesBlock t k old memory new memory_after)
+    MatchResult result (λ _. MovesBlock t k old memory new memory_after)
+    (λ _. LosesBlock t k old memory new memory_after)
 
 set-put : (xs : List (List ℕ)) (n : ℕ) (x : List ℕ) → slice_set xs n x ≡ put xs n (x ∷ [])
 unfolding put
 set-put [] n x = refl
 set-put (y ∷ ys) zero x = ap (λ (zs : List (List ℕ)). x ∷ zs) (sym (take_all (length ys) ys (omega arith)))
-set-put (y ∷ ys) (suc n) x = let rest = set-put ys n x in rw add-one (ap (λ (zs : List (List ℕ)). y ∷ zs) (rw add-one at rest))
+set-put (y ∷ ys) (suc n) x =
+    let rest = set-put ys n x in rw add-one (ap (λ (zs : List (List ℕ)). y ∷ zs) (rw add-one at rest))
 
 module _ (t : Transfer) (k : ℕ) (old : StoreState) (memory : List ℕ) (new : StoreState) where
   -- the store reads into memory itself, whether it fails or not
-  pub reads_block : changes_blocks t.kind ≡ false → (to memory_after : List ℕ) (result : Result Unit StoreError) → length to ≡ 512
-      → get_or (blocks_due t old.blocks memory) k [] ≡ get_or old.blocks (t.lbn + k) [] → memory_after ≡ put memory (t.buffer + 512 * k) (bytes_landing_of t k to)
+  pub reads_block : changes_blocks t.kind ≡ false
+      → (to memory_after : List ℕ) (result : Result Unit StoreError) → length to ≡ 512
+      → get_or (blocks_due t old.blocks memory) k [] ≡ get_or old.blocks (t.lbn + k) []
+      → memory_after ≡ put memory (t.buffer + 512 * k) (bytes_landing_of t k to)
       → Reads old (t.lbn + k) new to result → EndsBlock t k old memory new memory_after result
   reads_block keeps to memory_after (Ok u) whole due e h = record {
     stands = record {
       in_memory = rw (due ∙ get_or_from_slice_get old.blocks (t.lbn + k) to [] h.value) e;
-      in_store = rw keeps (ap (λ (s : StoreState). s.blocks) h.state_stays ∙ sym (put-nil old.blocks (t.lbn + k)));
+      in_store = rw keeps (ap (λ (s : StoreState). s.blocks) h.state_stays
+          ∙ sym (put-nil old.blocks (t.lbn + k)));
     };
     failures_stay = ap (λ (s : StoreState). s.failures) h.state_stays;
     calls = h.calls;
@@ -35,17 +41,24 @@ module _ (t : Transfer) (k : ℕ) (old : StoreState) (memory : List ℕ) (new : 
   reads_block keeps to memory_after (Err f) whole due e h = record {
     left = to;
     whole = whole;
-    stands = record { in_memory = e; in_store = rw keeps (ap (λ (s : StoreState). s.blocks) h.counted ∙ sym (put-nil old.blocks (t.lbn + k))) };
+    stands = record {
+      in_memory = e;
+      in_store =
+          rw keeps (ap (λ (s : StoreState). s.blocks) h.counted ∙ sym (put-nil old.blocks (t.lbn + k)));
+    };
     counted = ap (λ (s : StoreState). s.failures) h.counted;
     calls = h.calls;
   }
 
-  pub writes_block : changes_blocks t.kind ≡ true → changes_memory t.kind ≡ false → (from : List ℕ) (result : Result Unit StoreError)
-      → get_or (blocks_due t old.blocks memory) k [] ≡ from → Writes old (t.lbn + k) new from result → EndsBlock t k old memory new memory result
+  pub writes_block : changes_blocks t.kind ≡ true → changes_memory t.kind ≡ false
+      → (from : List ℕ) (result : Result Unit StoreError)
+      → get_or (blocks_due t old.blocks memory) k [] ≡ from → Writes old (t.lbn + k) new from result
+      → EndsBlock t k old memory new memory result
   writes_block changes keeps from (Ok u) due h = record {
     stands = record {
       in_memory = rw keeps (sym (put-nil memory (t.buffer + 512 * k)));
-      in_store = rw (due, changes) (ap (λ (s : StoreState). s.blocks) h.written ∙ set-put old.blocks (t.lbn + k) from);
+      in_store = rw (due, changes) (ap (λ (s : StoreState). s.blocks) h.written
+          ∙ set-put old.blocks (t.lbn + k) from);
     };
     failures_stay = ap (λ (s : StoreState). s.failures) h.written;
     calls = h.calls;
@@ -53,17 +66,24 @@ module _ (t : Transfer) (k : ℕ) (old : StoreState) (memory : List ℕ) (new : 
   writes_block changes keeps from (Err e) due h = record {
     left = h.left;
     whole = h.whole;
-    stands = record { in_memory = rw keeps (sym (put-nil memory (t.buffer + 512 * k))); in_store = rw changes (ap (λ (s : StoreState). s.blocks) h.written ∙ set-put old.blocks (t.lbn + k) h.left) };
+    stands = record {
+      in_memory = rw keeps (sym (put-nil memory (t.buffer + 512 * k)));
+      in_store = rw changes (ap (λ (s : StoreState). s.blocks) h.written
+          ∙ set-put old.blocks (t.lbn + k) h.left);
+    };
     counted = ap (λ (s : StoreState). s.failures) h.written;
     calls = h.calls;
   }
 
 -- the block that a Write's buffer fills at place k
-pub due-Write : (t : Transfer) (k : ℕ) (memory : List ℕ) → k < block_count t → t.buffer + t.bytes ≤ length memory
-    → get_or (in_blocks (bytes_at memory t.buffer t.bytes)) k [] ≡ first_block (part memory (t.buffer + 512 * k) (t.bytes - 512 * k))
+pub due-Write : (t : Transfer) (k : ℕ) (memory : List ℕ) → k < block_count t
+    → t.buffer + t.bytes ≤ length memory
+    → get_or (in_blocks (bytes_at memory t.buffer t.bytes)) k []
+    ≡ first_block (part memory (t.buffer + 512 * k) (t.bytes - 512 * k))
 due-Write t k memory inside room =
     let rest : ℕ = t.bytes - 512 * k in
     let size = length-part-le memory t.buffer t.bytes room in
     ap (λ (bytes : List ℕ). get_or (in_blocks bytes) k []) (bytes_at-within memory t.buffer t.bytes room)
-    ∙ get_or-in_blocks k rest (part memory t.buffer t.bytes) (rw size inside) (omega (arith, size)) (omega (arith, size))
+    ∙ get_or-in_blocks k rest (part memory t.buffer t.bytes) (rw size inside) (omega (arith, size))
+    (omega (arith, size))
     ∙ ap first_block (part-part memory t.buffer t.bytes (512 * k) rest (omega arith))

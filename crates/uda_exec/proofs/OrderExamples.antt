@@ -13,14 +13,21 @@ differ m n apart same = both_ways (nat_eq m n) apart (eq-eqb m n same)
 
 -- unit 0 has three blocks of bytes 1, 2 and 3, and the other units have no drive
 abbrev unit_in : Bool → Disks
-unit_in online = Some (record { blocks = replicate 512 1 ∷ replicate 512 2 ∷ replicate 512 3 ∷ []; size = 3; mode = record { online = online; hard = false; soft = false } }) ∷ None ∷ None ∷ None ∷ []
+unit_in online = Some (record {
+  blocks = replicate 512 1 ∷ replicate 512 2 ∷ replicate 512 3 ∷ [];
+  size = 3;
+  mode = record { online = online; hard = false; soft = false };
+}) ∷ None ∷ None ∷ None ∷ []
 
 -- and memory is bytes 9
 abbrev world : Bool → World
 world online = record { memory = replicate 1536 9; disks = unit_in online }
 
 abbrev fixed : ℕ → Op → Outcome → FixedCommand
-fixed reference op outcome = record { command = record { reference = reference; unit = 0; op = op }; outcome = outcome }
+fixed reference op outcome = record {
+  command = record { reference = reference; unit = 0; op = op };
+  outcome = outcome;
+}
 
 abbrev byte_at : ℕ → List End × World → ℕ
 byte_at at r = get_or r.1.memory at 0
@@ -36,7 +43,8 @@ abbrev clashing : List FixedCommand
 clashing = fixed 1 (Read 1024 0 0) Done ∷ fixed 2 (Write 512 1024 1) Done ∷ []
 
 -- the Write done first is not the list done in order
-pub clash_matters : effects_first 1 (fixed 2 (Write 512 1024 1) Done) clashing (world true) ≡ effects clashing (world true) → ⊥
+pub clash_matters : effects_first 1 (fixed 2 (Write 512 1024 1) Done) clashing (world true) ≡ effects clashing
+    (world true) → ⊥
 unfolding put part
 clash_matters same = differ 9 2 refl (ap (byte_at 512) same)
 
@@ -44,7 +52,8 @@ clash_matters same = differ 9 2 refl (ap (byte_at 512) same)
 abbrev meeting : List FixedCommand
 meeting = fixed 1 (Read 512 0 0) Done ∷ fixed 2 (Read 512 510 1) Done ∷ []
 
-pub meeting_buffers_matter : effects_first 1 (fixed 2 (Read 512 510 1) Done) meeting (world true) ≡ effects meeting (world true) → ⊥
+pub meeting_buffers_matter : effects_first 1 (fixed 2 (Read 512 510 1) Done) meeting (world true)
+    ≡ effects meeting (world true) → ⊥
 unfolding put part
 meeting_buffers_matter same = differ 1 2 refl (ap (byte_at 510) same)
 
@@ -52,17 +61,21 @@ meeting_buffers_matter same = differ 1 2 refl (ap (byte_at 510) same)
 abbrev behind_online : List FixedCommand
 behind_online = fixed 1 (Online None) Done ∷ fixed 2 (Read 512 0 0) Done ∷ []
 
-pub older_online_matters : effects_first 1 (fixed 2 (Read 512 0 0) Done) behind_online (world false) ≡ effects behind_online (world false) → ⊥
+pub older_online_matters : effects_first 1 (fixed 2 (Read 512 0 0) Done) behind_online (world false)
+    ≡ effects behind_online (world false) → ⊥
 unfolding put part
 older_online_matters same = differ 4 0 refl (ap (status_at 1) same)
 
--- a Read of block 0, a Write of block 1 that is lost there with bytes 7 left, and an Access of block 2: each of them first gives the same
+-- a Read of block 0, a Write of block 1 that is lost there with bytes 7 left, and an Access of block 2: each
+-- of them first gives the same
 abbrev three : List FixedCommand
-three = fixed 1 (Read 512 0 0) Done ∷ fixed 2 (Write 512 1024 1) (Lost 0 (replicate 512 7)) ∷ fixed 3 (Access 512 2) Done ∷ []
+three = fixed 1 (Read 512 0 0) Done ∷ fixed 2 (Write 512 1024 1) (Lost 0 (replicate 512 7)) ∷ fixed 3
+    (Access 512 2) Done ∷ []
 
 pub record OfThree : Type 0 where
   first : effects_first 0 (fixed 1 (Read 512 0 0) Done) three (world true) ≡ effects three (world true)
-  second : effects_first 1 (fixed 2 (Write 512 1024 1) (Lost 0 (replicate 512 7))) three (world true) ≡ effects three (world true)
+  second : effects_first 1 (fixed 2 (Write 512 1024 1) (Lost 0 (replicate 512 7))) three (world true)
+      ≡ effects three (world true)
   third : effects_first 2 (fixed 3 (Access 512 2) Done) three (world true) ≡ effects three (world true)
   -- the Write's end tells the drive error
   second_is_lost : status_at 1 (effects three (world true)) ≡ 0x000B
@@ -75,7 +88,13 @@ of_three = record { first = refl; second = refl; third = refl; second_is_lost = 
 abbrev large : World
 large = record {
   memory = replicate 135168 0;
-  disks = Some (record { blocks = replicate 5 (replicate 512 0) ++ replicate 512 55 ∷ replicate 512 66 ∷ replicate 512 0 ∷ []; size = 8; mode = record { online = true; hard = false; soft = false } }) ∷ None ∷ None ∷ None ∷ [];
+  disks = Some (record {
+    blocks = replicate 5 (replicate 512 0) ++ replicate 512 55 ∷ replicate 512 66
+        ∷ replicate 512 0 ∷ [];
+    size = 8;
+    mode = record { online = true; hard = false; soft = false };
+  }) ∷ None
+      ∷ None ∷ None ∷ [];
 }
 
 abbrev reads : ℕ → ℕ → Command
@@ -91,7 +110,8 @@ pub record OfLarge : Type 0 where
   bytes : part (effect Done (reads 512 0x1000) large).1.memory 0x1000 512 ≡ replicate 512 55
   -- the part block behind it: its first two bytes stand there too, and no more
   part_block : (effect Done (reads 514 0x1000) large).0 ≡ moved 0 514
-  part_bytes : part (effect Done (reads 514 0x1000) large).1.memory 0x1000 516 ≡ replicate 512 55 ++ 66 ∷ 66 ∷ 0 ∷ 0 ∷ []
+  part_bytes : part (effect Done (reads 514 0x1000) large).1.memory 0x1000 516
+      ≡ replicate 512 55 ++ 66 ∷ 66 ∷ 0 ∷ 0 ∷ []
   -- refused for an odd address, an odd count, a buffer past the end of memory: nothing changes
   address : effect Done (reads 512 0x1001) large ≡ (moved 0x0029 0, large)
   odd_count : effect Done (reads 513 0x1000) large ≡ (moved 0x0049 0, large)
@@ -99,4 +119,12 @@ pub record OfLarge : Type 0 where
 
 pub of_large : OfLarge
 unfolding put part
-of_large = record { success = refl; bytes = refl; part_block = refl; part_bytes = refl; address = refl; odd_count = refl; memory = refl }
+of_large = record {
+  success = refl;
+  bytes = refl;
+  part_block = refl;
+  part_bytes = refl;
+  address = refl;
+  odd_count = refl;
+  memory = refl;
+}

@@ -1,4 +1,5 @@
--- Whichever command that may go is done first, nothing is different; and what else a driver needs of a list of commands.
+-- Whichever command that may go is done first, nothing is different; and what else a driver needs of a list
+-- of commands.
 use Rattle.std.proofs.Common.{◌≡◌, ℕ, ◌+◌, ◌-◌, inl, inr, min, ◌<◌, List, [], ◌∷◌, ◌++◌, length, get_or, take, replicate, Option, Some, None, refl, sym, ap, ap₂, subst₂, ◌∙◌, arith}
 use Rattle.std.specs.Prelude.{slice_get, option_map}
 use Rattle.std.proofs.lemmas.List.{same_lists, take_at}
@@ -19,29 +20,36 @@ use Rattle.uda_exec.proofs.Swap.{swaps, item_of, lands, effect-lands, effect-non
 pub order_is_free : OrderIsFree
 order_is_free xs j x w apart goes at =
     let command : FixedCommand → Command = λ y. y.command in
-    let at_command : slice_get (commands_of xs) j ≡ Some x.command = slice_get-map command xs j ∙ ap (option_map command) at in
+    let at_command : slice_get (commands_of xs) j ≡ Some x.command = slice_get-map command xs j
+    ∙ ap (option_map command) at in
     let place = slice_get_within (commands_of xs) j x.command at_command in
     first_is_free effect_of xs j x w at (λ i y v below there.
-    let there_command : slice_get (commands_of xs) i ≡ Some y.command = slice_get-map command xs i ∙ ap (option_map command) there in
+    let there_command : slice_get (commands_of xs) i ≡ Some y.command = slice_get-map command xs i
+    ∙ ap (option_map command) there in
     let is_y = get_or_from_slice_get (commands_of xs) i y.command x.command there_command in
     let is_x = get_or_from_slice_get (commands_of xs) j x.command x.command at_command in
-    swaps x y v (goes.passes i y.command x.command below there_command at_command) (subst₂ Apart is_y is_x (apart i j x.command below place)))
+    swaps x y v (goes.passes i y.command x.command below there_command at_command)
+    (subst₂ Apart is_y is_x (apart i j x.command below place)))
 
 pub one_more : OneMore
 one_more xs x w = runs-push effect_of xs x w
 
 -- bytes beside a command's buffer pass through doing it
-passes_one : (x : FixedCommand) (w : World) (at : ℕ) (bytes : List ℕ) → (Meet at (length bytes) (buffer_start x.command.op) (room_of x.command.op) → ⊥)
-    → (asked : Option Act) → act_of x.command.op w.memory ≡ asked → effect_of x (with_bytes w at bytes) ≡ ((effect_of x w).0, with_bytes (effect_of x w).1 at bytes)
+passes_one : (x : FixedCommand) (w : World) (at : ℕ) (bytes : List ℕ)
+    → (Meet at (length bytes) (buffer_start x.command.op) (room_of x.command.op) → ⊥)
+    → (asked : Option Act) → act_of x.command.op w.memory ≡ asked → effect_of x (with_bytes w at bytes)
+    ≡ ((effect_of x w).0, with_bytes (effect_of x w).1 at bytes)
 passes_one x w at bytes beside None is =
     let behind_it : End × World → End × World = λ r. (r.0, with_bytes r.1 at bytes) in
-    effect-none x (with_bytes w at bytes) (act_of-put x.command.op w.memory at bytes beside ∙ is) ∙ sym (ap behind_it (effect-none x w is))
+    effect-none x (with_bytes w at bytes) (act_of-put x.command.op w.memory at bytes beside ∙ is)
+    ∙ sym (ap behind_it (effect-none x w is))
 passes_one x w at bytes beside (Some act) is =
     let c = x.command in
     let it = item_of x act (length w.memory) in
     let r = item.does it w.disks in
     let behind_it : End × World → End × World = λ r. (r.0, with_bytes r.1 at bytes) in
-    let little = length-told x act (length w.memory) (judge it (slice_get w.disks c.unit)) (asks c.op w.memory act is) in
+    let little = length-told x act (length w.memory) (judge it (slice_get w.disks c.unit))
+    (asks c.op w.memory act is) in
     let make : List ℕ → End × World = λ m. ((lands c w.memory r).0, record { memory = m; disks = r.1 }) in
     behind x act w at bytes w.disks is beside
     ∙ ap make (put-put_comm w.memory at bytes (buffer_start c.op) r.0.1 (λ meet. beside (omega arith)))
@@ -50,7 +58,8 @@ passes_one x w at bytes beside (Some act) is =
 pub passes_through : PassesThrough
 passes_through [] at bytes w beside = refl
 passes_through (x ∷ rest) at bytes w beside =
-    let P : FixedCommand → Type 0 = λ a. Meet at (length bytes) (buffer_start a.command.op) (room_of a.command.op) → ⊥ in
+    let P : FixedCommand → Type 0 = λ a. Meet at (length bytes) (buffer_start a.command.op)
+    (room_of a.command.op) → ⊥ in
     let now = passes_one x w at bytes (All-head P x rest beside) _ refl in
     let later = passes_through rest at bytes (effect_of x w).1 (All-tail P x rest beside) in
     let step : End × World → List End × World = λ r. let more = effects rest r.1 in (r.0 ∷ more.0, more.1) in
@@ -58,27 +67,35 @@ passes_through (x ∷ rest) at bytes w beside =
     ap step now ∙ ap behind_it later
 
 -- a part that two lists share is still shared when the same is put into both
-part-put_both : (xs ys : List ℕ) (at : ℕ) (new : List ℕ) (a n : ℕ) → length xs ≡ length ys → part xs a n ≡ part ys a n → part (put xs at new) a n ≡ part (put ys at new) a n
+part-put_both : (xs ys : List ℕ) (at : ℕ) (new : List ℕ) (a n : ℕ) → length xs ≡ length ys
+    → part xs a n ≡ part ys a n → part (put xs at new) a n ≡ part (put ys at new) a n
 part-put_both xs ys at new a n same h =
     let short = length-part (put xs at new) a n in let other = length-part (put ys at new) a n in
     let long = length-put xs at new in let long' = length-put ys at new in
     same_lists _ _ (short ∙ ap (λ l. min n (l - a)) (long ∙ same ∙ sym long') ∙ sym other) (λ k d below.
-    let inside : k < n = omega arith in let within : a + k < length xs = omega arith in let within' : a + k < length ys = omega arith in
-    let shared : get_or xs (a + k) d ≡ get_or ys (a + k) d = sym (get_or-part xs a n k d inside) ∙ ap (λ (p : List ℕ). get_or p k d) h ∙ get_or-part ys a n k d inside in
+    let inside : k < n = omega arith in
+    let within : a + k < length xs = omega arith in let within' : a + k < length ys = omega arith in
+    let shared : get_or xs (a + k) d ≡ get_or ys (a + k) d = sym (get_or-part xs a n k d inside)
+    ∙ ap (λ (p : List ℕ). get_or p k d) h ∙ get_or-part ys a n k d inside in
     get_or-part (put xs at new) a n k d inside ∙ elim (cases_lt (a + k) at) [
-      | inl low ↦ get_or-put_before xs at new (a + k) d within low ∙ shared ∙ sym (get_or-put_before ys at new (a + k) d within' low)
+      | inl low ↦ get_or-put_before xs at new (a + k) d within low ∙ shared
+          ∙ sym (get_or-put_before ys at new (a + k) d within' low)
       | inr from ↦ elim (cases_lt (a + k) (at + length new)) [
-        | inl to ↦ get_or-put_at xs at new (a + k) d within from to ∙ sym (get_or-put_at ys at new (a + k) d within' from to)
-        | inr high ↦ get_or-put_behind xs at new (a + k) d within high ∙ shared ∙ sym (get_or-put_behind ys at new (a + k) d within' high)
+        | inl to ↦ get_or-put_at xs at new (a + k) d within from to
+            ∙ sym (get_or-put_at ys at new (a + k) d within' from to)
+        | inr high ↦ get_or-put_behind xs at new (a + k) d within high ∙ shared
+            ∙ sym (get_or-put_behind ys at new (a + k) d within' high)
       ]
     ] ∙ sym (get_or-part (put ys at new) a n k d inside))
 
 -- what a Write asks of two memories of one length tells whether they share its buffer
-part-shared : (memory other : List ℕ) (at n : ℕ) → length memory ≡ length other → bytes_at memory at n ≡ bytes_at other at n → part memory at n ≡ part other at n
+part-shared : (memory other : List ℕ) (at n : ℕ) → length memory ≡ length other → bytes_at memory at n
+    ≡ bytes_at other at n → part memory at n ≡ part other at n
 part-shared memory other at n same h =
     let size = length-part memory at n in let size' = length-part other at n in
     let rest : List ℕ → List ℕ = λ m. replicate (n - length (part m at n)) 0 in
-    sym (take_at (part memory at n) (rest memory) (length (part memory at n)) refl) ∙ ap (take (length (part memory at n))) h
+    sym (take_at (part memory at n) (rest memory) (length (part memory at n)) refl)
+    ∙ ap (take (length (part memory at n))) h
     ∙ take_at (part other at n) (rest other) (length (part memory at n)) (omega (arith, same))
 
 asks_by-put_both : (k : Kind) (t : Transfer) (memory other : List ℕ) (at : ℕ) (bytes : List ℕ)
@@ -106,27 +123,34 @@ act_of-put_both : (o : Op) (memory other : List ℕ) (at : ℕ) (bytes : List �
 act_of-put_both o memory other at bytes same h =
     act_by-put_both (transfer_of o) o memory other at bytes same h
 
--- one command in two memories of which it asks the same: one end, the same units, and memories that agree as before
+-- one command in two memories of which it asks the same: one end, the same units, and memories that agree as
+-- before
 record Agrees (memory other : List ℕ) (now then : End × World) : Type 0 where
   ends : now.0 ≡ then.0
   units : now.1.disks ≡ then.1.disks
   same_length : length now.1.memory ≡ length then.1.memory
   same_acts : (o : Op) → act_of o memory ≡ act_of o other → act_of o now.1.memory ≡ act_of o then.1.memory
 
-agrees_one : (x : FixedCommand) (memory other : List ℕ) (disks : Disks) → length memory ≡ length other → (asked : Option Act) → act_of x.command.op memory ≡ asked → act_of x.command.op other ≡ asked
-    → Agrees memory other (effect_of x (record { memory = memory; disks = disks })) (effect_of x (record { memory = other; disks = disks }))
+agrees_one : (x : FixedCommand) (memory other : List ℕ) (disks : Disks) → length memory ≡ length other
+    → (asked : Option Act) → act_of x.command.op memory ≡ asked → act_of x.command.op other ≡ asked
+    → Agrees memory other (effect_of x (record { memory = memory; disks = disks }))
+    (effect_of x (record { memory = other; disks = disks }))
 agrees_one x memory other disks same None is is' =
-    subst₂ (Agrees memory other) (sym (effect-none x (record { memory = memory; disks = disks }) is)) (sym (effect-none x (record { memory = other; disks = disks }) is'))
+    subst₂ (Agrees memory other) (sym (effect-none x (record { memory = memory; disks = disks }) is))
+    (sym (effect-none x (record { memory = other; disks = disks }) is'))
     (record { ends = refl; units = refl; same_length = same; same_acts = λ o g. g })
 agrees_one x memory other disks same (Some act) is is' =
     let c = x.command in
     let r = item.does (item_of x act (length memory)) disks in
     let there : effect_of x (record { memory = other; disks = disks }) ≡ lands c other r =
-    effect-lands x act (record { memory = other; disks = disks }) is' ∙ ap (λ (n : ℕ). lands c other (item.does (item_of x act n) disks)) (sym same) in
-    subst₂ (Agrees memory other) (sym (effect-lands x act (record { memory = memory; disks = disks }) is)) (sym there) (record {
+    effect-lands x act (record { memory = other; disks = disks }) is'
+    ∙ ap (λ (n : ℕ). lands c other (item.does (item_of x act n) disks)) (sym same) in
+    subst₂ (Agrees memory other) (sym (effect-lands x act (record { memory = memory; disks = disks }) is))
+    (sym there) (record {
       ends = refl;
       units = refl;
-      same_length = length-put memory (buffer_start c.op) r.0.1 ∙ same ∙ sym (length-put other (buffer_start c.op) r.0.1);
+      same_length = length-put memory (buffer_start c.op) r.0.1 ∙ same
+          ∙ sym (length-put other (buffer_start c.op) r.0.1);
       same_acts = λ o g. act_of-put_both o memory other (buffer_start c.op) r.0.1 same g;
     })
 
@@ -134,13 +158,21 @@ pub depends_on_data_alone : DependsOnDataAlone
 depends_on_data_alone [] memory other disks same = (refl, refl)
 depends_on_data_alone (x ∷ rest) memory other disks same =
     let P : FixedCommand → Type 0 = λ a. act_of a.command.op memory ≡ act_of a.command.op other in
-    let w : World = record { memory = memory; disks = disks } in let v : World = record { memory = other; disks = disks } in
-    let now = agrees_one x memory other disks same.same_length _ refl (sym (All-head P x rest same.same_acts)) in
+    let w : World = record { memory = memory; disks = disks } in
+    let v : World = record { memory = other; disks = disks } in
+    let now = agrees_one x memory other disks same.same_length _ refl
+    (sym (All-head P x rest same.same_acts)) in
     let rest_same : SameData rest (effect_of x w).1.memory (effect_of x v).1.memory = record {
       same_length = now.same_length;
-      same_acts = λ k d below. now.same_acts (get_or rest k d).command.op (All-tail P x rest same.same_acts k d below);
+      same_acts = λ k d below. now.same_acts (get_or rest k d).command.op
+          (All-tail P x rest same.same_acts k d below);
     } in
-    let later = depends_on_data_alone rest (effect_of x w).1.memory (effect_of x v).1.memory (effect_of x w).1.disks rest_same in
-    let there : Disks → List End × World = λ d. effects rest (record { memory = (effect_of x v).1.memory; disks = d }) in
-    let cons : End → List End → List End = λ e es. e ∷ es in
-    (ap₂ cons now.ends (later.0 ∙ ap (λ (d : Disks). (there d).0) now.units), later.1 ∙ ap (λ (d : Disks). (there d).1.disks) now.units)
+    let later = depends_on_data_alone rest (effect_of x w).1.memory (effect_of x v).1.memory
+    (effect_of x w).1.disks rest_same in
+    let there : Disks → List End × World = λ d. effects rest
+    (record { memory = (effect_of x v).1.memory; disks = d }) in
+    let cons : End → List End → List End = λ e es. e ∷ es in (
+      ap₂ cons now.ends (later.0 ∙ ap (λ (d : Disks). (there d).0) now.units),
+      later.1
+          ∙ ap (λ (d : Disks). (there d).1.disks) now.units,
+    )

@@ -19,22 +19,28 @@ module _ (t : Transfer) (blocks : List (List ℕ)) (memory : List ℕ) where
   length-due_Write : length (due_by Write t blocks memory) ≡ block_count t
   length-due_Write =
       let bytes = bytes_at memory t.buffer t.bytes in
-      length-first_chunks (blocks_for (length bytes)) (bytes ++ replicate 512 0) ∙ ap blocks_for (length-bytes_at memory t.buffer t.bytes)
+      length-first_chunks (blocks_for (length bytes)) (bytes ++ replicate 512 0)
+      ∙ ap blocks_for (length-bytes_at memory t.buffer t.bytes)
 
-  pub length-due_by : t.lbn + block_count t ≤ length blocks → (kind : Kind) → length (due_by kind t blocks memory) ≡ block_count t
+  pub length-due_by : t.lbn + block_count t ≤ length blocks → (kind : Kind)
+      → length (due_by kind t blocks memory) ≡ block_count t
   length-due_by on_unit Erase = length-replicate (block_count t) (replicate 512 0)
   length-due_by on_unit Write = length-due_Write
   length-due_by on_unit Read = length-part-le blocks t.lbn (block_count t) on_unit
   length-due_by on_unit Access = length-part-le blocks t.lbn (block_count t) on_unit
 
   pub length-due_le : (kind : Kind) → length (due_by kind t blocks memory) ≤ block_count t
-  length-due_le Erase = let all : length (due_by Erase t blocks memory) ≡ block_count t = length-replicate (block_count t) (replicate 512 0) in omega arith
+  length-due_le Erase =
+      let all : length (due_by Erase t blocks memory) ≡ block_count t = length-replicate (block_count t)
+      (replicate 512 0) in
+      omega arith
   length-due_le Write = omega (arith, length-due_Write)
   length-due_le Read = omega (arith, length-part blocks t.lbn (block_count t))
   length-due_le Access = omega (arith, length-part blocks t.lbn (block_count t))
 
   -- where the unit's blocks are whole, if there are any to move
-  pub AreBlocks-due_by : (0 < block_count t → AreBlocks blocks) → (kind : Kind) → AreBlocks (due_by kind t blocks memory)
+  pub AreBlocks-due_by : (0 < block_count t → AreBlocks blocks) → (kind : Kind)
+      → AreBlocks (due_by kind t blocks memory)
   AreBlocks-due_by are Erase = All-replicate (λ b. length b ≡ 512) (block_count t) (replicate 512 0) refl
   AreBlocks-due_by are Write = AreBlocks-in_blocks (bytes_at memory t.buffer t.bytes)
   AreBlocks-due_by are Read = AreBlocks-part blocks t.lbn (block_count t) are
@@ -44,32 +50,43 @@ module _ (t : Transfer) (blocks : List (List ℕ)) (memory : List ℕ) where
   AreBlocks-due are = AreBlocks-due_by are t.kind
 
 -- what is due does not change on the way: a Read leaves the blocks, a Write memory
-due_by-stays : (kind : Kind) (t : Transfer) (blocks : List (List ℕ)) (memory bytes : List ℕ) (stored : List (List ℕ)) (at place : ℕ)
-    → due_by kind t (put blocks place (if changes_blocks kind then stored else [])) (put memory at (if changes_memory kind then bytes else [])) ≡ due_by kind t blocks memory
+due_by-stays : (kind : Kind) (t : Transfer) (blocks : List (List ℕ)) (memory bytes : List ℕ)
+    (stored : List (List ℕ)) (at place : ℕ)
+    → due_by kind t (put blocks place (if changes_blocks kind then stored else []))
+    (put memory at (if changes_memory kind then bytes else [])) ≡ due_by kind t blocks memory
 due_by-stays Erase t blocks memory bytes stored at place = refl
 due_by-stays Write t blocks memory bytes stored at place = rw put-nil refl
-due_by-stays Read t blocks memory bytes stored at place = ap (λ (b : List (List ℕ)). part b t.lbn (block_count t)) (put-nil blocks place)
-due_by-stays Access t blocks memory bytes stored at place = ap (λ (b : List (List ℕ)). part b t.lbn (block_count t)) (put-nil blocks place)
+due_by-stays Read t blocks memory bytes stored at place =
+    ap (λ (b : List (List ℕ)). part b t.lbn (block_count t)) (put-nil blocks place)
+due_by-stays Access t blocks memory bytes stored at place =
+    ap (λ (b : List (List ℕ)). part b t.lbn (block_count t)) (put-nil blocks place)
 
 -- more behind what is there, if there is to be any
 more_behind : {A : Type 0} (b : Bool) (xs : List A) (at n : ℕ) (front more : List A) → length front ≡ n
-    → put (put xs at (if b then front else [])) (at + n) (if b then more else []) ≡ put xs at (if b then front ++ more else [])
+    → put (put xs at (if b then front else [])) (at + n) (if b then more else [])
+    ≡ put xs at (if b then front ++ more else [])
 more_behind true xs at n front more size = put-put_next xs at front more (at + n) (omega arith)
 more_behind false xs at n front more size = put-nil _ _
 
 -- and so with bytes of which no more than the count are put
-landing_behind : (b : Bool) (memory : List ℕ) (at count n : ℕ) (front more : List ℕ) → length front ≡ n → n ≤ count
-    → put (put memory at (if b then take count front else [])) (at + n) (if b then take (count - n) more else []) ≡ put memory at (if b then take count (front ++ more) else [])
+landing_behind : (b : Bool) (memory : List ℕ) (at count n : ℕ) (front more : List ℕ) → length front ≡ n
+    → n ≤ count
+    → put (put memory at (if b then take count front else [])) (at + n)
+    (if b then take (count - n) more else []) ≡ put memory at (if b then take count (front ++ more) else [])
 landing_behind true memory at count n front more size fits =
     let rest : List ℕ = take (count - n) more in
     let reach : count ≡ length front + (count - n) = omega (arith, size, fits) in
     let before : take count front ≡ front = take_all count front (omega (arith, size, fits)) in
-    let both : take count (front ++ more) ≡ front ++ rest = ap (λ (i : ℕ). take i (front ++ more)) reach ∙ take-append-add front more (count - n) in
-    ap (λ (z : List ℕ). put (put memory at z) (at + n) rest) before ∙ put-put_next memory at front rest (at + n) (omega (arith, size)) ∙ ap (λ (z : List ℕ). put memory at z) (sym both)
+    let both : take count (front ++ more) ≡ front ++ rest = ap (λ (i : ℕ). take i (front ++ more)) reach
+    ∙ take-append-add front more (count - n) in
+    ap (λ (z : List ℕ). put (put memory at z) (at + n) rest) before ∙ put-put_next memory at front rest
+    (at + n) (omega (arith, size)) ∙ ap (λ (z : List ℕ). put memory at z) (sym both)
 landing_behind false memory at count n front more size fits = put-nil _ _
 
 module _ (t : Transfer) (k : ℕ) (old : StoreState) (memory : List ℕ) (now : StoreState) (memory_now : List ℕ)
-    (image : IsImage old.size old.blocks) (on_unit : t.lbn + block_count t ≤ old.size) (in_memory : t.buffer + room_in t ≤ length memory) (inside : k < block_count t) (h : Progress t k old memory now memory_now) where
+    (image : IsImage old.size old.blocks) (on_unit : t.lbn + block_count t ≤ old.size)
+    (in_memory : t.buffer + room_in t ≤ length memory) (inside : k < block_count t)
+    (h : Progress t k old memory now memory_now) where
   abbrev front : List (List ℕ)
   front = take k (blocks_due t old.blocks memory)
 
@@ -77,29 +94,47 @@ module _ (t : Transfer) (k : ℕ) (old : StoreState) (memory : List ℕ) (now : 
   all_due = length-due_by t old.blocks memory (rw image.counted on_unit) t.kind
 
   -- the next block of any content stands behind the first k
-  joins : (x : List ℕ) (new : StoreState) (memory_after : List ℕ) → Stands t k x now memory_now new memory_after
-      → (memory_after ≡ put memory t.buffer (bytes_landing t (front ++ x ∷ []))) × (new.blocks ≡ put old.blocks t.lbn (blocks_stored t (front ++ x ∷ [])))
+  joins : (x : List ℕ) (new : StoreState) (memory_after : List ℕ)
+      → Stands t k x now memory_now new memory_after
+      → (memory_after ≡ put memory t.buffer (bytes_landing t (front ++ x ∷ [])))
+      × (new.blocks ≡ put old.blocks t.lbn (blocks_stored t (front ++ x ∷ [])))
   joins x new memory_after s =
-      let size : length front ≡ k = length-take-le k (blocks_due t old.blocks memory) (omega (arith, all_due)) in
-      let bytes = length-concat_blocks front (AreBlocks-take (blocks_due t old.blocks memory) k (AreBlocks-due t old.blocks memory (λ some. image.whole))) in
+      let size : length front ≡ k = length-take-le k (blocks_due t old.blocks memory)
+      (omega (arith, all_due)) in
+      let bytes = length-concat_blocks front
+      (AreBlocks-take (blocks_due t old.blocks memory) k
+      (AreBlocks-due t old.blocks memory (λ some. image.whole))) in
       let bytes_are : length (concat front) ≡ 512 * k = bytes ∙ ap (λ i. 512 * i) size in
-      let joined : concat (front ++ x ∷ []) ≡ concat front ++ x = concat-append front (x ∷ []) ∙ ap (λ (z : List ℕ). concat front ++ z) (append-nil x) in (
-        s.in_memory ∙ ap (λ (m : List ℕ). put m (t.buffer + 512 * k) (bytes_landing_of t k x)) h.stand.in_memory ∙ rw joined (landing_behind (changes_memory t.kind) memory t.buffer t.bytes (512 * k) (concat front) x bytes_are (omega arith)),
-        s.in_store ∙ ap (λ (b : List (List ℕ)). put b (t.lbn + k) (blocks_stored t (x ∷ []))) h.stand.in_store ∙ more_behind (changes_blocks t.kind) old.blocks t.lbn k front (x ∷ []) size,
+      let joined : concat (front ++ x ∷ []) ≡ concat front ++ x = concat-append front (x ∷ [])
+      ∙ ap (λ (z : List ℕ). concat front ++ z) (append-nil x) in (
+        s.in_memory ∙ ap (λ (m : List ℕ). put m (t.buffer + 512 * k) (bytes_landing_of t k x))
+            h.stand.in_memory ∙ rw joined (landing_behind (changes_memory t.kind) memory t.buffer t.bytes
+            (512 * k) (concat front) x bytes_are (omega arith)),
+        s.in_store ∙ ap (λ (b : List (List ℕ)). put b (t.lbn + k) (blocks_stored t (x ∷ []))) h.stand.in_store
+            ∙ more_behind (changes_blocks t.kind) old.blocks t.lbn k front (x ∷ []) size,
       )
 
-  pub progress_next : (new : StoreState) (memory_after : List ℕ) → MovesBlock t k now memory_now new memory_after → Progress t (suc k) old memory new memory_after
+  pub progress_next : (new : StoreState) (memory_after : List ℕ)
+      → MovesBlock t k now memory_now new memory_after → Progress t (suc k) old memory new memory_after
   progress_next new memory_after m =
       let piece = get_or (blocks_due t old.blocks memory) k [] in
       let same : blocks_due t now.blocks memory_now ≡ blocks_due t old.blocks memory =
-      rw (h.stand.in_store, h.stand.in_memory) (due_by-stays t.kind t old.blocks memory (take t.bytes (concat front)) front t.buffer t.lbn) in
+      rw (h.stand.in_store, h.stand.in_memory)
+      (due_by-stays t.kind t old.blocks memory (take t.bytes (concat front)) front t.buffer t.lbn) in
       let stands : Stands t k piece now memory_now new memory_after = rw same at m.stands in
       let both = joins piece new memory_after stands in
       let below : k < length (blocks_due t old.blocks memory) = omega (arith, all_due) in
-      let more : take (suc k) (blocks_due t old.blocks memory) ≡ front ++ piece ∷ [] = rw (← add-one) (take_more (blocks_due t old.blocks memory) k [] below) in
-      record { stand = rw more (record { in_memory = both.0; in_store = both.1 }); failures_stay = m.failures_stay ∙ h.failures_stay; calls = go_next k _ _ _ h.calls m.calls }
+      let more : take (suc k) (blocks_due t old.blocks memory) ≡ front ++ piece ∷ [] =
+      rw (← add-one) (take_more (blocks_due t old.blocks memory) k [] below) in
+      record {
+        stand = rw more (record { in_memory = both.0; in_store = both.1 });
+        failures_stay =
+            m.failures_stay ∙ h.failures_stay;
+        calls = go_next k _ _ _ h.calls m.calls;
+      }
 
-  pub progress_stops : (new : StoreState) (memory_after : List ℕ) → LosesBlock t k now memory_now new memory_after → StopsAt t k old memory new memory_after
+  pub progress_stops : (new : StoreState) (memory_after : List ℕ)
+      → LosesBlock t k now memory_now new memory_after → StopsAt t k old memory new memory_after
   progress_stops new memory_after m =
       let both = joins m.left new memory_after m.stands in
       record {
@@ -114,21 +149,29 @@ nothing_put : {A : Type 0} (b : Bool) (xs : List A) (at : ℕ) → xs ≡ put xs
 nothing_put true xs at = sym (put-nil xs at)
 nothing_put _ xs at = sym (put-nil xs at)
 
-nothing_landed : (b : Bool) (memory : List ℕ) (at count : ℕ) → memory ≡ put memory at (if b then take count [] else [])
-nothing_landed true memory at count = let none : take count [] ≡ [] = take_all {A = ℕ} count [] (omega arith) in rw none (sym (put-nil memory at))
+nothing_landed : (b : Bool) (memory : List ℕ) (at count : ℕ)
+    → memory ≡ put memory at (if b then take count [] else [])
+nothing_landed true memory at count =
+    let none : take count [] ≡ [] = take_all {A = ℕ} count [] (omega arith) in
+    rw none (sym (put-nil memory at))
 nothing_landed _ memory at count = sym (put-nil memory at)
 
 pub progress_none : (t : Transfer) (old : StoreState) (memory : List ℕ) → Progress t 0 old memory old memory
 progress_none t old memory = record {
-  stand = record { in_memory = nothing_landed (changes_memory t.kind) memory t.buffer t.bytes; in_store = nothing_put (changes_blocks t.kind) old.blocks t.lbn };
+  stand = record {
+    in_memory = nothing_landed (changes_memory t.kind) memory t.buffer t.bytes;
+    in_store = nothing_put (changes_blocks t.kind) old.blocks t.lbn;
+  };
   failures_stay = refl;
   calls = go_none old.fails_in;
 }
 
 -- what is moved from the start on is all that is moved
-pub from_start : (t : Transfer) (count : ℕ) (old : StoreState) (memory : List ℕ) (new : StoreState) → MovesOn t 0 count old new → Progress t count old memory new memory
+pub from_start : (t : Transfer) (count : ℕ) (old : StoreState) (memory : List ℕ) (new : StoreState)
+    → MovesOn t 0 count old new → Progress t count old memory new memory
 from_start t count old memory new moves =
-    subst (λ (k : ℕ). Progress t k old memory new memory) (omega arith) (moves old memory memory (progress_none t old memory))
+    subst (λ (k : ℕ). Progress t k old memory new memory) (omega arith)
+    (moves old memory memory (progress_none t old memory))
 
 -- what holds on the way, before block k
 pub record OnTheWay (t : Transfer) (k : ℕ) (old now : StoreState) (memory memory_now : List ℕ) : Type 0 where
@@ -144,25 +187,32 @@ both_natures was is = record {
   never_fails_stays = is.never_fails_stays ∙ was.never_fails_stays;
 }
 
-module _ {t : Transfer} {k : ℕ} {old now : StoreState} {memory memory_now : List ℕ} (way : OnTheWay t k old now memory memory_now) {new : StoreState} (is : KeepsNature now new) where
+module _ {t : Transfer} {k : ℕ} {old now : StoreState} {memory memory_now : List ℕ}
+    (way : OnTheWay t k old now memory memory_now) {new : StoreState} (is : KeepsNature now new) where
   -- one block more
-  pub way_next : (image : old.faithful ≡ true → IsImage old.size old.blocks) → t.lbn + block_count t ≤ old.size → t.buffer + room_in t ≤ length memory → k < block_count t
-      → (memory_after : List ℕ) → ChangesAt memory_now t.buffer (if changes_memory t.kind then t.bytes else 0) memory_after
-      → (now.faithful ≡ true → MovesBlock t k now memory_now new memory_after) → OnTheWay t (k + 1) old new memory memory_after
+  pub way_next : (image : old.faithful ≡ true → IsImage old.size old.blocks)
+      → t.lbn + block_count t ≤ old.size → t.buffer + room_in t ≤ length memory → k < block_count t
+      → (memory_after : List ℕ) → ChangesAt memory_now t.buffer (if changes_memory t.kind then t.bytes else 0)
+      memory_after
+      → (now.faithful ≡ true → MovesBlock t k now memory_now new memory_after)
+      → OnTheWay t (k + 1) old new memory memory_after
   way_next image on_unit in_memory inside memory_after changes moves = record {
     within = omega (arith, inside);
     nature = both_natures way.nature is;
     changes = changes_again _ _ _ _ _ way.changes changes;
     moves = λ called.
         let faithful = called (omega (arith, inside)) in
-        rw add-one (progress_next t k old memory now memory_now (image faithful) on_unit in_memory inside (way.moves called) new memory_after (moves (way.nature.faithful_stays ∙ faithful)));
+        rw add-one (progress_next t k old memory now memory_now (image faithful) on_unit in_memory inside
+        (way.moves called) new memory_after (moves (way.nature.faithful_stays ∙ faithful)));
   }
 
   -- so many blocks more, which leave memory as it is
-  pub way_on : (count : ℕ) → k + count ≤ block_count t → 0 < block_count t → (now.faithful ≡ true → MovesOn t k count now new) → OnTheWay t (k + count) old new memory memory_now
+  pub way_on : (count : ℕ) → k + count ≤ block_count t → 0 < block_count t
+      → (now.faithful ≡ true → MovesOn t k count now new) → OnTheWay t (k + count) old new memory memory_now
   way_on count within some moves = record {
     within = within;
     nature = both_natures way.nature is;
     changes = way.changes;
-    moves = λ called. moves (way.nature.faithful_stays ∙ called some) old memory memory_now (way.moves called);
+    moves = λ called. moves (way.nature.faithful_stays ∙ called some) old memory memory_now
+        (way.moves called);
   }

@@ -1,4 +1,5 @@
--- Two commands that may pass and are apart change places: their requests do on the disks, and what each puts in memory lies
+-- Two commands that may pass and are apart change places: their requests do on the disks, and what each puts
+-- in memory lies
 -- beside what the other does.
 use Rattle.std.proofs.Common.{◌≡◌, ℕ, ◌≤◌, Bool, true, false, List, length, Option, Some, None, refl, sym, ap, ap₂, ◌∙◌, arith, zero-le}
 use Rattle.std.specs.Prelude.{slice_get, option_map}
@@ -20,9 +21,14 @@ use Rattle.uda_exec.proofs.Requests.{Asks, asks, asks_some, asks_nothing, act_of
 abbrev pub item_of : FixedCommand → Act → ℕ → Item
 item_of x act n =
     let o = x.command.op in
-    record { request = record { unit = x.command.unit; act = act }; outcome = x.outcome; check = with_buffer (is_odd (buffer_start o)) (is_missing (buffer_start o) (room_of o) n) }
+    record {
+      request = record { unit = x.command.unit; act = act };
+      outcome = x.outcome;
+      check = with_buffer (is_odd (buffer_start o)) (is_missing (buffer_start o) (room_of o) n);
+    }
 
-judged : (x : FixedCommand) (act : Act) (n : ℕ) (slot : Option (Option Disk)) → bar_in x.command.op act n slot ≡ judge (item_of x act n) slot
+judged : (x : FixedCommand) (act : Act) (n : ℕ) (slot : Option (Option Disk)) → bar_in x.command.op act n slot
+    ≡ judge (item_of x act n) slot
 judged x act n None = refl
 judged x act n (Some None) = refl
 judged x act n (Some (Some d)) = bar-with_buffer _ _ _ d
@@ -31,13 +37,18 @@ judged x act n (Some (Some d)) = bar-with_buffer _ _ _ d
 abbrev pub lands : Command → List ℕ → Told × Disks → End × World
 lands c memory r = (end_for c r.0.0, record { memory = put memory (buffer_start c.op) r.0.1; disks = r.1 })
 
-lands-does : (x : FixedCommand) (act : Act) (b : Bar) (w : World) → does x.outcome x.command act b w ≡ lands x.command w.memory (does_by (item_of x act (length w.memory)) b w.disks)
+lands-does : (x : FixedCommand) (act : Act) (b : Bar) (w : World) → does x.outcome x.command act b w
+    ≡ lands x.command w.memory (does_by (item_of x act (length w.memory)) b w.disks)
 lands-does x act (Free d) w = refl
 lands-does x act (Barred refusal) w =
     let it = item_of x act (length w.memory) in
-    ap (λ (m : List ℕ). (end_for x.command (told it (Barred refusal)).0, record { memory = m; disks = w.disks })) (sym (put-nil w.memory (buffer_start x.command.op)))
+    ap (λ (m : List ℕ). (
+      end_for x.command (told it (Barred refusal)).0,
+      record { memory = m; disks = w.disks },
+    )) (sym (put-nil w.memory (buffer_start x.command.op)))
 
-pub effect-lands : (x : FixedCommand) (act : Act) (w : World) → act_of x.command.op w.memory ≡ Some act → effect_of x w ≡ lands x.command w.memory (item.does (item_of x act (length w.memory)) w.disks)
+pub effect-lands : (x : FixedCommand) (act : Act) (w : World) → act_of x.command.op w.memory ≡ Some act
+    → effect_of x w ≡ lands x.command w.memory (item.does (item_of x act (length w.memory)) w.disks)
 effect-lands x act w is =
     let n = length w.memory in
     ap (λ (a : Option Act). effect_by x.outcome x.command a w) is
@@ -45,11 +56,13 @@ effect-lands x act w is =
     ∙ lands-does x act (judge (item_of x act n) (slice_get w.disks x.command.unit)) w
 
 -- one that asks nothing of a unit
-pub effect-none : (x : FixedCommand) (w : World) → act_of x.command.op w.memory ≡ None → effect_of x w ≡ (reply x.command SUCCESS (blank_body x.command.op), w)
+pub effect-none : (x : FixedCommand) (w : World) → act_of x.command.op w.memory ≡ None
+    → effect_of x w ≡ (reply x.command SUCCESS (blank_body x.command.op), w)
 effect-none x w is = ap (λ (a : Option Act). effect_by x.outcome x.command a w) is
 
 -- the bytes fit the buffer
-pub length-told : (x : FixedCommand) (act : Act) (n : ℕ) (b : Bar) → Asks x.command.op act → length (told (item_of x act n) b).1 ≤ room_of x.command.op
+pub length-told : (x : FixedCommand) (act : Act) (n : ℕ) (b : Bar) → Asks x.command.op act
+    → length (told (item_of x act n) b).1 ≤ room_of x.command.op
 length-told x act n (Barred refusal) h = zero-le
 length-told x act n (Free d) h = h.brings (blocks_moved x.outcome (due act d.blocks))
 
@@ -63,17 +76,24 @@ turned : (a m b n : ℕ) → (Meet a m b n → ⊥) → Meet b n a m → ⊥
 turned a m b n h meet = h (omega arith)
 
 -- a command done on a world that another left
-pub behind : (x : FixedCommand) (act : Act) (w : World) (at : ℕ) (bytes : List ℕ) (disks : Disks) → act_of x.command.op w.memory ≡ Some act → (Meet at (length bytes) (buffer_start x.command.op) (room_of x.command.op) → ⊥)
-    → effect_of x (record { memory = put w.memory at bytes; disks = disks }) ≡ lands x.command (put w.memory at bytes) (item.does (item_of x act (length w.memory)) disks)
+pub behind : (x : FixedCommand) (act : Act) (w : World) (at : ℕ) (bytes : List ℕ) (disks : Disks)
+    → act_of x.command.op w.memory ≡ Some act
+    → (Meet at (length bytes) (buffer_start x.command.op) (room_of x.command.op) → ⊥)
+    → effect_of x (record { memory = put w.memory at bytes; disks = disks }) ≡ lands x.command
+    (put w.memory at bytes) (item.does (item_of x act (length w.memory)) disks)
 behind x act w at bytes disks is beside =
-    effect-lands x act (record { memory = put w.memory at bytes; disks = disks }) (act_of-put x.command.op w.memory at bytes beside ∙ is)
-    ∙ ap (λ (n : ℕ). lands x.command (put w.memory at bytes) (item.does (item_of x act n) disks)) (length-put w.memory at bytes)
+    effect-lands x act (record { memory = put w.memory at bytes; disks = disks })
+    (act_of-put x.command.op w.memory at bytes beside ∙ is)
+    ∙ ap (λ (n : ℕ). lands x.command (put w.memory at bytes) (item.does (item_of x act n) disks))
+    (length-put w.memory at bytes)
 
 module _ (a b : FixedCommand) (w : World) where
   abbrev m : List ℕ
   m = w.memory
 
-  module _ (A B : Act) (is_a : act_of a.command.op m ≡ Some A) (is_b : act_of b.command.op m ≡ Some B) (beside : Meet (buffer_start b.command.op) (room_of b.command.op) (buffer_start a.command.op) (room_of a.command.op) → ⊥)
+  module _ (A B : Act) (is_a : act_of a.command.op m ≡ Some A) (is_b : act_of b.command.op m ≡ Some B)
+      (beside : Meet (buffer_start b.command.op) (room_of b.command.op) (buffer_start a.command.op)
+      (room_of a.command.op) → ⊥)
       (s : Swaps item.does (item_of a A (length m)) (item_of b B (length m)) w.disks) where
     abbrev ia : Item
     ia = item_of a A (length m)
@@ -94,10 +114,12 @@ module _ (a b : FixedCommand) (w : World) where
     rb = item.does ib w.disks
 
     little_a : length ra.0.1 ≤ room_of a.command.op
-    little_a = length-told a A (length m) (judge ia (slice_get w.disks a.command.unit)) (asks a.command.op m A is_a)
+    little_a = length-told a A (length m) (judge ia (slice_get w.disks a.command.unit))
+        (asks a.command.op m A is_a)
 
     little_b : length rb.0.1 ≤ room_of b.command.op
-    little_b = length-told b B (length m) (judge ib (slice_get w.disks b.command.unit)) (asks b.command.op m B is_b)
+    little_b = length-told b B (length m) (judge ib (slice_get w.disks b.command.unit))
+        (asks b.command.op m B is_b)
 
     first_a : effect_of a w ≡ lands a.command m ra
     first_a = effect-lands a A w is_a
@@ -106,20 +128,29 @@ module _ (a b : FixedCommand) (w : World) where
     first_b = effect-lands b B w is_b
 
     then_a : effect_of a (effect_of b w).1 ≡ lands a.command (put m at_b rb.0.1) (item.does ia rb.1)
-    then_a = ap (λ (r : End × World). effect_of a r.1) first_b ∙ behind a A w at_b rb.0.1 rb.1 is_a (smaller _ _ _ _ _ _ beside little_b (omega arith))
+    then_a = ap (λ (r : End × World). effect_of a r.1) first_b ∙ behind a A w at_b rb.0.1 rb.1 is_a
+        (smaller _ _ _ _ _ _ beside little_b (omega arith))
 
     then_b : effect_of b (effect_of a w).1 ≡ lands b.command (put m at_a ra.0.1) (item.does ib ra.1)
-    then_b = ap (λ (r : End × World). effect_of b r.1) first_a ∙ behind b B w at_a ra.0.1 ra.1 is_b (smaller _ _ _ _ _ _ (turned _ _ _ _ beside) little_a (omega arith))
+    then_b = ap (λ (r : End × World). effect_of b r.1) first_a ∙ behind b B w at_a ra.0.1 ra.1 is_b
+        (smaller _ _ _ _ _ _ (turned _ _ _ _ beside) little_a (omega arith))
 
     swaps_asked : Swaps effect_of a b w
     swaps_asked =
         let make : List ℕ → Disks → World = λ memory disks. record { memory = memory; disks = disks } in
-        let crossed = put-put_comm m at_a ra.0.1 at_b rb.0.1 (smaller _ _ _ _ _ _ (turned _ _ _ _ beside) little_a little_b) in
-        let memories = ap (λ (t : Told). put (put m at_a ra.0.1) at_b t.1) s.end_second ∙ crossed ∙ ap (λ (t : Told). put (put m at_b rb.0.1) at_a t.1) s.end_first in
+        let crossed = put-put_comm m at_a ra.0.1 at_b rb.0.1
+        (smaller _ _ _ _ _ _ (turned _ _ _ _ beside) little_a little_b) in
+        let memories = ap (λ (t : Told). put (put m at_a ra.0.1) at_b t.1) s.end_second ∙ crossed
+        ∙ ap (λ (t : Told). put (put m at_b rb.0.1) at_a t.1) s.end_first in
         record {
-          end_first = ap (λ (r : End × World). r.0) first_a ∙ ap (λ (t : Told). end_for a.command t.0) s.end_first ∙ sym (ap (λ (r : End × World). r.0) then_a);
-          end_second = ap (λ (r : End × World). r.0) then_b ∙ ap (λ (t : Told). end_for b.command t.0) s.end_second ∙ sym (ap (λ (r : End × World). r.0) first_b);
-          worlds = ap (λ (r : End × World). r.1) then_b ∙ ap₂ make memories s.worlds ∙ sym (ap (λ (r : End × World). r.1) then_a);
+          end_first = ap (λ (r : End × World). r.0) first_a
+              ∙ ap (λ (t : Told). end_for a.command t.0) s.end_first
+              ∙ sym (ap (λ (r : End × World). r.0) then_a);
+          end_second = ap (λ (r : End × World). r.0) then_b
+              ∙ ap (λ (t : Told). end_for b.command t.0) s.end_second
+              ∙ sym (ap (λ (r : End × World). r.0) first_b);
+          worlds = ap (λ (r : End × World). r.1) then_b ∙ ap₂ make memories s.worlds
+              ∙ sym (ap (λ (r : End × World). r.1) then_a);
         }
 
 -- one that asks nothing of one memory asks nothing of another
@@ -130,20 +161,31 @@ never o memory other is = by (is_controller o) refl
     by true h = asks_nothing o other h
     by false h = let some = asks_some o memory h in absurd (cc)
 
-may_pass-requests : (a b : FixedCommand) (A B : Act) → Asks a.command.op A → Asks b.command.op B → may_pass b.command a.command ≡ true
-    → disk.passes (record { unit = b.command.unit; act = B }) (record { unit = a.command.unit; act = A }) ≡ true
+may_pass-requests : (a b : FixedCommand) (A B : Act) → Asks a.command.op A → Asks b.command.op B
+    → may_pass b.command a.command ≡ true
+    → disk.passes (record { unit = b.command.unit; act = B }) (record { unit = a.command.unit; act = A })
+    ≡ true
 may_pass-requests a b A B ha hb may = rw (hb.speaks, ha.speaks, hb.moving, ha.moving) at may
 
-swaps_by : (a b : FixedCommand) (w : World) → may_pass b.command a.command ≡ true → Apart b.command a.command → (asked_a asked_b : Option Act) → act_of a.command.op w.memory ≡ asked_a → act_of b.command.op w.memory ≡ asked_b → Swaps effect_of a b w
-swaps_by a b w may apart asked_a None is_a is_b = swaps_idle effect_of a b _ (λ v. effect-none b v (never b.command.op w.memory v.memory is_b)) w
-swaps_by a b w may apart None (Some B) is_a is_b = swaps_sym effect_of a b w (swaps_idle effect_of b a _ (λ v. effect-none a v (never a.command.op w.memory v.memory is_a)) w)
+swaps_by : (a b : FixedCommand) (w : World) → may_pass b.command a.command ≡ true → Apart b.command a.command
+    → (asked_a asked_b : Option Act) → act_of a.command.op w.memory ≡ asked_a → act_of b.command.op w.memory
+    ≡ asked_b → Swaps effect_of a b w
+swaps_by a b w may apart asked_a None is_a is_b = swaps_idle effect_of a b _
+    (λ v. effect-none b v (never b.command.op w.memory v.memory is_b)) w
+swaps_by a b w may apart None (Some B) is_a is_b = swaps_sym effect_of a b w
+    (swaps_idle effect_of b a _ (λ v. effect-none a v (never a.command.op w.memory v.memory is_a)) w)
 swaps_by a b w may apart (Some A) (Some B) is_a is_b =
     let n = length w.memory in
-    let request : Command → Option Act → Option Request = λ c asked. option_map (λ act. record { unit = c.unit; act = act }) asked in
-    let apart_there = apart.no_clash w.memory _ _ (ap (request b.command) is_b) (ap (request a.command) is_a) in
-    let passes = may_pass-requests a b A B (asks a.command.op w.memory A is_a) (asks b.command.op w.memory B is_b) may in
-    swaps_asked a b w A B is_a is_b apart.no_overlap (item.swaps (item_of a A n) (item_of b B n) w.disks passes apart_there)
+    let request : Command → Option Act → Option Request = λ c asked.
+    option_map (λ act. record { unit = c.unit; act = act }) asked in
+    let apart_there = apart.no_clash w.memory _ _ (ap (request b.command) is_b)
+    (ap (request a.command) is_a) in
+    let passes = may_pass-requests a b A B (asks a.command.op w.memory A is_a)
+    (asks b.command.op w.memory B is_b) may in
+    swaps_asked a b w A B is_a is_b apart.no_overlap
+    (item.swaps (item_of a A n) (item_of b B n) w.disks passes apart_there)
 
 -- b is the older of the two
-pub swaps : (a b : FixedCommand) (w : World) → may_pass b.command a.command ≡ true → Apart b.command a.command → Swaps effect_of a b w
+pub swaps : (a b : FixedCommand) (w : World) → may_pass b.command a.command ≡ true → Apart b.command a.command
+    → Swaps effect_of a b w
 swaps a b w may apart = swaps_by a b w may apart _ _ refl refl

@@ -34,9 +34,13 @@ bytes_of-with_bytes _ bytes = zero-le
 
 -- the plain body is the command's, with a byte count of at most its own
 pub IsBodyOf-plain : (op : Op) (bytes : ℕ) → bytes ≤ bytes_asked op → IsBodyOf op (plain_body op bytes)
-IsBodyOf-plain op bytes h = record { opcode = opcode-with_bytes (blank_body op) bytes; within = omega (arith, bytes_of-with_bytes (blank_body op) bytes) }
+IsBodyOf-plain op bytes h = record {
+  opcode = opcode-with_bytes (blank_body op) bytes;
+  within = omega (arith, bytes_of-with_bytes (blank_body op) bytes);
+}
 
-pub Answers-plain : (c : Command) (status bytes : ℕ) → bytes ≤ bytes_asked c.op → Answers c (reply c status (plain_body c.op bytes))
+pub Answers-plain : (c : Command) (status bytes : ℕ) → bytes ≤ bytes_asked c.op
+    → Answers c (reply c status (plain_body c.op bytes))
 Answers-plain c status bytes h = record { reference = refl; unit = refl; body = IsBodyOf-plain c.op bytes h }
 
 -- one that is refused
@@ -47,8 +51,10 @@ status-blank ask.Status status = refl
 status-blank (ask.Read first bytes) status = refl
 status-blank _ status = refl
 
-pub end_of-blank : (c : Command) (memory : List ℕ) (act : Act) (status : ℕ) → act_of c.op memory ≡ Some act → end_for c (blank_answer act status) ≡ reply c status (plain_body c.op 0)
-end_of-blank c memory act status is = ap₂ (reply c) (status-blank act status) ((asks c.op memory act is).blank status)
+pub end_of-blank : (c : Command) (memory : List ℕ) (act : Act) (status : ℕ) → act_of c.op memory ≡ Some act
+    → end_for c (blank_answer act status) ≡ reply c status (plain_body c.op 0)
+end_of-blank c memory act status is = ap₂ (reply c) (status-blank act status)
+    ((asks c.op memory act is).blank status)
 
 -- ---- a command that moves no blocks
 
@@ -61,12 +67,27 @@ record Still (o : Op) (act : Act) : Type 0 where
   pub hard_stays : (mode : Mode) → (mode_after act mode).hard ≡ mode.hard
 
 hard-online : (protect : Bool) (mode : Mode) → (mode_after (ask.Online protect) mode).hard ≡ mode.hard
-hard-online protect mode = elim mode.online as (λ b. (if b then mode else record mode { online = true; soft = protect }).hard ≡ mode.hard) [ true ↦ refl | _ ↦ refl ]
+hard-online protect mode = elim mode.online as
+    (λ b. (if b then mode else record mode { online = true; soft = protect }).hard ≡ mode.hard)
+    [ true ↦ refl | _ ↦ refl ]
 
 still_if : (o : Op) → transfer_of o ≡ None → IfSome (act_of o []) (Still o)
 still_if op.Controller none = tt
-still_if op.Status none = record { answers = λ disk. record { opcode = refl; within = zero-le }; no_extent = refl; stores = λ blocks. refl; brings = λ blocks. refl; hard_stays = λ mode. refl }
-still_if op.Available none = record { answers = λ disk. record { opcode = refl; within = zero-le }; no_extent = refl; stores = λ blocks. refl; brings = λ blocks. refl; hard_stays = λ mode. refl }
+still_if op.Status none = record {
+  answers = λ disk. record { opcode = refl; within = zero-le };
+  no_extent =
+      refl;
+  stores = λ blocks. refl;
+  brings = λ blocks. refl;
+  hard_stays = λ mode. refl;
+}
+still_if op.Available none = record {
+  answers = λ disk. record { opcode = refl; within = zero-le };
+  no_extent = refl;
+  stores = λ blocks. refl;
+  brings = λ blocks. refl;
+  hard_stays = λ mode. refl;
+}
 still_if (op.Online soft) none = record {
   answers = λ disk. record { opcode = refl; within = zero-le };
   no_extent = refl;
@@ -80,49 +101,74 @@ still_if _ none = absurd (cc)
 pub act_of-same : (o : Op) (memory : List ℕ) → transfer_of o ≡ None → act_of o memory ≡ act_of o []
 act_of-same o memory none = rw none refl
 
-pub bar-with_buffer : (odd missing : Bool) (found : Option Refusal) (disk : Disk) → bar_with odd missing (bar_by found disk) ≡ bar_by (with_buffer odd missing found) disk
+pub bar-with_buffer : (odd missing : Bool) (found : Option Refusal) (disk : Disk)
+    → bar_with odd missing (bar_by found disk) ≡ bar_by (with_buffer odd missing found) disk
 bar-with_buffer odd missing None disk = refl
 bar-with_buffer odd missing (Some refusal) disk = refl
 
 -- what bars a command is what its act's checks find, with what its buffer adds
-bar_on-by : (c : Command) (act : Act) (unit : UnitState) (memory : List ℕ) (address room : ℕ) (found : Option Refusal) → buffer_start c.op ≡ address → room_of c.op ≡ room
+bar_on-by : (c : Command) (act : Act) (unit : UnitState) (memory : List ℕ) (address room : ℕ)
+    (found : Option Refusal) → buffer_start c.op ≡ address → room_of c.op ≡ room
     → refusal_on (extent_of act) unit.store.size unit.mode ≡ found
-    → bar_on c act unit memory ≡ bar_by (with_buffer (is_odd address) (is_missing address room (length memory)) found) (disk_of unit)
+    → bar_on c act unit memory ≡ bar_by
+    (with_buffer (is_odd address) (is_missing address room (length memory)) found) (disk_of unit)
 bar_on-by c act unit memory address room found at has is =
     let m = length memory in let disk = disk_of unit in
     let b : Bar = bar_by (refusal_on (extent_of act) unit.store.size unit.mode) disk in
-    ap (λ (a : ℕ). bar_with (is_odd a) (is_missing a (room_of c.op) m) b) at ∙ ap (λ (r : ℕ). bar_with (is_odd address) (is_missing address r m) b) has
-    ∙ ap (λ (f : Option Refusal). bar_with (is_odd address) (is_missing address room m) (bar_by f disk)) is ∙ bar-with_buffer _ _ found disk
+    ap (λ (a : ℕ). bar_with (is_odd a) (is_missing a (room_of c.op) m) b) at
+    ∙ ap (λ (r : ℕ). bar_with (is_odd address) (is_missing address r m) b) has
+    ∙ ap (λ (f : Option Refusal). bar_with (is_odd address) (is_missing address room m) (bar_by f disk)) is
+    ∙ bar-with_buffer _ _ found disk
 
-free-still : (c : Command) (act : Act) (unit : UnitState) (memory : List ℕ) → transfer_of c.op ≡ None → extent_of act ≡ None → bar_on c act unit memory ≡ Free (disk_of unit)
+free-still : (c : Command) (act : Act) (unit : UnitState) (memory : List ℕ) → transfer_of c.op ≡ None
+    → extent_of act ≡ None → bar_on c act unit memory ≡ Free (disk_of unit)
 free-still c act unit memory none still =
     let present : is_missing 0 0 (length memory) ≡ false = le-ltb (length memory) 0 zero-le in
-    bar_on-by c act unit memory 0 0 None (rw none refl) (rw none refl) (rw still refl) ∙ ap (λ (missing : Bool). bar_by (with_buffer false missing None) (disk_of unit)) present
+    bar_on-by c act unit memory 0 0 None (rw none refl) (rw none refl) (rw still refl)
+    ∙ ap (λ (missing : Bool). bar_by (with_buffer false missing None) (disk_of unit)) present
 
 -- the unit's mode is what the command leaves, and nothing else changed
-pub serves_mode : (c : Command) (act : Act) (unit : UnitState) (memory : List ℕ) → transfer_of c.op ≡ None → act_of c.op memory ≡ Some act
-    → ServesUnit c act unit memory (end_for c (answer_on Done act (disk_of unit))) (record unit { mode = mode_after act unit.mode }) memory
+pub serves_mode : (c : Command) (act : Act) (unit : UnitState) (memory : List ℕ) → transfer_of c.op ≡ None
+    → act_of c.op memory ≡ Some act
+    → ServesUnit c act unit memory (end_for c (answer_on Done act (disk_of unit)))
+    (record unit { mode = mode_after act unit.mode }) memory
 serves_mode c act unit memory none is =
-    let s : Still c.op act = subst (λ (a : Option Act). IfSome a (Still c.op)) (sym (act_of-same c.op memory none) ∙ is) (still_if c.op none) in
+    let s : Still c.op act = subst (λ (a : Option Act). IfSome a (Still c.op))
+    (sym (act_of-same c.op memory none) ∙ is) (still_if c.op none) in
     let free = free-still c act unit memory none s.no_extent in
     let no_first : lbn_of act ≡ 0 = rw s.no_extent refl in
     record {
       answers = record { reference = refl; unit = refl; body = s.answers (disk_of unit) };
       memory_stays = changes_nothing memory _ _;
-      nature_stays = ap (λ (hard : Bool). record { size = unit.store.size; hard = hard; faithful = unit.store.faithful; never_fails = unit.store.never_fails }) (s.hard_stays unit.mode);
+      nature_stays = ap (λ (hard : Bool). record {
+        size = unit.store.size;
+        hard = hard;
+        faithful = unit.store.faithful;
+        never_fails = unit.store.never_fails;
+      }) (s.hard_stays unit.mode);
       mode_stays = λ transfers. let not = rw none at transfers in absurd (cc);
-      unit_stays = λ idle. let not : is_free (Free (disk_of unit)) ≡ false = ap is_free (sym free) ∙ idle in absurd (cc);
+      unit_stays = λ idle. let not : is_free (Free (disk_of unit)) ≡ false = ap is_free (sym free) ∙ idle in
+          absurd (cc);
       ends = λ transfers acting. let not = rw none at transfers in absurd (cc);
-      takes_effect = λ trusted. subst (λ (b : Bar). TakesEffectOn c act b unit memory (end_for c (answer_on Done act (disk_of unit))) (record unit { mode = mode_after act unit.mode }) memory) (sym free) (record {
-        outcome = Done;
-        fits = record { acting = λ lost. absurd (cc); count = tt };
-        end_is = refl;
-        memory_is = sym (ap (put memory (buffer_start c.op)) (s.brings unit.store.blocks) ∙ put-nil memory (buffer_start c.op));
-        disk_is = ap (λ (b : List (List ℕ)). record { blocks = b; size = unit.store.size; mode = mode_after act unit.mode }) (sym (ap (put unit.store.blocks (lbn_of act)) (s.stores unit.store.blocks) ∙ put-nil unit.store.blocks (lbn_of act)));
-        failures_are = sym (add-zero unit.store.failures);
-        calls = rw none (go_none unit.store.fails_in);
-        sure = λ never. refl;
-      });
+      takes_effect = λ trusted. subst (λ (b : Bar). TakesEffectOn c act b unit memory
+          (end_for c (answer_on Done act (disk_of unit))) (record unit { mode = mode_after act unit.mode })
+          memory) (sym free) (record {
+            outcome = Done;
+            fits = record { acting = λ lost. absurd (cc); count = tt };
+            end_is = refl;
+            memory_is = sym (ap (put memory (buffer_start c.op)) (s.brings unit.store.blocks)
+                ∙ put-nil memory (buffer_start c.op));
+            disk_is = ap (λ (b : List (List ℕ)). record {
+              blocks = b;
+              size = unit.store.size;
+              mode = mode_after act unit.mode;
+            })
+                (sym (ap (put unit.store.blocks (lbn_of act)) (s.stores unit.store.blocks)
+                ∙ put-nil unit.store.blocks (lbn_of act)));
+            failures_are = sym (add-zero unit.store.failures);
+            calls = rw none (go_none unit.store.fails_in);
+            sure = λ never. refl;
+          });
     }
 
 -- ---- a transfer
@@ -133,7 +179,8 @@ pub record NoneFound (odd missing : Bool) (found : Option Refusal) : Type 0 wher
   pub present : missing ≡ false
   pub nothing : found ≡ None
 
-pub none_found : (odd missing : Bool) (found : Option Refusal) → with_buffer odd missing found ≡ None → NoneFound odd missing found
+pub none_found : (odd missing : Bool) (found : Option Refusal) → with_buffer odd missing found ≡ None
+    → NoneFound odd missing found
 none_found odd missing (Some refusal) h = absurd (cc)
 none_found true missing None h = absurd (cc)
 none_found false true None h = absurd (cc)
@@ -144,42 +191,61 @@ pub record Passes (t : Transfer) (memory size : ℕ) : Type 0 where
   pub on_unit : t.lbn + block_count t ≤ size
   pub in_memory : t.buffer + room_in t ≤ memory
 
-pub in_range : (e : ask.Extent) (size : ℕ) (mode : Mode) → extent_refusal e size mode ≡ None → e.lbn + blocks_for e.bytes ≤ size
+pub in_range : (e : ask.Extent) (size : ℕ) (mode : Mode) → extent_refusal e size mode ≡ None
+    → e.lbn + blocks_for e.bytes ≤ size
 in_range e size mode h = grind (arith, nat_tests)
 
-pub passes_if : (t : Transfer) (memory size : ℕ) (mode : Mode) → transfer_refusal t memory size mode ≡ None → Passes t memory size
+pub passes_if : (t : Transfer) (memory size : ℕ) (mode : Mode) → transfer_refusal t memory size mode ≡ None
+    → Passes t memory size
 passes_if t memory size mode h =
     let none = none_found _ _ _ h in
     let present : nat_lt memory (t.buffer + room_in t) ≡ false = none.present in
     record { on_unit = in_range (extent_in t) size mode none.nothing; in_memory = grind (arith, nat_tests) }
 
 -- the first k blocks and what is left at block k
-moved-lost : (k : ℕ) (left : List ℕ) (blocks : List (List ℕ)) → k < length blocks → blocks_moved (Lost k left) blocks ≡ take k blocks ++ left ∷ []
+moved-lost : (k : ℕ) (left : List ℕ) (blocks : List (List ℕ)) → k < length blocks
+    → blocks_moved (Lost k left) blocks ≡ take k blocks ++ left ∷ []
 moved-lost k left blocks h =
-    let more : take (suc k) blocks ≡ take k blocks ++ get_or blocks k [] ∷ [] = rw (← add-one) (take_more blocks k [] h) in
-    ap (λ (b : List (List ℕ)). set b k left) more ∙ set_at (take k blocks) (get_or blocks k []) [] left k (length-take-le k blocks (omega arith))
+    let more : take (suc k) blocks ≡ take k blocks ++ get_or blocks k [] ∷ [] =
+    rw (← add-one) (take_more blocks k [] h) in
+    ap (λ (b : List (List ℕ)). set b k left) more ∙ set_at (take k blocks) (get_or blocks k []) [] left k
+    (length-take-le k blocks (omega arith))
 
 -- blocks that were moved are whole
-AreBlocks-moved : (o : Outcome) (n : ℕ) (bs : List (List ℕ)) → AreBlocks bs → FitsCount n o → AreBlocks (blocks_moved o bs)
+AreBlocks-moved : (o : Outcome) (n : ℕ) (bs : List (List ℕ)) → AreBlocks bs → FitsCount n o
+    → AreBlocks (blocks_moved o bs)
 AreBlocks-moved Done n bs h f = h
-AreBlocks-moved (Lost k left) n bs h f = All-set (λ block. length block ≡ 512) (take (suc k) bs) k left f.1 (All-take (λ block. length block ≡ 512) (suc k) bs h)
+AreBlocks-moved (Lost k left) n bs h f = All-set (λ block. length block ≡ 512) (take (suc k) bs) k left f.1
+    (All-take (λ block. length block ≡ 512) (suc k) bs h)
 
-pub told_there : (o : Outcome) (n : ℕ) (bs : List (List ℕ)) → AreBlocks bs → length bs ≡ blocks_for n → FitsCount (blocks_for n) o → transfer_bytes o n ≤ length (take n (concat (blocks_moved o bs)))
+pub told_there : (o : Outcome) (n : ℕ) (bs : List (List ℕ)) → AreBlocks bs → length bs ≡ blocks_for n
+    → FitsCount (blocks_for n) o → transfer_bytes o n ≤ length (take n (concat (blocks_moved o bs)))
 told_there Done n bs h e f = omega (arith, length-concat_blocks bs h, length-take n (concat bs))
 told_there (Lost k left) n bs h e f =
     let all = blocks_moved (Lost k left) bs in
-    omega (arith, f.0, length-set (take (suc k) bs) k left, length-take (suc k) bs, length-concat_blocks all (AreBlocks-moved (Lost k left) (blocks_for n) bs h f), length-take n (concat all))
+    omega (
+      arith,
+      f.0,
+      length-set (take (suc k) bs) k left,
+      length-take (suc k) bs,
+      length-concat_blocks all
+          (AreBlocks-moved (Lost k left) (blocks_for n) bs h f),
+      length-take n (concat all),
+    )
 
 -- what a transfer asks, by its kind
-asks-transfer : (o : Op) (t : Transfer) (memory : List ℕ) → transfer_of o ≡ Some t → act_of o memory ≡ Some (asks_by t.kind t memory)
+asks-transfer : (o : Op) (t : Transfer) (memory : List ℕ) → transfer_of o ≡ Some t → act_of o memory
+    ≡ Some (asks_by t.kind t memory)
 asks-transfer o t memory is = rw is refl
 
 module _ (t : Transfer) (memory : List ℕ) where
-  pub extent-asks : (k : Kind) → extent_of (asks_by k t memory) ≡ Some (record { lbn = t.lbn; bytes = t.bytes; writes = changes_blocks k })
+  pub extent-asks : (k : Kind) → extent_of (asks_by k t memory)
+      ≡ Some (record { lbn = t.lbn; bytes = t.bytes; writes = changes_blocks k })
   extent-asks kind.Access = refl
   extent-asks kind.Erase = refl
   extent-asks kind.Read = refl
-  extent-asks kind.Write = ap (λ (n : ℕ). Some (record { lbn = t.lbn; bytes = n; writes = true })) (length-bytes_at memory t.buffer t.bytes)
+  extent-asks kind.Write = ap (λ (n : ℕ). Some (record { lbn = t.lbn; bytes = n; writes = true }))
+      (length-bytes_at memory t.buffer t.bytes)
 
   mode-asks : (k : Kind) (mode : Mode) → mode_after (asks_by k t memory) mode ≡ mode
   mode-asks kind.Access mode = refl
@@ -187,34 +253,44 @@ module _ (t : Transfer) (memory : List ℕ) where
   mode-asks kind.Read mode = refl
   mode-asks kind.Write mode = refl
 
-  stored-asks : (k : Kind) (blocks : List (List ℕ)) → stored (asks_by k t memory) blocks ≡ (if changes_blocks k then blocks else [])
+  stored-asks : (k : Kind) (blocks : List (List ℕ)) → stored (asks_by k t memory) blocks
+      ≡ (if changes_blocks k then blocks else [])
   stored-asks kind.Access blocks = refl
   stored-asks kind.Erase blocks = refl
   stored-asks kind.Read blocks = refl
   stored-asks kind.Write blocks = refl
 
-  brought-asks : (k : Kind) (blocks : List (List ℕ)) → brought (asks_by k t memory) blocks ≡ (if changes_memory k then take t.bytes (concat blocks) else [])
+  brought-asks : (k : Kind) (blocks : List (List ℕ)) → brought (asks_by k t memory) blocks
+      ≡ (if changes_memory k then take t.bytes (concat blocks) else [])
   brought-asks kind.Access blocks = refl
   brought-asks kind.Erase blocks = refl
   brought-asks kind.Read blocks = refl
   brought-asks kind.Write blocks = refl
 
   -- the end of one that acts, where its blocks are whole
-  end-asks : (c : Command) (o : Outcome) (disk : Disk) (k : Kind) → AreBlocks (due (asks_by k t memory) disk.blocks) → length (due (asks_by k t memory) disk.blocks) ≡ block_count t → FitsCount (block_count t) o
-      → reply c (transfer_status o) (plain_body c.op (transfer_bytes o t.bytes)) ≡ end_for c (answer_on o (asks_by k t memory) disk)
+  end-asks : (c : Command) (o : Outcome) (disk : Disk) (k : Kind)
+      → AreBlocks (due (asks_by k t memory) disk.blocks) → length (due (asks_by k t memory) disk.blocks)
+      ≡ block_count t → FitsCount (block_count t) o
+      → reply c (transfer_status o) (plain_body c.op (transfer_bytes o t.bytes))
+      ≡ end_for c (answer_on o (asks_by k t memory) disk)
   end-asks c o disk kind.Access are whole f = refl
   end-asks c o disk kind.Erase are whole f = refl
   end-asks c o disk kind.Read are whole f =
       let there = told_there o t.bytes (due (ask.Read t.lbn t.bytes) disk.blocks) are whole f in
-      ap (λ (n : ℕ). reply c (transfer_status o) (plain_body c.op n)) (sym (length-take-le (transfer_bytes o t.bytes) (bytes_on o (ask.Read t.lbn t.bytes) disk) there))
-  end-asks c o disk kind.Write are whole f = ap (λ (n : ℕ). reply c (transfer_status o) (plain_body c.op (transfer_bytes o n))) (sym (length-bytes_at memory t.buffer t.bytes))
+      ap (λ (n : ℕ). reply c (transfer_status o) (plain_body c.op n))
+      (sym (length-take-le (transfer_bytes o t.bytes) (bytes_on o (ask.Read t.lbn t.bytes) disk) there))
+  end-asks c o disk kind.Write are whole f =
+      ap (λ (n : ℕ). reply c (transfer_status o) (plain_body c.op (transfer_bytes o n)))
+      (sym (length-bytes_at memory t.buffer t.bytes))
 
-module _ (c : Command) (t : Transfer) (unit : UnitState) (memory : List ℕ) (is : transfer_of c.op ≡ Some t) where
+module _ (c : Command) (t : Transfer) (unit : UnitState) (memory : List ℕ)
+    (is : transfer_of c.op ≡ Some t) where
   abbrev act : Act
   act = asks_by t.kind t memory
 
   -- whichever the act that it asks
-  asked : (e : End) (unit_after : UnitState) (memory_left : List ℕ) → ServesUnit c act unit memory e unit_after memory_left
+  asked : (e : End) (unit_after : UnitState) (memory_left : List ℕ)
+      → ServesUnit c act unit memory e unit_after memory_left
       → (a : Act) → act_of c.op memory ≡ Some a → ServesUnit c a unit memory e unit_after memory_left
   asked e unit_after memory_left s a other =
       let one : Some act ≡ Some a = sym (asks-transfer c.op t memory is) ∙ other in
@@ -225,14 +301,19 @@ module _ (c : Command) (t : Transfer) (unit : UnitState) (memory : List ℕ) (is
   extent = extent-asks t memory t.kind
 
   -- its checks say what bars it
-  barred : bar_on c act unit memory ≡ bar_by (transfer_refusal t (length memory) unit.store.size unit.mode) (disk_of unit)
-  barred = bar_on-by c act unit memory t.buffer (room_in t) (extent_refusal (extent_in t) unit.store.size unit.mode) (rw is refl) (rw is refl) (rw extent refl)
+  barred : bar_on c act unit memory ≡ bar_by (transfer_refusal t (length memory) unit.store.size unit.mode)
+      (disk_of unit)
+  barred = bar_on-by c act unit memory t.buffer (room_in t)
+      (extent_refusal (extent_in t) unit.store.size unit.mode) (rw is refl) (rw is refl) (rw extent refl)
 
   -- a transfer that fails a check is refused, and changes nothing
-  pub serves_refused : (refusal : Refusal) → transfer_refusal t (length memory) unit.store.size unit.mode ≡ Some refusal
-      → (a : Act) → act_of c.op memory ≡ Some a → ServesUnit c a unit memory (reply c (refusal_status refusal) (plain_body c.op 0)) unit memory
+  pub serves_refused : (refusal : Refusal) → transfer_refusal t (length memory) unit.store.size unit.mode
+      ≡ Some refusal
+      → (a : Act) → act_of c.op memory ≡ Some a → ServesUnit c a unit memory
+      (reply c (refusal_status refusal) (plain_body c.op 0)) unit memory
   serves_refused refusal h =
-      let b : bar_on c act unit memory ≡ Barred refusal = barred ∙ ap (λ (f : Option Refusal). bar_by f (disk_of unit)) h in
+      let b : bar_on c act unit memory ≡ Barred refusal = barred
+      ∙ ap (λ (f : Option Refusal). bar_by f (disk_of unit)) h in
       let e : End = reply c (refusal_status refusal) (plain_body c.op 0) in
       asked e unit memory (record {
         answers = Answers-plain c (refusal_status refusal) 0 zero-le;
@@ -240,25 +321,33 @@ module _ (c : Command) (t : Transfer) (unit : UnitState) (memory : List ℕ) (is
         nature_stays = refl;
         mode_stays = λ transfers. refl;
         unit_stays = λ idle. refl;
-        ends = λ transfers acting. let not : is_free (Barred refusal) ≡ true = sym (ap is_free b) ∙ acting in absurd (cc);
-        takes_effect = λ trusted. subst (λ (b : Bar). TakesEffectOn c act b unit memory e unit memory) (sym b) (record {
-          outcome = Done;
-          fits = record { acting = λ lost. absurd (cc); count = tt };
-          end_is = sym (end_of-blank c memory act (refusal_status refusal) (asks-transfer c.op t memory is));
-          memory_is = refl;
-          disk_is = refl;
-          failures_are = sym (add-zero unit.store.failures);
-          calls = go_none unit.store.fails_in;
-          sure = λ never. refl;
-        });
+        ends = λ transfers acting. let not : is_free (Barred refusal) ≡ true = sym (ap is_free b) ∙ acting in
+            absurd (cc);
+        takes_effect = λ trusted. subst (λ (b : Bar). TakesEffectOn c act b unit memory e unit memory) (sym b)
+            (record {
+              outcome = Done;
+              fits = record { acting = λ lost. absurd (cc); count = tt };
+              end_is = sym (end_of-blank c memory act (refusal_status refusal)
+                  (asks-transfer c.op t memory is));
+              memory_is = refl;
+              disk_is = refl;
+              failures_are = sym (add-zero unit.store.failures);
+              calls = go_none unit.store.fails_in;
+              sure = λ never. refl;
+            });
       })
 
   -- whatever its store, it is done, or lost at a block of its range
   pub ends_done : EndsTransfer c (reply c SUCCESS (plain_body c.op t.bytes))
   ends_done = record { outcome = Done; count = tt; end_is = rw is refl }
 
-  pub ends_lost : (k : ℕ) → k < block_count t → EndsTransfer c (reply c DRIVE_ERROR (plain_body c.op (512 * k)))
-  ends_lost k inside = record { outcome = Lost k (replicate 512 0); count = rw is (inside, length-replicate {A = ℕ} 512 0); end_is = refl }
+  pub ends_lost : (k : ℕ) → k < block_count t
+      → EndsTransfer c (reply c DRIVE_ERROR (plain_body c.op (512 * k)))
+  ends_lost k inside = record {
+    outcome = Lost k (replicate 512 0);
+    count = rw is (inside, length-replicate {A = ℕ} 512 0);
+    end_is = refl;
+  }
 
   module _ (passed : transfer_refusal t (length memory) unit.store.size unit.mode ≡ None) where
     free : bar_on c act unit memory ≡ Free (disk_of unit)
@@ -268,27 +357,36 @@ module _ (c : Command) (t : Transfer) (unit : UnitState) (memory : List ℕ) (is
     is_called : 0 < block_count t → nat_lt 0 (blocks_asked c.op) && is_free (bar_on c act unit memory) ≡ true
     is_called some = let calls : nat_lt 0 (block_count t) ≡ true = grind (arith, nat_tests) in
         let count : blocks_asked c.op ≡ block_count t = rw is refl in
-        ap (λ (b : Bool). nat_lt 0 (blocks_asked c.op) && b) (ap is_free free) ∙ ap (λ (n : ℕ). nat_lt 0 n && true) count ∙ ap (λ (b : Bool). b && true) calls
+        ap (λ (b : Bool). nat_lt 0 (blocks_asked c.op) && b) (ap is_free free)
+        ∙ ap (λ (n : ℕ). nat_lt 0 n && true) count ∙ ap (λ (b : Bool). b && true) calls
 
     bounds : Passes t (length memory) unit.store.size
     bounds = passes_if t (length memory) unit.store.size unit.mode passed
 
     -- whatever the store
-    pub serves_moved : (new : StoreState) (memory_left : List ℕ) → KeepsNature unit.store new → ChangesAt memory t.buffer (if changes_memory t.kind then t.bytes else 0) memory_left
+    pub serves_moved : (new : StoreState) (memory_left : List ℕ) → KeepsNature unit.store new
+        → ChangesAt memory t.buffer (if changes_memory t.kind then t.bytes else 0) memory_left
         → (status bytes : ℕ) → bytes ≤ t.bytes → EndsTransfer c (reply c status (plain_body c.op bytes))
-        → ((0 < block_count t → unit.store.faithful ≡ true) → TakesEffectOn c act (Free (disk_of unit)) unit memory (reply c status (plain_body c.op bytes)) (record { store = new; mode = unit.mode }) memory_left)
-        → (a : Act) → act_of c.op memory ≡ Some a → ServesUnit c a unit memory (reply c status (plain_body c.op bytes)) (record { store = new; mode = unit.mode }) memory_left
+        → ((0 < block_count t → unit.store.faithful ≡ true)
+        → TakesEffectOn c act (Free (disk_of unit)) unit memory (reply c status (plain_body c.op bytes))
+        (record { store = new; mode = unit.mode }) memory_left)
+        → (a : Act) → act_of c.op memory ≡ Some a → ServesUnit c a unit memory
+        (reply c status (plain_body c.op bytes)) (record { store = new; mode = unit.mode }) memory_left
     serves_moved new memory_left nature changes status bytes few ends takes = asked _ _ _ (record {
       answers = Answers-plain c status bytes (rw is few);
       memory_stays = rw is changes;
       nature_stays = rw (nature.size_stays, nature.faithful_stays, nature.never_fails_stays) refl;
       mode_stays = λ transfers. refl;
-      unit_stays = λ idle. let none : is_free (Free (disk_of unit)) ≡ false = ap is_free (sym free) ∙ idle in absurd (cc);
+      unit_stays = λ idle. let none : is_free (Free (disk_of unit)) ≡ false = ap is_free (sym free) ∙ idle in
+          absurd (cc);
       ends = λ transfers acting. ends;
-      takes_effect = λ trusted. subst (λ (b : Bar). TakesEffectOn c act b unit memory (reply c status (plain_body c.op bytes)) (record { store = new; mode = unit.mode }) memory_left) (sym free) (takes (λ some. trusted (is_called some)));
+      takes_effect = λ trusted. subst (λ (b : Bar). TakesEffectOn c act b unit memory
+          (reply c status (plain_body c.op bytes)) (record { store = new; mode = unit.mode }) memory_left)
+          (sym free) (takes (λ some. trusted (is_called some)));
     })
 
-    module _ (image : 0 < block_count t → IsImage unit.store.size unit.store.blocks) (new : StoreState) (memory_left : List ℕ) (nature : KeepsNature unit.store new) where
+    module _ (image : 0 < block_count t → IsImage unit.store.size unit.store.blocks) (new : StoreState)
+        (memory_left : List ℕ) (nature : KeepsNature unit.store new) where
       abbrev due_now : List (List ℕ)
       due_now = blocks_due t unit.store.blocks memory
 
@@ -299,38 +397,52 @@ module _ (c : Command) (t : Transfer) (unit : UnitState) (memory : List ℕ) (is
       ]
 
       -- whatever the outcome: where the blocks and bytes stand as it says, the transfer takes effect
-      takes : (o : Outcome) (front : List (List ℕ)) → blocks_moved o due_now ≡ front → FitsCount (block_count t) o
+      takes : (o : Outcome) (front : List (List ℕ)) → blocks_moved o due_now ≡ front
+          → FitsCount (block_count t) o
           → memory_left ≡ put memory t.buffer (bytes_landing t front)
           → new.blocks ≡ put unit.store.blocks t.lbn (blocks_stored t front)
           → new.failures ≡ unit.store.failures + (if is_lost o then 1 else 0)
           → CallsStore o (block_count t) unit.store.fails_in new.fails_in
           → (unit.store.never_fails ≡ true → o ≡ Done)
-          → TakesEffectOn c act (Free (disk_of unit)) unit memory (reply c (transfer_status o) (plain_body c.op (transfer_bytes o t.bytes))) (record { store = new; mode = unit.mode }) memory_left
+          → TakesEffectOn c act (Free (disk_of unit)) unit memory
+          (reply c (transfer_status o) (plain_body c.op (transfer_bytes o t.bytes)))
+          (record { store = new; mode = unit.mode }) memory_left
       takes o front all fits in_memory in_store failed calls sure =
           let make : List (List ℕ) → ℕ → Mode → Disk = λ b n m. record { blocks = b; size = n; mode = m } in
           let first : lbn_of act ≡ t.lbn = rw extent refl in
-          let bytes : bytes_on o act (disk_of unit) ≡ bytes_landing t front = brought-asks t memory t.kind (blocks_moved o due_now) ∙ ap (bytes_landing t) all in
-          let blocks : stored act (blocks_moved o due_now) ≡ blocks_stored t front = stored-asks t memory t.kind (blocks_moved o due_now) ∙ ap (blocks_stored t) all in
+          let bytes : bytes_on o act (disk_of unit) ≡ bytes_landing t front = brought-asks t memory t.kind
+          (blocks_moved o due_now) ∙ ap (bytes_landing t) all in
+          let blocks : stored act (blocks_moved o due_now) ≡ blocks_stored t front =
+          stored-asks t memory t.kind (blocks_moved o due_now) ∙ ap (blocks_stored t) all in
           record {
             outcome = o;
             fits = record { acting = λ lost. refl; count = rw is fits };
-            end_is = end-asks t memory c o (disk_of unit) t.kind (AreBlocks-due t unit.store.blocks memory (λ some. (image some).whole)) whole fits;
+            end_is = end-asks t memory c o (disk_of unit) t.kind
+                (AreBlocks-due t unit.store.blocks memory (λ some. (image some).whole)) whole fits;
             memory_is = in_memory ∙ rw (is, bytes) refl;
-            disk_is = rw (first, blocks, mode-asks t memory t.kind unit.mode) (ap₂ (λ b n. make b n unit.mode) in_store nature.size_stays);
+            disk_is = rw (first, blocks, mode-asks t memory t.kind unit.mode)
+                (ap₂ (λ b n. make b n unit.mode) in_store nature.size_stays);
             failures_are = failed;
             calls = rw is calls;
             sure = sure;
           }
 
       pub takes_done : Progress t (block_count t) unit.store memory new memory_left
-          → TakesEffectOn c act (Free (disk_of unit)) unit memory (reply c SUCCESS (plain_body c.op t.bytes)) (record { store = new; mode = unit.mode }) memory_left
+          → TakesEffectOn c act (Free (disk_of unit)) unit memory (reply c SUCCESS (plain_body c.op t.bytes))
+          (record { store = new; mode = unit.mode }) memory_left
       takes_done h =
           let all : take (block_count t) due_now ≡ due_now = take_all _ _ (omega (arith, whole)) in
           let stand = rw all at h.stand in
-          takes Done due_now refl tt stand.in_memory stand.in_store (h.failures_stay ∙ sym (add-zero unit.store.failures)) h.calls (λ never. refl)
+          takes Done due_now refl tt stand.in_memory stand.in_store
+          (h.failures_stay ∙ sym (add-zero unit.store.failures)) h.calls (λ never. refl)
 
-      pub takes_lost : (k : ℕ) → k < block_count t → (unit.store.never_fails ≡ true → ⊥) → StopsAt t k unit.store memory new memory_left
-          → TakesEffectOn c act (Free (disk_of unit)) unit memory (reply c DRIVE_ERROR (plain_body c.op (512 * k))) (record { store = new; mode = unit.mode }) memory_left
+      pub takes_lost : (k : ℕ) → k < block_count t → (unit.store.never_fails ≡ true → ⊥)
+          → StopsAt t k unit.store memory new memory_left
+          → TakesEffectOn c act (Free (disk_of unit)) unit memory
+          (reply c DRIVE_ERROR (plain_body c.op (512 * k)))
+          (record { store = new; mode = unit.mode }) memory_left
       takes_lost k inside unsure h =
-          takes (Lost k h.left) (take k due_now ++ h.left ∷ []) (moved-lost k h.left due_now (omega (arith, whole)))
-          (inside, h.whole) h.stand.in_memory h.stand.in_store h.counted h.calls (λ never. absurd (unsure never))
+          takes (Lost k h.left) (take k due_now ++ h.left ∷ [])
+          (moved-lost k h.left due_now (omega (arith, whole)))
+          (inside, h.whole) h.stand.in_memory h.stand.in_store h.counted h.calls
+          (λ never. absurd (unsure never))

@@ -18,7 +18,7 @@ refused true n e = absurd (cc)
 refused false n e = refl
 
 pub slice_split_found : (p : ℕ → Bool) (xs : List ℕ) (i : ℕ) → position p xs ≡ Some i → slice_split p xs
-  ≡ take i xs ∷ slice_split p (take (length xs - (i + 1)) (drop (i + 1) xs))
+    ≡ take i xs ∷ slice_split p (take (length xs - (i + 1)) (drop (i + 1) xs))
 slice_split_found p xs i e =
     let h = chosen (nat_lt (position_or_len p xs) (length xs)) (position_or_len p xs) i e in
     let within : position_or_len p xs < length xs = grind (arith, h.0) in
@@ -30,7 +30,7 @@ slice_split_absent p xs e =
     let h = refused (nat_lt (position_or_len p xs) (length xs)) (position_or_len p xs) e in
     let past : length xs ≤ position_or_len p xs = grind (arith, h) in
     slice_split_none p xs (All-from_get_or (λ x. p x ≡ false) xs 0
-      (λ k below. fails_before_first p xs k 0 (omega arith)))
+    (λ k below. fails_before_first p xs k 0 (omega arith)))
 
 -- a text has at least one part
 pub parts_nonempty : (separator : ℕ) (text : List ℕ) → 0 < length (parts separator text)
@@ -38,5 +38,5 @@ parts_nonempty separator text = omega (arith, length-slice_split (λ byte. byte 
 
 -- and at least two where a separator stands in it
 pub behind_nonempty : (separator : ℕ) (behind : Option (List ℕ)) (rest : List ℕ) → behind ≡ Some rest
-  → 0 < length (parts_behind separator behind)
+    → 0 < length (parts_behind separator behind)
 behind_nonempty separator behind rest e = rw e (parts_nonempty separator rest)

@@ -45,30 +45,30 @@ leading-is_decimal : (word : List ℕ) → is_decimal word ≡ true → get_or w
 leading-is_decimal [] h e = absurd (cc)
 leading-is_decimal (digit ∷ []) h e = refl
 leading-is_decimal (digit ∷ next ∷ rest) h e =
-  absurd (let bad : is_decimal (digit ∷ next ∷ rest) ≡ false = rw e refl in cc)
+    absurd (let bad : is_decimal (digit ∷ next ∷ rest) ≡ false = rw e refl in cc)
 
 pub Told-number_of : (most number : ℕ) (word : List ℕ) → most < 2 ^ 64 → number_of most word ≡ Some number
-  → Told most number word
+    → Told most number word
 Told-number_of most number word small e =
     let h = both (is_decimal word) (nat_le (value_behind 0 word) most) (value_behind 0 word) number e in
     let below : value_behind 0 word ≤ most = grind (arith, h.1) in
     let printed : decimal (value_behind 0 word) ≡ word = decimal-digits_value own word
-      (digits-is_decimal word h.0) (nonempty-is_decimal word h.0) (leading-is_decimal word h.0)
-      (omega arith) in
+    (digits-is_decimal word h.0) (nonempty-is_decimal word h.0) (leading-is_decimal word h.0)
+    (omega arith) in
     record { fits = omega (arith, h.2); printed = sym printed ∙ ap decimal h.2 }
 
 leading-decimal : (number : ℕ) → number < 2 ^ 64 → 1 < length (decimal number)
-  → get_or (decimal number) 0 0 ≢ 48
+    → get_or (decimal number) 0 0 ≢ 48
 leading-decimal zero small long = absurd (let one : length (decimal zero) ≡ 1 =
-  ap length (decimal_digit 0 (omega arith)) in omega arith)
+    ap length (decimal_digit 0 (omega arith)) in omega arith)
 leading-decimal (suc n) small long = omega (arith, first_decimal (suc n) (omega arith) small)
 
 pub number_of-decimal : (most number : ℕ) → most < 2 ^ 64 → number ≤ most → number_of most (decimal number)
-  ≡ Some number
+    ≡ Some number
 number_of-decimal most number small fits =
     let below : number < 2 ^ 64 = omega arith in
     let digits = is_decimal-digits (decimal number) (decimal_nonempty number below)
-      (leading-decimal number below) (digits_decimal own number below) in
+    (leading-decimal number below) (digits_decimal own number below) in
     let same : value_behind 0 (decimal number) ≡ number = digits_value-decimal own number below in
     number_of-some most (decimal number) digits (omega arith) ∙ ap Some same
 
@@ -77,46 +77,46 @@ pub nibble_of-glyph : (n : ℕ) → n < 16 → nibble_of (digit_glyph false n) �
 nibble_of-glyph n h =
     let P : ℕ → Type 0 = λ k. nibble_of (digit_glyph false k) ≡ Some k in
     (below_more P 15
-      (below_more P 14
-      (below_more P 13
-      (below_more P 12
-      (below_more P 11
-      (below_more P 10
-      (below_more P 9
-      (below_more P 8
-      (below_more P 7
-      (below_more P 6
-      (below_more P 5
-      (below_more P 4
-      (below_more P 3 (below_more P 2 (below_more P 1 (below_more P 0 (below_none P) refl) refl) refl) refl)
-      refl) refl) refl) refl) refl) refl) refl) refl) refl) refl) refl) refl) n h
+    (below_more P 14
+    (below_more P 13
+    (below_more P 12
+    (below_more P 11
+    (below_more P 10
+    (below_more P 9
+    (below_more P 8
+    (below_more P 7
+    (below_more P 6
+    (below_more P 5
+    (below_more P 4
+    (below_more P 3 (below_more P 2 (below_more P 1 (below_more P 0 (below_none P) refl) refl) refl) refl)
+    refl) refl) refl) refl) refl) refl) refl) refl) refl) refl) refl) refl) n h
 
 glyph_at : (n : ℕ) → n < 16 → get_or (codes "0123456789abcdef") n 0 ≡ digit_glyph false n
 glyph_at n h =
     let P : ℕ → Type 0 = λ k. get_or (codes "0123456789abcdef") k 0 ≡ digit_glyph false k in
     (below_more P 15
-      (below_more P 14
-      (below_more P 13
-      (below_more P 12
-      (below_more P 11
-      (below_more P 10
-      (below_more P 9
-      (below_more P 8
-      (below_more P 7
-      (below_more P 6
-      (below_more P 5
-      (below_more P 4
-      (below_more P 3 (below_more P 2 (below_more P 1 (below_more P 0 (below_none P) refl) refl) refl) refl)
-      refl) refl) refl) refl) refl) refl) refl) refl) refl) refl) refl) refl) n h
+    (below_more P 14
+    (below_more P 13
+    (below_more P 12
+    (below_more P 11
+    (below_more P 10
+    (below_more P 9
+    (below_more P 8
+    (below_more P 7
+    (below_more P 6
+    (below_more P 5
+    (below_more P 4
+    (below_more P 3 (below_more P 2 (below_more P 1 (below_more P 0 (below_none P) refl) refl) refl) refl)
+    refl) refl) refl) refl) refl) refl) refl) refl) refl) refl) refl) refl) n h
 
 pub glyph-nibble_of : (digit n : ℕ) → nibble_of digit ≡ Some n → (n < 16) × (digit ≡ digit_glyph false n)
 glyph-nibble_of digit n e =
     let p : ℕ → Bool = λ d. d == digit in
     let h = found (nat_lt (position_or_len p (codes "0123456789abcdef")) 16)
-      (position_or_len p (codes "0123456789abcdef")) n e in
+    (position_or_len p (codes "0123456789abcdef")) n e in
     let below : position_or_len p (codes "0123456789abcdef") < 16 = grind (arith, h.0) in
     let passes : (get_or (codes "0123456789abcdef") n 0 == digit) ≡ true =
-      rw (← h.1) (passes_at_first p (codes "0123456789abcdef") 0 below) in
+    rw (← h.1) (passes_at_first p (codes "0123456789abcdef") 0 below) in
     let within : n < 16 = omega (arith, h.1) in
     let same : get_or (codes "0123456789abcdef") n 0 ≡ digit = grind (arith, common_steps, passes) in
     (within, sym same ∙ glyph_at n within)
@@ -124,10 +124,10 @@ glyph-nibble_of digit n e =
 pub byte_of-two_digits : (byte : ℕ) → byte ≤ 255 → byte_of (two_digits byte) ≡ Some byte
 byte_of-two_digits byte h =
     rw (nibble_of-glyph (byte / 16) (omega arith), nibble_of-glyph (byte % 16) (omega arith))
-      (ap Some (let e : 16 * (byte / 16) + byte % 16 ≡ byte = omega arith in e))
+    (ap Some (let e : 16 * (byte / 16) + byte % 16 ≡ byte = omega arith in e))
 
 nibbles : (high low : Option ℕ) (byte : ℕ) → option_and_then (λ h. option_map (λ l. 16 * h + l) low) high
-  ≡ Some byte → (h l : ℕ) × (high ≡ Some h) × (low ≡ Some l) × (16 * h + l ≡ byte)
+    ≡ Some byte → (h l : ℕ) × (high ≡ Some h) × (low ≡ Some l) × (16 * h + l ≡ byte)
 nibbles None low byte e = absurd (cc)
 nibbles (Some h) None byte e = absurd (cc)
 nibbles (Some h) (Some l) byte e = (h, l, refl, refl, cc)
@@ -136,7 +136,7 @@ pair : (a b c d : ℕ) → a ≡ c → b ≡ d → ◌≡◌ {A = List ℕ} (a �
 pair a b c d e f = cc
 
 pub two_digits-byte_of : (word : List ℕ) (byte : ℕ) → byte_of word ≡ Some byte
-  → (byte ≤ 255) × (word ≡ two_digits byte)
+    → (byte ≤ 255) × (word ≡ two_digits byte)
 two_digits-byte_of [] byte e = absurd (cc)
 two_digits-byte_of (high ∷ []) byte e = absurd (cc)
 two_digits-byte_of (high ∷ low ∷ []) byte e =
@@ -144,7 +144,9 @@ two_digits-byte_of (high ∷ low ∷ []) byte e =
     let a = glyph-nibble_of high n.0 n.2 in
     let b = glyph-nibble_of low n.1 n.3 in
     let upper : byte / 16 ≡ n.0 = omega (arith, a.0, b.0, n.4) in
-    let lower : byte % 16 ≡ n.1 = omega (arith, a.0, b.0, n.4) in
-    (omega (arith, a.0, b.0, n.4), pair high low _ _ (a.1 ∙ ap (digit_glyph false) (sym upper))
-      (b.1 ∙ ap (digit_glyph false) (sym lower)))
+    let lower : byte % 16 ≡ n.1 = omega (arith, a.0, b.0, n.4) in (
+      omega (arith, a.0, b.0, n.4),
+      pair high low _ _ (a.1 ∙ ap (digit_glyph false) (sym upper))
+          (b.1 ∙ ap (digit_glyph false) (sym lower)),
+    )
 two_digits-byte_of (high ∷ low ∷ next ∷ rest) byte e = absurd (cc)

@@ -13,7 +13,14 @@ use Rattle.uda_host.proofs.Slots.{both_stay}
 -- ---- the states on the way: it is due, and nothing else is out
 
 abbrev with_due : HostState → Command → ℕ → List ℕ → ℕ → HostState
-with_due start c fetches memory turns = record start { memory = memory; due = c ∷ []; waiting = []; credits = start.credits - 1; turns = turns; fetches = fetches }
+with_due start c fetches memory turns = record start {
+  memory = memory;
+  due = c ∷ [];
+  waiting = [];
+  credits = start.credits - 1;
+  turns = turns;
+  fetches = fetches;
+}
 
 -- so far fetched or not, by the count of fetches
 pub record IsDue (start : HostState) (c : Command) (fetches : ℕ) (host : HostState) : Type 0 where
@@ -30,32 +37,61 @@ pub record IsDone (start : HostState) (c : Command) (host : HostState) : Type 0 
   pub turns : ℕ
   pub load : ℕ
   pub none_due : host.due ≡ []
-  pub is : host ≡ record (with_due start c (start.taken + 1) host.memory turns) { units = host.units; due = host.due; waiting = end ∷ []; load = load }
+  pub is : host ≡ record (with_due start c (start.taken + 1) host.memory turns) {
+    units = host.units;
+    due = host.due;
+    waiting = end ∷ [];
+    load = load;
+  }
 
 -- ---- from each to the next
 
-pub is_posted : {start host : HostState} {c : Command} → IsIdle start → AddsUp start → Posts c start host → IsDue start c start.taken host
+pub is_posted : {start host : HostState} {c : Command} → IsIdle start → AddsUp start → Posts c start host
+    → IsDue start c start.taken host
 is_posted {start} {host} {c} idle before p =
     let none_due = idle.none_due in let none_wait = idle.none_wait in
-    let fetches : start.fetches ≡ start.taken = omega (arith, before.done_were_fetched, before.fetched_were_posted, ap length none_due, ap length none_wait) in
+    let fetches : start.fetches ≡ start.taken =
+    omega (
+      arith,
+      before.done_were_fetched,
+      before.fetched_were_posted,
+      ap length none_due,
+      ap length none_wait,
+    ) in
     record {
       buffers = p.buffers;
       turns = start.turns;
-      is = p.is ∙ (λ i. record start { memory = host.memory; due = none_due i ++ c ∷ []; waiting = none_wait i; credits = start.credits - 1; fetches = fetches i });
+      is = p.is ∙ (λ i. record start {
+        memory = host.memory;
+        due = none_due i ++ c ∷ [];
+        waiting = none_wait i;
+        credits = start.credits - 1;
+        fetches = fetches i;
+      });
     }
 
-pub is_fetched : {start old new : HostState} {c : Command} (read : Option End) → IsDue start c start.taken old → HostGoes old read new → AddsUp new → IsDue start c (start.taken + 1) new
-is_fetched {start} {old} {new} {c} read was goes adds_up = by read (subst (λ (h : HostState). HostGoes h read new) was.is goes)
+pub is_fetched : {start old new : HostState} {c : Command} (read : Option End) → IsDue start c start.taken old
+    → HostGoes old read new → AddsUp new → IsDue start c (start.taken + 1) new
+is_fetched {start} {old} {new} {c} read was goes adds_up =
+    by read (subst (λ (h : HostState). HostGoes h read new) was.is goes)
   where
-    by : (read : Option End) → HostGoes (with_due start c start.taken old.memory was.turns) read new → IsDue start c (start.taken + 1) new
-    by None (OneFetched f) = record { buffers = both_stay was.buffers f.buffers; turns = was.turns + 1; is = f.is }
+    by : (read : Option End) → HostGoes (with_due start c start.taken old.memory was.turns) read new
+        → IsDue start c (start.taken + 1) new
+    by None (OneFetched f) = record {
+      buffers = both_stay was.buffers f.buffers;
+      turns = was.turns + 1;
+      is = f.is;
+    }
     by None (OneDone d) = absurd (omega (arith, (subst AddsUp d.is adds_up).done_were_fetched))
     by (Some end) d = let none = d.none_due in absurd (cc)
 
-pub is_done : {start old new : HostState} {c : Command} (read : Option End) → IsDue start c (start.taken + 1) old → HostGoes old read new → AddsUp new → IsDone start c new
-is_done {start} {old} {new} {c} read was goes adds_up = by read (subst (λ (h : HostState). HostGoes h read new) was.is goes)
+pub is_done : {start old new : HostState} {c : Command} (read : Option End)
+    → IsDue start c (start.taken + 1) old → HostGoes old read new → AddsUp new → IsDone start c new
+is_done {start} {old} {new} {c} read was goes adds_up =
+    by read (subst (λ (h : HostState). HostGoes h read new) was.is goes)
   where
-    by : (read : Option End) → HostGoes (with_due start c (start.taken + 1) old.memory was.turns) read new → IsDone start c new
+    by : (read : Option End) → HostGoes (with_due start c (start.taken + 1) old.memory was.turns) read new
+        → IsDone start c new
     by None (OneFetched f) = absurd (omega (arith, (subst AddsUp f.is adds_up).fetched_were_posted))
     by None (OneDone d) =
         let taken = d.executes.taken in
@@ -66,7 +102,8 @@ is_done {start} {old} {new} {c} read was goes adds_up = by read (subst (λ (h : 
           end = d.end;
           before = old.memory;
           buffers = was.buffers;
-          executes = subst (λ (e : Command). Executes e start.units old.memory d.end new.units new.memory) is_c d.executes.executes;
+          executes = subst (λ (e : Command). Executes e start.units old.memory d.end new.units new.memory)
+              is_c d.executes.executes;
           turns = was.turns + 1;
           load = start.load + 1;
           none_due = taken.taken ∙ ap (remove (c ∷ [])) first;
@@ -75,8 +112,10 @@ is_done {start} {old} {new} {c} read was goes adds_up = by read (subst (λ (h : 
     by (Some end) d = let none = d.none_due in absurd (cc)
 
 -- the first two of its three turns
-pub two_turns : {start posted fetched done : HostState} {c : Command} (first second : Option End) → IsIdle start → AddsUp start → Posts c start posted
-    → HostGoes posted first fetched → AddsUp fetched → HostGoes fetched second done → AddsUp done → IsDone start c done
+pub two_turns : {start posted fetched done : HostState} {c : Command} (first second : Option End)
+    → IsIdle start → AddsUp start → Posts c start posted
+    → HostGoes posted first fetched → AddsUp fetched → HostGoes fetched second done → AddsUp done
+    → IsDone start c done
 two_turns first second idle before posts fetch adds_up does adds_up_again =
     is_done second (is_fetched first (is_posted idle before posts) fetch adds_up) does adds_up_again
 
@@ -92,7 +131,9 @@ module _ {start old new : HostState} {c : Command} (was : IsDone start c old) wh
         before = was.before;
         after = old.memory;
         buffers_before = was.buffers;
-        executes = subst₂ (λ (e : End) (units : List (Option UnitState)). Executes c start.units was.before e units old.memory) end_is (sym (ap (λ (h : HostState). h.units) d.is)) was.executes;
+        executes = subst₂ (λ (e : End) (units : List (Option UnitState)).
+            Executes c start.units was.before e units old.memory) end_is
+            (sym (ap (λ (h : HostState). h.units) d.is)) was.executes;
         buffers_after = d.buffers;
         idle = record { none_due = ap (λ (h : HostState). h.due) d.is ∙ was.none_due; none_wait = none };
         credits_are = ap (λ (h : HostState). h.credits) d.is;
@@ -103,12 +144,22 @@ module _ {start old new : HostState} {c : Command} (was : IsDone start c old) wh
   pub never_works : Works old new → AddsUp new → ⊥
   never_works works adds_up = by (subst (λ (h : HostState). Works h new) was.is works)
     where
-      by : Works (record (with_due start c (start.taken + 1) old.memory was.turns) { units = old.units; due = old.due; waiting = was.end ∷ []; load = was.load }) new → ⊥
-      by (OneFetched f) = omega (arith, (subst AddsUp f.is adds_up).fetched_were_posted, ap length was.none_due)
+      by : Works (record (with_due start c (start.taken + 1) old.memory was.turns) {
+        units = old.units;
+        due = old.due;
+        waiting = was.end ∷ [];
+        load = was.load;
+      }) new → ⊥
+      by (OneFetched f) = omega (
+        arith,
+        (subst AddsUp f.is adds_up).fetched_were_posted,
+        ap length was.none_due,
+      )
       by (OneDone d) = omega (arith, d.executes.taken.may.stands, ap length was.none_due)
 
 -- as long as it is out a turn may be given
-pub due_is_out : {start host : HostState} {c : Command} {fetches : ℕ} → IsDue start c fetches host → 0 < out_of host
+pub due_is_out : {start host : HostState} {c : Command} {fetches : ℕ} → IsDue start c fetches host
+    → 0 < out_of host
 due_is_out due = omega (arith, ap out_of due.is)
 
 pub done_is_out : {start host : HostState} {c : Command} → IsDone start c host → 0 < out_of host
@@ -119,7 +170,8 @@ done_is_out done = omega (arith, ap out_of done.is)
 abbrev pub characteristics : Command
 characteristics = record { reference = 1; unit = 0; op = Controller }
 
-pub started : {units : List (Option UnitState)} {old new : HostState} {end : End} → old.units ≡ units → old.credits ≡ 1 → old.taken ≡ 0 → Asked old characteristics end new → IsStarted units new
+pub started : {units : List (Option UnitState)} {old new : HostState} {end : End} → old.units ≡ units
+    → old.credits ≡ 1 → old.taken ≡ 0 → Asked old characteristics end new → IsStarted units new
 started units_are credits_are taken_is asked = record {
   idle = asked.idle;
   units_are = asked.executes.by_acting.idle refl ∙ units_are;

@@ -39,25 +39,45 @@ adds_up {h = h} host =
     }
 
 -- bytes are put into a buffer
-pub buffer_filled : {S : Type 0} {h : Inside S} → IsHost h → (at : ℕ) (bytes : List ℕ) → (Meet at (length bytes) 0 buffers_start → ⊥) → IsHost (record h { memory = put h.memory at bytes })
+pub buffer_filled : {S : Type 0} {h : Inside S} → IsHost h → (at : ℕ) (bytes : List ℕ)
+    → (Meet at (length bytes) 0 buffers_start → ⊥) → IsHost (record h { memory = put h.memory at bytes })
 buffer_filled host at bytes above = record {
   port = record { strict = host.port.strict; runs = host.port.runs };
   looks = host.looks;
-  rings = record { commands_are = host.rings.commands_are; responses_are = host.rings.responses_are; posts_next = host.rings.posts_next; looks_within = host.rings.looks_within };
+  rings = record {
+    commands_are = host.rings.commands_are;
+    responses_are = host.rings.responses_are;
+    posts_next = host.rings.posts_next;
+    looks_within = host.rings.looks_within;
+  };
   written = rings-put at bytes above host.written;
   agree = host.agree;
-  counts = record { fetched = host.counts.fetched; turned = host.counts.turned; credits = host.counts.credits };
+  counts = record {
+    fetched = host.counts.fetched;
+    turned = host.counts.turned;
+    credits = host.counts.credits;
+  };
   sound = host.sound;
 }
 
 -- a command is posted, and the port begins to look
-pub host_posts : {S : Type 0} {h : Inside S} {value : HostState} {after : List ℕ} {new : PortState} {more : List Command} (c : Command) → host_view h ≡ value → IsHost h → 0 < value.credits → IsAbove c → read_command (written_command c) ≡ Ok c
-    → after ≡ with_command h.memory h.command_place c → new ≡ port_asked h.port.phase h.port → more ≡ h.posted ++ c ∷ []
-    → HostThat (Posts c value) (record h { memory = after; command_place = (h.command_place + 1) % slots; held = h.held - 1; posted = more; port = new })
+pub host_posts : {S : Type 0} {h : Inside S} {value : HostState} {after : List ℕ} {new : PortState}
+    {more : List Command} (c : Command) → host_view h ≡ value → IsHost h → 0 < value.credits → IsAbove c
+    → read_command (written_command c) ≡ Ok c
+    → after ≡ with_command h.memory h.command_place c → new ≡ port_asked h.port.phase h.port
+    → more ≡ h.posted ++ c ∷ []
+    → HostThat (Posts c value) (record h {
+      memory = after;
+      command_place = (h.command_place + 1) % slots;
+      held = h.held - 1;
+      posted = more;
+      port = new;
+    })
 host_posts {h = h} c is host some above legible after_is asked more_is =
     let agree = host.agree in let counts = host.counts in let rings = host.rings in
     let left = drop-append-le h.port.fetches h.posted (c ∷ []) counts.fetched in
-    let due = ap (λ (cs : List Command). h.port.exec.pending ++ cs) left ∙ sym (append_assoc h.port.exec.pending (unfetched h) (c ∷ [])) in
+    let due = ap (λ (cs : List Command). h.port.exec.pending ++ cs) left
+    ∙ sym (append_assoc h.port.exec.pending (unfetched h) (c ∷ [])) in
     let long = length_push (unfetched h) c in
     let new_is = asked ∙ ap (λ (p : Phase). port_asked p h.port) host.port.runs in
     let w = command_written h.memory h.command_place c (omega arith) host.written.size in
@@ -66,11 +86,22 @@ host_posts {h = h} c is host some above legible after_is asked more_is =
       host = record {
         port = record { strict = host.port.strict; runs = host.port.runs };
         looks = λ _. refl;
-        rings = record { commands_are = rings.commands_are; responses_are = rings.responses_are; posts_next = omega (arith, ap length left); looks_within = rings.looks_within };
+        rings = record {
+          commands_are = rings.commands_are;
+          responses_are = rings.responses_are;
+          posts_next =
+              omega (arith, ap length left);
+          looks_within = rings.looks_within;
+        };
         written = rw left (rings_posted h.command_place c w (omega arith) rings.posts_next host.written);
         agree = record { credits = agree.credits; conserved = agree.conserved; within = agree.within };
-        counts = record { fetched = omega (arith, length_push h.posted c); turned = counts.turned; credits = omega (arith, ap length left) };
-        sound = rw due (All-push IsSound (host_view h).due c host.sound (record { above = above; legible = legible }));
+        counts = record {
+          fetched = omega (arith, length_push h.posted c);
+          turned = counts.turned;
+          credits = omega (arith, ap length left);
+        };
+        sound = rw due (All-push IsSound (host_view h).due c host.sound
+            (record { above = above; legible = legible }));
       };
       so = record { buffers = w.buffers; is = rw due };
     })

@@ -51,32 +51,43 @@ use Rattle.uda_host.proofs.Hosts.{HostThat}
 
 -- ---- what the port sees
 
-not_both : {seen : Option Descriptor} {d e : Descriptor} → seen ≡ Some d → seen ≡ Some e → is_owned d ≡ true → is_owned e ≡ false → ⊥
-not_both {d = d} {e} is_d is_e owner free = let same : d ≡ e = cc in let both : true ≡ false = sym owner ∙ ap is_owned same ∙ free in absurd (cc)
+not_both : {seen : Option Descriptor} {d e : Descriptor} → seen ≡ Some d → seen ≡ Some e → is_owned d ≡ true
+    → is_owned e ≡ false → ⊥
+not_both {d = d} {e} is_d is_e owner free =
+    let same : d ≡ e = cc in let both : true ≡ false = sym owner ∙ ap is_owned same ∙ free in absurd (cc)
 
-sees_next : (memory : List ℕ) (ring : RingState) (at packet : ℕ) → length memory ≡ memory_size → at + 4 ≤ memory_size → descriptor_address ring ≡ at → next_descriptor memory ring ≡ Some (slot_at memory at packet).descriptor
+sees_next : (memory : List ℕ) (ring : RingState) (at packet : ℕ) → length memory ≡ memory_size
+    → at + 4 ≤ memory_size → descriptor_address ring ≡ at → next_descriptor memory ring
+    ≡ Some (slot_at memory at packet).descriptor
 sees_next memory ring at packet size room is = rw (is, le-leb (at + 4) (length memory) (omega arith))
 
 module _ {S : Type 0} {h : Inside S} (host : IsHost h) where
-  commands_seen : next_descriptor h.memory h.port.commands ≡ Some (command_at h.memory h.port.commands.place).descriptor
+  commands_seen : next_descriptor h.memory h.port.commands
+      ≡ Some (command_at h.memory h.port.commands.place).descriptor
   commands_seen =
       let place = h.port.commands.place in let within = host.written.within in
-      sees_next h.memory h.port.commands (command_descriptor place) (command_packet place) host.written.size (omega arith) (ap descriptor_address host.rings.commands_are)
+      sees_next h.memory h.port.commands (command_descriptor place) (command_packet place) host.written.size
+      (omega arith) (ap descriptor_address host.rings.commands_are)
 
   -- there is always room for a response
   responses_seen : next_descriptor h.memory h.port.responses ≡ Some (owned (response_packet h.response_place))
   responses_seen =
       let place = h.response_place in let within = host.rings.looks_within in
-      sees_next h.memory h.port.responses (response_descriptor place) (response_packet place) host.written.size (omega arith) (ap descriptor_address host.rings.responses_are) ∙ ap Some (host.written.opens place within).owned_is
+      sees_next h.memory h.port.responses (response_descriptor place)
+      (response_packet place) host.written.size (omega arith)
+      (ap descriptor_address host.rings.responses_are) ∙ ap Some (host.written.opens place within).owned_is
 
   -- with nothing posted the command descriptor is the host's
-  none_owned : unfetched h ≡ [] → (d : Descriptor) → next_descriptor h.memory h.port.commands ≡ Some d → is_owned d ≡ true → ⊥
+  none_owned : unfetched h ≡ [] → (d : Descriptor) → next_descriptor h.memory h.port.commands ≡ Some d
+      → is_owned d ≡ true → ⊥
   none_owned none d next owner =
       let free = first_free (rw none at host.written) in
-      not_both next commands_seen owner (lt-leb owner_word (command_at h.memory h.port.commands.place).descriptor.high free)
+      not_both next commands_seen owner
+      (lt-leb owner_word (command_at h.memory h.port.commands.place).descriptor.high free)
 
 -- the command that is posted first
-module _ {S : Type 0} {h : Inside S} {c : Command} {rest : List Command} (host : IsHost h) (were : unfetched h ≡ c ∷ rest) where
+module _ {S : Type 0} {h : Inside S} {c : Command} {rest : List Command} (host : IsHost h)
+    (were : unfetched h ≡ c ∷ rest) where
   rings_were : RingsHold h.memory h.port.commands.place (c ∷ rest)
   rings_were = rw were at host.written
 
@@ -89,53 +100,93 @@ module _ {S : Type 0} {h : Inside S} {c : Command} {rest : List Command} (host :
       (host.looks (omega (arith, ap length were))) host.port.strict in
       let free = nothing may in not_both posted_seen free.is_next refl free.not_owned
 
-  module _ {told : Option ℕ} {p : Fetched} {ring : RingState} {after : List ℕ} (takes : Takes told h.port.commands h.memory p ring after) where
+  module _ {told : Option ℕ} {p : Fetched} {ring : RingState} {after : List ℕ}
+      (takes : Takes told h.port.commands h.memory p ring after) where
     first_is : takes.first ≡ owned (command_packet h.port.commands.place)
     first_is = let next = takes.is_next in let seen = posted_seen in cc
 
     size_read : p.words.0 ≡ 48
-    size_read = let address = ap address_of first_is in takes.is_packet.first_word ∙ ap (word_at h.memory) (omega (arith, address)) ∙ ap (λ (s : Slot). s.size) (first_posted rings_were)
+    size_read =
+        let address = ap address_of first_is in
+        takes.is_packet.first_word ∙ ap (word_at h.memory) (omega (arith, address))
+        ∙ ap (λ (s : Slot). s.size)
+        (first_posted rings_were)
 
     envelope_read : p.words.1 ≡ 0
-    envelope_read = let address = ap address_of first_is in takes.is_packet.second_word ∙ ap (word_at h.memory) (omega (arith, address)) ∙ ap (λ (s : Slot). s.credits) (first_posted rings_were)
+    envelope_read =
+        let address = ap address_of first_is in
+        takes.is_packet.second_word ∙ ap (word_at h.memory) (omega (arith, address))
+        ∙ ap (λ (s : Slot). s.credits) (first_posted rings_were)
 
     text_read : p.text ≡ written_command c
-    text_read = let address = ap address_of first_is in takes.is_packet.text ∙ ap (λ (a : ℕ). part h.memory a 48) (omega (arith, address)) ∙ ap (λ (s : Slot). s.text) (first_posted rings_were)
+    text_read =
+        let address = ap address_of first_is in
+        takes.is_packet.text ∙ ap (λ (a : ℕ). part h.memory a 48) (omega (arith, address))
+        ∙ ap (λ (s : Slot). s.text) (first_posted rings_were)
 
 -- ---- a fetch
 
-fetched : {S : Type 0} {h : Inside S} {c : Command} {rest : List Command} (new : PortState) (after : List ℕ) → IsHost h → unfetched h ≡ c ∷ rest → CreditsAgree new → FetchesOne (port_turn_on h.port) h.memory new after
+fetched : {S : Type 0} {h : Inside S} {c : Command} {rest : List Command} (new : PortState) (after : List ℕ)
+    → IsHost h → unfetched h ≡ c ∷ rest → CreditsAgree new
+    → FetchesOne (port_turn_on h.port) h.memory new after
     → HostThat (Works (host_view h)) (record h { memory = after; port = new })
 fetched {h = h} {c} {rest} new after host were agree goes =
-    let port = h.port in let place = port.commands.place in let pending = port.exec.pending in let takes = goes.takes in
-    let sound : IsSound c = subst IsSound (get_or-append_seam pending c rest c) ((rw were at host.sound) (length pending) c (omega (arith, length-append pending (c ∷ rest)))) in
+    let port = h.port in
+    let place = port.commands.place in let pending = port.exec.pending in let takes = goes.takes in
+    let sound : IsSound c = subst IsSound (get_or-append_seam pending c rest c)
+    ((rw were at host.sound) (length pending) c (omega (arith, length-append pending (c ∷ rest)))) in
     let read : ℕ → List ℕ → Result Command Reply = λ size text.
     if nat_eq size 48 then reply_to_bad (read_command text)
     else Err (basic_reply (other_length_end text)) in
     let message : message_in port.profile goes.packet ≡ Ok c =
     ap (λ (p : Profile). message_in p goes.packet) host.port.strict
     ∙ ap₂ read (size_read host were takes) (text_read host were takes) ∙ ap reply_to_bad sound.legible in
-    let untold : commands_told port h.memory ≡ None = ap (λ (p : Profile). told_at p (word_below port.responses.base 4) h.memory port.commands) host.port.strict in
-    let kept : flags_kept port.profile goes.packet (message_in port.profile goes.packet) port.guest ≡ port.guest =
-      ap (λ (p : Profile). flags_kept p goes.packet (message_in p goes.packet) port.guest) host.port.strict in
-    let leaves = λ (m : Result Command Reply) (r : RingState) (told : Option ℕ) (g : Guest). record (port_with_message (port_turn_on port) m) { commands = r; credits = port.credits - 1; interrupts = interrupts_told port told; fetches = port.fetches + 1; guest = g } in
+    let untold : commands_told port h.memory ≡ None =
+    ap (λ (p : Profile). told_at p (word_below port.responses.base 4) h.memory port.commands)
+    host.port.strict in
+    let kept : flags_kept port.profile goes.packet (message_in port.profile goes.packet) port.guest
+    ≡ port.guest =
+    ap (λ (p : Profile). flags_kept p goes.packet (message_in p goes.packet) port.guest) host.port.strict in
+    let leaves = λ (m : Result Command Reply) (r : RingState) (told : Option ℕ) (g : Guest).
+    record (port_with_message (port_turn_on port) m) {
+      commands = r;
+      credits = port.credits - 1;
+      interrupts = interrupts_told port told;
+      fetches = port.fetches + 1;
+      guest = g;
+    } in
     let ring_is = takes.advanced ∙ ap ring_advanced host.rings.commands_are in
     let is = goes.others ∙ (λ i. leaves (message i) (ring_is i) (untold i) (kept i)) in
-    let given = λ (d : Descriptor) (r : RingState) (told : Option ℕ). put (memory_told h.memory told) (descriptor_address r + 2) (word_bytes (word_given_back d.high)) in
+    let given = λ (d : Descriptor) (r : RingState) (told : Option ℕ). put (memory_told h.memory told)
+    (descriptor_address r + 2) (word_bytes (word_given_back d.high)) in
     let first = first_is host were takes in
     let memory_is = takes.written ∙ (λ i. given (first i) (host.rings.commands_are i) (untold i)) in
-    let w = high_written (unwritten h.memory (command_stands place host.written.within) host.written.size) flag_word (omega arith) in
-    let rest_is : drop (port.fetches + 1) h.posted ≡ rest = sym (drop-drop 1 port.fetches h.posted) ∙ ap (λ (cs : List Command). drop 1 cs) were in
-    let due : (pending ++ c ∷ []) ++ drop (port.fetches + 1) h.posted ≡ pending ++ unfetched h = ap (λ (cs : List Command). (pending ++ c ∷ []) ++ cs) rest_is ∙ append_assoc pending (c ∷ []) rest ∙ ap (λ (cs : List Command). pending ++ cs) (sym were) in
+    let w = high_written (unwritten h.memory (command_stands place host.written.within) host.written.size)
+    flag_word (omega arith) in
+    let rest_is : drop (port.fetches + 1) h.posted ≡ rest = sym (drop-drop 1 port.fetches h.posted)
+    ∙ ap (λ (cs : List Command). drop 1 cs) were in
+    let due : (pending ++ c ∷ []) ++ drop (port.fetches + 1) h.posted ≡ pending ++ unfetched h =
+    ap (λ (cs : List Command). (pending ++ c ∷ []) ++ cs) rest_is ∙ append_assoc pending (c ∷ []) rest
+    ∙ ap (λ (cs : List Command). pending ++ cs) (sym were) in
     let rings = host.rings in let counts = host.counts in
     rw (is, memory_is) (record {
       host = record {
         port = record { strict = host.port.strict; runs = host.port.runs };
         looks = λ some. host.looks (omega (arith, ap length were));
-        rings = record { commands_are = refl; responses_are = rings.responses_are; posts_next = omega (arith, ap length were, ap length rest_is); looks_within = rings.looks_within };
+        rings = record {
+          commands_are = refl;
+          responses_are = rings.responses_are;
+          posts_next =
+              omega (arith, ap length were, ap length rest_is);
+          looks_within = rings.looks_within;
+        };
         written = rw rest_is (rings_fetched w (omega arith) (rings_were host were));
         agree = subst CreditsAgree is agree;
-        counts = record { fetched = omega (arith, length-drop port.fetches h.posted, ap length were); turned = omega arith; credits = omega (arith, ap length were, ap length rest_is) };
+        counts = record {
+          fetched = omega (arith, length-drop port.fetches h.posted, ap length were);
+          turned = omega arith;
+          credits = omega (arith, ap length were, ap length rest_is);
+        };
         sound = rw due host.sound;
       };
       so = OneFetched (record { buffers = w.buffers; is = rw due });
@@ -143,14 +194,17 @@ fetched {h = h} {c} {rest} new after host were agree goes =
 
 -- ---- a command is done
 
-executed : {S : Type 0} {h : Inside S} (new : PortState) (after : List ℕ) → IsHost h → unfetched h ≡ [] → CreditsAgree new → GoesOn (port_turn_on h.port) h.memory (Ok Executed) new after
+executed : {S : Type 0} {h : Inside S} (new : PortState) (after : List ℕ) → IsHost h → unfetched h ≡ []
+    → CreditsAgree new → GoesOn (port_turn_on h.port) h.memory (Ok Executed) new after
     → HostThat (Works (host_view h)) (record h { memory = after; port = new })
 executed {h = h} new after host none agree goes =
     let pending = h.port.exec.pending in let one = goes.rest.1 in let taken = one.executes.taken in
     let op = one.executes.command.op in let at = buffer_of op in let bytes = part after at (landing_of op) in
     let size = length-part after at (landing_of op) in let small = landing-le op in
-    let before : pending ++ unfetched h ≡ pending = ap (λ (cs : List Command). pending ++ cs) none ∙ append-nil pending in
-    let behind : new.exec.pending ++ unfetched h ≡ new.exec.pending = ap (λ (cs : List Command). new.exec.pending ++ cs) none ∙ append-nil new.exec.pending in
+    let before : pending ++ unfetched h ≡ pending = ap (λ (cs : List Command). pending ++ cs) none
+    ∙ append-nil pending in
+    let behind : new.exec.pending ++ unfetched h ≡ new.exec.pending =
+    ap (λ (cs : List Command). new.exec.pending ++ cs) none ∙ append-nil new.exec.pending in
     let sound : All IsSound pending = rw before at host.sound in
     let above = (All-at IsSound pending goes.rest.0 one.executes.command sound taken.stands).above in
     let rings = host.rings in let counts = host.counts in
@@ -161,46 +215,81 @@ executed {h = h} new after host none agree goes =
       host = record {
         port = record { strict = host.port.strict; runs = host.port.runs };
         looks = λ some. absurd (omega (arith, ap length none));
-        rings = record { commands_are = rings.commands_are; responses_are = rings.responses_are; posts_next = rings.posts_next; looks_within = rings.looks_within };
-        written = rw one.executes.executes.memory_stays (rings-put at bytes (λ meet. above (omega arith)) host.written);
+        rings = record {
+          commands_are = rings.commands_are;
+          responses_are = rings.responses_are;
+          posts_next =
+              rings.posts_next;
+          looks_within = rings.looks_within;
+        };
+        written = rw one.executes.executes.memory_stays
+            (rings-put at bytes (λ meet. above (omega arith)) host.written);
         agree = subst CreditsAgree one.others agree;
-        counts = record { fetched = counts.fetched; turned = omega (arith, length_push h.port.waiting (basic_reply one.end)); credits = counts.credits };
+        counts = record {
+          fetched = counts.fetched;
+          turned =
+              omega (arith, length_push h.port.waiting (basic_reply one.end));
+          credits = counts.credits;
+        };
         sound = rw (behind, taken.taken) (All-remove IsSound pending goes.rest.0 sound);
       };
-      so = OneDone (record { place = goes.rest.0; end = one.end; executes = rw (before, behind) one.executes; is = rw (before, waits) });
+      so = OneDone (record {
+        place = goes.rest.0;
+        end = one.end;
+        executes = rw (before, behind) one.executes;
+        is = rw (before, waits);
+      });
     })
 
 -- ---- an end is delivered
 
 abbrev delivered_slot : List ℕ → ℕ → ℕ → End → Slot
-delivered_slot memory i credits e = record { descriptor = record (response_at memory i).descriptor { high = flag_word }; size = 48; credits = credits; text = written_end e }
+delivered_slot memory i credits e =
+    record {
+      descriptor = record (response_at memory i).descriptor { high = flag_word };
+      size = 48;
+      credits = credits;
+      text = written_end e;
+    }
 
 responses_untold : {S : Type 0} {h : Inside S} → IsHost h → responses_told h.port h.memory ≡ None
-responses_untold {h = h} host = ap (λ (p : Profile). told_at p (word_below h.port.responses.base 2) h.memory h.port.responses) host.port.strict
+responses_untold {h = h} host =
+    ap (λ (p : Profile). told_at p (word_below h.port.responses.base 2) h.memory h.port.responses)
+    host.port.strict
 
-delivery_written : {S : Type 0} {h : Inside S} (r : Reply) (ring : RingState) (after : List ℕ) → IsHost h → next_grant h.port.deliveries < 2 ^ 16 → Puts (delivery_of h.port h.memory) h.port.responses h.memory (end_text h.port r) ring after
-    → WritesSlot (response_descriptor h.response_place) (response_packet h.response_place) (delivered_slot h.memory h.response_place (next_grant h.port.deliveries) (strict_end r)) h.memory after
+delivery_written : {S : Type 0} {h : Inside S} (r : Reply) (ring : RingState) (after : List ℕ) → IsHost h
+    → next_grant h.port.deliveries < 2 ^ 16 → Puts (delivery_of h.port h.memory) h.port.responses h.memory
+    (end_text h.port r) ring after
+    → WritesSlot (response_descriptor h.response_place) (response_packet h.response_place)
+    (delivered_slot h.memory h.response_place (next_grant h.port.deliveries) (strict_end r)) h.memory after
 delivery_written {h = h} r ring after host fits puts =
     let credits = next_grant h.port.deliveries in
     let place = h.response_place in let next = puts.is_next in let seen = responses_seen host in
     let first : puts.first ≡ owned (response_packet place) = cc in
     let address = ap address_of first in let high = ap (λ (d : Descriptor). word_given_back d.high) first in
-    let at : descriptor_address h.port.responses + 2 ≡ response_descriptor place + 2 = ap (λ (r : RingState). descriptor_address r + 2) host.rings.responses_are in
+    let at : descriptor_address h.port.responses + 2 ≡ response_descriptor place + 2 =
+    ap (λ (r : RingState). descriptor_address r + 2) host.rings.responses_are in
     let size : address_of puts.first - 4 ≡ response_packet place = omega arith in
     let second : address_of puts.first - 2 ≡ response_packet place + 2 = omega arith in
     let text : address_of puts.first ≡ response_packet place + 4 = omega arith in
     let e : End = strict_end r in
     let text_is : end_text h.port r ≡ written_end e =
-      ap (λ (p : Profile). text_by p h.port.guest h.port.exec.units r) host.port.strict in
+    ap (λ (p : Profile). text_by p h.port.guest h.port.exec.units r) host.port.strict in
     let long = ap length text_is ∙ length-written_end e in
     let untold = responses_untold host in
-    let is = puts.written ∙ (λ i. put (memory_told (put (put (put h.memory (text i) (text_is i)) (size i) (word_bytes (long i))) (second i) (word_bytes credits)) (untold i)) (at i) (word_bytes (high i))) in
-    let written = text_written (unwritten h.memory (response_stands place host.rings.looks_within) host.written.size) (written_end e) (length-written_end e) in
-    let all = high_written (credits_written (size_written written 48 (omega arith)) credits fits) flag_word (omega arith) in
-    subst (WritesSlot (response_descriptor place) (response_packet place) (delivered_slot h.memory place credits e) h.memory) (sym is) all
+    let is = puts.written
+    ∙ (λ i. put (memory_told (put (put (put h.memory (text i) (text_is i)) (size i) (word_bytes (long i)))
+    (second i) (word_bytes credits)) (untold i)) (at i) (word_bytes (high i))) in
+    let written = text_written (unwritten h.memory (response_stands place host.rings.looks_within)
+    host.written.size) (written_end e) (length-written_end e) in
+    let all = high_written (credits_written (size_written written 48 (omega arith)) credits fits) flag_word
+    (omega arith) in
+    subst (WritesSlot (response_descriptor place) (response_packet place)
+    (delivered_slot h.memory place credits e) h.memory) (sym is) all
 
 -- the host reads it, and gives its slot back
-module _ {S : Type 0} {h : Inside S} (host : IsHost h) (new : PortState) (after : List ℕ) (goes : TurnGoes h.port.phase h.port h.memory Delivered new after) where
+module _ {S : Type 0} {h : Inside S} (host : IsHost h) (new : PortState) (after : List ℕ)
+    (goes : TurnGoes h.port.phase h.port h.memory Delivered new after) where
   pub lines : GoesOn (port_turn_on h.port) h.memory (Ok Delivered) new after
   lines = subst (λ (p : Phase). TurnGoes p h.port h.memory Delivered new after) host.port.runs goes
 
@@ -211,23 +300,47 @@ module _ {S : Type 0} {h : Inside S} (host : IsHost h) (new : PortState) (after 
       by [] none = none
       by (c ∷ rest) were = absurd (must_fetch host were lines.nothing_to_fetch)
 
-  sent : WritesSlot (response_descriptor h.response_place) (response_packet h.response_place) (delivered_slot h.memory h.response_place (next_grant h.port.deliveries) (strict_end lines.rest.1.end)) h.memory after
+  sent : WritesSlot (response_descriptor h.response_place) (response_packet h.response_place)
+      (delivered_slot h.memory h.response_place (next_grant h.port.deliveries) (strict_end lines.rest.1.end))
+      h.memory after
   sent = delivery_written lines.rest.1.end new.responses after host (omega arith) lines.rest.1.puts
 
-  pub end_read : (read : Option End) → (length after ≡ memory_size → read ≡ read_end (part after (response_packet h.response_place + 4) 48)) → read ≡ Some (strict_end lines.rest.1.end)
-  end_read read by = by sent.size ∙ ap read_end (ap (λ (s : Slot). s.text) sent.holds) ∙ lines.rest.1.legible host.port.strict
+  pub end_read : (read : Option End)
+      → (length after ≡ memory_size → read ≡ read_end (part after (response_packet h.response_place + 4) 48))
+      → read ≡ Some (strict_end lines.rest.1.end)
+  end_read read by = by sent.size ∙ ap read_end (ap (λ (s : Slot). s.text) sent.holds)
+      ∙ lines.rest.1.legible host.port.strict
 
-  pub host_takes : {value : HostState} {left : List ℕ} {end : End} {credits : ℕ} → host_view h ≡ value → CreditsAgree new → (length after ≡ memory_size → Some end ≡ read_end (part after (response_packet h.response_place + 4) 48))
-      → (length after ≡ memory_size → credits ≡ word_at after (response_packet h.response_place + 2)) → (length after ≡ memory_size → left ≡ memory_reopened after h.response_place)
-      → HostThat (TakesEnd value end) (record h { memory = left; response_place = (h.response_place + 1) % slots; held = h.held + credits; port = new })
+  pub host_takes : {value : HostState} {left : List ℕ} {end : End} {credits : ℕ} → host_view h ≡ value
+      → CreditsAgree new → (length after ≡ memory_size
+      → Some end ≡ read_end (part after (response_packet h.response_place + 4) 48))
+      → (length after ≡ memory_size → credits ≡ word_at after (response_packet h.response_place + 2))
+      → (length after ≡ memory_size → left ≡ memory_reopened after h.response_place)
+      → HostThat (TakesEnd value end)
+      (record h {
+        memory = left;
+        response_place = (h.response_place + 1) % slots;
+        held = h.held + credits;
+        port = new;
+      })
   host_takes {left = left} {end} {credits} is agree end_by credits_by left_by =
       let port = h.port in let one = lines.rest.1 in
       let read = end_read (Some end) end_by in
       let end_is : end ≡ strict_end one.end = cc in
-      let grant : credits ≡ next_grant port.deliveries = credits_by sent.size ∙ ap (λ (s : Slot). s.credits) sent.holds in
+      let grant : credits ≡ next_grant port.deliveries = credits_by sent.size
+      ∙ ap (λ (s : Slot). s.credits) sent.holds in
       let w = high_written sent owner_word (omega arith) in
       let open_then = (host.written.opens h.response_place host.rings.looks_within).owned_is in
-      let leaves = λ (r : RingState) (told : Option ℕ) (look : Bool). record port { turns = port.turns + 1; looking = look; responses = r; waiting = new.waiting; credits = port.credits + next_grant port.deliveries; interrupts = interrupts_told port told; deliveries = port.deliveries + 1 } in
+      let leaves = λ (r : RingState) (told : Option ℕ) (look : Bool).
+      record port {
+        turns = port.turns + 1;
+        looking = look;
+        responses = r;
+        waiting = new.waiting;
+        credits = port.credits + next_grant port.deliveries;
+        interrupts = interrupts_told port told;
+        deliveries = port.deliveries + 1;
+      } in
       let ring_is = one.puts.advanced ∙ ap ring_advanced host.rings.responses_are in
       let untold = responses_untold host in
       let look_is = ap (λ (p : Profile). lacks_credit p port.credits || false) host.port.strict in
@@ -237,25 +350,54 @@ module _ {S : Type 0} {h : Inside S} (host : IsHost h) (new : PortState) (after 
         host = record {
           port = record { strict = host.port.strict; runs = host.port.runs };
           looks = λ some. absurd (omega (arith, ap length none_left));
-          rings = record { commands_are = rings.commands_are; responses_are = refl; posts_next = rings.posts_next; looks_within = omega arith };
-          written = rings_answered h.response_place rings.looks_within w (record { owned_is = ap (λ (d : Descriptor). record d { high = owner_word }) open_then; room = omega arith }) host.written;
+          rings = record {
+            commands_are = rings.commands_are;
+            responses_are = refl;
+            posts_next =
+                rings.posts_next;
+            looks_within = omega arith;
+          };
+          written = rings_answered h.response_place rings.looks_within w
+              (record {
+                owned_is = ap (λ (d : Descriptor). record d { high = owner_word }) open_then;
+                room = omega arith;
+              }) host.written;
           agree = subst CreditsAgree new_is agree;
-          counts = record { fetched = counts.fetched; turned = omega (arith, ap length one.first); credits = omega arith };
+          counts = record {
+            fetched = counts.fetched;
+            turned = omega (arith, ap length one.first);
+            credits = omega arith;
+          };
           sound = host.sound;
         };
-        so = record { none_due = ap₂ (λ (xs ys : List Command). xs ++ ys) lines.rest.0 none_left; waited = ap (map strict_end) one.first; buffers = w.buffers; is = refl };
+        so = record {
+          none_due = ap₂ (λ (xs ys : List Command). xs ++ ys) lines.rest.0 none_left;
+          waited = ap (map strict_end) one.first;
+          buffers = w.buffers;
+          is = refl;
+        };
       })
 
 -- ---- a turn is never idle, and never the port's last
 
 module _ {S : Type 0} {h : Inside S} (host : IsHost h) (before : PortState) (after : List ℕ) where
-  never_idle : 0 < out_of (host_view h) → unfetched h ≡ [] → GoesOn (port_turn_on h.port) h.memory (Ok Idle) before after → ⊥
+  never_idle : 0 < out_of (host_view h) → unfetched h ≡ [] → GoesOn (port_turn_on h.port) h.memory
+      (Ok Idle) before after → ⊥
   never_idle some none goes = none_waits h.port.waiting refl
     where
       none_waits : (waiting : List Reply) → h.port.waiting ≡ waiting → ⊥
-      none_waits [] is = omega (arith, some, length-map h.port.waiting strict_end, ap length is, ap length goes.rest.0, ap length none, length-append h.port.exec.pending (unfetched h))
+      none_waits [] is = omega (
+        arith,
+        some,
+        length-map h.port.waiting strict_end,
+        ap length is,
+        ap length goes.rest.0,
+        ap length none,
+        length-append h.port.exec.pending (unfetched h),
+      )
       none_waits (e ∷ rest) is =
-          let first = ap (λ (ends : List Reply). next_by (slice_get ends 0) h.port.profile h.port.guest h.port.exec.units) is in
+          let first = ap (λ (ends : List Reply). next_by (slice_get ends 0) h.port.profile h.port.guest
+          h.port.exec.units) is in
           let free = goes.rest.1.0 (end_text h.port e) first in
           not_both (responses_seen host) free.is_next refl free.not_owned
 
@@ -263,22 +405,29 @@ module _ {S : Type 0} {h : Inside S} (host : IsHost h) (before : PortState) (aft
   never_notified : GoesOn (port_turn_on h.port) h.memory (Ok Notified) before after → ⊥
   never_notified goes =
       let one = goes.rest.1 in
-      none_is (ap (λ (p : Profile). attention_by p h.port.guest h.port.exec.units) (sym host.port.strict) ∙ one.message)
+      none_is (ap (λ (p : Profile). attention_by p h.port.guest h.port.exec.units) (sym host.port.strict)
+      ∙ one.message)
     where
       none_is : {A : Type 0} {x : A} → None ≡ Some x → ⊥
       none_is same = absurd (cc)
 
-  fetch_lives : (cause : Fatal) (cs : List Command) → unfetched h ≡ cs → FetchLine (port_turn_on h.port) h.memory (Err cause) before after → ⊥
-  fetch_lives RingRead cs is line = let seen = commands_seen host in let lost = line.0.no_descriptor in absurd (cc)
-  fetch_lives PacketRead [] none line = let lost = line.0.no_packet in none_owned host none lost.next lost.is_next lost.owned
+  fetch_lives : (cause : Fatal) (cs : List Command) → unfetched h ≡ cs
+      → FetchLine (port_turn_on h.port) h.memory (Err cause) before after → ⊥
+  fetch_lives RingRead cs is line =
+      let seen = commands_seen host in let lost = line.0.no_descriptor in absurd (cc)
+  fetch_lives PacketRead [] none line =
+      let lost = line.0.no_packet in none_owned host none lost.next lost.is_next lost.owned
   fetch_lives PacketRead (c ∷ rest) were line =
       let lost = line.0.no_packet in let next = lost.is_next in let seen = posted_seen host were in
       let first : lost.next ≡ owned (command_packet h.port.commands.place) = cc in
       let address = ap address_of first in let within = host.written.within in let size = host.written.size in
       lost.unreadable (record { even = omega arith; above = omega arith; within = omega arith })
-  fetch_lives CreditsExceeded [] none line = let takes = line.taken.takes in none_owned host none takes.first takes.is_next takes.owned
-  fetch_lives CreditsExceeded (c ∷ rest) were line = omega (arith, line.no_credit, host.counts.credits, ap length were)
-  fetch_lives WrongEnvelope [] none line = let takes = line.taken.takes in none_owned host none takes.first takes.is_next takes.owned
+  fetch_lives CreditsExceeded [] none line =
+      let takes = line.taken.takes in none_owned host none takes.first takes.is_next takes.owned
+  fetch_lives CreditsExceeded (c ∷ rest) were line =
+      omega (arith, line.no_credit, host.counts.credits, ap length were)
+  fetch_lives WrongEnvelope [] none line =
+      let takes = line.taken.takes in none_owned host none takes.first takes.is_next takes.owned
   fetch_lives WrongEnvelope (c ∷ rest) were line =
       let word = envelope_read host were line.taken.takes in
       subst (λ (p : Profile). IsSequential p line.packet → ⊥) host.port.strict line.not_sequential
@@ -286,15 +435,22 @@ module _ {S : Type 0} {h : Inside S} (host : IsHost h) (before : PortState) (aft
   fetch_lives _ cs is line = line
 
   rest_lives : (cause : Fatal) → GoesOn (port_turn_on h.port) h.memory (Err cause) before after → ⊥
-  rest_lives RingRead goes = let seen = responses_seen host in let lost = goes.rest.1.0.no_descriptor in absurd (cc)
+  rest_lives RingRead goes =
+      let seen = responses_seen host in let lost = goes.rest.1.0.no_descriptor in absurd (cc)
   rest_lives PacketWrite goes =
       let lost = goes.rest.1.0.no_room in let next = lost.is_next in let seen = responses_seen host in
       let first : lost.next ≡ owned (response_packet h.response_place) = cc in
-      let address = ap address_of first in let within = host.rings.looks_within in let size = host.written.size in
+      let address = ap address_of first in
+      let within = host.rings.looks_within in let size = host.written.size in
       let room = (host.written.opens h.response_place within).room in
-      let word : word_at h.memory (address_of lost.next - 4) ≡ word_at h.memory (response_packet h.response_place) = ap (word_at h.memory) (omega arith) in
+      let word : word_at h.memory (address_of lost.next - 4) ≡ word_at h.memory
+      (response_packet h.response_place) = ap (word_at h.memory) (omega arith) in
       let n = length goes.rest.1.0.text in
-      subst (λ (p : Profile). HasRoom p h.memory (address_of lost.next) n → ⊥) host.port.strict lost.no_room (record { packet = record { even = omega arith; above = omega arith; within = omega arith }; long = omega arith })
+      subst (λ (p : Profile). HasRoom p h.memory (address_of lost.next) n → ⊥) host.port.strict lost.no_room
+      (record {
+        packet = record { even = omega arith; above = omega arith; within = omega arith };
+        long = omega arith;
+      })
   rest_lives _ goes = goes.rest.1
 
   lives : (cause : Fatal) → Fails cause (port_turn_on h.port) h.memory before after → ⊥
@@ -304,7 +460,8 @@ module _ {S : Type 0} {h : Inside S} (host : IsHost h) (before : PortState) (aft
 -- ---- a turn
 
 -- a trace of another kind is of another turn
-pub undelivered : (was : Trace) → ((end : Reply) → was ≡ trace.Delivered end → ⊥) → turn_of was ≡ Delivered → ⊥
+pub undelivered : (was : Trace) → ((end : Reply) → was ≡ trace.Delivered end → ⊥) → turn_of was ≡ Delivered
+    → ⊥
 undelivered (trace.Fetched command) other is = absurd (cc)
 undelivered (trace.Refused end) other is = absurd (cc)
 undelivered (trace.Answered end) other is = absurd (cc)
@@ -315,18 +472,27 @@ undelivered trace.Notified other is = absurd (cc)
 undelivered trace.Idle other is = absurd (cc)
 undelivered (trace.Dead cause) other is = absurd (cc)
 
-module _ {S : Type 0} {h : Inside S} {value : HostState} (is : host_view h ≡ value) (host : IsHost h) (new : PortState) (after : List ℕ) (agree : CreditsAgree new) where
+module _ {S : Type 0} {h : Inside S} {value : HostState} (is : host_view h ≡ value) (host : IsHost h)
+    (new : PortState) (after : List ℕ) (agree : CreditsAgree new) where
   -- one that takes no end
-  pub host_works : (turn : Turn) → (turn ≡ Delivered → ⊥) → 0 < out_of value → TurnGoes h.port.phase h.port h.memory turn new after → HostThat (Works value) (record h { memory = after; port = new })
-  host_works turn other some goes = rw (← is) (by turn other (subst (λ (p : Phase). TurnGoes p h.port h.memory turn new after) host.port.runs goes) (unfetched h) refl)
+  pub host_works : (turn : Turn) → (turn ≡ Delivered → ⊥) → 0 < out_of value
+      → TurnGoes h.port.phase h.port h.memory turn new after
+      → HostThat (Works value) (record h { memory = after; port = new })
+  host_works turn other some goes = rw (← is)
+      (by turn other (subst (λ (p : Phase). TurnGoes p h.port h.memory turn new after) host.port.runs goes)
+      (unfetched h) refl)
     where
-      by : (turn : Turn) → (turn ≡ Delivered → ⊥) → RunningTurn h.port h.memory turn new after → (cs : List Command) → unfetched h ≡ cs → HostThat (Works (host_view h)) (record h { memory = after; port = new })
-      by TurnFetched other goes [] none = absurd (none_owned host none goes.takes.first goes.takes.is_next goes.takes.owned)
+      by : (turn : Turn) → (turn ≡ Delivered → ⊥) → RunningTurn h.port h.memory turn new after
+          → (cs : List Command) → unfetched h ≡ cs → HostThat (Works (host_view h))
+          (record h { memory = after; port = new })
+      by TurnFetched other goes [] none = absurd
+          (none_owned host none goes.takes.first goes.takes.is_next goes.takes.owned)
       by TurnFetched other goes (c ∷ rest) were = fetched new after host were agree goes
       by Executed other goes [] none = executed new after host none agree goes
       by Executed other goes (c ∷ rest) were = absurd (must_fetch host were goes.nothing_to_fetch)
       by Delivered other goes cs are = absurd (other refl)
       by Notified other goes cs are = absurd (never_notified host new after goes)
-      by Idle other goes [] none = absurd (never_idle host new after (omega (arith, some, ap out_of is)) none goes)
+      by Idle other goes [] none = absurd
+          (never_idle host new after (omega (arith, some, ap out_of is)) none goes)
       by Idle other goes (c ∷ rest) were = absurd (must_fetch host were goes.nothing_to_fetch)
       by Dead other goes cs are = absurd (lives host goes.before after goes.cause goes.fails)

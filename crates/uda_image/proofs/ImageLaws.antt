@@ -75,5 +75,14 @@ blocks_of-zeros blocks h =
     ap (λ k. first_chunks 512 k (replicate (512 * blocks) 0)) (block_count-zeros blocks h)
     ∙ first_chunks-replicate 512 blocks 0
 
-pub ruleset image_laws = (blocks_of-whole, concat-blocks_of, slice_get-blocks_of, length-block_of,
-  block_count-with_block, blocks_of-with_block, length-half_written, block_count-zeros, blocks_of-zeros)
+pub ruleset image_laws = (
+  blocks_of-whole,
+  concat-blocks_of,
+  slice_get-blocks_of,
+  length-block_of,
+  block_count-with_block,
+  blocks_of-with_block,
+  length-half_written,
+  block_count-zeros,
+  blocks_of-zeros,
+)

@@ -31,20 +31,20 @@ module _ {A : Type 0} where
   length-part-le xs at n h = length-part xs at n ∙ omega arith
 
   pub get_or-part : (xs : List A) (at n k : ℕ) (d : A) → k < n → get_or (part xs at n) k d
-    ≡ get_or xs (at + k) d
+      ≡ get_or xs (at + k) d
   unfolding part
   get_or-part xs at n k d h = get_or-take n (drop at xs) k d h ∙ get_or-drop at xs k d
 
   -- an item before the written range, in it and behind it
   pub get_or-put_before : (xs : List A) (at : ℕ) (ys : List A) (k : ℕ) (d : A) → k < length xs → k < at
-    → get_or (put xs at ys) k d ≡ get_or xs k d
+      → get_or (put xs at ys) k d ≡ get_or xs k d
   unfolding put
   get_or-put_before xs at ys k d h lower =
       get_or-take (length xs) _ k d h ∙ get_or_append_left (take at xs) _ d k (simp length-take (omega arith))
-        ∙ get_or-take at xs k d lower
+      ∙ get_or-take at xs k d lower
 
   pub get_or-put_at : (xs : List A) (at : ℕ) (ys : List A) (k : ℕ) (d : A) → k < length xs → at ≤ k
-    → k < at + length ys → get_or (put xs at ys) k d ≡ get_or ys (k - at) d
+      → k < at + length ys → get_or (put xs at ys) k d ≡ get_or ys (k - at) d
   unfolding put
   get_or-put_at xs at ys k d h from to =
       get_or-take (length xs) _ k d h
@@ -52,7 +52,7 @@ module _ {A : Type 0} where
       ∙ get_or_append_left ys _ d (k - at) (omega arith)
 
   pub get_or-put_behind : (xs : List A) (at : ℕ) (ys : List A) (k : ℕ) (d : A) → k < length xs
-    → at + length ys ≤ k → get_or (put xs at ys) k d ≡ get_or xs k d
+      → at + length ys ≤ k → get_or (put xs at ys) k d ≡ get_or xs k d
   unfolding put
   get_or-put_behind xs at ys k d h higher =
       let same : at + length ys + (k - at - length ys) ≡ k = omega arith in
@@ -63,32 +63,32 @@ module _ {A : Type 0} where
 
   -- the written range reads as what was written
   pub part-put_at : (xs : List A) (at n : ℕ) (ys : List A) → at + length ys ≤ length xs → n ≡ length ys
-    → part (put xs at ys) at n ≡ ys
+      → part (put xs at ys) at n ≡ ys
   part-put_at xs at n ys h e =
       let whole : length (part (put xs at ys) at n) ≡ n = length-part-le (put xs at ys) at n
-        (rw length-put (omega arith)) in
+      (rw length-put (omega arith)) in
       same_lists _ _ (whole ∙ e) (λ k d below.
       get_or-part (put xs at ys) at n k d (omega arith) ∙ get_or-put_at xs at ys (at + k) d (omega arith)
-        (omega arith) (omega arith) ∙ ap (λ i. get_or ys i d) (omega arith))
+      (omega arith) (omega arith) ∙ ap (λ i. get_or ys i d) (omega arith))
 
   -- a range within the written one reads as that range of what was written
   pub part-put_inside : (xs : List A) (at : ℕ) (ys : List A) (a n : ℕ) → at + length ys ≤ length xs → at ≤ a
-    → a + n ≤ at + length ys → part (put xs at ys) a n ≡ part ys (a - at) n
+      → a + n ≤ at + length ys → part (put xs at ys) a n ≡ part ys (a - at) n
   part-put_inside xs at ys a n room from to =
       let left : length (part (put xs at ys) a n) ≡ n = length-part-le (put xs at ys) a n
-        (rw length-put (omega arith)) in
+      (rw length-put (omega arith)) in
       let right : length (part ys (a - at) n) ≡ n = length-part-le ys (a - at) n (omega arith) in
       same_lists _ _ (left ∙ sym right) (λ k d below.
       get_or-part (put xs at ys) a n k d (omega arith) ∙ get_or-put_at xs at ys (a + k) d (omega arith)
-        (omega arith) (omega arith)
+      (omega arith) (omega arith)
       ∙ ap (λ i. get_or ys i d) (omega arith) ∙ sym (get_or-part ys (a - at) n k d (omega arith)))
 
   -- a range that doesn't meet the written one reads as before
   pub part-put_apart : (xs : List A) (at : ℕ) (ys : List A) (a n : ℕ) → (Meet at (length ys) a n → ⊥)
-    → part (put xs at ys) a n ≡ part xs a n
+      → part (put xs at ys) a n ≡ part xs a n
   part-put_apart xs at ys a n apart =
       let same : length (part (put xs at ys) a n) ≡ length (part xs a n) = length-part (put xs at ys) a n
-        ∙ ap (λ m. min n (m - a)) (length-put xs at ys) ∙ sym (length-part xs a n) in
+      ∙ ap (λ m. min n (m - a)) (length-put xs at ys) ∙ sym (length-part xs a n) in
       same_lists _ _ same (λ k d below.
       let inside : k < n = omega (arith, length-part (put xs at ys) a n) in
       let within : a + k < length xs = omega (arith, length-part (put xs at ys) a n, length-put xs at ys) in
@@ -99,7 +99,7 @@ module _ {A : Type 0} where
 
   -- two neighbouring writes are one
   pub put-put_next : (xs : List A) (at : ℕ) (ys zs : List A) (next : ℕ) → next ≡ at + length ys
-    → put (put xs at ys) next zs ≡ put xs at (ys ++ zs)
+      → put (put xs at ys) next zs ≡ put xs at (ys ++ zs)
   put-put_next xs at ys zs next e =
       let total : length (ys ++ zs) ≡ length ys + length zs = length-append ys zs in
       same_lists _ _ (simp length-put) (λ k d below.
@@ -107,10 +107,10 @@ module _ {A : Type 0} where
       let mid : k < length (put xs at ys) = omega (arith, length-put xs at ys) in
       elim (side at (length ys) k) [
         | before low ↦ get_or-put_before (put xs at ys) next zs k d mid (omega arith)
-          ∙ get_or-put_before xs at ys k d within low
-          ∙ sym (get_or-put_before xs at (ys ++ zs) k d within low)
+            ∙ get_or-put_before xs at ys k d within low
+            ∙ sym (get_or-put_before xs at (ys ++ zs) k d within low)
         | inside from to ↦ get_or-put_before (put xs at ys) next zs k d mid (omega arith)
-          ∙ get_or-put_at xs at ys k d within from to
+            ∙ get_or-put_at xs at ys k d within from to
             ∙ sym (get_or-put_at xs at (ys ++ zs) k d within from (omega arith) ∙ get_or_append_left ys zs d
             (k - at) (omega arith))
         | behind high ↦ elim (side next (length zs) k) [
@@ -120,28 +120,28 @@ module _ {A : Type 0} where
               ∙ sym (get_or-put_at xs at (ys ++ zs) k d within (omega arith) (omega arith)
               ∙ get_or-append_right ys zs (length ys) (k - at) d refl (omega arith))
           | behind past ↦ get_or-put_behind (put xs at ys) next zs k d mid past
-            ∙ get_or-put_behind xs at ys k d within high
-            ∙ sym (get_or-put_behind xs at (ys ++ zs) k d within (omega arith))
+              ∙ get_or-put_behind xs at ys k d within high
+              ∙ sym (get_or-put_behind xs at (ys ++ zs) k d within (omega arith))
         ]
       ])
 
   -- an item that a write elsewhere leaves alone is still left alone behind a second write
   elsewhere : (xs : List A) (a : ℕ) (ys : List A) (b : ℕ) (zs : List A) (k : ℕ) (d : A) → k < length xs
-    → k < length (put xs a ys)
+      → k < length (put xs a ys)
       → get_or (put xs a ys) k d ≡ get_or xs k d → get_or (put xs b zs) k d
       ≡ get_or (put (put xs a ys) b zs) k d
   elsewhere xs a ys b zs k d within mid same = elim (side b (length zs) k) [
     | before low ↦ get_or-put_before xs b zs k d within low
-      ∙ sym (get_or-put_before (put xs a ys) b zs k d mid low ∙ same)
+        ∙ sym (get_or-put_before (put xs a ys) b zs k d mid low ∙ same)
     | inside from to ↦ get_or-put_at xs b zs k d within from to
-      ∙ sym (get_or-put_at (put xs a ys) b zs k d mid from to)
+        ∙ sym (get_or-put_at (put xs a ys) b zs k d mid from to)
     | behind high ↦ get_or-put_behind xs b zs k d within high
-      ∙ sym (get_or-put_behind (put xs a ys) b zs k d mid high ∙ same)
+        ∙ sym (get_or-put_behind (put xs a ys) b zs k d mid high ∙ same)
   ]
 
   -- writes to ranges that don't meet may be exchanged
   pub put-put_comm : (xs : List A) (a : ℕ) (ys : List A) (b : ℕ) (zs : List A)
-    → (Meet a (length ys) b (length zs) → ⊥) → put (put xs a ys) b zs ≡ put (put xs b zs) a ys
+      → (Meet a (length ys) b (length zs) → ⊥) → put (put xs a ys) b zs ≡ put (put xs b zs) a ys
   put-put_comm xs a ys b zs apart =
       same_lists _ _ (simp length-put) (λ k d below.
       let within : k < length xs = omega (arith, length-put (put xs a ys) b zs, length-put xs a ys) in
@@ -150,24 +150,24 @@ module _ {A : Type 0} where
       elim (side a (length ys) k) [
         | inside from to ↦ elim (side b (length zs) k) [
           | before low ↦ get_or-put_before (put xs a ys) b zs k d mid low
-            ∙ get_or-put_at xs a ys k d within from to
-            ∙ sym (get_or-put_at (put xs b zs) a ys k d mid' from to)
+              ∙ get_or-put_at xs a ys k d within from to
+              ∙ sym (get_or-put_at (put xs b zs) a ys k d mid' from to)
           | inside from' to' ↦ absurd (apart (omega arith))
           | behind high ↦ get_or-put_behind (put xs a ys) b zs k d mid high
-            ∙ get_or-put_at xs a ys k d within from to
-            ∙ sym (get_or-put_at (put xs b zs) a ys k d mid' from to)
+              ∙ get_or-put_at xs a ys k d within from to
+              ∙ sym (get_or-put_at (put xs b zs) a ys k d mid' from to)
         ]
         | before low ↦ sym (get_or-put_before (put xs b zs) a ys k d mid' low
-          ∙ elsewhere xs a ys b zs k d within mid (get_or-put_before xs a ys k d within low))
+            ∙ elsewhere xs a ys b zs k d within mid (get_or-put_before xs a ys k d within low))
         | behind high ↦ sym (get_or-put_behind (put xs b zs) a ys k d mid' high
-          ∙ elsewhere xs a ys b zs k d within mid (get_or-put_behind xs a ys k d within high))
+            ∙ elsewhere xs a ys b zs k d within mid (get_or-put_behind xs a ys k d within high))
       ])
 
   -- two neighbouring writes are one, the later written first
   pub put-put_before : (xs : List A) (at : ℕ) (ys zs : List A) (next : ℕ) → next ≡ at + length ys
-    → put (put xs next zs) at ys ≡ put xs at (ys ++ zs)
+      → put (put xs next zs) at ys ≡ put xs at (ys ++ zs)
   put-put_before xs at ys zs next e = put-put_comm xs next zs at ys (λ meet. omega arith)
-    ∙ put-put_next xs at ys zs next e
+      ∙ put-put_next xs at ys zs next e
 
   -- a write of what is there changes nothing
   pub put-part : (xs : List A) (at n : ℕ) → put xs at (part xs at n) ≡ xs
@@ -178,7 +178,7 @@ module _ {A : Type 0} where
       elim (side at (length (part xs at n)) k) [
         | before low ↦ get_or-put_before xs at _ k d within low
         | inside from to ↦ get_or-put_at xs at _ k d within from to ∙ get_or-part xs at n (k - at) d
-          (omega arith) ∙ ap (λ i. get_or xs i d) (omega arith)
+            (omega arith) ∙ ap (λ i. get_or xs i d) (omega arith)
         | behind high ↦ get_or-put_behind xs at _ k d within high
       ])
 
@@ -198,19 +198,19 @@ module _ {A : Type 0} where
 
   -- a write over a range that was written before hides it
   pub put-put_same : (xs : List A) (at : ℕ) (ys zs : List A) → length ys ≤ length zs
-    → put (put xs at ys) at zs ≡ put xs at zs
+      → put (put xs at ys) at zs ≡ put xs at zs
   put-put_same xs at ys zs h =
       same_lists _ _ (simp length-put) (λ k d below.
       let within : k < length xs = omega (arith, length-put (put xs at ys) at zs, length-put xs at ys) in
       let mid : k < length (put xs at ys) = omega (arith, length-put xs at ys) in
       elim (side at (length zs) k) [
         | before low ↦ get_or-put_before (put xs at ys) at zs k d mid low
-          ∙ get_or-put_before xs at ys k d within low ∙ sym (get_or-put_before xs at zs k d within low)
+            ∙ get_or-put_before xs at ys k d within low ∙ sym (get_or-put_before xs at zs k d within low)
         | inside from to ↦ get_or-put_at (put xs at ys) at zs k d mid from to
-          ∙ sym (get_or-put_at xs at zs k d within from to)
+            ∙ sym (get_or-put_at xs at zs k d within from to)
         | behind high ↦ get_or-put_behind (put xs at ys) at zs k d mid high
-          ∙ get_or-put_behind xs at ys k d within (omega arith)
-          ∙ sym (get_or-put_behind xs at zs k d within high)
+            ∙ get_or-put_behind xs at ys k d within (omega arith)
+            ∙ sym (get_or-put_behind xs at zs k d within high)
       ])
 
   -- a write of a whole list leaves what was written
@@ -222,13 +222,13 @@ module _ {A : Type 0} where
 
   -- a part of a slice that was lent, with what it holds then
   pub put_mid-put : (xs : List A) (at n : ℕ) (ys : List A) → length ys ≡ n → at + n ≤ length xs
-    → put_mid at n xs ys ≡ put xs at ys
+      → put_mid at n xs ys ≡ put xs at ys
   unfolding put
   put_mid-put xs at n ys e h =
       let rest : drop n (drop at xs) ≡ drop (at + length ys) xs = drop-drop n at xs
-        ∙ ap (λ m. drop m xs) (omega arith) in
+      ∙ ap (λ m. drop m xs) (omega arith) in
       let long : length (take at xs ++ (ys ++ drop (at + length ys) xs)) ≡ length xs =
-        simp (length-take, length-append, length-drop) (omega arith) in
+      simp (length-take, length-append, length-drop) (omega arith) in
       ap (λ l. take at xs ++ (ys ++ l)) rest ∙ sym (take_all (length xs) _ (omega (arith, long)))
 
 pub ruleset wholes = put-whole

@@ -9,7 +9,7 @@ use Rattle.uda_mem.proofs.PutLaws.{put-put_next}
 
 -- the blocks up to one more, joined
 pub concat-next : (xs : List (List ℕ)) (k : ℕ) (d bytes grown : List ℕ) → k < length xs
-  → bytes ≡ concat (take k xs) → grown ≡ bytes ++ get_or xs k d → grown ≡ concat (take (k + 1) xs)
+    → bytes ≡ concat (take k xs) → grown ≡ bytes ++ get_or xs k d → grown ≡ concat (take (k + 1) xs)
 concat-next xs k d bytes grown h was is =
     let next : suc k ≡ k + 1 = omega arith in
     is ∙ ap (λ l. l ++ get_or xs k d) was
@@ -24,7 +24,7 @@ part-range xs at n k e = ap (λ m. take m (drop at xs)) e
 
 -- what a range of a slice leaves of the list behind it
 pub put-range : {A : Type 0} → (xs : List A) (at n : ℕ) (ys : List A) → n ≡ length ys
-  → at + length ys ≤ length xs → take at xs ++ (ys ++ drop n (drop at xs)) ≡ put xs at ys
+    → at + length ys ≤ length xs → take at xs ++ (ys ++ drop n (drop at xs)) ≡ put xs at ys
 unfolding put
 put-range xs at n ys e h =
     ap (λ zs. take at xs ++ (ys ++ zs)) (drop-drop n at xs ∙ ap (λ m. drop m xs) (omega arith))
@@ -33,7 +33,7 @@ put-range xs at n ys e h =
 
 -- one more of what was put k times
 pub put-next : {A : Type 0} → (xs now after : List A) (at k : ℕ) (y : A) → now ≡ put xs at (replicate k y)
-  → after ≡ put now (at + k) (y ∷ []) → after ≡ put xs at (replicate (k + 1) y)
+    → after ≡ put now (at + k) (y ∷ []) → after ≡ put xs at (replicate (k + 1) y)
 put-next xs now after at k y was is =
     let place : at + k ≡ at + length (replicate k y) = ap (λ n. at + n) (sym (length-replicate k y)) in
     is ∙ ap (λ l. put l (at + k) (y ∷ [])) was
@@ -42,8 +42,8 @@ put-next xs now after at k y was is =
 
 -- one more of a list of which k were put
 pub put-more : {A : Type 0} → (xs now after ys : List A) (at k : ℕ) (y d : A) → k < length ys
-  → y ≡ get_or ys k d → now ≡ put xs at (take k ys) → after ≡ put now (at + k) (y ∷ [])
-  → after ≡ put xs at (take (k + 1) ys)
+    → y ≡ get_or ys k d → now ≡ put xs at (take k ys) → after ≡ put now (at + k) (y ∷ [])
+    → after ≡ put xs at (take (k + 1) ys)
 put-more xs now after ys at k y d low own was is =
     let place : at + k ≡ at + length (take k ys) = omega (arith, length-take k ys) in
     let next : suc k ≡ k + 1 = omega arith in

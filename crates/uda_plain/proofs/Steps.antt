@@ -18,7 +18,7 @@ use Rattle.uda_disk.proofs.Slots.{set-itself}
 
 -- one that stores no blocks leaves them as they are
 pub disk_after-mode : (act : Act) (disk : Disk) (mode : Mode) → stored act (due act disk.blocks) ≡ []
-  → mode ≡ mode_after act disk.mode → record disk { mode = mode } ≡ disk_after Done act disk
+    → mode ≡ mode_after act disk.mode → record disk { mode = mode } ≡ disk_after Done act disk
 disk_after-mode act disk mode none is =
     ap (λ m. record disk { mode = m }) is
     ∙ ap (λ blocks. record { blocks = blocks; size = disk.size; mode = mode_after act disk.mode })
@@ -26,28 +26,31 @@ disk_after-mode act disk mode none is =
 
 -- the slot that a request leaves, in its place among the units
 slot_left-disk : (disks : Disks) (r : Request) (disk : Disk) (b : Bar) → slice_get disks r.unit
-  ≡ Some (Some disk)
+    ≡ Some (Some disk)
     → ◌≡◌ {A = Answer × Disks} (answer_by Done r.act b, set disks r.unit (Some (disk_by Done r.act b disk)))
     (serve_by Done r b disks)
 slot_left-disk disks r disk (Barred refusal) here = ap (λ ds. (answer_by Done r.act (Barred refusal), ds))
-  (set-itself disks r.unit (Some disk) here)
+    (set-itself disks r.unit (Some disk) here)
 slot_left-disk disks r disk (Free free) here = refl
 
 slot_left : (disks : Disks) (r : Request) (slot : Option Disk) → slice_get disks r.unit ≡ Some slot
-    → ◌≡◌ {A = Answer × Disks} (answer_by Done r.act (bar_at r.act (Some slot)), set disks r.unit
-    (option_map (disk_by Done r.act (bar_at r.act (Some slot))) slot))
+    → ◌≡◌ {A = Answer × Disks} (
+      answer_by Done r.act (bar_at r.act (Some slot)),
+      set disks r.unit
+          (option_map (disk_by Done r.act (bar_at r.act (Some slot))) slot),
+    )
     (serve_by Done r (bar_at r.act (Some slot)) disks)
 slot_left disks r None here = ap (λ ds. (answer_by Done r.act (bar_at r.act (Some None)), ds))
-  (set-itself disks r.unit None here)
+    (set-itself disks r.unit None here)
 slot_left disks r (Some disk) here = slot_left-disk disks r disk (bar_at r.act (Some (Some disk))) here
 
 step_short : (disks : Disks) (r : Request) → too_long r ≡ false
-  → step r disks ≡ serve_by Done r (bar disks r) disks
+    → step r disks ≡ serve_by Done r (bar disks r) disks
 step_short disks r short = rw short refl
 
 -- a request that isn't too long, done on the slot of its unit, is a step
 pub step-slot : (disks : Disks) (r : Request) (slot slot_after : Option Disk) (answer : Answer)
-  → too_long r ≡ false → slice_get disks r.unit ≡ Some slot
+    → too_long r ≡ false → slice_get disks r.unit ≡ Some slot
     → answer ≡ answer_by Done r.act (bar_at r.act (Some slot))
     → slot_after ≡ option_map (disk_by Done r.act (bar_at r.act (Some slot))) slot
     → ◌≡◌ {A = Answer × Disks} (answer, set disks r.unit slot_after) (step r disks)
@@ -62,7 +65,7 @@ abbrev pub SoFar : Disks → List Request → List Answer → Disks → List Req
 SoFar disks requests told now rest = plain disks requests ≡ (told ++ (plain now rest).0, (plain now rest).1)
 
 pub SoFar-next : (disks : Disks) (requests : List Request) (told : List Answer) (now : Disks) (r : Request)
-  (rest : List Request) (answer : Answer) (after : Disks)
+    (rest : List Request) (answer : Answer) (after : Disks)
     → ◌≡◌ {A = Answer × Disks} (answer, after) (step r now) → SoFar disks requests told now (r ∷ rest)
     → SoFar disks requests (told ++ answer ∷ []) after rest
 SoFar-next disks requests told now r rest answer after is so_far =
@@ -73,7 +76,7 @@ SoFar-next disks requests told now r rest answer after is so_far =
 
 -- the requests from one on: that one, and those behind it
 pub drop-values : (xs : List declared.Request) (i : ℕ) (d : declared.Request) → i < length xs
-  → drop i (request_values xs) ≡ request_value (get_or xs i d) ∷ drop (i + 1) (request_values xs)
+    → drop i (request_values xs) ≡ request_value (get_or xs i d) ∷ drop (i + 1) (request_values xs)
 drop-values xs i d h =
     let next : suc i ≡ i + 1 = omega arith in
     drop-map request_value i xs ∙ ap (map request_value) (drop-cons xs i d h)
@@ -81,5 +84,5 @@ drop-values xs i d h =
     (sym (drop-map request_value (suc i) xs) ∙ ap (λ n. drop n (request_values xs)) next)
 
 pub answer_values-next : (xs : List declared_answer.Answer) (x : declared_answer.Answer)
-  → answer_values (xs ++ x ∷ []) ≡ answer_values xs ++ answer_value x ∷ []
+    → answer_values (xs ++ x ∷ []) ≡ answer_values xs ++ answer_value x ∷ []
 answer_values-next xs x = map-append answer_value xs (x ∷ [])

@@ -40,15 +40,19 @@ same_cause a b is = cc
 -- ---- a word of the start-up
 
 -- a port that died of this cause died of the one that the word met
-of_word : (met cause : Fatal) (word : ℕ) (old new : PortState) (memory : List ℕ) → new ≡ dead_port old met → new.phase ≡ Dead cause → FatalWord met word old memory → FatalWord cause word old memory
-of_word met cause word old new memory is dead fatal = subst (λ (x : Fatal). FatalWord x word old memory) (same_cause met cause (sym (phases new (dead_port old met) is) ∙ dead)) fatal
+of_word : (met cause : Fatal) (word : ℕ) (old new : PortState) (memory : List ℕ) → new ≡ dead_port old met
+    → new.phase ≡ Dead cause → FatalWord met word old memory → FatalWord cause word old memory
+of_word met cause word old new memory is dead fatal = subst (λ (x : Fatal). FatalWord x word old memory)
+    (same_cause met cause (sym (phases new (dead_port old met) is) ∙ dead)) fatal
 
 first_word : (cause : Fatal) (word : ℕ) (old new : PortState) (memory : List ℕ) (profile : Profile)
-    (step wrap : Bool) → old.phase ≡ Step1 → old.profile ≡ profile → has_bit word 15 ≡ step → has_bit word 14 ≡ wrap
+    (step wrap : Bool) → old.phase ≡ Step1 → old.profile ≡ profile → has_bit word 15 ≡ step → has_bit word 14
+    ≡ wrap
     → new ≡ (
     if step then (
     if wrap then wrap_by profile old word
-    else port_shows (record old { interrupts = interrupts_asked old.profile old.interrupts word }) (Step2 word)
+    else port_shows (record old { interrupts = interrupts_asked old.profile old.interrupts word })
+    (Step2 word)
     ) else old)
     → new.phase ≡ Dead cause → FatalWord cause word old memory
 first_word cause word old new memory Strict true true p q step wrap is dead =
@@ -60,34 +64,50 @@ first_word cause word old new memory profile' true false p q step wrap is dead =
 first_word cause word old new memory profile' false wrap' p q step wrap is dead =
     let same = phases new _ is in absurd (cc)
 
-second_word : (cause : Fatal) (first word : ℕ) (old new : PortState) (memory : List ℕ) (profile : Profile) (refuses : Bool) → old.phase ≡ Step2 first → old.profile ≡ profile → refuses_second profile word ≡ refuses
-    → new ≡ (if refuses then dead_port old StartUpWord else port_shows old (Step3 first word)) → new.phase ≡ Dead cause → FatalWord cause word old memory
-second_word cause first word old new memory Strict true p q purge is dead = of_word StartUpWord cause word old new memory is dead (rw (p, q) purge)
+second_word : (cause : Fatal) (first word : ℕ) (old new : PortState) (memory : List ℕ) (profile : Profile)
+    (refuses : Bool) → old.phase ≡ Step2 first → old.profile ≡ profile → refuses_second profile word ≡ refuses
+    → new ≡ (if refuses then dead_port old StartUpWord else port_shows old (Step3 first word))
+    → new.phase ≡ Dead cause → FatalWord cause word old memory
+second_word cause first word old new memory Strict true p q purge is dead =
+    of_word StartUpWord cause word old new memory is dead (rw (p, q) purge)
 second_word cause first word old new memory (ForGuests identity) true p q purge is dead = absurd (cc)
-second_word cause first word old new memory profile' false p q purge is dead = let same = phases new _ is in absurd (cc)
+second_word cause first word old new memory profile' false p q purge is dead =
+    let same = phases new _ is in absurd (cc)
 
 -- what follows the third word isn't dead
 lives_on : (cause : Fatal) (old : PortState) (word : ℕ) → (after_third old word).phase ≡ Dead cause → ⊥
 lives_on cause old word is = by (asks_test old.profile word) is
   where
-    by : (test : Bool) → (if test then record old { phase = Purge } else port_shows old Step4).phase ≡ Dead cause → ⊥
+    by : (test : Bool) → (if test then record old { phase = Purge } else port_shows old Step4).phase
+        ≡ Dead cause → ⊥
     by true is = cc
     by false is = cc
 
-third_word : (cause : Fatal) (first second word : ℕ) (old new : PortState) (memory memory_after : List ℕ) (profile : Profile) (refuses has : Bool) → old.phase ≡ Step3 first second → old.profile ≡ profile
-    → refuses_third profile word ≡ refuses → has_area (area_of profile first second word) (length memory) ≡ has
+third_word : (cause : Fatal) (first second word : ℕ) (old new : PortState) (memory memory_after : List ℕ)
+    (profile : Profile) (refuses has : Bool) → old.phase ≡ Step3 first second → old.profile ≡ profile
+    → refuses_third profile word ≡ refuses → has_area (area_of profile first second word) (length memory)
+    ≡ has
     → ◌≡◌ {A = PortState × List ℕ} (new, memory_after) (if refuses then (dead_port old StartUpWord, memory)
-    else if has then (after_third (port_with_rings old (area_of profile first second word)) word, memory_with_area (area_of profile first second word) memory)
+    else if has then (
+      after_third (port_with_rings old (area_of profile first second word)) word,
+      memory_with_area (area_of profile first second word) memory,
+    )
     else (dead_port old RingWrite, memory)) → new.phase ≡ Dead cause → FatalWord cause word old memory
 third_word cause first second word old new memory memory_after Strict true has' p q high area is dead =
-    of_word StartUpWord cause word old new memory (ap (λ (x : PortState × List ℕ). x.0) is) dead (rw (p, q) (ltb-true 3 word high))
-third_word cause first second word old new memory memory_after (ForGuests identity) true has' p q high area is dead = absurd (cc)
+    of_word StartUpWord cause word old new memory (ap (λ (x : PortState × List ℕ). x.0) is) dead
+    (rw (p, q) (ltb-true 3 word high))
+third_word cause first second word old new memory memory_after (ForGuests identity) true has' p q high area is
+    dead = absurd (cc)
 third_word cause first second word old new memory memory_after profile' false true p q high area is dead =
-    absurd (lives_on cause (port_with_rings old (area_of profile' first second word)) word (sym (phases new _ (ap (λ (x : PortState × List ℕ). x.0) is)) ∙ dead))
+    absurd (lives_on cause (port_with_rings old (area_of profile' first second word)) word
+    (sym (phases new _ (ap (λ (x : PortState × List ℕ). x.0) is)) ∙ dead))
 third_word cause first second word old new memory memory_after Strict false false p q high area is dead =
-    of_word RingWrite cause word old new memory (ap (λ (x : PortState × List ℕ). x.0) is) dead (rw (p, q) (ltb-false 3 word high, area))
-third_word cause first second word old new memory memory_after (ForGuests identity) false false p q high area is dead =
-    of_word RingWrite cause word old new memory (ap (λ (x : PortState × List ℕ). x.0) is) dead (rw (p, q) (tt, area))
+    of_word RingWrite cause word old new memory (ap (λ (x : PortState × List ℕ). x.0) is) dead
+    (rw (p, q) (ltb-false 3 word high, area))
+third_word cause first second word old new memory memory_after (ForGuests identity) false false p q high area
+    is dead =
+    of_word RingWrite cause word old new memory (ap (λ (x : PortState × List ℕ). x.0) is) dead
+    (rw (p, q) (tt, area))
 
 purge_word : (cause : Fatal) (word : ℕ) (old new : PortState) (none : Bool) → old.phase ≡ Purge
     → new ≡ (if none then record old { phase = Poll } else old) → new.phase ≡ Dead cause → ⊥
@@ -100,42 +120,61 @@ fourth_word cause word old new true p is dead = let same = phases new _ is in ab
 fourth_word cause word old new false p is dead = let same = phases new _ is in absurd (cc)
 
 -- a port that is dead after a word was dead before it, or the word was fatal
-fatal_word : (cause : Fatal) (word : ℕ) (p : Phase) (old new : PortState) (memory memory_after : List ℕ) → old.phase ≡ p → (new, memory_after) ≡ by_word p old memory word → new.phase ≡ Dead cause
+fatal_word : (cause : Fatal) (word : ℕ) (p : Phase) (old new : PortState) (memory memory_after : List ℕ)
+    → old.phase ≡ p → (new, memory_after) ≡ by_word p old memory word → new.phase ≡ Dead cause
     → (old.phase ≡ Dead cause) ⊎ FatalWord cause word old memory
 fatal_word cause word Step1 old new memory memory_after p is dead =
     let first = ap (λ (x : PortState × List ℕ). x.0) is in
     inr (first_word cause word old new memory old.profile _ _ p refl refl refl first dead)
-fatal_word cause word (Step2 first) old new memory memory_after p is dead = inr (second_word cause first word old new memory old.profile _ p refl refl (ap (λ (x : PortState × List ℕ). x.0) is) dead)
-fatal_word cause word (Step3 first second) old new memory memory_after p is dead = inr (third_word cause first second word old new memory memory_after old.profile _ _ p refl refl refl is dead)
+fatal_word cause word (Step2 first) old new memory memory_after p is dead =
+    inr (second_word cause first word old new memory old.profile _ p refl refl
+    (ap (λ (x : PortState × List ℕ). x.0) is) dead)
+fatal_word cause word (Step3 first second) old new memory memory_after p is dead =
+    inr (third_word cause first second word old new memory memory_after old.profile _ _ p refl refl refl is
+    dead)
 fatal_word cause word (Wrap before) old new memory memory_after p is dead =
     let same = phases new _ (ap (λ (x : PortState × List ℕ). x.0) is) in absurd (cc)
-fatal_word cause word Purge old new memory memory_after p is dead = absurd (purge_word cause word old new _ p (ap (λ (x : PortState × List ℕ). x.0) is) dead)
-fatal_word cause word Poll old new memory memory_after p is dead = inl (sym (phases new old (ap (λ (x : PortState × List ℕ). x.0) is)) ∙ dead)
-fatal_word cause word Step4 old new memory memory_after p is dead = absurd (fourth_word cause word old new _ p (ap (λ (x : PortState × List ℕ). x.0) is) dead)
-fatal_word cause word Running old new memory memory_after p is dead = inl (sym (phases new old (ap (λ (x : PortState × List ℕ). x.0) is)) ∙ dead)
-fatal_word cause word (Dead before) old new memory memory_after p is dead = inl (sym (phases new old (ap (λ (x : PortState × List ℕ). x.0) is)) ∙ dead)
+fatal_word cause word Purge old new memory memory_after p is dead =
+    absurd (purge_word cause word old new _ p (ap (λ (x : PortState × List ℕ). x.0) is) dead)
+fatal_word cause word Poll old new memory memory_after p is dead =
+    inl (sym (phases new old (ap (λ (x : PortState × List ℕ). x.0) is)) ∙ dead)
+fatal_word cause word Step4 old new memory memory_after p is dead =
+    absurd (fourth_word cause word old new _ p (ap (λ (x : PortState × List ℕ). x.0) is) dead)
+fatal_word cause word Running old new memory memory_after p is dead =
+    inl (sym (phases new old (ap (λ (x : PortState × List ℕ). x.0) is)) ∙ dead)
+fatal_word cause word (Dead before) old new memory memory_after p is dead =
+    inl (sym (phases new old (ap (λ (x : PortState × List ℕ). x.0) is)) ∙ dead)
 
 -- ---- a turn
 
 -- what it met in its first line
-fails_fetch : (cause : Fatal) (old : PortState) (memory : List ℕ) (before : PortState) (memory_after : List ℕ) → FetchLine old memory (Err cause) before memory_after → FatalTurn cause old memory
+fails_fetch : (cause : Fatal) (old : PortState) (memory : List ℕ) (before : PortState) (memory_after : List ℕ)
+    → FetchLine old memory (Err cause) before memory_after → FatalTurn cause old memory
 fails_fetch PacketRead old memory before memory_after line = line.0
 fails_fetch RingRead old memory before memory_after line = inl line.0
-fails_fetch CreditsExceeded old memory before memory_after line = record { new = before; memory_after = memory_after; bad = line }
-fails_fetch WrongEnvelope old memory before memory_after line = record { new = before; memory_after = memory_after; bad = line }
+fails_fetch CreditsExceeded old memory before memory_after line =
+    record { new = before; memory_after = memory_after; bad = line }
+fails_fetch WrongEnvelope old memory before memory_after line =
+    record { new = before; memory_after = memory_after; bad = line }
 fails_fetch PacketWrite old memory before memory_after line = absurd line
 fails_fetch RingWrite old memory before memory_after line = absurd line
 fails_fetch StartUpWord old memory before memory_after line = absurd line
 
 -- what it met in its third
-fails_rest : (cause : Fatal) (old : PortState) (memory : List ℕ) (before : PortState) (memory_after : List ℕ) → GoesOn old memory (Err cause) before memory_after → FatalTurn cause old memory
+fails_rest : (cause : Fatal) (old : PortState) (memory : List ℕ) (before : PortState) (memory_after : List ℕ)
+    → GoesOn old memory (Err cause) before memory_after → FatalTurn cause old memory
 fails_rest PacketWrite old memory before memory_after goes = (
   record { nothing_to_fetch = goes.nothing_to_fetch; nothing_pending = goes.rest.0 },
   record { text = goes.rest.1.0.text; is_next = goes.rest.1.0.is_next; no_room = goes.rest.1.0.no_room },
 )
 fails_rest RingRead old memory before memory_after goes = inr (
   record { nothing_to_fetch = goes.nothing_to_fetch; nothing_pending = goes.rest.0 },
-  record { text = goes.rest.1.0.text; is_next = goes.rest.1.0.is_next; no_descriptor = goes.rest.1.0.no_descriptor },
+  record {
+    text = goes.rest.1.0.text;
+    is_next = goes.rest.1.0.is_next;
+    no_descriptor =
+        goes.rest.1.0.no_descriptor;
+  },
 )
 fails_rest PacketRead old memory before memory_after goes = absurd goes.rest.1
 fails_rest CreditsExceeded old memory before memory_after goes = absurd goes.rest.1
@@ -143,9 +182,12 @@ fails_rest WrongEnvelope old memory before memory_after goes = absurd goes.rest.
 fails_rest RingWrite old memory before memory_after goes = absurd goes.rest.1
 fails_rest StartUpWord old memory before memory_after goes = absurd goes.rest.1
 
-fails_of : (cause : Fatal) (old : PortState) (memory : List ℕ) (before : PortState) (memory_after : List ℕ) → Fails cause old memory before memory_after → FatalTurn cause old memory
-fails_of cause old memory before memory_after (InFetch line) = fails_fetch cause old memory before memory_after line
-fails_of cause old memory before memory_after (InRest goes) = fails_rest cause old memory before memory_after goes
+fails_of : (cause : Fatal) (old : PortState) (memory : List ℕ) (before : PortState) (memory_after : List ℕ)
+    → Fails cause old memory before memory_after → FatalTurn cause old memory
+fails_of cause old memory before memory_after (InFetch line) =
+    fails_fetch cause old memory before memory_after line
+fails_of cause old memory before memory_after (InRest goes) =
+    fails_rest cause old memory before memory_after goes
 
 -- a message leaves the phase
 message_phase : (old : PortState) (message : Result Command Reply)
@@ -154,37 +196,53 @@ message_phase old (Ok c) = refl
 message_phase old (Err e) = refl
 
 -- a turn of a running port leaves it running, or meets a cause
-running_turn : (cause : Fatal) (turn : Turn) (old new : PortState) (memory memory_after : List ℕ) → old.phase ≡ Running → RunningTurn old memory turn new memory_after → new.phase ≡ Dead cause
+running_turn : (cause : Fatal) (turn : Turn) (old new : PortState) (memory memory_after : List ℕ)
+    → old.phase ≡ Running → RunningTurn old memory turn new memory_after → new.phase ≡ Dead cause
     → FatalTurn cause (port_turn_on old) memory
 running_turn cause Fetched old new memory memory_after p goes dead =
-    absurd (alive cause old.phase new.phase p (phases new _ goes.others ∙ message_phase (port_turn_on old) (message_in old.profile goes.packet)) dead)
-running_turn cause Executed old new memory memory_after p goes dead = absurd (alive cause old.phase new.phase p (phases new _ goes.rest.1.others) dead)
-running_turn cause Delivered old new memory memory_after p goes dead = absurd (alive cause old.phase new.phase p (phases new _ goes.rest.1.others) dead)
+    absurd (alive cause old.phase new.phase p
+    (phases new _ goes.others ∙ message_phase (port_turn_on old) (message_in old.profile goes.packet)) dead)
+running_turn cause Executed old new memory memory_after p goes dead =
+    absurd (alive cause old.phase new.phase p (phases new _ goes.rest.1.others) dead)
+running_turn cause Delivered old new memory memory_after p goes dead =
+    absurd (alive cause old.phase new.phase p (phases new _ goes.rest.1.others) dead)
 running_turn cause Notified old new memory memory_after p goes dead =
     absurd (alive cause old.phase new.phase p (phases new _ goes.rest.1.others) dead)
-running_turn cause Idle old new memory memory_after p goes dead = absurd (alive cause old.phase new.phase p (phases new _ goes.rest.1.1.state) dead)
+running_turn cause Idle old new memory memory_after p goes dead =
+    absurd (alive cause old.phase new.phase p (phases new _ goes.rest.1.1.state) dead)
 running_turn cause DeadTurn old new memory memory_after p goes dead =
-    subst (λ (x : Fatal). FatalTurn x (port_turn_on old) memory) (same_cause goes.cause cause (sym (phases new _ goes.died) ∙ dead))
+    subst (λ (x : Fatal). FatalTurn x (port_turn_on old) memory)
+    (same_cause goes.cause cause (sym (phases new _ goes.died) ∙ dead))
     (fails_of goes.cause (port_turn_on old) memory goes.before memory_after goes.fails)
 
 -- a port that is dead after a turn was dead before it, or the turn met a cause
-fatal_turn : (cause : Fatal) (turn : Turn) (p : Phase) (old new : PortState) (memory memory_after : List ℕ) → old.phase ≡ p → TurnGoes p old memory turn new memory_after → new.phase ≡ Dead cause
+fatal_turn : (cause : Fatal) (turn : Turn) (p : Phase) (old new : PortState) (memory memory_after : List ℕ)
+    → old.phase ≡ p → TurnGoes p old memory turn new memory_after → new.phase ≡ Dead cause
     → (old.phase ≡ Dead cause) ⊎ ((old.phase ≡ Running) × FatalTurn cause (port_turn_on old) memory)
-fatal_turn cause turn Running old new memory memory_after p goes dead = inr (p, running_turn cause turn old new memory memory_after p goes dead)
-fatal_turn cause turn (Dead before) old new memory memory_after p goes dead = inl (sym (phases new old goes.unchanged.state) ∙ dead)
-fatal_turn cause turn Step1 old new memory memory_after p goes dead = inl (sym (phases new old goes.unchanged.state) ∙ dead)
-fatal_turn cause turn (Step2 first) old new memory memory_after p goes dead = inl (sym (phases new old goes.unchanged.state) ∙ dead)
-fatal_turn cause turn (Step3 first second) old new memory memory_after p goes dead = inl (sym (phases new old goes.unchanged.state) ∙ dead)
+fatal_turn cause turn Running old new memory memory_after p goes dead =
+    inr (p, running_turn cause turn old new memory memory_after p goes dead)
+fatal_turn cause turn (Dead before) old new memory memory_after p goes dead =
+    inl (sym (phases new old goes.unchanged.state) ∙ dead)
+fatal_turn cause turn Step1 old new memory memory_after p goes dead =
+    inl (sym (phases new old goes.unchanged.state) ∙ dead)
+fatal_turn cause turn (Step2 first) old new memory memory_after p goes dead =
+    inl (sym (phases new old goes.unchanged.state) ∙ dead)
+fatal_turn cause turn (Step3 first second) old new memory memory_after p goes dead =
+    inl (sym (phases new old goes.unchanged.state) ∙ dead)
 fatal_turn cause turn (Wrap before) old new memory memory_after p goes dead =
     inl (sym (phases new old goes.unchanged.state) ∙ dead)
-fatal_turn cause turn Purge old new memory memory_after p goes dead = inl (sym (phases new old goes.unchanged.state) ∙ dead)
-fatal_turn cause turn Poll old new memory memory_after p goes dead = inl (sym (phases new old goes.unchanged.state) ∙ dead)
-fatal_turn cause turn Step4 old new memory memory_after p goes dead = inl (sym (phases new old goes.unchanged.state) ∙ dead)
+fatal_turn cause turn Purge old new memory memory_after p goes dead =
+    inl (sym (phases new old goes.unchanged.state) ∙ dead)
+fatal_turn cause turn Poll old new memory memory_after p goes dead =
+    inl (sym (phases new old goes.unchanged.state) ∙ dead)
+fatal_turn cause turn Step4 old new memory memory_after p goes dead =
+    inl (sym (phases new old goes.unchanged.state) ∙ dead)
 
 -- ---- an event, and events
 
 -- a port whose IP is read is dead where it was, and only there
-asked_dead : (cause : Fatal) (p : Phase) (old : PortState) → old.phase ≡ p → (port_asked p old).phase ≡ Dead cause → old.phase ≡ Dead cause
+asked_dead : (cause : Fatal) (p : Phase) (old : PortState) → old.phase ≡ p → (port_asked p old).phase
+    ≡ Dead cause → old.phase ≡ Dead cause
 asked_dead cause Running old is dead = dead
 asked_dead cause Step1 old is dead = dead
 asked_dead cause (Step2 first) old is dead = dead
@@ -195,7 +253,8 @@ asked_dead cause Poll old is dead = absurd (cc)
 asked_dead cause Step4 old is dead = dead
 asked_dead cause (Dead before) old is dead = dead
 
-still_dead : (cause : Fatal) (p : Phase) (old : PortState) → old.phase ≡ p → old.phase ≡ Dead cause → (port_asked p old).phase ≡ Dead cause
+still_dead : (cause : Fatal) (p : Phase) (old : PortState) → old.phase ≡ p → old.phase ≡ Dead cause
+    → (port_asked p old).phase ≡ Dead cause
 still_dead cause Running old is dead = dead
 still_dead cause Step1 old is dead = dead
 still_dead cause (Step2 first) old is dead = dead
@@ -206,57 +265,73 @@ still_dead cause Poll old is dead = absurd (cc)
 still_dead cause Step4 old is dead = dead
 still_dead cause (Dead before) old is dead = dead
 
--- a port that is dead after an event was dead before it, and the event wasn't a write to IP; or the event met a cause
-fatal_event : (cause : Fatal) (event : HostEvent) (old new : PortState) (memory memory_after : List ℕ) → EventGoes event old memory new memory_after → new.phase ≡ Dead cause
+-- a port that is dead after an event was dead before it, and the event wasn't a write to IP; or the event met
+-- a cause
+fatal_event : (cause : Fatal) (event : HostEvent) (old new : PortState) (memory memory_after : List ℕ)
+    → EventGoes event old memory new memory_after → new.phase ≡ Dead cause
     → ((event ≢ WriteIp) × (old.phase ≡ Dead cause)) ⊎ MeetsCause cause event old memory
-fatal_event cause WriteIp old new memory memory_after goes dead = let same = phases new _ goes.0 in absurd (cc)
-fatal_event cause ReadIp old new memory memory_after goes dead = inl ((λ is. absurd (cc)), asked_dead cause old.phase old refl (sym (phases new _ goes.0) ∙ dead))
-fatal_event cause (WriteSa word) old new memory memory_after goes dead = elim (fatal_word cause word old.phase old new memory memory_after refl goes dead) [
-  | inl was ↦ inl ((λ is. absurd (cc)), was)
-  | inr met ↦ inr met
-]
-fatal_event cause (Word address word) old new memory memory_after goes dead = inl ((λ is. absurd (cc)), sym (phases new old goes.0) ∙ dead)
-fatal_event cause TurnEvent old new memory memory_after goes dead = elim (fatal_turn cause goes.0 old.phase old new memory memory_after refl goes.1 dead) [
-  | inl was ↦ inl ((λ is. absurd (cc)), was)
-  | inr met ↦ inr met
-]
+fatal_event cause WriteIp old new memory memory_after goes dead =
+    let same = phases new _ goes.0 in absurd (cc)
+fatal_event cause ReadIp old new memory memory_after goes dead =
+    inl ((λ is. absurd (cc)), asked_dead cause old.phase old refl (sym (phases new _ goes.0) ∙ dead))
+fatal_event cause (WriteSa word) old new memory memory_after goes dead =
+    elim (fatal_word cause word old.phase old new memory memory_after refl goes dead) [
+      | inl was ↦ inl ((λ is. absurd (cc)), was)
+      | inr met ↦ inr met
+    ]
+fatal_event cause (Word address word) old new memory memory_after goes dead =
+    inl ((λ is. absurd (cc)), sym (phases new old goes.0) ∙ dead)
+fatal_event cause TurnEvent old new memory memory_after goes dead =
+    elim (fatal_turn cause goes.0 old.phase old new memory memory_after refl goes.1 dead) [
+      | inl was ↦ inl ((λ is. absurd (cc)), was)
+      | inr met ↦ inr met
+    ]
 
-dies : (cause : Fatal) (events : List HostEvent) (old : PortState) (memory : List ℕ) (new : PortState) (memory_after : List ℕ) → Played events old memory new memory_after → new.phase ≡ Dead cause
+dies : (cause : Fatal) (events : List HostEvent) (old : PortState) (memory : List ℕ) (new : PortState)
+    (memory_after : List ℕ) → Played events old memory new memory_after → new.phase ≡ Dead cause
     → StaysDead cause events old ⊎ DiedOf cause events (old, memory) (new, memory_after)
-dies cause [] old memory new memory_after played dead = inl (record { was = sym (phases new old played.state) ∙ dead; leaves_ip = All-nil IsOther })
-dies cause (event ∷ rest) old memory new memory_after played dead = elim (dies cause rest played.0.0 played.0.1 new memory_after played.2 dead) [
-  | inl later ↦ elim (fatal_event cause event old played.0.0 memory played.0.1 played.1 later.was) [
-    | inl was ↦ inl (record { was = was.1; leaves_ip = All-cons IsOther event rest was.0 later.leaves_ip })
-    | inr met ↦ inr (record {
-      before = [];
-      fatal = event;
-      rest = rest;
-      are = refl;
-      found = (old, memory);
-      led_there = record { state = refl; memory_stays = refl };
-      left = played.0;
-      kills = record { meets = met; goes = played.1; dead = later.was };
-      led_on = played.2;
-      leaves_ip = later.leaves_ip;
-    })
-  ]
-  | inr later ↦ inr (record {
-    before = event ∷ later.before;
-    fatal = later.fatal;
-    rest = later.rest;
-    are = ap (λ (events : List HostEvent). event ∷ events) later.are;
-    found = later.found;
-    led_there = (played.0, played.1, later.led_there);
-    left = later.left;
-    kills = later.kills;
-    led_on = later.led_on;
-    leaves_ip = later.leaves_ip;
-  })
-]
+dies cause [] old memory new memory_after played dead =
+    inl (record { was = sym (phases new old played.state) ∙ dead; leaves_ip = All-nil IsOther })
+dies cause (event ∷ rest) old memory new memory_after played dead =
+    elim (dies cause rest played.0.0 played.0.1 new memory_after played.2 dead) [
+      | inl later ↦ elim (fatal_event cause event old played.0.0 memory played.0.1 played.1 later.was) [
+        | inl was ↦ inl (record {
+          was = was.1;
+          leaves_ip =
+              All-cons IsOther event rest was.0 later.leaves_ip;
+        })
+        | inr met ↦ inr (record {
+          before = [];
+          fatal = event;
+          rest = rest;
+          are = refl;
+          found = (old, memory);
+          led_there = record { state = refl; memory_stays = refl };
+          left = played.0;
+          kills = record { meets = met; goes = played.1; dead = later.was };
+          led_on = played.2;
+          leaves_ip = later.leaves_ip;
+        })
+      ]
+      | inr later ↦ inr (record {
+        before = event ∷ later.before;
+        fatal = later.fatal;
+        rest = later.rest;
+        are = ap (λ (events : List HostEvent). event ∷ events) later.are;
+        found = later.found;
+        led_there = (played.0, played.1, later.led_there);
+        left = later.left;
+        kills = later.kills;
+        led_on = later.led_on;
+        leaves_ip = later.leaves_ip;
+      })
+    ]
 
 -- a dead port stays so where IP isn't written
-dead_word : (cause : Fatal) (word : ℕ) (p : Phase) (old new : PortState) (memory memory_after : List ℕ) → (new, memory_after) ≡ by_word p old memory word → p ≡ Dead cause → new ≡ old
-dead_word cause word (Dead before) old new memory memory_after is dead = ap (λ (x : PortState × List ℕ). x.0) is
+dead_word : (cause : Fatal) (word : ℕ) (p : Phase) (old new : PortState) (memory memory_after : List ℕ)
+    → (new, memory_after) ≡ by_word p old memory word → p ≡ Dead cause → new ≡ old
+dead_word cause word (Dead before) old new memory memory_after is dead =
+    ap (λ (x : PortState × List ℕ). x.0) is
 dead_word cause word Step1 old new memory memory_after is dead = absurd (cc dead)
 dead_word cause word (Step2 first) old new memory memory_after is dead = absurd (cc dead)
 dead_word cause word (Step3 first second) old new memory memory_after is dead = absurd (cc dead)
@@ -266,7 +341,8 @@ dead_word cause word Poll old new memory memory_after is dead = absurd (cc dead)
 dead_word cause word Step4 old new memory memory_after is dead = absurd (cc dead)
 dead_word cause word Running old new memory memory_after is dead = absurd (cc dead)
 
-dead_turn : (cause : Fatal) (turn : Turn) (p : Phase) (old new : PortState) (memory memory_after : List ℕ) → TurnGoes p old memory turn new memory_after → p ≡ Dead cause → new ≡ old
+dead_turn : (cause : Fatal) (turn : Turn) (p : Phase) (old new : PortState) (memory memory_after : List ℕ)
+    → TurnGoes p old memory turn new memory_after → p ≡ Dead cause → new ≡ old
 dead_turn cause turn (Dead before) old new memory memory_after goes dead = goes.unchanged.state
 dead_turn cause turn Step1 old new memory memory_after goes dead = goes.unchanged.state
 dead_turn cause turn (Step2 first) old new memory memory_after goes dead = goes.unchanged.state
@@ -280,21 +356,31 @@ dead_turn cause turn Running old new memory memory_after goes dead = absurd (not
     not_running : (cause : Fatal) → Running ≡ Dead cause → ⊥
     not_running cause is = cc
 
-dead_event : (cause : Fatal) (event : HostEvent) (old new : PortState) (memory memory_after : List ℕ) → EventGoes event old memory new memory_after → event ≢ WriteIp → old.phase ≡ Dead cause → new.phase ≡ Dead cause
+dead_event : (cause : Fatal) (event : HostEvent) (old new : PortState) (memory memory_after : List ℕ)
+    → EventGoes event old memory new memory_after → event ≢ WriteIp → old.phase ≡ Dead cause
+    → new.phase ≡ Dead cause
 dead_event cause WriteIp old new memory memory_after goes other dead = absurd (other refl)
-dead_event cause ReadIp old new memory memory_after goes other dead = phases new _ goes.0 ∙ still_dead cause old.phase old refl dead
-dead_event cause (WriteSa word) old new memory memory_after goes other dead = phases new old (dead_word cause word old.phase old new memory memory_after goes dead) ∙ dead
-dead_event cause (Word address word) old new memory memory_after goes other dead = phases new old goes.0 ∙ dead
-dead_event cause TurnEvent old new memory memory_after goes other dead = phases new old (dead_turn cause goes.0 old.phase old new memory memory_after goes.1 dead) ∙ dead
+dead_event cause ReadIp old new memory memory_after goes other dead = phases new _ goes.0
+    ∙ still_dead cause old.phase old refl dead
+dead_event cause (WriteSa word) old new memory memory_after goes other dead =
+    phases new old (dead_word cause word old.phase old new memory memory_after goes dead) ∙ dead
+dead_event cause (Word address word) old new memory memory_after goes other dead = phases new old goes.0
+    ∙ dead
+dead_event cause TurnEvent old new memory memory_after goes other dead =
+    phases new old (dead_turn cause goes.0 old.phase old new memory memory_after goes.1 dead) ∙ dead
 
-stays : (cause : Fatal) (events : List HostEvent) (old : PortState) (memory : List ℕ) (new : PortState) (memory_after : List ℕ) → Played events old memory new memory_after
+stays : (cause : Fatal) (events : List HostEvent) (old : PortState) (memory : List ℕ) (new : PortState)
+    (memory_after : List ℕ) → Played events old memory new memory_after
     → old.phase ≡ Dead cause → LeavesIp events → new.phase ≡ Dead cause
 stays cause [] old memory new memory_after played dead leaves = phases new old played.state ∙ dead
 stays cause (event ∷ rest) old memory new memory_after played dead leaves =
     stays cause rest played.0.0 played.0.1 new memory_after played.2
-    (dead_event cause event old played.0.0 memory played.0.1 played.1 (All-head IsOther event rest leaves) dead) (All-tail IsOther event rest leaves)
+    (dead_event cause event old played.0.0 memory played.0.1 played.1
+    (All-head IsOther event rest leaves) dead) (All-tail IsOther event rest leaves)
 
-pub death_has_cause : (events : List HostEvent) (old : PortState) (memory : List ℕ) (new : PortState) (memory_after : List ℕ) → Played events old memory new memory_after → DeathHasCause events old memory new memory_after
+pub death_has_cause : (events : List HostEvent) (old : PortState) (memory : List ℕ) (new : PortState)
+    (memory_after : List ℕ) → Played events old memory new memory_after
+    → DeathHasCause events old memory new memory_after
 death_has_cause events old memory new memory_after played = record {
   dies = λ cause dead. dies cause events old memory new memory_after played dead;
   stays = λ cause was. stays cause events old memory new memory_after played was.was was.leaves_ip;

@@ -6,7 +6,10 @@ use Rattle.uda_port.specs.Port.{PortState}
 use Rattle.uda_port.specs.Play.{EventGoes, Played}
 
 -- an event, and then those behind it
-pub played_on : (events : List HostEvent) (i : ℕ) (d : HostEvent) (old : PortState) (memory : List ℕ) (between : PortState) (memory_between : List ℕ) (new : PortState) (memory_after : List ℕ)
+pub played_on : (events : List HostEvent) (i : ℕ) (d : HostEvent) (old : PortState) (memory : List ℕ)
+    (between : PortState) (memory_between : List ℕ) (new : PortState) (memory_after : List ℕ)
     → i < length events → EventGoes (get_or events i d) old memory between memory_between
-    → Played (drop (i + 1) events) between memory_between new memory_after → Played (drop i events) old memory new memory_after
-played_on events i d old memory between memory_between new memory_after h goes rest = rw (drop_more events i d h) ((between, memory_between), goes, rest)
+    → Played (drop (i + 1) events) between memory_between new memory_after
+    → Played (drop i events) old memory new memory_after
+played_on events i d old memory between memory_between new memory_after h goes rest =
+    rw (drop_more events i d h) ((between, memory_between), goes, rest)

@@ -20,64 +20,88 @@ use Rattle.uda_port.specs.Fetch.{Takes, TakesFirst, FetchGoes, OrderKept}
 length-ring : (memory : List ℕ) (base n : ℕ) → length (ring memory base n) ≡ n
 length-ring memory base n = length-map-range_with_len _ 0 n
 
-get_or-ring : (memory : List ℕ) (base n k : ℕ) (d : Option Descriptor) → k < n → get_or (ring memory base n) k d ≡ descriptor_at memory (base + 4 * k)
-get_or-ring memory base n k d h = get_or-map-range_with_len (λ k. descriptor_at memory (base + 4 * k)) 0 n k k d h (omega arith)
+get_or-ring : (memory : List ℕ) (base n k : ℕ) (d : Option Descriptor) → k < n
+    → get_or (ring memory base n) k d ≡ descriptor_at memory (base + 4 * k)
+get_or-ring memory base n k d h = get_or-map-range_with_len (λ k. descriptor_at memory (base + 4 * k)) 0 n k k
+    d h (omega arith)
 
 -- the descriptor at the place comes first
 rotated : (memory : List ℕ) (r : RingState) → r.place < r.count
     → drop r.place (ring memory r.base r.count) ++ take r.place (ring memory r.base r.count)
-    ≡ descriptor_at memory (descriptor_address r) ∷ (drop (r.place + 1) (ring memory r.base r.count) ++ take r.place (ring memory r.base r.count))
+    ≡ descriptor_at memory (descriptor_address r)
+    ∷ (drop (r.place + 1) (ring memory r.base r.count) ++ take r.place (ring memory r.base r.count))
 rotated memory r within =
     let all = ring memory r.base r.count in
-    let next : drop r.place all ≡ get_or all r.place None ∷ drop (r.place + 1) all = drop_more all r.place None (omega (arith, length-ring memory r.base r.count)) in
-    let is : get_or all r.place None ≡ descriptor_at memory (descriptor_address r) = get_or-ring memory r.base r.count r.place None within in
-    ap (λ (ds : List (Option Descriptor)). ds ++ take r.place all) (next ∙ ap (λ (d : Option Descriptor). d ∷ drop (r.place + 1) all) is)
+    let next : drop r.place all ≡ get_or all r.place None ∷ drop (r.place + 1) all =
+    drop_more all r.place None (omega (arith, length-ring memory r.base r.count)) in
+    let is : get_or all r.place None ≡ descriptor_at memory (descriptor_address r) =
+    get_or-ring memory r.base r.count r.place None within in
+    ap (λ (ds : List (Option Descriptor)). ds ++ take r.place all)
+    (next ∙ ap (λ (d : Option Descriptor). d ∷ drop (r.place + 1) all) is)
 
 -- the rest of the ring behind its place
 abbrev pub behind : List ℕ → RingState → List (Option Descriptor)
 behind memory r = drop (r.place + 1) (ring memory r.base r.count) ++ take r.place (ring memory r.base r.count)
 
-pub none_posted : (memory : List ℕ) (r : RingState) → r.place < r.count → descriptor_at memory (descriptor_address r) ≡ None → posted_in memory r ≡ []
-none_posted memory r within h = ap owned_front (rotated memory r within ∙ ap (λ (d : Option Descriptor). d ∷ behind memory r) h)
+pub none_posted : (memory : List ℕ) (r : RingState) → r.place < r.count
+    → descriptor_at memory (descriptor_address r) ≡ None → posted_in memory r ≡ []
+none_posted memory r within h = ap owned_front
+    (rotated memory r within ∙ ap (λ (d : Option Descriptor). d ∷ behind memory r) h)
 
-posted_next : (memory : List ℕ) (r : RingState) (d : Descriptor) (own : Bool) → r.place < r.count → descriptor_at memory (descriptor_address r) ≡ Some d → is_owned d ≡ own
+posted_next : (memory : List ℕ) (r : RingState) (d : Descriptor) (own : Bool) → r.place < r.count
+    → descriptor_at memory (descriptor_address r) ≡ Some d → is_owned d ≡ own
     → posted_in memory r ≡ (if own then d ∷ owned_front (behind memory r) else [])
 posted_next memory r d own within h owned =
-    ap owned_front (rotated memory r within ∙ ap (λ (d : Option Descriptor). d ∷ behind memory r) h) ∙ ap (λ (b : Bool). if b then d ∷ owned_front (behind memory r) else []) owned
+    ap owned_front (rotated memory r within ∙ ap (λ (d : Option Descriptor). d ∷ behind memory r) h)
+    ∙ ap (λ (b : Bool). if b then d ∷ owned_front (behind memory r) else []) owned
 
-pub not_owned_posted : (memory : List ℕ) (r : RingState) (d : Descriptor) → r.place < r.count → descriptor_at memory (descriptor_address r) ≡ Some d → is_owned d ≡ false → posted_in memory r ≡ []
+pub not_owned_posted : (memory : List ℕ) (r : RingState) (d : Descriptor) → r.place < r.count
+    → descriptor_at memory (descriptor_address r) ≡ Some d → is_owned d ≡ false → posted_in memory r ≡ []
 not_owned_posted memory r d within h owned = posted_next memory r d false within h owned
 
-pub owned_posted : (memory : List ℕ) (r : RingState) (d : Descriptor) → r.place < r.count → descriptor_at memory (descriptor_address r) ≡ Some d → is_owned d ≡ true
+pub owned_posted : (memory : List ℕ) (r : RingState) (d : Descriptor) → r.place < r.count
+    → descriptor_at memory (descriptor_address r) ≡ Some d → is_owned d ≡ true
     → posted_in memory r ≡ d ∷ owned_front (behind memory r)
 owned_posted memory r d within h owned = posted_next memory r d true within h owned
 
 -- a descriptor that the port doesn't own ends a run wherever it stands
-owned_front-append : (ds : List (Option Descriptor)) (d : Descriptor) → is_owned d ≡ false → owned_front (ds ++ Some d ∷ []) ≡ owned_front ds
+owned_front-append : (ds : List (Option Descriptor)) (d : Descriptor) → is_owned d ≡ false
+    → owned_front (ds ++ Some d ∷ []) ≡ owned_front ds
 owned_front-append [] d h = rw h refl
 owned_front-append (None ∷ rest) d h = refl
-owned_front-append (Some x ∷ rest) d h = ap (λ (xs : List Descriptor). if is_owned x then x ∷ xs else []) (owned_front-append rest d h)
+owned_front-append (Some x ∷ rest) d h = ap (λ (xs : List Descriptor). if is_owned x then x ∷ xs else [])
+    (owned_front-append rest d h)
 
 -- a write of one descriptor's second word leaves the other descriptors
-pub descriptor_at-put_other : (memory : List ℕ) (at other word : ℕ) → (at + 4 ≤ other) ⊎ (other + 4 ≤ at) → descriptor_at (put memory (at + 2) (word_bytes word)) other ≡ descriptor_at memory other
+pub descriptor_at-put_other : (memory : List ℕ) (at other word : ℕ) → (at + 4 ≤ other) ⊎ (other + 4 ≤ at)
+    → descriptor_at (put memory (at + 2) (word_bytes word)) other ≡ descriptor_at memory other
 descriptor_at-put_other memory at other word apart =
     let two = length-word_bytes word in
-    let low = word_at-put_apart memory (at + 2) (word_bytes word) other (λ meet. elim apart [ inl h ↦ omega arith | inr h ↦ omega arith ]) in
-    let high = word_at-put_apart memory (at + 2) (word_bytes word) (other + 2) (λ meet. elim apart [ inl h ↦ omega arith | inr h ↦ omega arith ]) in
-    let make : ℕ → ℕ → ℕ → Option Descriptor = λ size l h. if nat_le (other + 4) size then Some (record { low = l; high = h }) else None in
-    ap (λ (n : ℕ). make n (word_at (put memory (at + 2) (word_bytes word)) other) (word_at (put memory (at + 2) (word_bytes word)) (other + 2))) (length-put memory (at + 2) (word_bytes word))
+    let low = word_at-put_apart memory (at + 2) (word_bytes word) other
+    (λ meet. elim apart [ inl h ↦ omega arith | inr h ↦ omega arith ]) in
+    let high = word_at-put_apart memory (at + 2) (word_bytes word) (other + 2)
+    (λ meet. elim apart [ inl h ↦ omega arith | inr h ↦ omega arith ]) in
+    let make : ℕ → ℕ → ℕ → Option Descriptor = λ size l h. if nat_le (other + 4) size then Some
+    (record { low = l; high = h }) else None in
+    ap (λ (n : ℕ). make n (word_at (put memory (at + 2) (word_bytes word)) other)
+    (word_at (put memory (at + 2) (word_bytes word)) (other + 2)))
+    (length-put memory (at + 2) (word_bytes word))
     ∙ ap₂ (make (length memory)) low high
 
-pub descriptor_at-within : (memory : List ℕ) (at : ℕ) (d : Descriptor) → descriptor_at memory at ≡ Some d → at + 4 ≤ length memory
+pub descriptor_at-within : (memory : List ℕ) (at : ℕ) (d : Descriptor) → descriptor_at memory at ≡ Some d
+    → at + 4 ≤ length memory
 descriptor_at-within memory at d h = go (nat_le (at + 4) (length memory)) refl h
   where
-    go : (fits : Bool) → nat_le (at + 4) (length memory) ≡ fits → (if fits then Some (record { low = word_at memory at; high = word_at memory (at + 2) }) else None) ≡ Some d → at + 4 ≤ length memory
+    go : (fits : Bool) → nat_le (at + 4) (length memory) ≡ fits
+        → (if fits then Some (record { low = word_at memory at; high = word_at memory (at + 2) }) else None)
+        ≡ Some d → at + 4 ≤ length memory
     go true is h = leb-true (at + 4) (length memory) is
     go false is h = absurd (cc)
 
 -- and makes that one the port's no more
 descriptor_at-put_here : (memory : List ℕ) (at word : ℕ) → at + 4 ≤ length memory → word < 2 ^ 16
-    → descriptor_at (put memory (at + 2) (word_bytes word)) at ≡ Some (record { low = word_at memory at; high = word })
+    → descriptor_at (put memory (at + 2) (word_bytes word)) at
+    ≡ Some (record { low = word_at memory at; high = word })
 descriptor_at-put_here memory at word room fits =
     let two = length-word_bytes word in
     let low = word_at-put_apart memory (at + 2) (word_bytes word) at (λ meet. omega arith) in
@@ -92,94 +116,139 @@ word_given_back-free : (low high : ℕ) → is_owned (record { low = low; high =
 word_given_back-free low high = lt-leb 32768 (word_given_back high) (omega arith)
 
 -- the ring after the give back: the descriptor at the place is another, and the others are as they were
-ring_after : (memory : List ℕ) (r : RingState) (word : ℕ) → r.place < r.count → descriptor_address r + 4 ≤ length memory → word < 2 ^ 16
-    → ring (put memory (descriptor_address r + 2) (word_bytes word)) r.base r.count ≡ set (ring memory r.base r.count) r.place (Some (record { low = word_at memory (descriptor_address r); high = word }))
+ring_after : (memory : List ℕ) (r : RingState) (word : ℕ) → r.place < r.count
+    → descriptor_address r + 4 ≤ length memory → word < 2 ^ 16
+    → ring (put memory (descriptor_address r + 2) (word_bytes word)) r.base r.count
+    ≡ set (ring memory r.base r.count) r.place
+    (Some (record { low = word_at memory (descriptor_address r); high = word }))
 ring_after memory r word within room fits =
     let memory' = put memory (descriptor_address r + 2) (word_bytes word) in
-    let given : Option Descriptor = Some (record { low = word_at memory (descriptor_address r); high = word }) in
-    let long : r.place < length (ring memory r.base r.count) = omega (arith, length-ring memory r.base r.count) in
-    same_lists _ _ (length-ring memory' r.base r.count ∙ sym (length-set (ring memory r.base r.count) r.place given ∙ length-ring memory r.base r.count)) (λ k d below.
+    let given : Option Descriptor =
+    Some (record { low = word_at memory (descriptor_address r); high = word }) in
+    let long : r.place < length (ring memory r.base r.count) =
+    omega (arith, length-ring memory r.base r.count) in
+    same_lists _ _ (length-ring memory' r.base r.count
+    ∙ sym (length-set (ring memory r.base r.count) r.place given ∙ length-ring memory r.base r.count))
+    (λ k d below.
     let inside : k < r.count = omega (arith, length-ring memory' r.base r.count) in
     get_or-ring memory' r.base r.count k d inside ∙ elim (cases_eq k r.place) [
       | inl is ↦
           let there : r.base + 4 * k ≡ descriptor_address r = ap (λ i. r.base + 4 * i) is in
-          ap (descriptor_at memory') there ∙ descriptor_at-put_here memory (descriptor_address r) word room fits
-          ∙ sym (ap (λ i. get_or (set (ring memory r.base r.count) r.place given) i d) is ∙ get_or-set_same (ring memory r.base r.count) r.place given d long)
+          ap (descriptor_at memory') there ∙ descriptor_at-put_here memory
+          (descriptor_address r) word room fits
+          ∙ sym (ap (λ i. get_or (set (ring memory r.base r.count) r.place given) i d) is
+          ∙ get_or-set_same (ring memory r.base r.count) r.place given d long)
       | inr apart ↦
-          let other : (descriptor_address r + 4 ≤ r.base + 4 * k) ⊎ (r.base + 4 * k + 4 ≤ descriptor_address r) = elim (cases_lt k r.place) [ inl low ↦ inr (omega arith) | inr high ↦ inl (omega (arith, apart)) ] in
+          let other : (descriptor_address r + 4 ≤ r.base + 4 * k) ⊎
+          (r.base + 4 * k + 4 ≤ descriptor_address r) =
+          elim (cases_lt k r.place) [
+            | inl low ↦ inr (omega arith)
+            | inr high ↦ inl
+                (omega (arith, apart))
+          ] in
           descriptor_at-put_other memory (descriptor_address r) (r.base + 4 * k) word other
-          ∙ sym (get_or-set_other (ring memory r.base r.count) r.place k given d apart ∙ get_or-ring memory r.base r.count k d inside)
+          ∙ sym (get_or-set_other (ring memory r.base r.count) r.place k given d apart
+          ∙ get_or-ring memory r.base r.count k d inside)
     ])
 
 -- the ring seen from the next place, going round
-advanced : (ds : List (Option Descriptor)) (place count : ℕ) (given : Option Descriptor) → place < count → length ds ≡ count
-    → drop ((place + 1) % count) (set ds place given) ++ take ((place + 1) % count) (set ds place given) ≡ (drop (place + 1) ds ++ take place ds) ++ given ∷ []
+advanced : (ds : List (Option Descriptor)) (place count : ℕ) (given : Option Descriptor) → place < count
+    → length ds ≡ count
+    → drop ((place + 1) % count) (set ds place given) ++ take ((place + 1) % count) (set ds place given)
+    ≡ (drop (place + 1) ds ++ take place ds) ++ given ∷ []
 advanced ds place count given within long = elim (cases_lt (place + 1) count) [
   | inl inside ↦
       let stays : (place + 1) % count ≡ place + 1 = mod-eq_of_lt inside in
-      rw (stays, drop-set-lt (place + 1) ds place given (omega arith), take_more_set ds place given (omega arith)) (sym (append_assoc (drop (place + 1) ds) (take place ds) (given ∷ [])))
+      rw (
+        stays,
+        drop-set-lt (place + 1) ds place given (omega arith),
+        take_more_set ds place given
+            (omega arith),
+      ) (sym (append_assoc (drop (place + 1) ds) (take place ds) (given ∷ [])))
   | inr past ↦
       let last : place + 1 ≡ count = omega arith in
       let round : (place + 1) % count ≡ 0 = ap (λ i. i % count) last ∙ mod_self count in
       let none : drop (place + 1) ds ≡ [] = drop_all (place + 1) ds (omega arith) in
-      let whole : set ds place given ≡ take place ds ++ given ∷ [] = sym (take_all (place + 1) (set ds place given) (omega (arith, length-set ds place given))) ∙ take_more_set ds place given (omega arith) in
+      let whole : set ds place given ≡ take place ds ++ given ∷ [] =
+      sym (take_all (place + 1) (set ds place given) (omega (arith, length-set ds place given)))
+      ∙ take_more_set ds place given (omega arith) in
       rw (round, none) (append-nil (set ds place given) ∙ whole)
 ]
 
 -- a descriptor that is given back leaves the rest posted
-given_back : (memory : List ℕ) (old : RingState) (first : Descriptor) → old.place < old.count → next_descriptor memory old ≡ Some first → is_owned first ≡ true
+given_back : (memory : List ℕ) (old : RingState) (first : Descriptor) → old.place < old.count
+    → next_descriptor memory old ≡ Some first → is_owned first ≡ true
     → posted_in memory old ≡ first ∷ posted_in (memory_given_back memory old first) (ring_advanced old)
 given_back memory old first within is_next owned =
     let room = descriptor_at-within memory (descriptor_address old) first is_next in
     let word = word_given_back first.high in
     let given : Descriptor = record { low = word_at memory (descriptor_address old); high = word } in
     let after = ring_after memory old word within room (word_given_back-fits first.high) in
-    let rest : posted_in (memory_given_back memory old first) (ring_advanced old) ≡ owned_front (behind memory old) =
+    let rest : posted_in (memory_given_back memory old first) (ring_advanced old)
+    ≡ owned_front (behind memory old) =
     ap (λ (ds : List (Option Descriptor)). posted ds ((old.place + 1) % old.count)) after
-    ∙ ap owned_front (advanced (ring memory old.base old.count) old.place old.count (Some given) within (length-ring memory old.base old.count))
-    ∙ owned_front-append (behind memory old) given (word_given_back-free (word_at memory (descriptor_address old)) first.high) in
+    ∙ ap owned_front (advanced (ring memory old.base old.count) old.place old.count (Some given) within
+    (length-ring memory old.base old.count))
+    ∙ owned_front-append (behind memory old) given
+    (word_given_back-free (word_at memory (descriptor_address old)) first.high) in
     owned_posted memory old first within is_next owned ∙ ap (λ (ds : List Descriptor). first ∷ ds) (sym rest)
 
 -- a word below a ring's base is none of its descriptors
-descriptor_told : (memory : List ℕ) (told : Option ℕ) (base other : ℕ) → IsBelow told base → base ≤ other → descriptor_at (memory_told memory told) other ≡ descriptor_at memory other
+descriptor_told : (memory : List ℕ) (told : Option ℕ) (base other : ℕ) → IsBelow told base → base ≤ other
+    → descriptor_at (memory_told memory told) other ≡ descriptor_at memory other
 descriptor_told memory None base other below above = refl
 descriptor_told memory (Some at) base other below above =
     let two = length-word_bytes 1 in let under = below.1 in
     let low = word_at-put_apart memory at (word_bytes 1) other (λ meet. omega arith) in
     let high = word_at-put_apart memory at (word_bytes 1) (other + 2) (λ meet. omega arith) in
-    let make : ℕ → ℕ → ℕ → Option Descriptor = λ size l h. if nat_le (other + 4) size then Some (record { low = l; high = h }) else None in
-    ap (λ (n : ℕ). make n (word_at (put memory at (word_bytes 1)) other) (word_at (put memory at (word_bytes 1)) (other + 2))) (length-put memory at (word_bytes 1))
+    let make : ℕ → ℕ → ℕ → Option Descriptor = λ size l h. if nat_le (other + 4) size then Some
+    (record { low = l; high = h }) else None in
+    ap (λ (n : ℕ). make n (word_at (put memory at (word_bytes 1)) other)
+    (word_at (put memory at (word_bytes 1)) (other + 2))) (length-put memory at (word_bytes 1))
     ∙ ap₂ (make (length memory)) low high
 
-ring_told : (memory : List ℕ) (told : Option ℕ) (base n : ℕ) → IsBelow told base → ring (memory_told memory told) base n ≡ ring memory base n
-ring_told memory told base n below = same_lists _ _ (length-ring (memory_told memory told) base n ∙ sym (length-ring memory base n)) (λ k d less.
+ring_told : (memory : List ℕ) (told : Option ℕ) (base n : ℕ) → IsBelow told base
+    → ring (memory_told memory told) base n ≡ ring memory base n
+ring_told memory told base n below = same_lists _ _
+    (length-ring (memory_told memory told) base n ∙ sym (length-ring memory base n)) (λ k d less.
     let inside : k < n = omega (arith, length-ring (memory_told memory told) base n) in
-    get_or-ring (memory_told memory told) base n k d inside ∙ descriptor_told memory told base (base + 4 * k) below (omega arith) ∙ sym (get_or-ring memory base n k d inside))
+    get_or-ring (memory_told memory told) base n k d inside ∙ descriptor_told memory told base
+    (base + 4 * k) below (omega arith) ∙ sym (get_or-ring memory base n k d inside))
 
 -- a fetch takes the first that is posted, and leaves the rest posted
-pub takes_first : (told : Option ℕ) (old : RingState) (memory : List ℕ) (p : Fetched) (new : RingState) (memory_after : List ℕ) → IsBelow told old.base → old.place < old.count → Takes told old memory p new memory_after
+pub takes_first : (told : Option ℕ) (old : RingState) (memory : List ℕ) (p : Fetched) (new : RingState)
+    (memory_after : List ℕ) → IsBelow told old.base → old.place < old.count
+    → Takes told old memory p new memory_after
     → TakesFirst old memory p new memory_after
 takes_first told old memory p new memory_after below within t =
     let there = memory_told memory told in
-    let same : ring there old.base old.count ≡ ring memory old.base old.count = ring_told memory told old.base old.count below in
-    let is_next : next_descriptor there old ≡ Some t.first = descriptor_told memory told old.base (descriptor_address old) below (omega arith) ∙ t.is_next in
+    let same : ring there old.base old.count ≡ ring memory old.base old.count =
+    ring_told memory told old.base old.count below in
+    let is_next : next_descriptor there old ≡ Some t.first = descriptor_told memory told old.base
+    (descriptor_address old) below (omega arith) ∙ t.is_next in
     record {
       first = t.first;
-      in_order = ap (λ (ds : List (Option Descriptor)). posted ds old.place) (sym same) ∙ given_back there old t.first within is_next t.owned
+      in_order = ap (λ (ds : List (Option Descriptor)). posted ds old.place) (sym same)
+          ∙ given_back there old t.first within is_next t.owned
           ∙ ap (λ (ds : List Descriptor). t.first ∷ ds) (sym (ap₂ posted_in t.written t.advanced));
       readable = t.readable;
       is_packet = t.is_packet;
     }
 
 -- what a fetch does by the descriptor at the place it does by what is posted: ring order
-pub order_kept : (told : Option ℕ) (old : RingState) (memory : List ℕ) (result : Result (Option Fetched) RingFault) (new : RingState) (memory_after : List ℕ)
-    → IsBelow told old.base → old.place < old.count → FetchGoes told old memory result new memory_after → OrderKept old memory result new memory_after
-order_kept told old memory (Ok (Some p)) new memory_after below within goes = takes_first told old memory p new memory_after below within goes
-order_kept told old memory (Ok None) new memory_after below within goes = not_owned_posted memory old goes.0.next within goes.0.is_next goes.0.not_owned
+pub order_kept : (told : Option ℕ) (old : RingState) (memory : List ℕ)
+    (result : Result (Option Fetched) RingFault) (new : RingState) (memory_after : List ℕ)
+    → IsBelow told old.base → old.place < old.count → FetchGoes told old memory result new memory_after
+    → OrderKept old memory result new memory_after
+order_kept told old memory (Ok (Some p)) new memory_after below within goes =
+    takes_first told old memory p new memory_after below within goes
+order_kept told old memory (Ok None) new memory_after below within goes =
+    not_owned_posted memory old goes.0.next within goes.0.is_next goes.0.not_owned
 order_kept told old memory (Err PacketLost) new memory_after below within goes = record {
   first = goes.0.next;
   rest = owned_front (behind memory old);
   is_first = owned_posted memory old goes.0.next within goes.0.is_next goes.0.owned;
   unreadable = goes.0.unreadable;
 }
-order_kept told old memory (Err RingLost) new memory_after below within goes = none_posted memory old within goes.0
+order_kept told old memory (Err RingLost) new memory_after below within goes =
+    none_posted memory old within goes.0

@@ -33,7 +33,8 @@ strict_message : (p : Fetched) → message_in Strict p
     else Err (basic_reply (other_length_end p.text)))
 strict_message p = refl
 
-strict_text : (guest : Guest) (units : Units) (e : End) → text_by Strict guest units (basic_reply e) ≡ written_end e
+strict_text : (guest : Guest) (units : Units) (e : End) → text_by Strict guest units (basic_reply e)
+    ≡ written_end e
 strict_text guest units e = refl
 
 -- no command is answered at once
@@ -52,21 +53,31 @@ module _ (old : PortState) (strict : old.profile ≡ Strict) where
   strict_shows : (phase : Phase) → port_shows old phase ≡ record old { phase = phase }
   strict_shows phase = rw strict refl
 
-  strict_first : (word : ℕ) → by_first old word ≡ (if has_bit word 15 then (if has_bit word 14 then record old { phase = Dead StartUpWord } else record old { phase = Step2 word }) else old)
+  strict_first : (word : ℕ) → by_first old word
+      ≡ (if has_bit word 15 then (if has_bit word 14 then record old { phase = Dead StartUpWord } else
+      record old { phase = Step2 word }) else old)
   strict_first word = rw strict refl
 
-  strict_second : (first word : ℕ) → by_second old first word ≡ (if has_bit word 0 then record old { phase = Dead StartUpWord } else record old { phase = Step3 first word })
+  strict_second : (first word : ℕ) → by_second old first word
+      ≡ (if has_bit word 0 then record old { phase = Dead StartUpWord } else record old
+      { phase = Step3 first word })
   strict_second first word = rw strict refl
 
   strict_third : (memory : List ℕ) (first second word : ℕ) → by_third old memory first second word ≡ (
       if nat_lt 3 word then (record old { phase = Dead StartUpWord }, memory)
-      else if nat_le 4 (ring_base second word) && nat_le (ring_base second word + 4 * (response_count first + command_count first)) (length memory) then (
+      else if nat_le 4 (ring_base second word) && nat_le
+      (ring_base second word + 4 * (response_count first + command_count first)) (length memory) then (
         record old {
           phase = Step4;
           responses = record { base = ring_base second word; count = response_count first; place = 0 };
-          commands = record { base = ring_base second word + 4 * response_count first; count = command_count first; place = 0 };
+          commands = record {
+            base = ring_base second word + 4 * response_count first;
+            count = command_count first;
+            place = 0;
+          };
         },
-        put memory (ring_base second word - 4) (replicate (4 + 4 * (response_count first + command_count first)) 0),
+        put memory (ring_base second word - 4)
+            (replicate (4 + 4 * (response_count first + command_count first)) 0),
       )
       else (record old { phase = Dead RingWrite }, memory))
   strict_third memory first second word = rw strict refl

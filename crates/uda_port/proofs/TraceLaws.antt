@@ -26,9 +26,11 @@ use Rattle.uda_port.specs.Trace.{Traces, reply_trace, turn_of, IsDead}
 last-is : {A : Type 0} (xs : List A) (y : A) → last_item (xs ++ y ∷ []) ≡ Some y
 last-is xs y =
     let len = length-append xs (y ∷ []) in
-    slice_get_read (xs ++ y ∷ []) (length xs + 1) (length (xs ++ y ∷ []) - 1) y (sym len) (omega (arith, len)) (sym (get_or_push xs y y (length (xs ++ y ∷ []) - 1) (omega (arith, len))))
+    slice_get_read (xs ++ y ∷ []) (length xs + 1) (length (xs ++ y ∷ []) - 1) y (sym len) (omega (arith, len))
+    (sym (get_or_push xs y y (length (xs ++ y ∷ []) - 1) (omega (arith, len))))
 
-pub ends_with : {A : Type 0} (xs zs : List A) (y x : A) → zs ≡ xs ++ y ∷ [] → last_item zs ≡ Some x → zs ≡ xs ++ x ∷ []
+pub ends_with : {A : Type 0} (xs zs : List A) (y x : A) → zs ≡ xs ++ y ∷ [] → last_item zs ≡ Some x
+    → zs ≡ xs ++ x ∷ []
 ends_with xs zs y x is last =
     let same : Some y ≡ Some x = sym (last-is xs y) ∙ rw is at last in
     is ∙ ap (λ z. xs ++ z ∷ []) (cc)
@@ -95,9 +97,11 @@ one_more_turned old new (ACommand c is) = ACommand c is
 one_more_turned old new (AnEnd e stays is) = AnEnd e stays is
 one_more_turned old new (AnAbort c e less is) = AnAbort c e less is
 
-pub fetched : (phase : Phase) (old : PortState) (memory : List ℕ) (new : PortState) (memory_after : List ℕ) → TurnGoes phase old memory turn.Fetched new memory_after → OneMore old new
+pub fetched : (phase : Phase) (old : PortState) (memory : List ℕ) (new : PortState) (memory_after : List ℕ)
+    → TurnGoes phase old memory turn.Fetched new memory_after → OneMore old new
 fetched Running old memory new memory_after goes =
-    one_more_turned old new (one_more (port_turn_on old) new (message_in old.profile goes.packet) (ap (λ (p : PortState). p.exec.pending) goes.others) (ap (λ (p : PortState). p.waiting) goes.others))
+    one_more_turned old new (one_more (port_turn_on old) new (message_in old.profile goes.packet)
+    (ap (λ (p : PortState). p.exec.pending) goes.others) (ap (λ (p : PortState). p.waiting) goes.others))
 fetched Step1 old memory new memory_after goes = absurd (cc)
 fetched (Step2 first) old memory new memory_after goes = absurd (cc)
 fetched (Step3 first second) old memory new memory_after goes = absurd (cc)
@@ -119,7 +123,8 @@ notified Poll old memory new memory_after goes = absurd (cc)
 notified (DeadPhase cause) old memory new memory_after goes = absurd (cc)
 notified (Wrap word) old memory new memory_after goes = absurd (cc)
 
-pub executed : (phase : Phase) (old : PortState) (memory : List ℕ) (new : PortState) (memory_after : List ℕ) → TurnGoes phase old memory turn.Executed new memory_after
+pub executed : (phase : Phase) (old : PortState) (memory : List ℕ) (new : PortState) (memory_after : List ℕ)
+    → TurnGoes phase old memory turn.Executed new memory_after
     → (end : Reply) × (new.waiting ≡ old.waiting ++ end ∷ [])
 executed Running old memory new memory_after goes =
     (basic_reply goes.rest.1.end, ap (λ (p : PortState). p.waiting) goes.rest.1.others)
@@ -132,7 +137,8 @@ executed Purge old memory new memory_after goes = absurd (cc)
 executed Poll old memory new memory_after goes = absurd (cc)
 executed (DeadPhase cause) old memory new memory_after goes = absurd (cc)
 
-pub delivered : (phase : Phase) (old : PortState) (memory : List ℕ) (new : PortState) (memory_after : List ℕ) → TurnGoes phase old memory turn.Delivered new memory_after
+pub delivered : (phase : Phase) (old : PortState) (memory : List ℕ) (new : PortState) (memory_after : List ℕ)
+    → TurnGoes phase old memory turn.Delivered new memory_after
     → (end : Reply) × (old.waiting ≡ end ∷ new.waiting)
 delivered Running old memory new memory_after goes = (goes.rest.1.end, goes.rest.1.first)
 delivered Step1 old memory new memory_after goes = absurd (cc)
@@ -144,8 +150,10 @@ delivered Purge old memory new memory_after goes = absurd (cc)
 delivered Poll old memory new memory_after goes = absurd (cc)
 delivered (DeadPhase cause) old memory new memory_after goes = absurd (cc)
 
-pub died : (phase : Phase) (old : PortState) (memory : List ℕ) (new : PortState) (memory_after : List ℕ) → phase ≡ old.phase → TurnGoes phase old memory turn.Dead new memory_after → IsDead new.phase
-died Running old memory new memory_after is goes = subst IsDead (sym (ap (λ (p : PortState). p.phase) goes.died)) tt
+pub died : (phase : Phase) (old : PortState) (memory : List ℕ) (new : PortState) (memory_after : List ℕ)
+    → phase ≡ old.phase → TurnGoes phase old memory turn.Dead new memory_after → IsDead new.phase
+died Running old memory new memory_after is goes =
+    subst IsDead (sym (ap (λ (p : PortState). p.phase) goes.died)) tt
 died Step1 old memory new memory_after is goes = absurd (cc)
 died (Step2 first) old memory new memory_after is goes = absurd (cc)
 died (Step3 first second) old memory new memory_after is goes = absurd (cc)
@@ -153,14 +161,18 @@ died Step4 old memory new memory_after is goes = absurd (cc)
 died (Wrap word) old memory new memory_after is goes = absurd (cc)
 died Purge old memory new memory_after is goes = absurd (cc)
 died Poll old memory new memory_after is goes = absurd (cc)
-died (DeadPhase cause) old memory new memory_after is goes = subst IsDead (is ∙ sym (ap (λ (p : PortState). p.phase) goes.unchanged.state)) tt
+died (DeadPhase cause) old memory new memory_after is goes =
+    subst IsDead (is ∙ sym (ap (λ (p : PortState). p.phase) goes.unchanged.state)) tt
 
 -- what is told of a fetch
-pub told_command : (old new : PortState) (c : Command) → OneMore old new → length old.exec.pending < length new.exec.pending → last_item new.exec.pending ≡ Some c
+pub told_command : (old new : PortState) (c : Command) → OneMore old new
+    → length old.exec.pending < length new.exec.pending → last_item new.exec.pending ≡ Some c
     → new.exec.pending ≡ old.exec.pending ++ c ∷ []
-told_command old new c (ACommand pended is) more last = ends_with old.exec.pending new.exec.pending pended c is last
+told_command old new c (ACommand pended is) more last =
+    ends_with old.exec.pending new.exec.pending pended c is last
 told_command old new c (AnAbort taken end less is) more last = absurd (omega (arith, less, more))
-told_command old new c (AnEnd end stays is) more last = absurd (lt_irrefl _ (subst (λ (l : List Command). length old.exec.pending < length l) stays more))
+told_command old new c (AnEnd end stays is) more last =
+    absurd (lt_irrefl _ (subst (λ (l : List Command). length old.exec.pending < length l) stays more))
 
 pub told_answer : (old new : PortState) (e : Reply) → OneMore old new
     → length new.exec.pending ≡ length old.exec.pending → last_item new.waiting ≡ Some e

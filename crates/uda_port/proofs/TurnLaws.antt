@@ -8,7 +8,8 @@ use Rattle.uda_port.specs.Port.{PortState}
 use Rattle.uda_port.specs.Turn.{port_turn_on, GoesOn, InRest, LinesGo, RunningTurn}
 
 pub running_turn : (old : PortState) (memory : List ℕ) (turn : Turn) (new : PortState) (memory_after : List ℕ)
-    → LinesGo (port_turn_on old) memory (Ok turn) new memory_after → RunningTurn old memory turn new memory_after
+    → LinesGo (port_turn_on old) memory (Ok turn) new memory_after
+    → RunningTurn old memory turn new memory_after
 running_turn old memory Fetched new memory_after goes = goes
 running_turn old memory Executed new memory_after goes = goes
 running_turn old memory Delivered new memory_after goes = goes
@@ -16,7 +17,8 @@ running_turn old memory Notified new memory_after goes = goes
 running_turn old memory Idle new memory_after goes = goes
 running_turn old memory Dead new memory_after goes = absurd goes.rest
 
-pub goes_on : (old : PortState) (memory : List ℕ) (result : Result Turn Fatal) (new : PortState) (memory_after : List ℕ)
+pub goes_on : (old : PortState) (memory : List ℕ) (result : Result Turn Fatal) (new : PortState)
+    (memory_after : List ℕ)
     → GoesOn old memory result new memory_after → LinesGo old memory result new memory_after
 goes_on old memory (Ok Fetched) new memory_after goes = absurd goes.rest
 goes_on old memory (Ok Executed) new memory_after goes = goes

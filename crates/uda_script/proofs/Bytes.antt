@@ -4,7 +4,7 @@ use Rattle.std.proofs.lemmas.List.{append_assoc, take_more}
 use Rattle.uda_script.specs.Hexadecimal.{byte_at, bytes_from}
 
 bytes_from-push : (place : ℕ) (xs : List ℕ) (byte : ℕ) → bytes_from place (xs ++ byte ∷ [])
-  ≡ bytes_from place xs ++ byte_at (place + length xs) byte
+    ≡ bytes_from place xs ++ byte_at (place + length xs) byte
 bytes_from-push place [] byte = ap (λ p. byte_at p byte) (omega arith)
 bytes_from-push place (x ∷ xs) byte =
     let further : suc place + length xs ≡ place + length (x ∷ xs) = omega arith in
@@ -14,8 +14,8 @@ bytes_from-push place (x ∷ xs) byte =
 
 -- one byte more
 pub bytes_from-more : (bytes : List ℕ) (i : ℕ) → i < length bytes → bytes_from 0 (take (i + 1) bytes)
-  ≡ bytes_from 0 (take i bytes) ++ byte_at i (get_or bytes i 0)
+    ≡ bytes_from 0 (take i bytes) ++ byte_at i (get_or bytes i 0)
 bytes_from-more bytes i h =
     let size : 0 + length (take i bytes) ≡ i = omega (arith, length-take-le i bytes) in
     ap (bytes_from 0) (take_more bytes i 0 h) ∙ bytes_from-push 0 (take i bytes) (get_or bytes i 0)
-      ∙ ap (λ p. bytes_from 0 (take i bytes) ++ byte_at p (get_or bytes i 0)) size
+    ∙ ap (λ p. bytes_from 0 (take i bytes) ++ byte_at p (get_or bytes i 0)) size

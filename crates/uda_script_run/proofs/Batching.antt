@@ -331,8 +331,14 @@ module _ (part : ReportPart) (a b more : List Line) (told : List Answer) (s t u 
 
   -- nothing more was done of the lines that follow
   pub stops_there : StopsBefore part (a ++ b) s t
-  stops_there = record { done = a; left = b; are_lines = refl; told = told; input = t.streams.input;
-    ran = one }
+  stops_there = record {
+    done = a;
+    left = b;
+    are_lines = refl;
+    told = told;
+    input = t.streams.input;
+    ran = one;
+  }
 
 -- ---- one batch
 

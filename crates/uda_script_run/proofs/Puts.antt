@@ -17,7 +17,7 @@ leaves_all a bytes = record { begun = []; is_all = refl; appended = Appends-nil 
 
 -- `rest` without its first n bytes, as a slice from n on has it
 pub leaves_less : (a b c : Option (List ℕ)) (bytes rest : List ℕ) (n : ℕ) → LeavesRest a b bytes rest
-  → Appends b c (take n rest) → LeavesRest a c bytes (take (length rest - n) (drop n rest))
+    → Appends b c (take n rest) → LeavesRest a c bytes (take (length rest - n) (drop n rest))
 leaves_less a b c bytes rest n so_far more =
     record {
       begun = so_far.begun ++ take n rest;
@@ -30,7 +30,7 @@ leaves_less a b c bytes rest n so_far more =
     }
 
 pub leaves_same : (a b c : Option (List ℕ)) (bytes rest : List ℕ) → LeavesRest a b bytes rest → Keeps b c
-  → LeavesRest a c bytes rest
+    → LeavesRest a c bytes rest
 leaves_same a b c bytes rest so_far same = record {
   begun = so_far.begun;
   is_all = so_far.is_all;
@@ -38,20 +38,20 @@ leaves_same a b c bytes rest so_far same = record {
 }
 
 pub leaves_beginning : (a b : Option (List ℕ)) (bytes rest : List ℕ) → LeavesRest a b bytes rest
-  → AppendsBeginning a b bytes
+    → AppendsBeginning a b bytes
 leaves_beginning a b bytes rest so_far =
-  record { begun = so_far.begun; missing = rest; is_text = so_far.is_all; appended = so_far.appended }
+    record { begun = so_far.begun; missing = rest; is_text = so_far.is_all; appended = so_far.appended }
 
 pub leaves_none : (a b : Option (List ℕ)) (bytes rest : List ℕ) → LeavesRest a b bytes rest → rest ≡ []
-  → Appends a b bytes
+    → Appends a b bytes
 leaves_none a b bytes rest so_far none =
     subst (λ (t : List ℕ). Appends a b t) (sym (append-nil so_far.begun)
-      ∙ ap (λ (t : List ℕ). so_far.begun ++ t) (sym none) ∙ so_far.is_all) so_far.appended
+    ∙ ap (λ (t : List ℕ). so_far.begun ++ t) (sym none) ∙ so_far.is_all) so_far.appended
 
 -- ---- a text that goes part by part
 
 pub leaves_later : (a b c : Option (List ℕ)) (all part rest : List ℕ) → LeavesRest a b all (part ++ rest)
-  → Appends b c part → LeavesRest a c all rest
+    → Appends b c part → LeavesRest a c all rest
 leaves_later a b c all part rest so_far more = record {
   begun = so_far.begun ++ part;
   is_all = append_assoc so_far.begun part rest ∙ so_far.is_all;
@@ -60,7 +60,7 @@ leaves_later a b c all part rest so_far more = record {
 
 -- the writer failed within a part
 pub leaves_broken : (a b c : Option (List ℕ)) (all part rest : List ℕ) → LeavesRest a b all (part ++ rest)
-  → AppendsBeginning b c part → AppendsBeginning a c all
+    → AppendsBeginning b c part → AppendsBeginning a c all
 leaves_broken a b c all part rest so_far broken = record {
   begun = so_far.begun ++ broken.begun;
   missing = broken.missing ++ rest;
@@ -74,9 +74,13 @@ leaves_broken a b c all part rest so_far broken = record {
 
 -- all of it was written, and then nothing more
 pub begins_whole : (a b c : Option (List ℕ)) (all : List ℕ) → Appends a b all → Keeps b c
-  → AppendsBeginning a c all
-begins_whole a b c all whole same = record { begun = all; missing = []; is_text = append-nil all;
-  appended = Appends-kept a b c all whole same }
+    → AppendsBeginning a c all
+begins_whole a b c all whole same = record {
+  begun = all;
+  missing = [];
+  is_text = append-nil all;
+  appended = Appends-kept a b c all whole same;
+}
 
 -- nothing was written
 pub begins_none : (a : Option (List ℕ)) (all : List ℕ) → AppendsBeginning a a all

@@ -10,8 +10,12 @@ returns-clause-able c =
       few = omega arith;
       source = _;
       from = refl;
-      source_size = omega (arith, c.in_ok-from_bytes.ensures.size, ap length c.deref.ensures.value,
-        c.in_ok-bytes.ensures.len);
+      source_size = omega (
+        arith,
+        c.in_ok-from_bytes.ensures.size,
+        ap length c.deref.ensures.value,
+        c.in_ok-bytes.ensures.len,
+      );
       target = _;
       to = refl;
       target_size = c.in_ok-new.ensures.size;

@@ -4,5 +4,5 @@ use Rattle.driver_example.proofs.promised.ask_unit_seven.Goals as goal
 pub returns : goal.returns
 returns g c = record {
   unknown = told_unknown _ _ _ c.in_ok-answers.ensures.four.0 c.in_ok-answers.ensures.shape.counted
-    c.in_ok-answers.ensures.seems;
+      c.in_ok-answers.ensures.seems;
 }

@@ -13,7 +13,9 @@ returns-in-Some-Data-eq0-default g c =
     let told = answer_values c.in_ok-answers.answers.items in let front = c.pop.new.self.items in
     let last : told ≡ answer_values front ++ Data SUCCESS block ∷ [] =
     ap answer_values (c.pop.ensures.items ∙ ap (λ (r : Option Answer). front ++ option_to_list r)
-      (found.is ∙ ap Some found.field-0-is)) ∙ map_push answer_value front _
+    (found.is ∙ ap Some found.field-0-is)) ∙ map_push answer_value front _
     ∙ ap (λ (status : ℕ). answer_values front ++ Data status block ∷ []) found.field-0-0-test in
-    record { whole = read_whole _ _ told (answer_values front) block c.in_ok-answers.ensures.seems
-      c.in_ok-answers.ensures.shape.counted last }
+    record {
+      whole = read_whole _ _ told (answer_values front) block c.in_ok-answers.ensures.seems
+          c.in_ok-answers.ensures.shape.counted last;
+    }

@@ -10,6 +10,6 @@ returns-in-None-clause-made c =
       NoSuchBus,
       c.code-in-None.ensures,
       subst (λ (b : Option Bus). MakesAs c.args.handle.now.value b c.args.first_unit NoSuchBus
-        asked.new.handle.value)
+          asked.new.handle.value)
           (sym c.in-None.is ∙ c.bus_of.ensures) (refl, asked.ensures.same),
     )

@@ -9,8 +9,11 @@ pub answer_for-requires-clause-short : goal.answer_for-requires-clause-short
 answer_for-requires-clause-short g c = (c.requires.fit _ _ c.take_out-number.ensures.stands).short
 
 pub index_mut-requires : goal.index_mut-requires
-index_mut-requires g c = omega (arith, (c.requires.fit _ _ c.take_out-number.ensures.stands).before,
-  c.args.answers.now.ok.0)
+index_mut-requires g c = omega (
+  arith,
+  (c.requires.fit _ _ c.take_out-number.ensures.stands).before,
+  c.args.answers.now.ok.0,
+)
 
 pub returns : goal.returns
 returns g c =
@@ -18,14 +21,18 @@ returns g c =
     let fit = c.requires.fit _ _ taken.stands in
     let act = (request_value c.take_out-number.result.1.request.now).act in
     let told = c.answer_for.ensures fit.prepared
-      ∙ ap (λ (b : List ℕ). answer_of act c.args.end (take (room_of (op_of act 0)) b))
-      c.buffer.ensures.bytes in
+    ∙ ap (λ (b : List ℕ). answer_of act c.args.end (take (room_of (op_of act 0)) b))
+    c.buffer.ensures.bytes in
     record {
-      done = record { number = c.take_out-number.result.0; one = c.take_out-number.result.1;
-        stands = taken.stands; refers = taken.refers };
+      done = record {
+        number = c.take_out-number.result.0;
+        one = c.take_out-number.result.1;
+        stands = taken.stands;
+        refers = taken.refers;
+      };
       out_is = taken.left;
       told = c.answer_for.result;
       told_is = answer_told (request_value c.take_out-number.result.1.request.now) c.args.end
-        c.args.host.now.memory _ c.answer_for.result fit.short told;
+          c.args.host.now.memory _ c.answer_for.result fit.short told;
       answers_are = refl;
     }

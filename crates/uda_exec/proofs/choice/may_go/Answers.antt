@@ -9,7 +9,12 @@ abbrev first : Command
 first = record { reference = 0; unit = 0; op = Status }
 
 pub loop-older-preserved : goal.loop-older-preserved
-loop-older-preserved c = passes_next _ c.args.place _ (get_or c.args.pending.now c.args.place first) first c.loop-older-test.true (sym c.may_pass.ensures ∙ c.if-not-may_pass.false) c.loop-older.invariant
+loop-older-preserved c = passes_next _ c.args.place _ (get_or c.args.pending.now c.args.place first) first
+    c.loop-older-test.true (sym c.may_pass.ensures ∙ c.if-not-may_pass.false) c.loop-older.invariant
 
 pub returns : goal.returns
-returns c = (λ is. goes_if _ _ _ first c.requires c.loop-older-test.false c.loop-older.invariant, λ goes. refl)
+returns c = (
+  λ is. goes_if _ _ _ first c.requires c.loop-older-test.false c.loop-older.invariant,
+  λ goes.
+      refl,
+)

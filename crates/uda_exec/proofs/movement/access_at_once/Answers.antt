@@ -13,9 +13,15 @@ pub loop-done-preserved : goal.loop-done-preserved
 loop-done-preserved g c =
     let was = c.loop-done.invariant.nature in let is = c.read_at_once.ensures.nature in
     record {
-      nature = record { size_stays = is.size_stays ∙ was.size_stays; faithful_stays = is.faithful_stays ∙ was.faithful_stays; never_fails_stays = is.never_fails_stays ∙ was.never_fails_stays };
+      nature = record {
+        size_stays = is.size_stays ∙ was.size_stays;
+        faithful_stays = is.faithful_stays
+            ∙ was.faithful_stays;
+        never_fails_stays = is.never_fails_stays ∙ was.never_fails_stays;
+      };
       within = omega arith;
       accessed = λ faithful.
-          let read = rw c.if-not-read_at_once.false at (c.read_at_once.ensures.reads (was.faithful_stays ∙ faithful)) in
+          let read = rw c.if-not-read_at_once.false at
+          (c.read_at_once.ensures.reads (was.faithful_stays ∙ faithful)) in
           accessed_more _ _ _ _ _ _ _ (c.loop-done.invariant.accessed faithful) read;
     }

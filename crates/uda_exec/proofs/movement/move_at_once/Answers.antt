@@ -9,13 +9,16 @@ pub returns-then-count-lt2-clause-moves : goal.returns-then-count-lt2-clause-mov
 returns-then-count-lt2-clause-moves g c called = none_ahead _ _ _ _ _ refl refl
 
 pub returns-in-Access-clause-moves : goal.returns-in-Access-clause-moves
-returns-in-Access-clause-moves g c called = from_start _ _ _ _ _ (c.move_pieces.ensures.moves (called (omega arith)))
+returns-in-Access-clause-moves g c called = from_start _ _ _ _ _
+    (c.move_pieces.ensures.moves (called (omega arith)))
 
 pub returns-then-read_at_once-clause-changes : goal.returns-then-read_at_once-clause-changes
 returns-then-read_at_once-clause-changes g c =
     let room = rw c.in-Read.is at c.requires.in_memory in
     let to = c.read_at_once.new.to in let size = c.read_at_once.ensures.long in
-    rw c.in-Read.is (changes_front _ _ _ to _ (put_mid-put c.args.memory.now c.args.t.buffer _ to (omega (arith, size)) (omega (arith, room))) (omega (arith, size)))
+    rw c.in-Read.is (changes_front _ _ _ to _
+    (put_mid-put c.args.memory.now c.args.t.buffer _ to (omega (arith, size)) (omega (arith, room)))
+    (omega (arith, size)))
 
 pub returns-then-read_at_once-clause-moves : goal.returns-then-read_at_once-clause-moves
 returns-then-read_at_once-clause-moves g c called =
@@ -23,14 +26,17 @@ returns-then-read_at_once-clause-moves g c called =
     let room = rw c.in-Read.is at c.requires.in_memory in
     let to = c.read_at_once.new.to in let size = c.read_at_once.ensures.long in
     let read = rw c.if-read_at_once.true at (c.read_at_once.ensures.reads faithful) in
-    reads_ahead _ _ _ _ (omega arith) (g.met.S.BlockStore.is_image c.args.store.now faithful) c.requires.on_unit c.in-Read.is _ to _ read
+    reads_ahead _ _ _ _ (omega arith) (g.met.S.BlockStore.is_image c.args.store.now faithful)
+    c.requires.on_unit c.in-Read.is _ to _ read
     (put_mid-put c.args.memory.now c.args.t.buffer _ to (omega (arith, size)) (omega (arith, room)))
 
 pub returns-else-read_at_once-clause-changes : goal.returns-else-read_at_once-clause-changes
 returns-else-read_at_once-clause-changes g c =
     let room = rw c.in-Read.is at c.requires.in_memory in
     let to = c.read_at_once.new.to in let size = c.read_at_once.ensures.long in
-    rw c.in-Read.is (changes_front _ _ _ to _ (put_mid-put c.args.memory.now c.args.t.buffer _ to (omega (arith, size)) (omega (arith, room))) (omega (arith, size)))
+    rw c.in-Read.is (changes_front _ _ _ to _
+    (put_mid-put c.args.memory.now c.args.t.buffer _ to (omega (arith, size)) (omega (arith, room)))
+    (omega (arith, size)))
 
 pub returns-else-read_at_once-clause-moves : goal.returns-else-read_at_once-clause-moves
 unfolding part
@@ -40,7 +46,9 @@ returns-else-read_at_once-clause-moves g c called =
     let to = c.read_at_once.new.to in let size = c.read_at_once.ensures.long in
     let read = rw c.if-read_at_once.false at (c.read_at_once.ensures.reads faithful) in
     none_ahead _ _ _ _ _ read.state_stays
-    (same_put_back c.args.memory.now c.args.t.buffer _ to _ (put_mid-put c.args.memory.now c.args.t.buffer _ to (omega (arith, size)) (omega (arith, room))) read.bytes_stay)
+    (same_put_back c.args.memory.now c.args.t.buffer _ to _
+    (put_mid-put c.args.memory.now c.args.t.buffer _ to (omega (arith, size)) (omega (arith, room)))
+    read.bytes_stay)
 
 pub returns-then-write_at_once-clause-moves : goal.returns-then-write_at_once-clause-moves
 returns-then-write_at_once-clause-moves g c called =

@@ -12,17 +12,24 @@ returns-in_err-read-clause-reads g c =
     let rest : List ℕ = replicate (512 - c.args.bytes) 0 in
     record {
       to = front ++ rest;
-      whole = length-append front rest ∙ omega (arith, length-part-le c.args.memory.now c.args.address c.args.bytes c.requires.in_memory, length-replicate {A = ℕ} (512 - c.args.bytes) 0);
+      whole = length-append front rest ∙ omega (
+        arith,
+        length-part-le c.args.memory.now c.args.address c.args.bytes c.requires.in_memory,
+        length-replicate {A = ℕ} (512 - c.args.bytes) 0,
+      );
       landed = keeps_front c.args.memory.now c.args.address c.args.bytes c.requires.in_memory;
-      reads = λ faithful. let exit = err_from_is_err_and c.from_residual.result c.from_residual.ensures.1 in rw exit.1 (c.in_err-read.ensures.reads faithful);
+      reads = λ faithful. let exit = err_from_is_err_and c.from_residual.result c.from_residual.ensures.1 in
+          rw exit.1 (c.in_err-read.ensures.reads faithful);
     }
 
 pub returns-then-bytes-ge-BLOCK-clause-reads : goal.returns-then-bytes-ge-BLOCK-clause-reads
 returns-then-bytes-ge-BLOCK-clause-reads g c =
-    let memory = c.args.memory.now in let to = c.read_whole.new.to in let whole = c.read_whole.ensures.whole in
+    let memory = c.args.memory.now in
+    let to = c.read_whole.new.to in let whole = c.read_whole.ensures.whole in
     record {
       to = to;
       whole = whole;
-      landed = put_mid-put memory c.args.address _ to (omega (arith, whole)) (omega arith) ∙ ap (put memory c.args.address) (sym (take_all c.args.bytes to (omega (arith, whole))));
+      landed = put_mid-put memory c.args.address _ to (omega (arith, whole)) (omega arith)
+          ∙ ap (put memory c.args.address) (sym (take_all c.args.bytes to (omega (arith, whole))));
       reads = c.read_whole.ensures.reads;
     }

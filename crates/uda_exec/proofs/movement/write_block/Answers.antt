@@ -6,5 +6,6 @@ use Rattle.uda_exec.proofs.movement.write_block.Goals as goal
 
 pub returns-then-bytes-ge-BLOCK-clause-writes : goal.returns-then-bytes-ge-BLOCK-clause-writes
 returns-then-bytes-ge-BLOCK-clause-writes g c faithful =
-    let whole : first_block (part c.args.memory.now c.args.address c.args.bytes) ≡ c.block_at.result.now = first_block-whole _ _ _ (omega arith) c.requires.in_memory ∙ sym c.block_at.ensures.value in
+    let whole : first_block (part c.args.memory.now c.args.address c.args.bytes) ≡ c.block_at.result.now =
+    first_block-whole _ _ _ (omega arith) c.requires.in_memory ∙ sym c.block_at.ensures.value in
     rw whole (c.write.ensures.writes faithful)

@@ -9,4 +9,4 @@ loop-k-init c = sym (put-nil c.args.blocks.now c.args.first)
 pub loop-k-preserved : goal.loop-k-preserved
 loop-k-preserved c =
     put-next c.args.blocks.now c.loop-k.blocks c.overwrite.new.blocks c.args.first c.loop-k.k
-      (replicate 512 0) c.loop-k.invariant c.overwrite.ensures.blocks
+    (replicate 512 0) c.loop-k.invariant c.overwrite.ensures.blocks

@@ -7,6 +7,6 @@ returns c =
     let count = c.args.first + length c.args.from.now - c.args.first in
     record {
       blocks = ap (λ ys. take c.args.first c.args.blocks.now
-        ++ (ys ++ drop count (drop c.args.first c.args.blocks.now))) c.copy_from_slice.ensures.after
+          ++ (ys ++ drop count (drop c.args.first c.args.blocks.now))) c.copy_from_slice.ensures.after
           ∙ put-range c.args.blocks.now c.args.first count c.args.from.now (omega arith) c.requires.inside;
     }

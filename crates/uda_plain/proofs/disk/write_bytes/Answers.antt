@@ -18,9 +18,9 @@ loop-k-preserved c =
     let n = blocks_for (length bytes) in
     let size = length-first_chunks n (bytes ++ replicate 512 0) in
     let own = c.first_block.ensures.block
-      ∙ sym (get_or-in_blocks k (length bytes - 512 * k) bytes (omega arith) (omega arith) (omega arith)) in
+    ∙ sym (get_or-in_blocks k (length bytes - 512 * k) bytes (omega arith) (omega arith) (omega arith)) in
     put-more c.args.blocks.now c.loop-k.blocks c.overwrite.new.blocks (in_blocks bytes) c.args.first k _ []
-      (omega (arith, size)) own c.loop-k.invariant c.overwrite.ensures.blocks
+    (omega (arith, size)) own c.loop-k.invariant c.overwrite.ensures.blocks
 
 pub returns : goal.returns
 returns c =
@@ -28,5 +28,7 @@ returns c =
     let n = blocks_for (length bytes) in
     let size = length-first_chunks n (bytes ++ replicate 512 0) in
     let done = c.loop-k-test.false in
-    record { blocks = c.loop-k.invariant ∙ ap (put c.args.blocks.now c.args.first)
-      (take_all c.loop-k.k (in_blocks bytes) (omega (arith, size, c.div_ceil-k-end.ensures))) }
+    record {
+      blocks = c.loop-k.invariant ∙ ap (put c.args.blocks.now c.args.first)
+          (take_all c.loop-k.k (in_blocks bytes) (omega (arith, size, c.div_ceil-k-end.ensures)));
+    }

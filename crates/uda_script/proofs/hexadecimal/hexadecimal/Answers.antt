@@ -7,4 +7,4 @@ pub loop-place-preserved : goal.loop-place-preserved
 loop-place-preserved c =
     let place = c.loop-place.place in let bytes = c.args.bytes.now in
     c.in_ok-push_byte.ensures ∙ ap (λ (t : List ℕ). t ++ byte_at place (get_or bytes place 0))
-      c.loop-place.invariant ∙ sym (bytes_from-more bytes place c.loop-place-test.true)
+    c.loop-place.invariant ∙ sym (bytes_from-more bytes place c.loop-place-test.true)

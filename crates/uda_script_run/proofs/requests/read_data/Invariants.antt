@@ -6,5 +6,5 @@ use Rattle.uda_script_run.proofs.requests.read_data.Given as goal
 abbrev pub invariant-loop : goal.invariant-loop
 invariant-loop g l =
     (l.filled ≤ length l.bytes) × Consumes (g.R.Read.remaining l.initial.input) (g.R.Read.remaining l.input)
-      (take l.filled l.bytes)
+    (take l.filled l.bytes)
     × (length l.bytes ≡ 0 → l.input ≡ l.initial.input)

@@ -9,7 +9,7 @@ pub returns-in_ok-payload-in-Fill-clause-made : goal.returns-in_ok-payload-in-Fi
 returns-in_ok-payload-in-Fill-clause-made g c =
     let asked = request_made (Fill c.in-Fill.unit c.in-Fill.lbn c.in-Fill.count c.in-Fill.byte) in
     let made : c.in_ok-payload-in-Fill.payload.items ≡ replicate (512 * c.in-Fill.count) c.in-Fill.byte =
-      c.in_ok-payload-in-Fill.ensures.bytes ∙ ap (λ (n : ℕ). replicate (512 * n) c.in-Fill.byte)
-      c.from.ensures in
+    c.in_ok-payload-in-Fill.ensures.bytes ∙ ap (λ (n : ℕ). replicate (512 * n) c.in-Fill.byte)
+    c.from.ensures in
     rw c.in-Fill.is (reads_nothing asked _ _
-      (λ later. ap (λ (payload : List ℕ). asked_of c.in-Fill.unit (Write c.in-Fill.lbn payload)) (sym made)))
+    (λ later. ap (λ (payload : List ℕ). asked_of c.in-Fill.unit (Write c.in-Fill.lbn payload)) (sym made)))

@@ -8,10 +8,10 @@ pub loop-line-preserved : goal.loop-line-preserved
 loop-line-preserved g c =
     let so_far = c.loop-line.invariant.1 in (
       λ none. c.in_ok-request.ensures.idle
-        (lines_idle c.args.lines.now c.loop-line.line-index _ _ _ _ c.loop-line-test.true so_far none)
-        ∙ c.loop-line.invariant.0 none,
+          (lines_idle c.args.lines.now c.loop-line.line-index _ _ _ _ c.loop-line-test.true so_far none)
+          ∙ c.loop-line.invariant.0 none,
       rw (c.in_ok-push.ensures.items, map-append)
           (lines_more c.args.lines.now c.loop-line.line-index _ _ _ _ _ _
-            (request_value c.in_ok-request.request) c.loop-line-test.true refl so_far
-            c.in_ok-request.ensures.made),
+          (request_value c.in_ok-request.request) c.loop-line-test.true refl so_far
+          c.in_ok-request.ensures.made),
     )

@@ -10,4 +10,4 @@ abbrev pub invariant-loop-line : goal.invariant-loop-line
 invariant-loop-line g l =
     (taken l.lines ≡ 0 → l.input ≡ l.initial.input)
     × ReadsLines l.lines l.line-index (g.R.Read.remaining l.initial.input) (g.R.Read.remaining l.input)
-      (request_values l.requests.items)
+    (request_values l.requests.items)

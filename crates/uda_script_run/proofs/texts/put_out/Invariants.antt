@@ -8,4 +8,4 @@ use Rattle.uda_script_run.proofs.texts.put_out.Given as goal
 abbrev pub invariant-loop-answer : goal.invariant-loop-answer
 invariant-loop-answer g l =
     LeavesRest (g.W.Write.contents l.initial.out) (g.W.Write.contents l.out)
-      (out_text (answer_values l.answers)) (out_text (answer_values (drop l.answer-index l.answers)))
+    (out_text (answer_values l.answers)) (out_text (answer_values (drop l.answer-index l.answers)))

@@ -17,13 +17,13 @@ invariant_of-self c =
     let failing = drive_state lent_state c.failing.result in
     mode_faithful back c.restore_mode.new.self c.args.unit c.in-Some.look.mode c.restore_mode.ensures.mode
     (drive_faithful out back c.args.unit (Some failing) refl
-      c.exchange_drive-in-Some-exchange_drive.ensures.set
+    c.exchange_drive-in-Some-exchange_drive.ensures.set
     (drive_faithful was out c.args.unit None refl c.exchange_drive.ensures.set c.self.invariant))
 
 pub invariant_of-self-in_default-exchange_drive : goal.invariant_of-self-in_default-exchange_drive
 invariant_of-self-in_default-exchange_drive c =
     drive_faithful c.self.inside.port c.exchange_drive.new.self c.args.unit None refl
-      c.exchange_drive.ensures.set
+    c.exchange_drive.ensures.set
     c.self.invariant
 
 pub returns-in-Some-exchange_drive : goal.returns-in-Some-exchange_drive
@@ -38,7 +38,7 @@ returns-in-Some-exchange_drive c =
           c.exchange_drive-in-Some-exchange_drive.new.self new.port (le-ltb 3 c.args.unit c.if-unit-gt3.false)
           (sym c.in-Some.ensures.look) c.in-Some-exchange_drive.ensures.handed_back c.failing.ensures.store
           c.exchange_drive.ensures.set c.exchange_drive-in-Some-exchange_drive.ensures.set
-            c.restore_mode.ensures.mode);
+          c.restore_mode.ensures.mode);
     }
 
 pub returns-in_default-exchange_drive : goal.returns-in_default-exchange_drive

@@ -7,5 +7,5 @@ use Rattle.uda_c.proofs.controller.Controller.run_in.Given as goal
 -- whatever the turns still to come lead to, all turns lead to
 abbrev pub invariant-loop : goal.invariant-loop
 invariant-loop l = (answer : CallStatus) (new : Machine) → TakesTurns (l.limit - l.counter) l.answer
-  (l.self, l.memory) answer new
+    (l.self, l.memory) answer new
     → TakesTurns l.limit Done (l.initial.self, l.initial.memory) answer new

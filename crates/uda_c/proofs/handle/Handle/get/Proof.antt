@@ -49,7 +49,7 @@ abbrev stayed : Stays f.ended.signature.params f.ended.kept
 stayed = (stay_dropped (mut_ref_to (0 ∷ []) tt (plain (λ _. R))) no, tt)
 
 module _ {M : Type 1} {𝓤 : Ura M} (𝓛 : Logic 𝓤) (at_mem : Memory → SProp 𝓤) (run : Routine → Fun 𝓤)
-  (C : Calls 𝓤 𝓛.H) (Λ : Loops 𝓤 𝓛.H) (κ : Lft) (q : Share) (b o : ℕ) (γ : GName) where
+    (C : Calls 𝓤 𝓛.H) (Λ : Loops 𝓤 𝓛.H) (κ : Lft) (q : Share) (b o : ℕ) (γ : GName) where
   open 𝓛 use {H, A}
 
   abbrev self : Ptr → Option ControllerState → MutBor Handle
@@ -73,80 +73,80 @@ module _ {M : Type 1} {𝓤 : Ura M} (𝓛 : Logic 𝓤) (at_mem : Memory → SP
     Rest = fsep (right pb po) (cell b o p)
 
     back : (w : ControllerState) → ent 𝓤 (sep 𝓤 (sem 𝓛 ((mem X).own_at w pb po)) (sem 𝓛 Rest))
-      (sem 𝓛 ((mem R).own_at (handle p (Some w)) b o))
+        (sem 𝓛 ((mem R).own_at (handle p (Some w)) b o))
     unfolding part_of
     back w =
         qed 𝓛 (‵ (part_at X full_share w pb po) ∷ ‵ Rest ∷ []) ∵ move ! (1 ∷ []) $ fsplit ! $
-          move ! (2 ∷ 0 ∷ []) $ fjoin ! $
+        move ! (2 ∷ 0 ∷ []) $ fjoin ! $
         rewrite ! 0 (λ (s : Ptr). ‵ (held s (Some w))) (sym e) refl $ handle_made ! p (Some w) $
-          move ! (1 ∷ 0 ∷ []) $ fjoin ! $
+        move ! (1 ∷ 0 ∷ []) $ fjoin ! $
         fpack ! (List Val) (λ vs. fsep (cell_at full_share R.mir vs b o) (R.own_val (handle p (Some w)) vs))
-          (word p ∷ []) $ done !
+        (word p ∷ []) $ done !
 
   -- what is lent, or none, and what the handle ends with
   exits : (p : Ptr) (m : Option ControllerState) (v : Val) (r : Option (MutBor ControllerState))
-    → option_copied_mut r ≡ m
+      → option_copied_mut r ≡ m
       → ent 𝓤 (sep 𝓤 (sem 𝓛 ((Opt.the_row Lent).own_val r (v ∷ [])))
       (sep 𝓤 (A.lft κ q) (sem 𝓛 (handle_follows (self p m) r)))) (Post p m v)
   exits p m v r is =
       qed 𝓛 (‵ ((Opt.the_row Lent).own_val r (v ∷ [])) ∷ ‵ (flft κ q) ∷ ‵ (handle_follows (self p m) r)
-        ∷ []) ∵
+      ∷ []) ∵
       suffices ! _ (ends_at 𝓛 f.ended stayed (f.clauses 𝓛 at_mem run) (bound p m) v r (tt, tt) (tt, tt)) $
       nothing ! $ nothing ! $ fjoin ! $ join ! $ nothing ! $ move ! (2 ∷ 0 ∷ []) $ join ! $ join ! $ frame ! $
-        says ! is $ done !
+      says ! is $ done !
 
   walk : (p : Ptr) (m : Option ControllerState)
-    → ent 𝓤 (⋆ 𝓛 (Had p m)) (WpFn 𝓤 H C Λ code.function (vptr b o ∷ []) (Post p m))
+      → ent 𝓤 (⋆ 𝓛 (Had p m)) (WpFn 𝓤 H C Λ code.function (vptr b o ∷ []) (Post p m))
   unfolding follows_by
   walk p m =
       let h = (self p m).now in
       qed 𝓛 (Had p m) ∵ enter ! C Λ code.function (vptr b o ∷ []) _ $
-        alloc_all ! (λ l. pass_all ! refl ((tt, tt), tt) $ let Ev = env code.Mir.locals l in
+      alloc_all ! (λ l. pass_all ! refl ((tt, tt), tt) $ let Ev = env code.Mir.locals l in
       handle_opens ! tt p m b o $ holds ! p m
       (λ is_none e.
       -- [the cell; the open borrow, in three entries]
       rewrite ! 0 (λ (s : Ptr). ‵ (cell b o s)) e refl $
       sets ! (of_opd ! (load ! (through ! refl (fld ! refl (stop !))) (look_in ! 0 (sub ! 0 refl (whole !)))))
-        refl (tt, record { fits = lit< tt }) $
+      refl (tt, record { fits = lit< tt }) $
       sets ! (of_opd ! (get ! refl)) refl (tt, record { fits = lit< tt }) $
-        sets ! (of_opd ! (get ! refl)) refl (tt, record { fits = lit< tt }) $
+      sets ! (of_opd ! (get ! refl)) refl (tt, record { fits = lit< tt }) $
       sets ! (bin ! (get ! refl) (lit ! tt) tt) refl (tt, tt) $ first ! $ branches ! (get ! refl)
       (λ _. sets ! (agg ! (and_then ! (lit ! tt) (no_more !))) refl (tt, (record { fits = lit< tt }, tt)) $
       rewrite ! 0 (λ (s : Ptr). ‵ (cell b o s)) (sym e) refl $ feq_i ! Ptr p null_ptr e $
-        rewrite ! 0 (λ (k : Option ControllerState). ‵ (held p k)) (sym is_none) refl $
-        handle_closes ! tt p m b o $
+      rewrite ! 0 (λ (k : Option ControllerState). ‵ (held p k)) (sym is_none) refl $
+      handle_closes ! tt p m b o $
       use1 𝓛 (‵ (fres γ (R.coded.code h))) (𝓛.names.obs-res γ (R.coded.code h)) $ move ! (1 ∷ []) $ drop ! $
-        move ! (1 ∷ 0 ∷ []) $
+      move ! (1 ∷ 0 ∷ []) $
       use0 𝓛 (‵ ((Opt.the_row Lent).own_val None (live 0 vnil ∷ []))) (none_of 𝓛 Lent) $
       returns_within ! (Post p m) refl (look_at ! 0 refl) $ free_all ! refl $ keep ! (0 ∷ 1 ∷ 2 ∷ []) $
-        by ! (exits p m (live 0 vnil) None (sym is_none)))
+      by ! (exits p m (live 0 vnil) None (sym is_none)))
       (λ wrong. absurd wrong))
       (λ x pb po is_some e t.
       -- [the right to free the block; the controller; the cell; the open borrow, in three entries]
       rewrite ! 2 (λ (s : Ptr). ‵ (cell b o s)) e refl $
       sets ! (of_opd ! (load ! (through ! refl (fld ! refl (stop !))) (look_in ! 2 (sub ! 0 refl (whole !)))))
-        refl (tt, tt) $
+      refl (tt, tt) $
       sets ! (of_opd ! (get ! refl)) refl (tt, tt) $ sets ! (of_opd ! (get ! refl)) refl (tt, tt) $
       sets ! (bin ! (get ! refl) (lit ! tt) (tests_null (block_ptr pb po) t)) refl (tt, tt) $ first ! $
-        branches ! (get ! refl) (λ wrong. absurd wrong)
+      branches ! (get ! refl) (λ wrong. absurd wrong)
       (λ _. skips ! $ exec ! C Λ Ev (after 5 (code.function).body) (at_ret Ev (Post p m)) $
       first ! $ blocks ! $ sets_last ! (addr ! (through ! refl (stop !))) refl (tt, tt) $
-        exec ! C Λ Ev (after 6 (code.function).body) (at_ret Ev (Post p m)) $
+      exec ! C Λ Ev (after 6 (code.function).body) (at_ret Ev (Post p m)) $
       sets ! (of_opd ! (get ! refl)) refl (tt, tt) $
-        sets ! (agg ! (and_then ! (lit ! tt) (and_then ! (get ! refl) (no_more !)))) refl
-        (tt, (record { fits = lit< tt }, (tt, tt))) $
+      sets ! (agg ! (and_then ! (lit ! tt) (and_then ! (get ! refl) (no_more !)))) refl
+      (tt, (record { fits = lit< tt }, (tt, tt))) $
       rewrite ! 2 (λ (s : Ptr). ‵ (cell b o s)) (sym e) refl $ move ! (0 ∷ 2 ∷ []) $ fjoin ! $
-        move ! (2 ∷ 3 ∷ 4 ∷ 1 ∷ 0 ∷ []) $ group ! 5 $
+      move ! (2 ∷ 3 ∷ 4 ∷ 1 ∷ 0 ∷ []) $ group ! 5 $
       use1 𝓛 (later
-        (some (λ (δ : GName). ‵ (Lent.own_val (record { ref_ptr = (pb, po); ghost_name = δ; now = x })
-        (vptr pb po ∷ [])) ⊛ ‵ (flft κ q) ⊛ ‵ (follows R X γ δ (with_value h)))))
+      (some (λ (δ : GName). ‵ (Lent.own_val (record { ref_ptr = (pb, po); ghost_name = δ; now = x })
+      (vptr pb po ∷ [])) ⊛ ‵ (flft κ q) ⊛ ‵ (follows R X γ δ (with_value h)))))
       (lends_Part 𝓛 R X (with_value h) (named 0) κ q b o pb po γ (sem 𝓛 (Rest p pb po e)) (back p pb po e)
-        (R.coded.code h) (R.coded.code h) x) $ await ! tt $ pick ! (λ δ. split3 ! $
+      (R.coded.code h) (R.coded.code h) x) $ await ! tt $ pick ! (λ δ. split3 ! $
       let r : MutBor ControllerState = record { ref_ptr = (pb, po); ghost_name = δ; now = x } in
       use1 𝓛 (‵ ((Opt.the_row Lent).own_val (Some r) (live 1 (vcons (vptr pb po) vnil) ∷ [])))
-        (Some-of 𝓛 Lent r (vptr pb po)) $
+      (Some-of 𝓛 Lent r (vptr pb po)) $
       returns ! (look_at ! 0 refl) $ free_all ! refl $ keep ! (0 ∷ 1 ∷ 2 ∷ []) $
-        by ! (exits p m (live 1 (vcons (vptr pb po) vnil)) (Some r) (sym is_some))))))
+      by ! (exits p m (live 1 (vcons (vptr pb po) vnil)) (Some r) (sym is_some))))))
 
 pub get_spec : {M : Type 1} → statement M
 get_spec 𝓤 𝓛 𝓜 𝓡 wired =
@@ -156,6 +156,6 @@ get_spec 𝓤 𝓛 𝓜 𝓡 wired =
     (λ κs. (mut_vals, tt)) (λ κs. (mut_Tells (named 0) κs.0 R, tt)) (λ κs qs bounds a _ are.
     let r = a.0 in
     qed 𝓛 (((‵ (flft κs.0 qs.0) ⊛ ‵ ftrue) ⊛ ‵ ((MutRef (named 0) κs.0 R).own_val r (mut_vals r)) ⊛ ‵ ftrue)
-      ∷ ‵ ftrue ∷ []) ∵
+    ∷ ‵ ftrue ∷ []) ∵
     split ! $ split ! $ move ! (2 ∷ []) $ split ! $ fsplit3 ! $ keep ! (1 ∷ 2 ∷ 4 ∷ []) $
     by ! (walk 𝓛 𝓜.mem 𝓡.returns 𝓣.C 𝓣.Λ κs.0 qs.0 r.ref_ptr.0 r.ref_ptr.1 r.ghost_name r.now.at r.now.value))

@@ -8,10 +8,10 @@ use Rattle.uda_driver.proofs.driver.Driver.start.Goals as goal
 pub returns-in-Err-clause-refused : goal.returns-in-Err-clause-refused
 returns-in-Err-clause-refused g c =
     c.into_stores.ensures.drives ∙ ap drives_in
-      (ap (λ (exec : ExecState). exec.units) c.in-Err.ensures.refused ∙ c.new.ensures.units)
-      ∙ drives_in_fresh _
+    (ap (λ (exec : ExecState). exec.units) c.in-Err.ensures.refused ∙ c.new.ensures.units)
+    ∙ drives_in_fresh _
 
 pub returns-in-Ok-clause-units : goal.returns-in-Ok-clause-units
 returns-in-Ok-clause-units g c =
     c.in-Ok.ensures.started.units_are ∙ ap (λ (units : List (Option UnitState)). map reset_unit units)
-      c.new.ensures.units ∙ reset_fresh _
+    c.new.ensures.units ∙ reset_fresh _

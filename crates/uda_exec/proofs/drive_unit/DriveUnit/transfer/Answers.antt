@@ -7,11 +7,16 @@ use Rattle.uda_exec.proofs.drive_unit.DriveUnit.transfer.Goals.{in-Ok, in-Err}
 
 pub returns-in-Some-clause-serves : goal.returns-in-Some-clause-serves
 returns-in-Some-clause-serves g c =
-    let unit : UnitState = record { store = g.S.BlockStore.state c.self.inside.store; mode = c.self.inside.mode } in
+    let unit : UnitState = record {
+      store = g.S.BlockStore.state c.self.inside.store;
+      mode = c.self.inside.mode;
+    } in
     let is : unit ≡ c.args.self.now = c.self.view_is in
-    let found : transfer_refusal c.args.t (length c.args.memory.now) unit.store.size unit.mode ≡ Some c.in-Some.refusal =
+    let found : transfer_refusal c.args.t (length c.args.memory.now) unit.store.size unit.mode
+    ≡ Some c.in-Some.refusal =
     rw (c.len.ensures.len, c.size.ensures.value) at (sym c.transfer_refusal.ensures ∙ c.in-Some.is) in
-    rw (← is, c.refuse.ensures) (serves_refused c.args.command c.args.t unit c.args.memory.now c.requires.transfer c.in-Some.refusal found)
+    rw (← is, c.refuse.ensures) (serves_refused c.args.command c.args.t unit c.args.memory.now
+    c.requires.transfer c.in-Some.refusal found)
 
 pub returns-clause-serves : goal.returns-clause-serves
 returns-clause-serves g c =
@@ -20,11 +25,21 @@ returns-clause-serves g c =
     let is : unit ≡ c.args.self.now = c.self.view_is in
     let passed : transfer_refusal c.args.t (length c.args.memory.now) unit.store.size unit.mode ≡ None =
     rw (c.len.ensures.len, c.size.ensures.value) at (sym c.transfer_refusal.ensures ∙ c.in_default.is) in
-    let image = λ (faithful : (S.state c.self.inside.store).faithful ≡ true). g.met.S.BlockStore.is_image c.self.inside.store faithful in
+    let image = λ (faithful : (S.state c.self.inside.store).faithful ≡ true). g.met.S.BlockStore.is_image
+    c.self.inside.store faithful in
     let ensured = c.move_blocks.ensures in
     rw (← is, c.reply.ensures, c.plain_body.ensures) (elim c.match-move_blocks.branch [
-      | in-Ok w ↦ rw w.status-is (serves_moved c.args.command c.args.t unit c.args.memory.now c.requires.transfer passed _ _ ensured.nature ensured.changes _ _ (omega arith) (ends_done c.args.command c.args.t unit c.args.memory.now c.requires.transfer)
-          (λ called. takes_done c.args.command c.args.t unit c.args.memory.now c.requires.transfer passed (λ some. image (called some)) _ _ ensured.nature (w.in-Ok.ensures.moves called)))
-      | in-Err w ↦ rw w.status-is (serves_moved c.args.command c.args.t unit c.args.memory.now c.requires.transfer passed _ _ ensured.nature ensured.changes _ _ (let inside = w.in-Err.ensures.within in omega arith) (ends_lost c.args.command c.args.t unit c.args.memory.now c.requires.transfer _ w.in-Err.ensures.within)
-          (λ called. takes_lost c.args.command c.args.t unit c.args.memory.now c.requires.transfer passed (λ some. image (called some)) _ _ ensured.nature _ w.in-Err.ensures.within (λ never. false≢true (w.in-Err.ensures.sure never)) (w.in-Err.ensures.moves called)))
+      | in-Ok w ↦ rw w.status-is (serves_moved c.args.command c.args.t unit c.args.memory.now
+          c.requires.transfer passed _ _ ensured.nature ensured.changes _ _ (omega arith)
+          (ends_done c.args.command c.args.t unit c.args.memory.now c.requires.transfer)
+          (λ called. takes_done c.args.command c.args.t unit c.args.memory.now c.requires.transfer passed
+          (λ some. image (called some)) _ _ ensured.nature (w.in-Ok.ensures.moves called)))
+      | in-Err w ↦ rw w.status-is
+          (serves_moved c.args.command c.args.t unit c.args.memory.now c.requires.transfer passed _ _
+          ensured.nature ensured.changes _ _ (let inside = w.in-Err.ensures.within in omega arith)
+          (ends_lost c.args.command c.args.t unit c.args.memory.now c.requires.transfer _
+          w.in-Err.ensures.within)
+          (λ called. takes_lost c.args.command c.args.t unit c.args.memory.now c.requires.transfer passed
+          (λ some. image (called some)) _ _ ensured.nature _ w.in-Err.ensures.within
+          (λ never. false≢true (w.in-Err.ensures.sure never)) (w.in-Err.ensures.moves called)))
     ])

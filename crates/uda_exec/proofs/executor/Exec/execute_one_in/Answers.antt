@@ -6,7 +6,8 @@ pub returns-clause-length : goal.returns-clause-length
 returns-clause-length g c = length-changes _ _ _ _ c.execute.ensures.executes.memory_stays
 
 pub returns-clause-faithful : goal.returns-clause-faithful
-returns-clause-faithful g c = rw (← c.self.view_is) (faithful_stays _ _ c.execute.ensures.executes.natures_stay)
+returns-clause-faithful g c = rw (← c.self.view_is)
+    (faithful_stays _ _ c.execute.ensures.executes.natures_stay)
 
 pub returns-clause-sure : goal.returns-clause-sure
 returns-clause-sure g c = rw (← c.self.view_is) (sure_stays _ _ c.execute.ensures.executes.natures_stay)

@@ -3,20 +3,30 @@ use Rattle.uda_host.proofs.Asking.{is_posted, is_fetched, two_turns, is_taken, n
 use Rattle.uda_host.proofs.host.Host.ask.Goals as goal
 
 pub step-requires-2 : goal.step-requires-2
-step-requires-2 g c =
-    (search rules, due_is_out (is_fetched c.step.result (is_posted c.requires.idle c.post.ensures.before c.post.ensures.posts) c.step.ensures.goes c.step.ensures.adds_up))
+step-requires-2 g c = (
+  search rules,
+  due_is_out (is_fetched c.step.result
+      (is_posted c.requires.idle c.post.ensures.before c.post.ensures.posts) c.step.ensures.goes
+      c.step.ensures.adds_up),
+)
 
 pub step-requires-3 : goal.step-requires-3
 step-requires-3 g c =
-    let done = two_turns c.step.result c.step-2.result c.requires.idle c.post.ensures.before c.post.ensures.posts c.step.ensures.goes c.step.ensures.adds_up c.step-2.ensures.goes c.step-2.ensures.adds_up in
+    let done = two_turns c.step.result c.step-2.result c.requires.idle c.post.ensures.before
+    c.post.ensures.posts c.step.ensures.goes c.step.ensures.adds_up c.step-2.ensures.goes
+    c.step-2.ensures.adds_up in
     (search rules, done_is_out done)
 
 pub unreachable-requires : goal.unreachable-requires
 unreachable-requires g c =
-    let done = two_turns c.step.result c.step-2.result c.requires.idle c.post.ensures.before c.post.ensures.posts c.step.ensures.goes c.step.ensures.adds_up c.step-2.ensures.goes c.step-2.ensures.adds_up in
+    let done = two_turns c.step.result c.step-2.result c.requires.idle c.post.ensures.before
+    c.post.ensures.posts c.step.ensures.goes c.step.ensures.adds_up c.step-2.ensures.goes
+    c.step-2.ensures.adds_up in
     never_works done c.in_default.ensures.goes c.in_default.ensures.adds_up
 
 pub returns-clause-asked : goal.returns-clause-asked
 returns-clause-asked g c =
-    let done = two_turns c.step.result c.step-2.result c.requires.idle c.post.ensures.before c.post.ensures.posts c.step.ensures.goes c.step.ensures.adds_up c.step-2.ensures.goes c.step-2.ensures.adds_up in
+    let done = two_turns c.step.result c.step-2.result c.requires.idle c.post.ensures.before
+    c.post.ensures.posts c.step.ensures.goes c.step.ensures.adds_up c.step-2.ensures.goes
+    c.step-2.ensures.adds_up in
     is_taken done _ c.in-Some.ensures.goes

@@ -5,4 +5,4 @@ use Rattle.uda_plain.proofs.units.PlainUnits.run.Given as goal
 
 abbrev pub invariant-loop-request : goal.invariant-loop-request
 invariant-loop-request l = SoFar l.fn.self (request_values l.requests) (answer_values l.answers.items) l.self
-  (drop l.request-index (request_values l.requests))
+    (drop l.request-index (request_values l.requests))

@@ -8,7 +8,11 @@ pub returns-in_default : goal.returns-in_default
 returns-in_default g c =
     rw (← c.self.view_is) (
       c.in_default.ensures.idle.0 refl,
-      record { state = rw c.in_default.ensures.unchanged.0 refl; memory_stays = c.in_default.ensures.unchanged.1 },
+      record {
+        state = rw c.in_default.ensures.unchanged.0 refl;
+        memory_stays =
+            c.in_default.ensures.unchanged.1;
+      },
     )
 
 pub invariant_of-self-2 : goal.invariant_of-self-2

@@ -111,14 +111,19 @@ returns-clause-tells g c =
           let waits = told_answer old new e (fetched _ old _ new _ w.in-Fetched-3.ensures.goes) same last in
           rw (w.result-is, w.reply_trace.ensures.trace) (told_by_body old new e.body e waits)
       | in-Executed w ↦
-          let last = subst (λ (p : PortState). last_item p.waiting ≡ Some w.newest-in-Executed.result) c.self-2.view_is w.newest-in-Executed.ensures.newest in
+          let last = subst (λ (p : PortState). last_item p.waiting ≡ Some w.newest-in-Executed.result)
+          c.self-2.view_is w.newest-in-Executed.ensures.newest in
           let put = executed _ old _ new _ w.in-Executed.ensures.goes in
           rw w.result-is (ends_with old.waiting new.waiting put.0 w.newest-in-Executed.result put.1 last)
       | in-Delivered w ↦
-          let first = subst (λ (p : PortState). slice_get p.waiting 0 ≡ Some w.unwrap-in-Delivered.result) c.self.view_is (sym c.front.ensures ∙ sym c.copied-first.ensures ∙ w.unwrap-in-Delivered.ensures) in
+          let first = subst (λ (p : PortState). slice_get p.waiting 0 ≡ Some w.unwrap-in-Delivered.result)
+          c.self.view_is (sym c.front.ensures ∙ sym c.copied-first.ensures
+          ∙ w.unwrap-in-Delivered.ensures) in
           let taken = delivered _ old _ new _ w.in-Delivered.ensures.goes in
-          rw w.result-is (told_first old.waiting new.waiting taken.0 w.unwrap-in-Delivered.result taken.1 first)
+          rw w.result-is (told_first old.waiting new.waiting taken.0 w.unwrap-in-Delivered.result taken.1
+          first)
       | in-Notified w ↦ rw w.result-is (notified _ old _ new _ w.in-Notified.ensures.goes)
       | in-Idle w ↦ rw w.result-is tt
-      | in-Dead w ↦ rw w.result-is (sym (ap (λ (p : PortState). p.phase) c.self-2.view_is) ∙ w.cause_of.ensures.cause)
+      | in-Dead w ↦ rw w.result-is (sym (ap (λ (p : PortState). p.phase) c.self-2.view_is)
+          ∙ w.cause_of.ensures.cause)
     ]

@@ -15,8 +15,8 @@
    during the call. A word is stored low byte first: an array of uint16_t serves on a little-endian machine only.
 
    One call at a time uses a handle. A handle may go from one thread to another, if a lock or the start or end of a
-   thread orders the calls, and threads may use different handles at once. No call blocks, and only uda50_new and
-   uda50_format_last_turn allocate memory. */
+   thread orders the calls, and threads may use different handles at once. No call blocks, and only uda50_new,
+   uda50_new_as and uda50_format_last_turn allocate memory. */
 #ifndef UDA50_H
 #define UDA50_H
 

@@ -1,10 +1,17 @@
-/* pdp11_uda50.c: the controller of uda50.h as the device RQ of SIMH 3.8's PDP-11, in the place of its own.
+/* pdp11_uda50.c: the controller of uda50.h as the device RQ of SIMH 3.8, in place of SIMH's own: of its PDP-11, and
+   of its VAX, a MicroVAX 3900.
 
-   What a controller does it leaves to the library. Here stand two registers, four units whose files are mapped,
-   the port's turns as timed events, its interrupts, and the guest's memory, which the library works in as SIMH
-   keeps it: an array of words of the host's own order, so of a little-endian host alone. Where the UNIBUS map is
-   on, a window of 248 KB is copied through SIMH's calls instead, once an event. */
+   The library does what a controller does. This file has the two registers, four units whose files are mapped, the
+   steps of the start-up and the port's turns as timed events, the interrupts, and the guest's memory.
+
+   On a PDP-11 the library works in the memory as SIMH keeps it: an array of words of the host's own order, so the
+   host must be little-endian. While the UNIBUS map is on, a window of 248 KB is copied through SIMH's calls instead,
+   once an event. On a VAX a window of 4 MB is copied through the map of the Q-bus, once an event. */
+#if defined(VM_VAX)
+#include "vax_defs.h"
+#else
 #include "pdp11_defs.h"
+#endif
 #include "uda50.h"
 #include "uda50_file.h"
 
@@ -14,22 +21,42 @@
 #error "the guest's memory is lent as bytes: a little-endian host is needed"
 #endif
 
-enum { UNITS = 4, BLOCK = 512, UNIBUS_BYTES = 0760000, QBUS_BYTES = 017760000, PAGE = 020000, LINE = 96 };
+enum { UNITS = 4, BLOCK = 512, LINE = 96 };
+
+/* Sizes in blocks: of the largest image that the library takes, and of what RAUSER takes, for which see RQ. */
+enum { LARGEST = 891072, SMALLEST_OF_USER = 10000, MEGABYTE = 1954 };
 
 #define TURNS (rq_unit + UNITS)
+#define STEP (rq_unit + UNITS + 1)
 #define UNIT_LOCKED (1u << UNIT_V_UF)
+#define drive_type u3
 
 extern int32 int_req[IPL_HLVL];
-extern uint16 *M;
 extern UNIT cpu_unit;
-extern uint32 cpu_bme, cpu_opt;
-extern int32 saved_PC;
 extern FILE *sim_deb;
+extern int32 sim_switches;
 
 static uda50 uda;
+static uint32 uda_bus;
 static uda50_file files[UNITS];
-static uint16 window[UNIBUS_BYTES / 2], before[UNIBUS_BYTES / 2];
-static int32 rq_vector;
+
+/* The drive types by the library's numbers. After them SIMH's RAUSER, an RA82 with as many blocks as the user says. */
+enum { RAUSER = UDA50_RRD40 + 1 };
+static struct {
+    const char *name;
+    uint32 blocks;
+} types[] = {
+    [UDA50_RX50] = {"RX50", 800},       [UDA50_RX33] = {"RX33", 2400},    [UDA50_RD51] = {"RD51", 21600},
+    [UDA50_RD31] = {"RD31", 41560},     [UDA50_RD52] = {"RD52", 60480},   [UDA50_RD53] = {"RD53", 138672},
+    [UDA50_RD54] = {"RD54", 311200},    [UDA50_RA60] = {"RA60", 400176},  [UDA50_RA81] = {"RA81", 891072},
+    [UDA50_RA82] = {"RA82", 1216665},   [UDA50_RA71] = {"RA71", 1367310}, [UDA50_RA72] = {"RA72", 1953300},
+    [UDA50_RA90] = {"RA90", 2376153},   [UDA50_RA92] = {"RA92", 2940951}, [UDA50_RRD40] = {"RRD40", 1331200},
+    [RAUSER] = {"RAUSER", 1216665},
+};
+
+/* Events of the simulator before a step of the start-up and before the last one, as RQ has them; and the word that
+   was written to SA, which the library gets then. */
+static int32 rq_itime = 200, rq_itime4 = 10, rq_word;
 
 /* Events of the simulator between turns, and behind one that executed a command; how many turns an event has. */
 static int32 rq_qtime = 200, rq_xtime = 500, rq_turns = 1;
@@ -37,22 +64,36 @@ static int32 rq_qtime = 200, rq_xtime = 500, rq_turns = 1;
 t_stat rq_rd(int32 *data, int32 address, int32 access);
 t_stat rq_wr(int32 data, int32 address, int32 access);
 t_stat rq_turn(UNIT *unit);
+t_stat rq_step(UNIT *unit);
 t_stat rq_reset(DEVICE *device);
 t_stat rq_boot(int32 number, DEVICE *device);
 t_stat rq_attach(UNIT *unit, char *path);
 t_stat rq_detach(UNIT *unit);
-t_stat rq_set_size(UNIT *unit, int32 blocks, char *text, void *desc);
+t_stat rq_set_type(UNIT *unit, int32 type, char *text, void *desc);
+t_stat rq_show_type(FILE *to, UNIT *unit, int32 value, void *desc);
 t_stat rq_set_lock(UNIT *unit, int32 locked, char *text, void *desc);
+t_stat rq_show_lock(FILE *to, UNIT *unit, int32 value, void *desc);
 t_stat rq_show_rings(FILE *to, UNIT *unit, int32 value, void *desc);
 int32 rq_acknowledge(void);
 
 DIB rq_dib = {IOBA_RQ, IOLN_RQ, &rq_rd, &rq_wr, 1, IVCL(RQ), 0, {&rq_acknowledge}};
 
-#define DRIVE {UDATA(NULL, UNIT_FIX + UNIT_ATTABLE + UNIT_DISABLE + UNIT_ROABLE, 891072u * BLOCK)}
-UNIT rq_unit[] = {DRIVE, DRIVE, DRIVE, DRIVE, {UDATA(&rq_turn, UNIT_DIS, 0)}};
+#define DRIVE(type, blocks) \
+    {UDATA(NULL, UNIT_FIX + UNIT_ATTABLE + UNIT_DISABLE + UNIT_ROABLE, blocks * BLOCK), .drive_type = type}
+UNIT rq_unit[] = {
+    DRIVE(UDA50_RD54, 311200),
+    DRIVE(UDA50_RD54, 311200),
+    DRIVE(UDA50_RD54, 311200),
+    DRIVE(UDA50_RX50, 800),
+    {UDATA(&rq_turn, UNIT_DIS, 0)},
+    {UDATA(&rq_step, UNIT_DIS, 0)},
+};
 
 REG rq_reg[] = {
-    {ORDATA(VEC, rq_vector, 9), REG_RO},
+    {GRDATA(VEC, rq_dib.vec, DEV_RDX, 16, 0), REG_RO},
+    {GRDATA(SAW, rq_word, DEV_RDX, 16, 0), REG_RO},
+    {DRDATA(ITIME, rq_itime, 24), PV_LEFT + REG_NZ},
+    {DRDATA(I4TIME, rq_itime4, 24), PV_LEFT + REG_NZ},
     {DRDATA(QTIME, rq_qtime, 24), PV_LEFT + REG_NZ},
     {DRDATA(XTIME, rq_xtime, 24), PV_LEFT + REG_NZ},
     {DRDATA(TURNS, rq_turns, 16), PV_LEFT + REG_NZ},
@@ -60,32 +101,90 @@ REG rq_reg[] = {
     {NULL},
 };
 
-#define SIZE(name, blocks) {MTAB_XTD | MTAB_VUN, blocks, NULL, name, &rq_set_size, NULL, NULL}
+#if defined(VM_VAX)
+#define SET_ADDRESS NULL, NULL
+#else
+#define SET_ADDRESS "ADDRESS", &set_addr
+#endif
+#define TYPE(name, number) {MTAB_XTD | MTAB_VUN, number, NULL, name, &rq_set_type, NULL, NULL}
 MTAB rq_mod[] = {
-    {UNIT_LOCKED, 0, "write enabled", "WRITEENABLED", &rq_set_lock},
-    {UNIT_LOCKED, UNIT_LOCKED, "write locked", "LOCKED", &rq_set_lock},
-    SIZE("RX50", 800),
-    SIZE("RX33", 2400),
-    SIZE("RD51", 21600),
-    SIZE("RD31", 41560),
-    SIZE("RD52", 60480),
-    SIZE("RD53", 138672),
-    SIZE("RD54", 311200),
-    SIZE("RA60", 400176),
-    SIZE("RA81", 891072),
+    {UNIT_LOCKED, 0, NULL, "WRITEENABLED", &rq_set_lock},
+    {UNIT_LOCKED, UNIT_LOCKED, NULL, "LOCKED", &rq_set_lock},
     {MTAB_XTD | MTAB_VDV | MTAB_NMO, 0, "RINGS", NULL, NULL, &rq_show_rings, NULL},
-    {MTAB_XTD | MTAB_VDV, 004, "ADDRESS", "ADDRESS", &set_addr, &show_addr, NULL},
+    {MTAB_XTD | MTAB_VUN, 0, "WRITE", NULL, NULL, &rq_show_lock, NULL},
+    TYPE("RX50", UDA50_RX50),
+    TYPE("RX33", UDA50_RX33),
+    TYPE("RD51", UDA50_RD51),
+    TYPE("RD31", UDA50_RD31),
+    TYPE("RD52", UDA50_RD52),
+    TYPE("RD53", UDA50_RD53),
+    TYPE("RD54", UDA50_RD54),
+    TYPE("RA60", UDA50_RA60),
+    TYPE("RA81", UDA50_RA81),
+    TYPE("RA82", UDA50_RA82),
+    TYPE("RA71", UDA50_RA71),
+    TYPE("RA72", UDA50_RA72),
+    TYPE("RA90", UDA50_RA90),
+    TYPE("RA92", UDA50_RA92),
+    TYPE("RRD40", UDA50_RRD40),
+    TYPE("CDROM", UDA50_RRD40),
+    TYPE("RAUSER", RAUSER),
+    {MTAB_XTD | MTAB_VUN, 0, "TYPE", NULL, NULL, &rq_show_type, NULL},
+    {MTAB_XTD | MTAB_VDV, 004, "ADDRESS", SET_ADDRESS, &show_addr, NULL},
+    {MTAB_XTD | MTAB_VDV, 0, "VECTOR", NULL, NULL, &show_vec, NULL},
+    {MTAB_XTD | MTAB_VDV, 0, NULL, "AUTOCONFIGURE", &set_addr_flt, NULL, NULL},
     {0},
 };
 
-DEVICE rq_dev = {"RQ", rq_unit, rq_reg, rq_mod, UNITS + 1, DEV_RDX, 30, 2, DEV_RDX, 16, NULL, NULL, &rq_reset,
-                 &rq_boot, &rq_attach, &rq_detach, &rq_dib, DEV_DISABLE | DEV_UBUS | DEV_QBUS | DEV_DEBUG};
+DEVICE rq_dev = {"RQ", rq_unit, rq_reg, rq_mod, UNITS + 2, DEV_RDX, T_ADDR_W, 2, DEV_RDX, 16, NULL, NULL, &rq_reset,
+                 &rq_boot, &rq_attach, &rq_detach, &rq_dib, DEV_FLTA | DEV_DISABLE | DEV_UBUS | DEV_QBUS | DEV_DEBUG};
 
 /* The guest's memory as the bus shows it. */
 typedef struct {
     uint8 *at;
     size_t length;
 } bus_memory;
+
+#if defined(VM_VAX)
+
+enum { WINDOW_BYTES = 1 << 22, PAGE = 512 };
+
+t_bool qba_map_addr_c(uint32 bus_address, uint32 *address);
+static uint8 window[WINDOW_BYTES], before[WINDOW_BYTES];
+
+/* Whether the map of the Q-bus leads the page to memory. It is asked first, since Map_ReadB makes an error known. */
+static bool is_mapped(uint32 page)
+{
+    uint32 address;
+
+    return qba_map_addr_c(page, &address) && ADDR_IS_MEM(address);
+}
+
+static bus_memory lend_memory(void)
+{
+    memset(window, 0, sizeof window);
+    for (uint32 page = 0; page < WINDOW_BYTES; page += PAGE)
+        if (is_mapped(page))
+            Map_ReadB(page, PAGE, window + page);
+    memcpy(before, window, sizeof window);
+    return (bus_memory){window, sizeof window};
+}
+
+static void take_memory_back(void)
+{
+    for (uint32 page = 0; page < WINDOW_BYTES; page += PAGE)
+        if (memcmp(window + page, before + page, PAGE) != 0 && is_mapped(page))
+            Map_WriteB(page, PAGE, window + page);
+}
+
+#else
+
+enum { UNIBUS_BYTES = 0760000, QBUS_BYTES = 017760000, PAGE = 020000 };
+
+extern uint16 *M;
+extern uint32 cpu_bme, cpu_opt;
+extern int32 saved_PC;
+static uint16 window[UNIBUS_BYTES / 2], before[UNIBUS_BYTES / 2];
 
 static bus_memory lend_memory(void)
 {
@@ -109,12 +208,14 @@ static void take_memory_back(void)
             Map_WriteW(2 * i, 2, window + i);
 }
 
+#endif
+
 static void interrupt(void)
 {
     uint16_t vector;
 
     while (uda50_take_interrupt(&uda, &vector)) {
-        rq_vector = vector;
+        rq_dib.vec = vector + VEC_Q;
         SET_INT(RQ);
     }
 }
@@ -122,7 +223,7 @@ static void interrupt(void)
 int32 rq_acknowledge(void)
 {
     CLR_INT(RQ);
-    return rq_vector;
+    return rq_dib.vec;
 }
 
 static void wake(int32 delay)
@@ -143,17 +244,35 @@ t_stat rq_rd(int32 *data, int32 address, int32 access)
     return SCPE_OK;
 }
 
+static void begin_anew(void)
+{
+    sim_cancel(TURNS);
+    sim_cancel(STEP);
+    CLR_INT(RQ);
+    rq_dib.vec = 0;
+    uda50_write_ip(&uda, 0);
+}
+
+/* A word for SA waits for its event, and a later one takes its place. A write to IP drops it. */
 t_stat rq_wr(int32 data, int32 address, int32 access)
 {
+    uda50_state state;
+
     if (address & 2) {
-        bus_memory memory = lend_memory();
-        uda50_write_sa(&uda, (uint16_t)data, memory.at, memory.length);
-        take_memory_back();
-    } else {
-        sim_cancel(TURNS);
-        CLR_INT(RQ);
-        uda50_write_ip(&uda, (uint16_t)data);
-    }
+        rq_word = data;
+        uda50_get_state(&uda, &state);
+        sim_activate(STEP, state.phase == UDA50_PHASE_STEP_4 ? rq_itime4 : rq_itime);
+    } else
+        begin_anew();
+    return SCPE_OK;
+}
+
+t_stat rq_step(UNIT *unit)
+{
+    bus_memory memory = lend_memory();
+
+    uda50_write_sa(&uda, (uint16_t)rq_word, memory.at, memory.length);
+    take_memory_back();
     interrupt();
     return SCPE_OK;
 }
@@ -191,20 +310,49 @@ t_stat rq_turn(UNIT *unit)
     return SCPE_OK;
 }
 
+static uint32 tell_type(UNIT *unit)
+{
+    uint32 type = unit->drive_type == RAUSER ? UDA50_RA82 : (uint32)unit->drive_type;
+
+    return uda50_set_type(&uda, (uint32)(unit - rq_unit), type);
+}
+
+/* Makes the controller, or makes it anew on another bus: the units keep their types and images. */
+static t_stat make_controller(uint32 bus)
+{
+    uda50_image images[UDA50_UNITS] = {{NULL, 0}};
+    uint32 status;
+
+    uda50_free(&uda, images);
+    status = uda50_new_as(&uda, bus, 0);
+    for (uint32 n = 0; status == UDA50_OK && n < UNITS; n++) {
+        files[n].image = images[n];
+        status = tell_type(rq_unit + n);
+        if (status == UDA50_OK && images[n].length != 0)
+            status = uda50_file_attach(&uda, n, &files[n]);
+    }
+    uda_bus = bus;
+    return status == UDA50_OK ? SCPE_OK : SCPE_MEM;
+}
+
 t_stat rq_reset(DEVICE *device)
 {
-    sim_cancel(TURNS);
-    CLR_INT(RQ);
-    if (uda.at == NULL)
-        return uda50_new(&uda, true) == UDA50_OK ? SCPE_OK : SCPE_MEM;
-    uda50_write_ip(&uda, 0);
-    return SCPE_OK;
+    uint32 bus = UNIBUS ? UDA50_UNIBUS : UDA50_QBUS;
+    t_stat status = uda.at == NULL || uda_bus != bus ? make_controller(bus) : SCPE_OK;
+
+    begin_anew();
+    return status == SCPE_OK ? auto_config(0, 0) : status;
+}
+
+static bool is_locked(UNIT *unit)
+{
+    return (unit->flags & (UNIT_RO | UNIT_LOCKED)) != 0 || unit->drive_type == UDA50_RRD40;
 }
 
 /* The file is mapped, behind SIMH's own attach, and as long as its drive where it may be written. */
 static int map_file(UNIT *unit, uda50_file *file)
 {
-    bool read_only = (unit->flags & (UNIT_RO | UNIT_LOCKED)) != 0;
+    bool read_only = is_locked(unit);
     int descriptor = fileno(unit->fileref);
     off_t wanted = (off_t)unit->capac;
 
@@ -230,11 +378,12 @@ t_stat rq_attach(UNIT *unit, char *path)
     }
     if (file->image.length > unit->capac)
         file->image.length = (size_t)unit->capac;
-    if (uda50_file_attach(&uda, number, file) != UDA50_OK) {
+    if (tell_type(unit) != UDA50_OK || uda50_file_attach(&uda, number, file) != UDA50_OK) {
         uda50_file_close(file);
         detach_unit(unit);
         return SCPE_OPENERR;
     }
+    wake(rq_qtime); /* a guest may be told of it */
     return SCPE_OK;
 }
 
@@ -250,17 +399,48 @@ t_stat rq_detach(UNIT *unit)
     return detach_unit(unit);
 }
 
-t_stat rq_set_size(UNIT *unit, int32 blocks, char *text, void *desc)
+/* RAUSER takes a number of megabytes or, by the switch -L, of blocks. */
+t_stat rq_set_type(UNIT *unit, int32 type, char *text, void *desc)
 {
+    t_stat status = SCPE_OK;
+
+    if (text != NULL && type != RAUSER)
+        return SCPE_ARG;
     if (unit->flags & UNIT_ATT)
         return SCPE_ALATT;
-    unit->capac = (t_addr)blocks * BLOCK;
+    if (text != NULL) {
+        uint32 number = (uint32)get_uint(text, 10, LARGEST, &status);
+        uint32 blocks = sim_switches & SWMASK('L') ? number : number * MEGABYTE;
+
+        if (status != SCPE_OK || blocks < SMALLEST_OF_USER || blocks > LARGEST)
+            return SCPE_ARG;
+        types[type].blocks = blocks;
+    }
+    unit->drive_type = type;
+    unit->capac = (t_addr)(types[type].blocks < LARGEST ? types[type].blocks : LARGEST) * BLOCK;
+    return tell_type(unit) == UDA50_OK ? SCPE_OK : SCPE_IERR;
+}
+
+t_stat rq_show_type(FILE *to, UNIT *unit, int32 value, void *desc)
+{
+    fprintf(to, "%s", types[unit->drive_type].name);
     return SCPE_OK;
 }
 
 t_stat rq_set_lock(UNIT *unit, int32 locked, char *text, void *desc)
 {
+    if (unit->drive_type == UDA50_RRD40)
+        return SCPE_NOFNC;
     return unit->flags & UNIT_ATT ? SCPE_ALATT : SCPE_OK;
+}
+
+t_stat rq_show_lock(FILE *to, UNIT *unit, int32 value, void *desc)
+{
+    if (unit->drive_type == UDA50_RRD40)
+        fprintf(to, "read only");
+    else
+        fprintf(to, "write %s", is_locked(unit) ? "locked" : "enabled");
+    return SCPE_OK;
 }
 
 static void show_ring(FILE *to, const char *name, uda50_ring ring)
@@ -281,6 +461,16 @@ t_stat rq_show_rings(FILE *to, UNIT *unit, int32 value, void *desc)
     return SCPE_OK;
 }
 
+#if defined(VM_VAX)
+
+/* The console ROM boots. */
+t_stat rq_boot(int32 number, DEVICE *device)
+{
+    return SCPE_NOFNC;
+}
+
+#else
+
 /* The bootstrap of SIMH's own RQ, which `build` takes out of its source. */
 #include "rq_bootrom.h"
 
@@ -293,3 +483,5 @@ t_stat rq_boot(int32 number, DEVICE *device)
     saved_PC = BOOT_ENTRY;
     return SCPE_OK;
 }
+
+#endif

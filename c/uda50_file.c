@@ -9,7 +9,7 @@
 #include <sys/stat.h>
 #include <unistd.h>
 
-enum { BLOCK = 512, BLOCK_LIMIT = 891072 };
+enum { BLOCK = 512 };
 
 static const uda50_file closed;
 
@@ -36,7 +36,7 @@ static int map(uda50_file *file)
         return UDA50_FILE_OPEN;
     if (status.st_size % BLOCK != 0)
         return UDA50_FILE_LENGTH;
-    if (status.st_size / BLOCK > BLOCK_LIMIT)
+    if (status.st_size / BLOCK > UDA50_MAX_BLOCKS)
         return UDA50_FILE_TOO_LARGE;
     if (status.st_size == 0)
         return UDA50_FILE_OK;
@@ -108,7 +108,7 @@ const char *uda50_file_text(int fault)
     case UDA50_FILE_LENGTH:
         return "the length is no multiple of 512";
     case UDA50_FILE_TOO_LARGE:
-        return "the file has more than 891072 blocks";
+        return "the file has more than 2147483647 blocks";
     case UDA50_FILE_MAP:
         return "the file can't be mapped";
     case UDA50_FILE_LOCKED:

@@ -38,7 +38,7 @@ typedef struct {
     void *at;
 } uda50;
 
-enum { UDA50_UNITS = 4 };
+enum { UDA50_UNITS = 4, UDA50_MAX_BLOCKS = 2147483647 };
 
 /* The bytes of a disk image, 512 for each block. If `length` is 0 there are none, and `at` may be null: such a struct
    is empty, as one that is set to zero.
@@ -59,7 +59,7 @@ enum {
     UDA50_ALREADY_ATTACHED = 67, /* the unit has an image */
     UDA50_NOT_ATTACHED = 68,     /* the unit has no image */
     UDA50_BAD_LENGTH = 69,       /* an image isn't one or more whole blocks, or guest memory has an odd length */
-    UDA50_TOO_LARGE = 70,        /* an image has more than 891,072 blocks, or guest memory more than 4 MB */
+    UDA50_TOO_LARGE = 70,        /* an image has more than UDA50_MAX_BLOCKS blocks, or guest memory more than 4 MB */
     UDA50_NOT_EMPTY = 71,        /* a struct that an image is to be put into isn't empty */
     UDA50_HAS_CONTROLLER = 72,   /* the handle has a controller */
     UDA50_NO_SUCH_BUS = 73,      /* the bus isn't UDA50_UNIBUS or UDA50_QBUS */

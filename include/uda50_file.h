@@ -24,7 +24,7 @@ enum {
     UDA50_FILE_OK = 0,
     UDA50_FILE_OPEN = 1,      /* it can't be opened, or isn't a regular file */
     UDA50_FILE_LENGTH = 2,    /* its length is no multiple of 512 */
-    UDA50_FILE_TOO_LARGE = 3, /* it has more than 891,072 blocks */
+    UDA50_FILE_TOO_LARGE = 3, /* it has more than UDA50_MAX_BLOCKS blocks */
     UDA50_FILE_MAP = 4,       /* it can't be mapped */
     UDA50_FILE_SYNC = 5,      /* what was written can't be written out, so it may be lost */
     UDA50_FILE_LOCKED = 6     /* another program, or another uda50_file, has a lock that excludes this one */

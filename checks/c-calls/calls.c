@@ -6,7 +6,7 @@
 #include <stdlib.h>
 #include <sys/mman.h>
 
-enum { BLOCK_LIMIT = 891072, MEMORY_LIMIT = 4194304, ROUNDS = 10000 };
+enum { MEMORY_LIMIT = 4194304, ROUNDS = 10000 };
 
 static uint8_t blocks[8 * BLOCK], kept[8 * BLOCK];
 
@@ -100,7 +100,7 @@ static void handles(void)
 static void images(void)
 {
     uda50 handle = { 0 };
-    size_t longer = (size_t)(BLOCK_LIMIT + 1) * BLOCK;
+    size_t longer = ((size_t)UDA50_MAX_BLOCKS + 1) * BLOCK;
     uint8_t *large = mmap(NULL, longer, PROT_READ | PROT_WRITE, MAP_PRIVATE | MAP_ANONYMOUS | MAP_NORESERVE, -1, 0);
     uda50_image held = { blocks, BLOCK }, full[UDA50_UNITS] = { { NULL, 0 } };
 

@@ -210,7 +210,7 @@ static int fault_of(off_t length)
 
 static void lengths(void)
 {
-    off_t limit = (off_t)891072 * BLOCK;
+    off_t limit = (off_t)UDA50_MAX_BLOCKS * BLOCK;
 
     EXPECT(fault_of(BLOCK - 1), UDA50_FILE_LENGTH);
     EXPECT(fault_of(BLOCK + 1), UDA50_FILE_LENGTH);
@@ -271,7 +271,7 @@ static void texts(void)
 {
     static const char *const wanted[] = {
         "done", "the file can't be opened", "the length is no multiple of 512",
-        "the file has more than 891072 blocks",
+        "the file has more than 2147483647 blocks",
         "the file can't be mapped", "what was written can't be written out", "the file is in use",
     };
 

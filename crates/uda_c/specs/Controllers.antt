@@ -4,7 +4,7 @@ use Rattle.std.specs.Prelude.{false, List, [], ◌∷◌, Option, Some, None, sl
 use Rattle.std.specs.Prelude.{nat_lt, length, is_some, option_map, set, unwrap_or, if◌then◌else◌}
 use Rattle.std.specs.List.{concat}
 use Rattle.uda_mem.specs.Slices.{IsMemory}
-use Rattle.uda_image.specs.Limits.{block_limit}
+use Rattle.uda_image.specs.Limits.{store_limit}
 use Rattle.uda_disk.specs.Units.{UnitState, AllFaithful, AreImages}
 use Rattle.uda_exec.specs.Drives.{DriveState, look_at}
 use Rattle.uda_port.specs.declared.profile.Profile.{Profile}
@@ -68,14 +68,14 @@ controller_at_start profile = record {
 abbrev pub has_image : ControllerState → ℕ → Bool
 has_image c unit = is_some (look_at (slice_get c.port.exec.units unit))
 
--- what so many bytes are answered as an image
+-- the status of an image of this many bytes
 abbrev pub image_answer : ℕ → CallStatus
 image_answer bytes =
     if bytes == 0 then BadLength
-    else if bytes % 512 == 0 then (if nat_lt block_limit (bytes / 512) then TooLarge else Done)
+    else if bytes % 512 == 0 then (if nat_lt store_limit (bytes / 512) then TooLarge else Done)
     else BadLength
 
--- what they are answered for a unit
+-- the status of such an image for a unit
 abbrev pub attach_answer : ControllerState → ℕ → ℕ → CallStatus
 attach_answer c unit bytes =
     if nat_lt 3 unit then NoSuchUnit

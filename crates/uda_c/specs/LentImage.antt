@@ -2,7 +2,7 @@
 use Rattle.std.specs.Prelude.{◌≡◌, ◌≤◌, ◌/◌, ◌%◌, ℕ, true, false, List, length, Option, Some, None, is_none}
 use Rattle.uda_image.specs.Store.{StoreState}
 use Rattle.uda_image.specs.Image.{block_count_of, blocks_of, failures_by}
-use Rattle.uda_image.specs.Limits.{block_limit}
+use Rattle.uda_image.specs.Limits.{store_limit}
 
 -- bytes that are lent as an image, and how many calls are left up to the one that fails, that one counted: 0
 -- after it; None where it was never told of one
@@ -10,9 +10,9 @@ pub record LentBlocks : Type 0 where
   pub bytes : List ℕ
   pub left : Option ℕ
 
--- bytes that are whole blocks, and no more of them than an image has
+-- bytes that are whole blocks, at most as many as a store has
 abbrev pub IsWhole : List ℕ → Type 0
-IsWhole bytes = (length bytes % 512 ≡ 0) × (length bytes / 512 ≤ block_limit)
+IsWhole bytes = (length bytes % 512 ≡ 0) × (length bytes / 512 ≤ store_limit)
 
 -- the calls that have failed
 abbrev pub failures_of : Option ℕ → ℕ

@@ -1,6 +1,6 @@
 //! What a handle of C points to.
 ghost use Rattle.std.specs.Prelude.{◌≡◌, ◌≢◌, ◌≤◌, ◌/◌, ◌%◌, ℕ, length, IfSome, IfNone, IfOk, IfErr, IsTrue};
-ghost use Rattle.uda_image.specs.Limits.{block_limit};
+ghost use Rattle.uda_image.specs.Limits.{store_limit};
 ghost use Rattle.uda_mem.specs.Slices.{IsMemory};
 ghost use Rattle.uda_c.specs.declared.call_status.CallStatus.TheVariants.{Took, Done};
 ghost use Rattle.uda_c.specs.Controllers.{controller_at_start, SetsType, Attaches, Detaches, TurnsWhereMemory};
@@ -21,7 +21,7 @@ use crate::unit_images::UnitImages;
 use std::alloc::Global;
 use std::marker::Model;
 use uda_exec::Exec;
-use uda_image::{BLOCK_LIMIT, Drive};
+use uda_image::{Drive, STORE_LIMIT};
 use uda_packet::DriveType;
 use uda_port::{Port, Profile, Trace, Turn};
 
@@ -281,14 +281,14 @@ fn length_of(lent: &mut Lent) -> usize
     lent.bytes_mut().len()
 }
 
-// What so many bytes are answered as an image.
+// Returns the status of an image of this many bytes.
 fn image_answer(bytes: usize) -> CallStatus
     ensures answer { result ≡ image_answer bytes }
-    ensures whole { result ≡ Done → (bytes % 512 ≡ 0) × (bytes / 512 ≤ block_limit) }
+    ensures whole { result ≡ Done → (bytes % 512 ≡ 0) × (bytes / 512 ≤ store_limit) }
 {
     if bytes == 0 || bytes % 512 != 0 {
         CallStatus::BadLength
-    } else if bytes / 512 > BLOCK_LIMIT as usize {
+    } else if bytes / 512 > STORE_LIMIT as usize {
         CallStatus::TooLarge
     } else {
         CallStatus::Done

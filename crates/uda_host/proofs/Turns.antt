@@ -24,7 +24,7 @@ use Rattle.uda_port.specs.declared.turn.Turn.TheVariants.{Fetched as TurnFetched
 use Rattle.uda_port.specs.declared.phase.Fatal.{Fatal}
 use Rattle.uda_port.specs.declared.phase.Fatal.TheVariants.{PacketRead, PacketWrite, RingRead, CreditsExceeded, WrongEnvelope}
 use Rattle.uda_port.specs.Ring.{is_owned, address_of, word_given_back, RingState, descriptor_address, next_descriptor, ring_advanced}
-use Rattle.uda_port.specs.Packet.{HasRoom}
+use Rattle.uda_port.specs.Packet.{HasRoom, text_address}
 use Rattle.uda_port.specs.Report.{end_text, text_by, attention_by, next_by}
 use Rattle.uda_port.specs.Fetch.{Takes}
 use Rattle.uda_port.specs.Delivery.{Puts}
@@ -101,26 +101,27 @@ module _ {S : Type 0} {h : Inside S} {c : Command} {rest : List Command} (host :
       let free = nothing may in not_both posted_seen free.is_next refl free.not_owned
 
   module _ {told : Option ℕ} {p : Fetched} {ring : RingState} {after : List ℕ}
-      (takes : Takes told h.port.commands h.memory p ring after) where
+      (takes : Takes (record { profile = h.port.profile; told = told }) h.port.commands h.memory p ring after)
+      where
     first_is : takes.first ≡ owned (command_packet h.port.commands.place)
     first_is = let next = takes.is_next in let seen = posted_seen in cc
 
     size_read : p.words.0 ≡ 48
     size_read =
-        let address = ap address_of first_is in
+        let address = ap₂ text_address host.port.strict first_is in
         takes.is_packet.first_word ∙ ap (word_at h.memory) (omega (arith, address))
         ∙ ap (λ (s : Slot). s.size)
         (first_posted rings_were)
 
     envelope_read : p.words.1 ≡ 0
     envelope_read =
-        let address = ap address_of first_is in
+        let address = ap₂ text_address host.port.strict first_is in
         takes.is_packet.second_word ∙ ap (word_at h.memory) (omega (arith, address))
         ∙ ap (λ (s : Slot). s.credits) (first_posted rings_were)
 
     text_read : p.text ≡ written_command c
     text_read =
-        let address = ap address_of first_is in
+        let address = ap₂ text_address host.port.strict first_is in
         takes.is_packet.text ∙ ap (λ (a : ℕ). part h.memory a 48) (omega (arith, address))
         ∙ ap (λ (s : Slot). s.text) (first_posted rings_were)
 
@@ -266,12 +267,13 @@ delivery_written {h = h} r ring after host fits puts =
     let credits = next_grant h.port.deliveries in
     let place = h.response_place in let next = puts.is_next in let seen = responses_seen host in
     let first : puts.first ≡ owned (response_packet place) = cc in
-    let address = ap address_of first in let high = ap (λ (d : Descriptor). word_given_back d.high) first in
+    let address = ap₂ text_address host.port.strict first in
+    let high = ap (λ (d : Descriptor). word_given_back d.high) first in
     let at : descriptor_address h.port.responses + 2 ≡ response_descriptor place + 2 =
     ap (λ (r : RingState). descriptor_address r + 2) host.rings.responses_are in
-    let size : address_of puts.first - 4 ≡ response_packet place = omega arith in
-    let second : address_of puts.first - 2 ≡ response_packet place + 2 = omega arith in
-    let text : address_of puts.first ≡ response_packet place + 4 = omega arith in
+    let size : text_address h.port.profile puts.first - 4 ≡ response_packet place = omega arith in
+    let second : text_address h.port.profile puts.first - 2 ≡ response_packet place + 2 = omega arith in
+    let text : text_address h.port.profile puts.first ≡ response_packet place + 4 = omega arith in
     let e : End = strict_end r in
     let text_is : end_text h.port r ≡ written_end e =
     ap (λ (p : Profile). text_by p h.port.guest h.port.exec.units r) host.port.strict in
@@ -420,7 +422,8 @@ module _ {S : Type 0} {h : Inside S} (host : IsHost h) (before : PortState) (aft
   fetch_lives PacketRead (c ∷ rest) were line =
       let lost = line.0.no_packet in let next = lost.is_next in let seen = posted_seen host were in
       let first : lost.next ≡ owned (command_packet h.port.commands.place) = cc in
-      let address = ap address_of first in let within = host.written.within in let size = host.written.size in
+      let address = ap₂ text_address host.port.strict first in
+      let within = host.written.within in let size = host.written.size in
       lost.unreadable (record { even = omega arith; above = omega arith; within = omega arith })
   fetch_lives CreditsExceeded [] none line =
       let takes = line.taken.takes in none_owned host none takes.first takes.is_next takes.owned
@@ -446,7 +449,7 @@ module _ {S : Type 0} {h : Inside S} (host : IsHost h) (before : PortState) (aft
       let word : word_at h.memory (address_of lost.next - 4) ≡ word_at h.memory
       (response_packet h.response_place) = ap (word_at h.memory) (omega arith) in
       let n = length goes.rest.1.0.text in
-      subst (λ (p : Profile). HasRoom p h.memory (address_of lost.next) n → ⊥) host.port.strict lost.no_room
+      subst (λ (p : Profile). HasRoom p h.memory (text_address p lost.next) n → ⊥) host.port.strict lost.no_room
       (record {
         packet = record { even = omega arith; above = omega arith; within = omega arith };
         long = omega arith;

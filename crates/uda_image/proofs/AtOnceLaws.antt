@@ -9,7 +9,7 @@ use Rattle.std.proofs.lemmas.List.{same_lists, drop-drop}
 use Rattle.std.proofs.lemmas.Option.{get_or_from_slice_get}
 use Rattle.uda_mem.specs.Put.{put, part}
 use Rattle.uda_mem.proofs.PutLaws.{length-put, get_or-put_before, get_or-put_at, get_or-put_behind, part-put_apart, part-put_inside}
-use Rattle.uda_image.specs.Limits.{block_limit}
+use Rattle.uda_image.specs.Limits.{store_limit}
 use Rattle.uda_image.specs.Image.{block_count_of, blocks_of}
 use Rattle.uda_image.specs.StoreLaws.{length-first_chunks}
 use Rattle.uda_image.proofs.Chunk.{slice_get-first_chunks}
@@ -52,7 +52,7 @@ concat-part_blocks bytes n count h =
 pub block_count-put : (bytes : List ℕ) (at : ℕ) (from : List ℕ) → block_count_of (put bytes at from)
     ≡ block_count_of bytes
 unfolding block_count_of
-block_count-put bytes at from = ap (λ m. min (m / 512) block_limit) (length-put bytes at from)
+block_count-put bytes at from = ap (λ m. min (m / 512) store_limit) (length-put bytes at from)
 
 pub get_or-chunks : (k : ℕ) (bytes : List ℕ) (i : ℕ) (d : List ℕ) → i < k
     → get_or (first_chunks 512 k bytes) i d ≡ part bytes (512 * i) 512

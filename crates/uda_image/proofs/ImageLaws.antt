@@ -4,22 +4,22 @@ use Rattle.std.specs.Prelude.{slice_get, slice_set}
 use Rattle.std.proofs.lemmas.List.{length-replicate}
 use Rattle.std.specs.List.{concat}
 use Rattle.std.specs.Simd.{first_chunks}
-use Rattle.uda_image.specs.Limits.{block_limit}
+use Rattle.uda_image.specs.Limits.{store_limit}
 use Rattle.uda_image.specs.Image.{block_count_of, blocks_of, block_of, with_block, half_written}
 use Rattle.uda_image.proofs.Chunk.{slice_get-first_chunks, first_chunks-splice, first_chunks-replicate, concat-first_chunks}
 
 -- the bytes of an image that was made fill its blocks
-block_count-whole : (bytes : List ℕ) → length bytes % 512 ≡ 0 → length bytes / 512 ≤ block_limit
+block_count-whole : (bytes : List ℕ) → length bytes % 512 ≡ 0 → length bytes / 512 ≤ store_limit
     → block_count_of bytes ≡ length bytes / 512
 unfolding block_count_of
 block_count-whole bytes whole within = omega arith
 
-pub blocks_of-whole : (bytes : List ℕ) → length bytes % 512 ≡ 0 → length bytes / 512 ≤ block_limit
+pub blocks_of-whole : (bytes : List ℕ) → length bytes % 512 ≡ 0 → length bytes / 512 ≤ store_limit
     → blocks_of bytes ≡ first_chunks 512 (length bytes / 512) bytes
 unfolding blocks_of
 blocks_of-whole bytes whole within = ap (λ k. first_chunks 512 k bytes) (block_count-whole bytes whole within)
 
-pub concat-blocks_of : (bytes : List ℕ) → length bytes % 512 ≡ 0 → length bytes / 512 ≤ block_limit
+pub concat-blocks_of : (bytes : List ℕ) → length bytes % 512 ≡ 0 → length bytes / 512 ≤ store_limit
     → concat (blocks_of bytes) ≡ bytes
 concat-blocks_of bytes whole within =
     ap concat (blocks_of-whole bytes whole within)
@@ -43,7 +43,7 @@ pub block_count-with_block : (bytes : List ℕ) (n : ℕ) (block : List ℕ) →
     → length block ≡ 512 → block_count_of (with_block bytes n block) ≡ block_count_of bytes
 unfolding block_count_of
 block_count-with_block bytes n block h e =
-    ap (λ m. min (m / 512) block_limit) (length-with_block bytes n block h e)
+    ap (λ m. min (m / 512) store_limit) (length-with_block bytes n block h e)
 
 -- bytes written in the place of a block replace that block alone
 pub blocks_of-with_block : (bytes : List ℕ) (n : ℕ) (block : List ℕ) → n < block_count_of bytes
@@ -63,12 +63,12 @@ unfolding block_of block_count_of
 length-block_of bytes n h = simp (length-take, length-drop) (omega arith)
 
 -- an image of zeros
-pub block_count-zeros : (blocks : ℕ) → blocks ≤ block_limit
+pub block_count-zeros : (blocks : ℕ) → blocks ≤ store_limit
     → block_count_of (replicate (512 * blocks) 0) ≡ blocks
 unfolding block_count_of
 block_count-zeros blocks h = simp length-replicate (omega arith)
 
-pub blocks_of-zeros : (blocks : ℕ) → blocks ≤ block_limit
+pub blocks_of-zeros : (blocks : ℕ) → blocks ≤ store_limit
     → blocks_of (replicate (512 * blocks) 0) ≡ replicate blocks (replicate 512 0)
 unfolding blocks_of
 blocks_of-zeros blocks h =

@@ -3,12 +3,12 @@ use Rattle.std.specs.Prelude.{ℕ, zero, suc, ◌+◌, ◌*◌, ◌/◌, min, Bo
 use Rattle.std.specs.Prelude.{length, Some, None}
 use Rattle.std.specs.List.{splice}
 use Rattle.std.specs.Simd.{first_chunks}
-use Rattle.uda_image.specs.Limits.{block_limit, store_limit}
+use Rattle.uda_image.specs.Limits.{store_limit}
 use Rattle.uda_image.specs.Store.{StoreState}
 
--- how many blocks the bytes of an image make: the whole ones, and no more than an image has
+-- how many blocks the bytes of an image make: the whole ones, and no more than a store has
 unfoldable pub block_count_of : List ℕ → ℕ
-block_count_of bytes = min (length bytes / 512) block_limit
+block_count_of bytes = min (length bytes / 512) store_limit
 
 -- the blocks that the bytes of an image make
 unfoldable pub blocks_of : List ℕ → List (List ℕ)

@@ -1,11 +1,11 @@
 -- What an `impl` of the trait names as the proofs of its two laws.
-use Rattle.std.proofs.Common.{◌≡◌, ◌*◌, ◌/◌, ◌≤◌, ℕ, zero, suc, min, List, length, drop, take, true, false}
+use Rattle.std.proofs.Common.{◌≡◌, ◌*◌, ◌≤◌, ℕ, zero, suc, min, List, length, drop, take, true, false}
 use Rattle.std.proofs.Common.{refl, ap, arith, length-drop}
 use Rattle.std.specs.List.{All}
 use Rattle.std.specs.Simd.{first_chunks}
 use Rattle.std.proofs.lemmas.List.{length-take-le}
 use Rattle.std.proofs.lemmas.List.Elements.{All-nil, All-cons}
-use Rattle.uda_image.specs.Limits.{block_limit, store_limit}
+use Rattle.uda_image.specs.Limits.{store_limit}
 use Rattle.uda_image.specs.Store.{IsImage}
 use Rattle.uda_image.specs.Image.{block_count_of, blocks_of}
 
@@ -17,13 +17,10 @@ min-le size = omega arith
 pub no_image : {size : ℕ} {blocks : List (List ℕ)} → false ≡ true → IsImage size blocks
 no_image h = absurd (cc)
 
--- an image is within the limit of images, and so within that of stores
-pub block_count-within : (bytes : List ℕ) → block_count_of bytes ≤ block_limit
-unfolding block_count_of
-block_count-within bytes = omega arith
-
+-- the blocks of bytes in memory are within the limit of stores
 pub block_count-le : (bytes : List ℕ) → block_count_of bytes ≤ store_limit
-block_count-le bytes = omega (arith, block_count-within bytes)
+unfolding block_count_of
+block_count-le bytes = omega arith
 
 pub length-first_chunks : (k : ℕ) (bytes : List ℕ) → length (first_chunks 512 k bytes) ≡ k
 length-first_chunks zero bytes = refl

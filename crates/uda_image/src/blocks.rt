@@ -3,17 +3,17 @@
 //! MSCP Basic Disk Functions Manual: logical blocks.
 ghost use Rattle.std.specs.Prelude.{◌≡◌, ◌<◌, ◌≤◌, length};
 ghost use Rattle.uda_image.specs.Image.{block_count_of, block_of, with_block};
-ghost use Rattle.uda_image.specs.Limits.{block_limit};
+ghost use Rattle.uda_image.specs.Limits.{store_limit};
 
-use crate::store::BLOCK_LIMIT;
+use crate::store::STORE_LIMIT;
 
-/// How many whole blocks the bytes make, and no more than [`BLOCK_LIMIT`].
+/// Returns how many whole blocks the bytes make, at most [`STORE_LIMIT`].
 #[tactic(auto, unfolding(crate::specs::Image::block_count_of))]
 pub fn count(bytes: &[u8]) -> u32
     ensures count { result ≡ block_count_of bytes.now }
-    ensures within { result ≤ block_limit }
+    ensures within { result ≤ store_limit }
 {
-    (bytes.len() / 512).min(BLOCK_LIMIT as usize) as u32
+    (bytes.len() / 512).min(STORE_LIMIT as usize) as u32
 }
 
 /// Reads block `n`, which is below their number, into `to`.

@@ -11,6 +11,7 @@ use Rattle.uda_mem.proofs.PutLaws.{length-put}
 use Rattle.uda_mem.proofs.WordLaws.{length-word_bytes, word_at-put_apart, word_at-put_at}
 use Rattle.uda_port.specs.declared.descriptor.Descriptor.{Descriptor}
 use Rattle.uda_port.specs.declared.packet.Fetched.{Fetched}
+use Rattle.uda_port.specs.declared.packet.Fetching.{Fetching}
 use Rattle.uda_port.specs.Ring.{is_owned, word_given_back, descriptor_at, ring, owned_front, posted, RingState, descriptor_address, next_descriptor, ring_advanced, memory_given_back, posted_in}
 use Rattle.uda_port.specs.Interrupt.{memory_told, IsBelow}
 use Rattle.uda_port.specs.declared.ring.RingFault.{RingFault}
@@ -216,39 +217,38 @@ ring_told memory told base n below = same_lists _ _
     (base + 4 * k) below (omega arith) ∙ sym (get_or-ring memory base n k d inside))
 
 -- a fetch takes the first that is posted, and leaves the rest posted
-pub takes_first : (told : Option ℕ) (old : RingState) (memory : List ℕ) (p : Fetched) (new : RingState)
-    (memory_after : List ℕ) → IsBelow told old.base → old.place < old.count
-    → Takes told old memory p new memory_after
-    → TakesFirst old memory p new memory_after
-takes_first told old memory p new memory_after below within t =
-    let there = memory_told memory told in
+pub takes_first : (f : Fetching) (old : RingState) (memory : List ℕ) (p : Fetched) (new : RingState)
+    (memory_after : List ℕ) → IsBelow f.told old.base → old.place < old.count
+    → Takes f old memory p new memory_after
+    → TakesFirst old memory new memory_after
+takes_first f old memory p new memory_after below within t =
+    let there = memory_told memory f.told in
     let same : ring there old.base old.count ≡ ring memory old.base old.count =
-    ring_told memory told old.base old.count below in
-    let is_next : next_descriptor there old ≡ Some t.first = descriptor_told memory told old.base
+    ring_told memory f.told old.base old.count below in
+    let is_next : next_descriptor there old ≡ Some t.first = descriptor_told memory f.told old.base
     (descriptor_address old) below (omega arith) ∙ t.is_next in
     record {
       first = t.first;
+      is_next = t.is_next;
       in_order = ap (λ (ds : List (Option Descriptor)). posted ds old.place) (sym same)
           ∙ given_back there old t.first within is_next t.owned
           ∙ ap (λ (ds : List Descriptor). t.first ∷ ds) (sym (ap₂ posted_in t.written t.advanced));
-      readable = t.readable;
-      is_packet = t.is_packet;
     }
 
 -- what a fetch does by the descriptor at the place it does by what is posted: ring order
-pub order_kept : (told : Option ℕ) (old : RingState) (memory : List ℕ)
+pub order_kept : (f : Fetching) (old : RingState) (memory : List ℕ)
     (result : Result (Option Fetched) RingFault) (new : RingState) (memory_after : List ℕ)
-    → IsBelow told old.base → old.place < old.count → FetchGoes told old memory result new memory_after
+    → IsBelow f.told old.base → old.place < old.count → FetchGoes f old memory result new memory_after
     → OrderKept old memory result new memory_after
-order_kept told old memory (Ok (Some p)) new memory_after below within goes =
-    takes_first told old memory p new memory_after below within goes
-order_kept told old memory (Ok None) new memory_after below within goes =
+order_kept f old memory (Ok (Some p)) new memory_after below within goes =
+    takes_first f old memory p new memory_after below within goes
+order_kept f old memory (Ok None) new memory_after below within goes =
     not_owned_posted memory old goes.0.next within goes.0.is_next goes.0.not_owned
-order_kept told old memory (Err PacketLost) new memory_after below within goes = record {
+order_kept f old memory (Err PacketLost) new memory_after below within goes = record {
   first = goes.0.next;
   rest = owned_front (behind memory old);
+  is_next = goes.0.is_next;
   is_first = owned_posted memory old goes.0.next within goes.0.is_next goes.0.owned;
-  unreadable = goes.0.unreadable;
 }
-order_kept told old memory (Err RingLost) new memory_after below within goes =
+order_kept f old memory (Err RingLost) new memory_after below within goes =
     none_posted memory old within goes.0

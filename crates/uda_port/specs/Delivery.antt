@@ -5,11 +5,11 @@ use Rattle.uda_port.specs.declared.descriptor.Descriptor.{Descriptor}
 use Rattle.uda_port.specs.declared.profile.Profile.{Profile}
 use Rattle.uda_port.specs.declared.ring.RingFault.{RingFault}
 use Rattle.uda_port.specs.declared.ring.RingFault.TheVariants.{Ring as RingLost, Packet as PacketLost}
-use Rattle.uda_port.specs.Ring.{is_owned, address_of, RingState, next_descriptor, ring_advanced}
+use Rattle.uda_port.specs.Ring.{is_owned, RingState, next_descriptor, ring_advanced}
 use Rattle.uda_port.specs.Ring.{memory_given_back}
 use Rattle.uda_port.specs.Interrupt.{memory_told}
 use Rattle.uda_port.specs.declared.packet.Delivery.{Delivery}
-use Rattle.uda_port.specs.Packet.{HasRoom, packet_put}
+use Rattle.uda_port.specs.Packet.{HasRoom, packet_put, text_address}
 use Rattle.uda_port.specs.Fetch.{Stays, FindsNone, LosesRing}
 
 -- the packet is written to the buffer of the descriptor at the place, the host is told where it is to be, and
@@ -19,10 +19,11 @@ pub record Puts (d : Delivery) (old : RingState) (memory : List ℕ) (text : Lis
   pub first : Descriptor
   pub is_next : next_descriptor memory old ≡ Some first
   pub owned : is_owned first ≡ true
-  pub room : HasRoom d.profile memory (address_of first) (length text)
+  pub room : HasRoom d.profile memory (text_address d.profile first) (length text)
   pub written :
       memory_after
-      ≡ memory_given_back (memory_told (packet_put memory (address_of first) d.credits text) d.told) old first
+      ≡ memory_given_back
+      (memory_told (packet_put memory (text_address d.profile first) d.credits text) d.told) old first
   pub advanced : new ≡ ring_advanced old
 
 -- the port owns the descriptor at the place, and its buffer can't take a text of n bytes
@@ -30,7 +31,7 @@ pub record LosesRoom (profile : Profile) (old : RingState) (memory : List ℕ) (
   pub next : Descriptor
   pub is_next : next_descriptor memory old ≡ Some next
   pub owned : is_owned next ≡ true
-  pub no_room : HasRoom profile memory (address_of next) n → ⊥
+  pub no_room : HasRoom profile memory (text_address profile next) n → ⊥
 
 -- a delivery by the descriptor at the place
 abbrev pub PutGoes :

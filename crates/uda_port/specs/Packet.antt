@@ -1,15 +1,24 @@
 -- Packets in host memory: a text, and its envelope in the four bytes below.
 -- UDA50 Programmer's Documentation Kit: message envelopes.
-use Rattle.std.specs.Prelude.{◌≡◌, ℕ, ◌+◌, ◌-◌, ◌%◌, ◌≤◌, List, length, Some}
+use Rattle.std.specs.Prelude.{◌≡◌, ℕ, ◌+◌, ◌-◌, ◌*◌, ◌/◌, ◌%◌, ◌≤◌, List, length, Some}
 use Rattle.uda_mem.specs.Put.{put, part}
 use Rattle.uda_mem.specs.Words.{word_at, word_bytes}
 use Rattle.uda_packet.specs.declared.reply.Reply.{Reply}
+use Rattle.uda_packet.specs.GuestEnd.{addresses_of}
 use Rattle.uda_packet.specs.Reading.{read_end}
 use Rattle.uda_packet.specs.Reply.{strict_end}
 use Rattle.uda_packet.specs.Written.{written_end}
+use Rattle.uda_port.specs.declared.descriptor.Descriptor.{Descriptor}
 use Rattle.uda_port.specs.declared.packet.Fetched.{Fetched}
 use Rattle.uda_port.specs.declared.profile.Profile.{Profile}
 use Rattle.uda_port.specs.declared.profile.Profile.TheVariants.{Strict, ForGuests}
+use Rattle.uda_port.specs.Ring.{address_of}
+
+-- the address of the text that a descriptor points to. On a bus a word has an even address, and an address has only
+-- so many bits; the others are dropped. Strictly all bits count.
+abbrev pub text_address : Profile → Descriptor → ℕ
+text_address Strict d = address_of d
+text_address (ForGuests identity) d = address_of d % addresses_of identity.bus / 2 * 2
 
 -- a packet with a text of n bytes can be read or written at an address: it is even, four envelope bytes stand
 -- below it, and the text lies in memory

@@ -19,6 +19,7 @@ use Rattle.uda_port.specs.declared.phase.Fatal.TheVariants.{PacketRead, PacketWr
 use Rattle.uda_port.specs.declared.phase.Fatal.TheVariants.{CreditsExceeded, WrongEnvelope}
 use Rattle.uda_port.specs.Fetch.{Takes, TakesFirst, FindsNone, LosesRing, LosesPacket}
 use Rattle.uda_port.specs.declared.packet.Delivery.{Delivery}
+use Rattle.uda_port.specs.declared.packet.Fetching.{Fetching}
 use Rattle.uda_port.specs.Report.{end_text, attention_text, next_text}
 use Rattle.uda_port.specs.Guest.{guest_after, attention_set, first_due}
 use Rattle.uda_port.specs.Packet.{IsLegible}
@@ -57,12 +58,16 @@ port_with_message old (Err r) = record old {
 abbrev pub may_fetch : PortState → Bool
 may_fetch old = old.looking && not (lacks_credit old.profile old.credits)
 
+-- how a command is fetched
+abbrev pub fetching_of : PortState → List ℕ → Fetching
+fetching_of port memory = record { profile = port.profile; told = commands_told port memory }
+
 pub record FetchesOne (old : PortState) (memory : List ℕ) (new : PortState)
     (memory_after : List ℕ) : Type 0 where
   pub packet : Fetched
   pub looks : may_fetch old ≡ true
-  pub takes : Takes (commands_told old memory) old.commands memory packet new.commands memory_after
-  pub in_order : TakesFirst old.commands memory packet new.commands memory_after
+  pub takes : Takes (fetching_of old memory) old.commands memory packet new.commands memory_after
+  pub in_order : TakesFirst old.commands memory new.commands memory_after
   pub credit : 0 < old.credits
   pub sequential : IsSequential old.profile packet
   pub others : new
@@ -82,7 +87,7 @@ NothingToFetch old memory = may_fetch old ≡ true → FindsNone old.commands me
 pub record TakesPacket (old : PortState) (memory : List ℕ) (packet : Fetched) (new : PortState)
     (memory_after : List ℕ) : Type 0 where
   pub looks : may_fetch old ≡ true
-  pub takes : Takes (commands_told old memory) old.commands memory packet new.commands memory_after
+  pub takes : Takes (fetching_of old memory) old.commands memory packet new.commands memory_after
   pub others : new
       ≡ record old {
         commands = new.commands;
@@ -97,7 +102,7 @@ pub record LosesCommandRing (old : PortState) (memory : List ℕ) : Type 0 where
 -- fatal: its packet isn't there to be read
 pub record LosesCommand (old : PortState) (memory : List ℕ) : Type 0 where
   pub looks : may_fetch old ≡ true
-  pub no_packet : LosesPacket old.commands memory
+  pub no_packet : LosesPacket old.profile old.commands memory
 
 -- fatal in the strict profile: the host had no credit for it
 pub record ExceedsCredits (old : PortState) (memory : List ℕ) (new : PortState)

@@ -3,6 +3,7 @@
 //! UDA50 Programmer's Documentation Kit: ring descriptors.
 ghost use Rattle.std.specs.Prelude.{◌≡◌};
 
+use crate::profile::Profile;
 use uda_mem::HostMemory;
 
 /// The two words of a ring descriptor, which a command ring and a response ring have alike. Every
@@ -36,6 +37,7 @@ impl Descriptor {
     ghost use Rattle.uda_mem.specs.Slices.{IsMemory};
     ghost use Rattle.uda_port.specs.Ring.{descriptor_at, is_owned, address_of, word_given_back};
     ghost use Rattle.uda_port.specs.Interrupt.{is_flagged};
+    ghost use Rattle.uda_port.specs.Packet.{text_address};
 
     /// The descriptor at the address `at`, or None where its four bytes aren't all in memory.
     ///
@@ -87,6 +89,17 @@ impl Descriptor {
         ensures address { result ≡ address_of self }
     {
         u32::from(self.high & ADDRESS_HIGH) << 16 | u32::from(self.low)
+    }
+
+    /// Returns the address of the message text by the profile: for guests without bit 0 and the bits that the bus
+    /// doesn't have.
+    pub(crate) fn text_address(self, profile: Profile) -> u32
+        ensures { result ≡ text_address profile self }
+    {
+        match profile {
+            Profile::Strict => self.address(),
+            Profile::ForGuests(identity) => identity.bus_address(self.address()) / 2 * 2,
+        }
     }
 
     /// The second word as the port writes it to give the descriptor back to the host: the owner bit

@@ -11,10 +11,19 @@ use uda_packet::Envelope;
 /// The bytes of a text.
 pub(crate) const TEXT: u16 = 48;
 
+/// How a command is fetched.
+#[derive(Clone, Copy, Debug, PartialEq, Eq)]
+pub(crate) struct Fetching {
+    /// The profile, by which the address of the text is read.
+    pub(crate) profile: Profile,
+    /// Where the host is told of the ring's transition, if it is.
+    pub(crate) told: Option<u32>,
+}
+
 /// What goes with a text that is delivered.
 #[derive(Clone, Copy, Debug, PartialEq, Eq)]
 pub(crate) struct Delivery {
-    /// The profile, by which the buffer's room is judged.
+    /// The profile, by which the address of the buffer is read and its room is judged.
     pub(crate) profile: Profile,
     /// The credits that the envelope grants.
     pub(crate) credits: u8,

@@ -6,7 +6,8 @@ ghost use Rattle.std.specs.Prelude.{◌≡◌, length};
 ghost use Rattle.uda_port.specs.Interrupt.{IsBelow, memory_told};
 
 use crate::descriptor::Descriptor;
-use crate::packet::{Delivery, Fetched, has_room, packet_at, put_packet};
+use crate::packet::{Delivery, Fetched, Fetching, has_room, packet_at, put_packet};
+use crate::profile::Profile;
 use std::error::Error;
 use std::fmt;
 use std::marker::Model;
@@ -76,7 +77,7 @@ impl Ring {
     ghost use Rattle.uda_port.specs.Ring.{IsRingBase, is_ring_length, descriptor_address, ring_advanced};
     ghost use Rattle.uda_port.specs.Ring.{memory_given_back, next_descriptor};
     ghost use Rattle.uda_port.specs.Interrupt.{transits, ring_before, any_owned, word_below};
-    ghost use Rattle.uda_port.specs.Fetch.{FetchGoes, Looks, OrderKept};
+    ghost use Rattle.uda_port.specs.Fetch.{FetchGoes, Looks, OrderKept, STRICT_FETCHING};
     ghost use Rattle.uda_port.specs.Delivery.{PutGoes};
     ghost use Rattle.uda_port.specs.declared.profile.Profile.TheVariants.{Strict};
 
@@ -150,7 +151,7 @@ impl Ring {
     /// UDA50 Programmer's Documentation Kit: command ring, message envelopes.
     #[tactic(auto, using(crate::proofs::Length::wholes))]
     pub fn fetch(&mut self, memory: &mut HostMemory) -> Result<Option<Fetched>, RingFault>
-        ensures goes { FetchGoes None self.old memory.old result self.new memory.new }
+        ensures goes { FetchGoes STRICT_FETCHING self.old memory.old result self.new memory.new }
         ensures order { OrderKept self.old memory.old result self.new memory.new }
     {
         self.fetch_in(memory.as_mut_slice())
@@ -159,43 +160,47 @@ impl Ring {
     /// The same in memory that is somebody else's: [`fetch`](Ring::fetch) from a slice.
     pub fn fetch_in(&mut self, memory: &mut [u8]) -> Result<Option<Fetched>, RingFault>
         requires memory { IsMemory memory.old }
-        ensures goes { FetchGoes None self.old memory.old result self.new memory.new }
+        ensures goes { FetchGoes STRICT_FETCHING self.old memory.old result self.new memory.new }
         ensures order { OrderKept self.old memory.old result self.new memory.new }
     {
-        self.fetch_told(memory, None)
+        let fetching = Fetching {
+            profile: Profile::Strict,
+            told: None,
+        };
+        self.fetch_by(memory, fetching)
     }
 
-    /// The same where the host is told of the ring's transition in this word, if it is: before the
+    /// Does the same for either profile. Where the host is told of the ring's transition, it is so before the
     /// descriptor is given back.
-    pub(crate) fn fetch_told(
+    pub(crate) fn fetch_by(
         &mut self,
         memory: &mut [u8],
-        told: Option<u32>,
+        fetching: Fetching,
     ) -> Result<Option<Fetched>, RingFault>
         requires memory { IsMemory memory.old }
-        requires below { IsBelow told self.old.base }
-        ensures goes { FetchGoes told self.old memory.old result self.new memory.new }
+        requires below { IsBelow fetching.told self.old.base }
+        ensures goes { FetchGoes fetching self.old memory.old result self.new memory.new }
         ensures order { OrderKept self.old memory.old result self.new memory.new }
         ensures base { self.new.base ≡ self.old.base }
     {
-        self.take(memory, told)
+        self.take(memory, fetching)
     }
 
     // What a fetch does, by the descriptor at the place.
-    fn take(&mut self, memory: &mut [u8], told: Option<u32>) -> Result<Option<Fetched>, RingFault>
+    fn take(&mut self, memory: &mut [u8], fetching: Fetching) -> Result<Option<Fetched>, RingFault>
         requires memory { IsMemory memory.old }
-        requires below { IsBelow told self.old.base }
-        ensures goes { FetchGoes told self.old memory.old result self.new memory.new }
+        requires below { IsBelow fetching.told self.old.base }
+        ensures goes { FetchGoes fetching self.old memory.old result self.new memory.new }
         ensures place { self.old.place < self.old.count }
         ensures base { self.new.base ≡ self.old.base }
     {
         let Some(descriptor) = self.next(memory)? else {
             return Ok(None);
         };
-        let Some(fetched) = packet_at(memory, descriptor.address()) else {
+        let Some(fetched) = packet_at(memory, descriptor.text_address(fetching.profile)) else {
             return Err(RingFault::Packet);
         };
-        tell(memory, told);
+        tell(memory, fetching.told);
         self.give_back(memory, descriptor);
         Ok(Some(fetched))
     }
@@ -229,7 +234,7 @@ impl Ring {
         let Some(descriptor) = self.next(memory)? else {
             return Ok(false);
         };
-        let address = descriptor.address();
+        let address = descriptor.text_address(delivery.profile);
         if !has_room(delivery.profile, memory, address, text.len() as u16) {
             return Err(RingFault::Packet);
         }

@@ -19,7 +19,7 @@ ghost use Rattle.uda_port.specs.Delivery.{PutGoes};
 
 use crate::at_once::answer_at_once;
 use crate::message::{keep_flags, message_in};
-use crate::packet::{Delivery, Message, Notice, TEXT};
+use crate::packet::{Delivery, Fetching, Message, Notice, TEXT};
 use crate::phase::{Fatal, Phase};
 use crate::port::Port;
 use crate::profile::Profile;
@@ -198,7 +198,11 @@ impl<S: BlockStore> Port<S> {
             return Ok(false);
         }
         let told = self.commands_told(memory);
-        let fetched = match self.commands.fetch_told(memory, told) {
+        let fetching = Fetching {
+            profile: self.profile,
+            told,
+        };
+        let fetched = match self.commands.fetch_by(memory, fetching) {
             Ok(None) => return Ok(false),
             Ok(Some(fetched)) => fetched,
             Err(RingFault::Ring) => return Err(Fatal::RingRead),

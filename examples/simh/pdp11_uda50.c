@@ -1,8 +1,9 @@
-/* pdp11_uda50.c: the controller of uda50.h as the device RQ of SIMH 3.8, in place of SIMH's own: of its PDP-11, and
-   of its VAX, a MicroVAX 3900.
+/* pdp11_uda50.c: the controller of uda50.h as the devices RQ, RQB, RQC and RQD of SIMH 3.8, in place of SIMH's own: of
+   its PDP-11, and of its VAX, a MicroVAX 3900.
 
-   The library does what a controller does. This file has the two registers, four units whose files are mapped, the
-   steps of the start-up and the port's turns as timed events, the interrupts, and the guest's memory.
+   The library does what a controller does. For each of the four devices this file has the two registers, four units
+   whose files are mapped, the steps of the start-up and the port's turns as timed events, the interrupts, and the
+   guest's memory.
 
    On a PDP-11 the library works in the memory as SIMH keeps it: an array of words of the host's own order, so the
    host must be little-endian. While the UNIBUS map is on, a window of 248 KB is copied through SIMH's calls instead,
@@ -21,24 +22,61 @@
 #error "the guest's memory is lent as bytes: a little-endian host is needed"
 #endif
 
-enum { UNITS = 4, BLOCK = 512, LINE = 96 };
+enum { CONTROLLERS = 4, UNITS = 4, BLOCK = 512, LINE = 96 };
 
 /* Sizes in blocks: of the largest image that the library takes, and of what RAUSER takes, for which see RQ. */
 enum { LARGEST = 891072, SMALLEST_OF_USER = 10000, MEGABYTE = 1954 };
 
-#define TURNS (rq_unit + UNITS)
-#define STEP (rq_unit + UNITS + 1)
+/* After its drives a device has units for events: of turns, of a word for SA, and of attention messages. */
+#define TURNS(it) ((it)->device->units + UNITS)
+#define STEP(it) ((it)->device->units + UNITS + 1)
+#define TICK(it) ((it)->device->units + UNITS + 2)
 #define UNIT_LOCKED (1u << UNIT_V_UF)
 #define drive_type u3
+#define controller_number u4
 
 extern int32 int_req[IPL_HLVL];
+extern int32 tmr_poll, clk_tps;
 extern UNIT cpu_unit;
 extern FILE *sim_deb;
 extern int32 sim_switches;
 
-static uda50 uda;
-static uint32 uda_bus;
-static uda50_file files[UNITS];
+DEVICE rq_dev, rqb_dev, rqc_dev, rqd_dev;
+
+t_stat rq_rd(int32 *data, int32 address, int32 access);
+t_stat rq_wr(int32 data, int32 address, int32 access);
+t_stat rq_turn(UNIT *unit);
+t_stat rq_step(UNIT *unit);
+t_stat rq_tick(UNIT *unit);
+t_stat rq_reset(DEVICE *device);
+t_stat rq_boot(int32 number, DEVICE *device);
+t_stat rq_attach(UNIT *unit, char *path);
+t_stat rq_detach(UNIT *unit);
+t_stat rq_set_type(UNIT *unit, int32 type, char *text, void *desc);
+t_stat rq_show_type(FILE *to, UNIT *unit, int32 value, void *desc);
+t_stat rq_set_lock(UNIT *unit, int32 locked, char *text, void *desc);
+t_stat rq_show_lock(FILE *to, UNIT *unit, int32 value, void *desc);
+t_stat rq_show_rings(FILE *to, UNIT *unit, int32 value, void *desc);
+int32 rq_acknowledge(void);
+
+typedef struct {
+    DIB dib; /* a device's context, and so the way from the device to its controller */
+    DEVICE *device;
+    uda50 uda;
+    uint32 bus;
+    uda50_file files[UNITS];
+    int32 word;    /* was written to SA: the library gets it at an event */
+    int32 request; /* for an interrupt: the processor hasn't granted it yet */
+    uint32 news;   /* units, a bit each, for which an attention message may be due */
+} controller;
+
+#define REGISTERS(address, length) {address, length, &rq_rd, &rq_wr, 1, IVCL(RQ), 0, {&rq_acknowledge}}
+static controller controllers[CONTROLLERS] = {
+    {.dib = REGISTERS(IOBA_RQ, IOLN_RQ), .device = &rq_dev},
+    {.dib = REGISTERS(IOBA_RQB, IOLN_RQB), .device = &rqb_dev},
+    {.dib = REGISTERS(IOBA_RQC, IOLN_RQC), .device = &rqc_dev},
+    {.dib = REGISTERS(IOBA_RQD, IOLN_RQD), .device = &rqd_dev},
+};
 
 /* The drive types by the library's numbers. After them SIMH's RAUSER, an RA82 with as many blocks as the user says. */
 enum { RAUSER = UDA50_RRD40 + 1 };
@@ -54,52 +92,16 @@ static struct {
     [RAUSER] = {"RAUSER", 1216665},
 };
 
-/* Events of the simulator before a step of the start-up and before the last one, as RQ has them; and the word that
-   was written to SA, which the library gets then. */
-static int32 rq_itime = 200, rq_itime4 = 10, rq_word;
+/* Events of the simulator before a step of the start-up and before the last one, as RQ has them. */
+static int32 rq_itime = 200, rq_itime4 = 10;
 
-/* Events of the simulator between turns, and behind one that executed a command; how many turns an event has. */
+/* Events of the simulator between turns, and after one that executed a command, as RQ has them; how many turns an
+   event has. */
+#if defined(VM_VAX)
+static int32 rq_qtime = 100, rq_xtime = 200, rq_turns = 1;
+#else
 static int32 rq_qtime = 200, rq_xtime = 500, rq_turns = 1;
-
-t_stat rq_rd(int32 *data, int32 address, int32 access);
-t_stat rq_wr(int32 data, int32 address, int32 access);
-t_stat rq_turn(UNIT *unit);
-t_stat rq_step(UNIT *unit);
-t_stat rq_reset(DEVICE *device);
-t_stat rq_boot(int32 number, DEVICE *device);
-t_stat rq_attach(UNIT *unit, char *path);
-t_stat rq_detach(UNIT *unit);
-t_stat rq_set_type(UNIT *unit, int32 type, char *text, void *desc);
-t_stat rq_show_type(FILE *to, UNIT *unit, int32 value, void *desc);
-t_stat rq_set_lock(UNIT *unit, int32 locked, char *text, void *desc);
-t_stat rq_show_lock(FILE *to, UNIT *unit, int32 value, void *desc);
-t_stat rq_show_rings(FILE *to, UNIT *unit, int32 value, void *desc);
-int32 rq_acknowledge(void);
-
-DIB rq_dib = {IOBA_RQ, IOLN_RQ, &rq_rd, &rq_wr, 1, IVCL(RQ), 0, {&rq_acknowledge}};
-
-#define DRIVE(type, blocks) \
-    {UDATA(NULL, UNIT_FIX + UNIT_ATTABLE + UNIT_DISABLE + UNIT_ROABLE, blocks * BLOCK), .drive_type = type}
-UNIT rq_unit[] = {
-    DRIVE(UDA50_RD54, 311200),
-    DRIVE(UDA50_RD54, 311200),
-    DRIVE(UDA50_RD54, 311200),
-    DRIVE(UDA50_RX50, 800),
-    {UDATA(&rq_turn, UNIT_DIS, 0)},
-    {UDATA(&rq_step, UNIT_DIS, 0)},
-};
-
-REG rq_reg[] = {
-    {GRDATA(VEC, rq_dib.vec, DEV_RDX, 16, 0), REG_RO},
-    {GRDATA(SAW, rq_word, DEV_RDX, 16, 0), REG_RO},
-    {DRDATA(ITIME, rq_itime, 24), PV_LEFT + REG_NZ},
-    {DRDATA(I4TIME, rq_itime4, 24), PV_LEFT + REG_NZ},
-    {DRDATA(QTIME, rq_qtime, 24), PV_LEFT + REG_NZ},
-    {DRDATA(XTIME, rq_xtime, 24), PV_LEFT + REG_NZ},
-    {DRDATA(TURNS, rq_turns, 16), PV_LEFT + REG_NZ},
-    {FLDATA(INT, IREQ(RQ), INT_V_RQ)},
-    {NULL},
-};
+#endif
 
 #if defined(VM_VAX)
 #define SET_ADDRESS NULL, NULL
@@ -136,8 +138,78 @@ MTAB rq_mod[] = {
     {0},
 };
 
-DEVICE rq_dev = {"RQ", rq_unit, rq_reg, rq_mod, UNITS + 2, DEV_RDX, T_ADDR_W, 2, DEV_RDX, 16, NULL, NULL, &rq_reset,
-                 &rq_boot, &rq_attach, &rq_detach, &rq_dib, DEV_FLTA | DEV_DISABLE | DEV_UBUS | DEV_QBUS | DEV_DEBUG};
+#define DRIVE(n, type, blocks)                                                                  \
+    {                                                                                           \
+        UDATA(NULL, UNIT_FIX + UNIT_ATTABLE + UNIT_DISABLE + UNIT_ROABLE, blocks * BLOCK),      \
+            .drive_type = type, .controller_number = n                                          \
+    }
+#define EVENT(n, call) {UDATA(&call, UNIT_DIS, 0), .controller_number = n}
+#define UNITS_OF(n, type, blocks)                                                               \
+    {                                                                                           \
+        DRIVE(n, UDA50_RD54, 311200), DRIVE(n, UDA50_RD54, 311200), DRIVE(n, UDA50_RD54, 311200), \
+            DRIVE(n, type, blocks), EVENT(n, rq_turn), EVENT(n, rq_step), EVENT(n, rq_tick)     \
+    }
+#define REGISTERS_OF(n)                                                                         \
+    {GRDATA(VEC, controllers[n].dib.vec, DEV_RDX, 16, 0), REG_RO},                              \
+        {GRDATA(SAW, controllers[n].word, DEV_RDX, 16, 0), REG_RO},                             \
+        {FLDATA(INT, controllers[n].request, 0)}
+#define DEVICE_OF(n, name, units, registers, flags)                                             \
+    {                                                                                           \
+        name, units, registers, rq_mod, UNITS + 3, DEV_RDX, T_ADDR_W, 2, DEV_RDX, 16, NULL, NULL, &rq_reset, \
+            &rq_boot, &rq_attach, &rq_detach, &controllers[n].dib,                              \
+            DEV_FLTA | DEV_DISABLE | DEV_UBUS | DEV_QBUS | DEV_DEBUG | (flags)                  \
+    }
+
+static UNIT rq_unit[] = UNITS_OF(0, UDA50_RX50, 800);
+static UNIT rqb_unit[] = UNITS_OF(1, UDA50_RD54, 311200);
+static UNIT rqc_unit[] = UNITS_OF(2, UDA50_RD54, 311200);
+static UNIT rqd_unit[] = UNITS_OF(3, UDA50_RD54, 311200);
+
+static REG rq_reg[] = {
+    REGISTERS_OF(0),
+    {DRDATA(ITIME, rq_itime, 24), PV_LEFT + REG_NZ},
+    {DRDATA(I4TIME, rq_itime4, 24), PV_LEFT + REG_NZ},
+    {DRDATA(QTIME, rq_qtime, 24), PV_LEFT + REG_NZ},
+    {DRDATA(XTIME, rq_xtime, 24), PV_LEFT + REG_NZ},
+    {DRDATA(TURNS, rq_turns, 16), PV_LEFT + REG_NZ},
+    {NULL},
+};
+static REG rqb_reg[] = {REGISTERS_OF(1), {NULL}};
+static REG rqc_reg[] = {REGISTERS_OF(2), {NULL}};
+static REG rqd_reg[] = {REGISTERS_OF(3), {NULL}};
+
+DEVICE rq_dev = DEVICE_OF(0, "RQ", rq_unit, rq_reg, 0);
+DEVICE rqb_dev = DEVICE_OF(1, "RQB", rqb_unit, rqb_reg, DEV_DIS);
+DEVICE rqc_dev = DEVICE_OF(2, "RQC", rqc_unit, rqc_reg, DEV_DIS);
+DEVICE rqd_dev = DEVICE_OF(3, "RQD", rqd_unit, rqd_reg, DEV_DIS);
+
+static controller *of_unit(UNIT *unit)
+{
+    return &controllers[unit->controller_number];
+}
+
+static uint32 number_of(UNIT *unit)
+{
+    return (uint32)(unit - of_unit(unit)->device->units);
+}
+
+static controller *of_address(int32 address)
+{
+    for (controller *it = controllers; it < controllers + CONTROLLERS; it++)
+        if ((uint32)address >= it->dib.ba && (uint32)address < it->dib.ba + it->dib.lnt)
+            return it;
+    return NULL;
+}
+
+/* The number by which a guest knows a controller's first unit: on a PDP-11 the controllers count on. */
+static uint16 first_unit(controller *it)
+{
+#if defined(VM_VAX)
+    return 0;
+#else
+    return (uint16)(UNITS * (it - controllers));
+#endif
+}
 
 /* The guest's memory as the bus shows it. */
 typedef struct {
@@ -179,17 +251,17 @@ static void take_memory_back(void)
 
 #else
 
-enum { UNIBUS_BYTES = 0760000, QBUS_BYTES = 017760000, PAGE = 020000 };
+enum { UNIBUS_BYTES = 0760000, PAGE = 020000 };
 
 extern uint16 *M;
 extern uint32 cpu_bme, cpu_opt;
+extern t_addr cpu_memsize; /* without the I/O page */
 extern int32 saved_PC;
 static uint16 window[UNIBUS_BYTES / 2], before[UNIBUS_BYTES / 2];
 
 static bus_memory lend_memory(void)
 {
-    uint32 limit = UNIBUS ? UNIBUS_BYTES : QBUS_BYTES;
-    bus_memory memory = {(uint8 *)M, (uint32)MEMSIZE < limit ? (uint32)MEMSIZE : limit};
+    bus_memory memory = {(uint8 *)M, (size_t)cpu_memsize};
 
     if (cpu_bme) {
         memset(window, 0, sizeof window);
@@ -210,85 +282,112 @@ static void take_memory_back(void)
 
 #endif
 
-static void interrupt(void)
+/* A processor has one request for all controllers, and asks by rq_acknowledge which of them it is. */
+static void request_interrupt(controller *it)
 {
     uint16_t vector;
 
-    while (uda50_take_interrupt(&uda, &vector)) {
-        rq_dib.vec = vector + VEC_Q;
+    while (uda50_take_interrupt(&it->uda, &vector)) {
+        it->request = 1;
         SET_INT(RQ);
     }
 }
 
-int32 rq_acknowledge(void)
+static void clear_request(controller *it)
 {
+    it->request = 0;
     CLR_INT(RQ);
-    return rq_dib.vec;
+    for (int n = 0; n < CONTROLLERS; n++)
+        if (controllers[n].request)
+            SET_INT(RQ);
 }
 
-static void wake(int32 delay)
+int32 rq_acknowledge(void)
 {
-    if (!sim_is_active(TURNS))
-        sim_activate(TURNS, delay);
+    for (controller *it = controllers; it < controllers + CONTROLLERS; it++)
+        if (it->request) {
+            clear_request(it);
+            return it->dib.vec;
+        }
+    return 0;
+}
+
+static void wake(controller *it)
+{
+    if (!sim_is_active(TURNS(it)))
+        sim_activate(TURNS(it), rq_qtime);
 }
 
 t_stat rq_rd(int32 *data, int32 address, int32 access)
 {
+    controller *it = of_address(address);
+
+    if (it == NULL)
+        return SCPE_IERR;
     if (address & 2)
-        *data = uda50_read_sa(&uda);
+        *data = uda50_read_sa(&it->uda);
     else {
-        *data = uda50_read_ip(&uda);
-        interrupt();
-        wake(rq_qtime);
+        *data = uda50_read_ip(&it->uda);
+        request_interrupt(it);
+        wake(it);
     }
     return SCPE_OK;
 }
 
-static void begin_anew(void)
+static void begin_anew(controller *it)
 {
-    sim_cancel(TURNS);
-    sim_cancel(STEP);
-    CLR_INT(RQ);
-    rq_dib.vec = 0;
-    uda50_write_ip(&uda, 0);
+    sim_cancel(TURNS(it));
+    sim_cancel(STEP(it));
+    sim_cancel(TICK(it));
+    clear_request(it);
+    it->dib.vec = 0;
+    it->news = 0;
+    uda50_write_ip(&it->uda, 0);
 }
 
 /* A word for SA waits for its event, and a later one takes its place. A write to IP drops it. */
 t_stat rq_wr(int32 data, int32 address, int32 access)
 {
+    controller *it = of_address(address);
     uda50_state state;
 
-    if (address & 2) {
-        rq_word = data;
-        uda50_get_state(&uda, &state);
-        sim_activate(STEP, state.phase == UDA50_PHASE_STEP_4 ? rq_itime4 : rq_itime);
-    } else
-        begin_anew();
+    if (it == NULL)
+        return SCPE_IERR;
+    if ((address & 2) == 0)
+        begin_anew(it);
+    else if (uda50_get_state(&it->uda, &state) == UDA50_OK) {
+        it->word = data;
+        sim_activate(STEP(it), state.phase == UDA50_PHASE_STEP_4 ? rq_itime4 : rq_itime);
+    }
     return SCPE_OK;
 }
 
 t_stat rq_step(UNIT *unit)
 {
+    controller *it = of_unit(unit);
     bus_memory memory = lend_memory();
+    uda50_state state;
 
-    uda50_write_sa(&uda, (uint16_t)rq_word, memory.at, memory.length);
+    uda50_write_sa(&it->uda, (uint16_t)it->word, memory.at, memory.length);
     take_memory_back();
-    interrupt();
+    if (uda50_get_state(&it->uda, &state) == UDA50_OK && state.vector != 0)
+        it->dib.vec = state.vector + VEC_Q;
+    request_interrupt(it);
     return SCPE_OK;
 }
 
 /* One turn at a time, each with its line. */
-static uint32 traced_turns(bus_memory memory)
+static uint32 traced_turns(controller *it, bus_memory memory)
 {
     uint32 kind = UDA50_IDLE;
     uint8_t line[LINE];
 
     for (int32 turn = 0; turn < rq_turns; turn++) {
-        kind = uda50_turn(&uda, memory.at, memory.length);
+        kind = uda50_turn(&it->uda, memory.at, memory.length);
         if (kind == UDA50_IDLE || kind >= UDA50_DEAD)
             break;
-        if (uda50_format_last_turn(&uda, line, sizeof line) == UDA50_OK)
-            fprintf(sim_deb, ">>RQ: %s\n", line);
+        if (uda50_format_last_turn(&it->uda, line, sizeof line) == UDA50_OK)
+            fprintf(sim_deb, ">>%s: %s\n", it->device->name, line);
     }
     return kind;
 }
@@ -296,17 +395,34 @@ static uint32 traced_turns(bus_memory memory)
 /* An event: some turns; and the next one later, while something is left to do or an end waits for a descriptor. */
 t_stat rq_turn(UNIT *unit)
 {
+    controller *it = of_unit(unit);
     bus_memory memory = lend_memory();
-    uint32 kind = DEBUG_PRS(rq_dev) ? traced_turns(memory)
-                                    : uda50_run(&uda, (uint32_t)rq_turns, memory.at, memory.length);
+    uint32 kind = DEBUG_PRD(it->device) ? traced_turns(it, memory)
+                                        : uda50_run(&it->uda, (uint32_t)rq_turns, memory.at, memory.length);
+    uda50_turn_record last;
     uda50_state state;
 
     take_memory_back();
-    interrupt();
-    if (kind == UDA50_IDLE && uda50_get_state(&uda, &state) == UDA50_OK && state.queued == 0)
+    request_interrupt(it);
+    if (kind == UDA50_NOTIFIED && uda50_get_last_turn(&it->uda, &last) == UDA50_OK)
+        it->news &= ~(1u << (last.unit - first_unit(it)));
+    if (kind == UDA50_IDLE && uda50_get_state(&it->uda, &state) == UDA50_OK && state.queued == 0)
         return SCPE_OK;
     if (kind < UDA50_DEAD)
-        wake(kind == UDA50_EXECUTED ? rq_xtime : rq_qtime);
+        sim_activate(unit, kind == UDA50_EXECUTED ? rq_xtime : rq_qtime);
+    return SCPE_OK;
+}
+
+/* A turn each second while an attention message may be due: it may wait for a response descriptor, and the guest
+   frees one by a write to its memory. */
+t_stat rq_tick(UNIT *unit)
+{
+    controller *it = of_unit(unit);
+
+    if (it->news != 0) {
+        wake(it);
+        sim_activate(unit, tmr_poll * clk_tps);
+    }
     return SCPE_OK;
 }
 
@@ -314,33 +430,34 @@ static uint32 tell_type(UNIT *unit)
 {
     uint32 type = unit->drive_type == RAUSER ? UDA50_RA82 : (uint32)unit->drive_type;
 
-    return uda50_set_type(&uda, (uint32)(unit - rq_unit), type);
+    return uda50_set_type(&of_unit(unit)->uda, number_of(unit), type);
 }
 
 /* Makes the controller, or makes it anew on another bus: the units keep their types and images. */
-static t_stat make_controller(uint32 bus)
+static t_stat make_controller(controller *it, uint32 bus)
 {
     uda50_image images[UDA50_UNITS] = {{NULL, 0}};
     uint32 status;
 
-    uda50_free(&uda, images);
-    status = uda50_new_as(&uda, bus, 0);
+    uda50_free(&it->uda, images);
+    status = uda50_new_as(&it->uda, bus, first_unit(it));
     for (uint32 n = 0; status == UDA50_OK && n < UNITS; n++) {
-        files[n].image = images[n];
-        status = tell_type(rq_unit + n);
+        it->files[n].image = images[n];
+        status = tell_type(it->device->units + n);
         if (status == UDA50_OK && images[n].length != 0)
-            status = uda50_file_attach(&uda, n, &files[n]);
+            status = uda50_file_attach(&it->uda, n, &it->files[n]);
     }
-    uda_bus = bus;
+    it->bus = bus;
     return status == UDA50_OK ? SCPE_OK : SCPE_MEM;
 }
 
 t_stat rq_reset(DEVICE *device)
 {
+    controller *it = (controller *)device->ctxt;
     uint32 bus = UNIBUS ? UDA50_UNIBUS : UDA50_QBUS;
-    t_stat status = uda.at == NULL || uda_bus != bus ? make_controller(bus) : SCPE_OK;
+    t_stat status = it->uda.at == NULL || it->bus != bus ? make_controller(it, bus) : SCPE_OK;
 
-    begin_anew();
+    begin_anew(it);
     return status == SCPE_OK ? auto_config(0, 0) : status;
 }
 
@@ -361,41 +478,56 @@ static int map_file(UNIT *unit, uda50_file *file)
     return uda50_file_open(file, unit->filename, read_only);
 }
 
+/* A running guest may be told of a volume. */
+static void announce(controller *it, uint32 number)
+{
+    uda50_state state;
+
+    if (uda50_get_state(&it->uda, &state) != UDA50_OK || state.phase != UDA50_PHASE_RUNNING)
+        return;
+    it->news |= 1u << number;
+    wake(it);
+    sim_activate(TICK(it), tmr_poll * clk_tps);
+}
+
 t_stat rq_attach(UNIT *unit, char *path)
 {
-    uint32 number = (uint32)(unit - rq_unit);
+    controller *it = of_unit(unit);
+    uint32 number = number_of(unit);
     t_stat status = attach_unit(unit, path);
-    uda50_file *file = &files[number];
+    uda50_file *file = &it->files[number];
     int fault;
 
     if (status != SCPE_OK)
         return status;
     fault = map_file(unit, file);
     if (fault != UDA50_FILE_OK) {
-        printf("%s: %s\n", rq_dev.name, uda50_file_text(fault));
+        printf("%s: %s\n", it->device->name, uda50_file_text(fault));
         detach_unit(unit);
         return SCPE_OPENERR;
     }
     if (file->image.length > unit->capac)
         file->image.length = (size_t)unit->capac;
-    if (tell_type(unit) != UDA50_OK || uda50_file_attach(&uda, number, file) != UDA50_OK) {
+    if (tell_type(unit) != UDA50_OK || uda50_file_attach(&it->uda, number, file) != UDA50_OK) {
         uda50_file_close(file);
         detach_unit(unit);
         return SCPE_OPENERR;
     }
-    wake(rq_qtime); /* a guest may be told of it */
+    announce(it, number);
     return SCPE_OK;
 }
 
 t_stat rq_detach(UNIT *unit)
 {
-    uint32 number = (uint32)(unit - rq_unit);
+    controller *it = of_unit(unit);
+    uint32 number = number_of(unit);
 
-    if (uda50_detach(&uda, number, &files[number].image) == UDA50_OK) {
-        int fault = uda50_file_close(&files[number]);
+    if (uda50_detach(&it->uda, number, &it->files[number].image) == UDA50_OK) {
+        int fault = uda50_file_close(&it->files[number]);
         if (fault != UDA50_FILE_OK)
-            printf("%s: %s\n", rq_dev.name, uda50_file_text(fault));
+            printf("%s: %s\n", it->device->name, uda50_file_text(fault));
     }
+    it->news &= ~(1u << number);
     return detach_unit(unit);
 }
 
@@ -452,7 +584,7 @@ t_stat rq_show_rings(FILE *to, UNIT *unit, int32 value, void *desc)
 {
     uda50_state state;
 
-    if (uda50_get_state(&uda, &state) != UDA50_OK)
+    if (uda50_get_state(&of_unit(unit)->uda, &state) != UDA50_OK)
         return SCPE_OK;
     fprintf(to, "phase %u, SA = %06o, vector = %o, %u credits, %u pending, %u waiting\n", state.phase, state.sa,
             state.vector, state.credits, state.pending, state.queued);
@@ -476,10 +608,12 @@ t_stat rq_boot(int32 number, DEVICE *device)
 
 t_stat rq_boot(int32 number, DEVICE *device)
 {
+    controller *it = (controller *)device->ctxt;
+
     for (size_t i = 0; i < BOOT_LEN; i++)
         M[(BOOT_START >> 1) + i] = boot_rom[i];
-    M[BOOT_UNIT >> 1] = (uint16)(number & 3);
-    M[BOOT_CSR >> 1] = (uint16)(rq_dib.ba & DMASK);
+    M[BOOT_UNIT >> 1] = (uint16)(first_unit(it) + number);
+    M[BOOT_CSR >> 1] = (uint16)(it->dib.ba & DMASK);
     saved_PC = BOOT_ENTRY;
     return SCPE_OK;
 }

@@ -405,7 +405,7 @@ t_stat rq_turn(UNIT *unit)
     take_memory_back();
     request_interrupt(it);
     if (kind == UDA50_NOTIFIED && uda50_get_last_turn(&it->uda, &last) == UDA50_OK)
-        it->news &= ~(1u << (last.unit - first_unit(it)));
+        it->news &= ~(1u << last.unit % UNITS);
     if (kind == UDA50_IDLE && uda50_get_state(&it->uda, &state) == UDA50_OK && state.queued == 0)
         return SCPE_OK;
     if (kind < UDA50_DEAD)

@@ -24,8 +24,8 @@
 
 enum { CONTROLLERS = 4, UNITS = 4, BLOCK = 512, LINE = 96 };
 
-/* Sizes in blocks: of the largest image that the library takes, and of what RAUSER takes, for which see RQ. */
-enum { LARGEST = 891072, SMALLEST_OF_USER = 10000, MEGABYTE = 1954 };
+/* Sizes of RAUSER in blocks, as RQ has them: the smallest, what is above the largest, and a megabyte. */
+enum { USER_MIN = 10000, USER_LIMIT = sizeof(t_addr) > 4 ? 2000000000 : 4000000, MEGABYTE = 1954 };
 
 /* After its drives a device has units for events: of turns, of a word for SA, and of attention messages. */
 #define TURNS(it) ((it)->device->units + UNITS)
@@ -541,15 +541,15 @@ t_stat rq_set_type(UNIT *unit, int32 type, char *text, void *desc)
     if (unit->flags & UNIT_ATT)
         return SCPE_ALATT;
     if (text != NULL) {
-        uint32 number = (uint32)get_uint(text, 10, LARGEST, &status);
-        uint32 blocks = sim_switches & SWMASK('L') ? number : number * MEGABYTE;
+        uint32 size = sim_switches & SWMASK('L') ? 1 : MEGABYTE;
+        t_value number = get_uint(text, 10, (USER_LIMIT - 1) / size, &status);
 
-        if (status != SCPE_OK || blocks < SMALLEST_OF_USER || blocks > LARGEST)
+        if (status != SCPE_OK || number * size < USER_MIN)
             return SCPE_ARG;
-        types[type].blocks = blocks;
+        types[type].blocks = (uint32)number * size;
     }
     unit->drive_type = type;
-    unit->capac = (t_addr)(types[type].blocks < LARGEST ? types[type].blocks : LARGEST) * BLOCK;
+    unit->capac = (t_addr)types[type].blocks * BLOCK;
     return tell_type(unit) == UDA50_OK ? SCPE_OK : SCPE_IERR;
 }
 

@@ -53,8 +53,7 @@ fn message_of(profile: Profile, connection: u8, packet: &Fetched) -> Result<Comm
         Profile::ForGuests(identity) if connection == DUP => {
             Err(other_connection_reply(&text_by_length(packet), identity))
         }
-        Profile::Strict => mscp_message(profile, packet),
-        Profile::ForGuests(_) => mscp_message(profile, packet),
+        Profile::Strict | Profile::ForGuests(_) => mscp_message(profile, packet),
     }
 }
 

@@ -286,7 +286,9 @@ impl<S: BlockStore> Port<S> {
         Ok(true)
     }
 
-    // Where no end waits: delivers the first attention message that is due, where the response ring takes it.
+    // Where no end waits: delivers the first attention message that is due, where the response ring takes it. That is
+    // rare, so it isn't inlined.
+    #[inline(never)]
     fn notify(&mut self, memory: &mut [u8]) -> Result<bool, Fatal>
         requires memory { IsMemory memory.old }
         requires none { self.old.waiting ≡ [] }
@@ -415,6 +417,7 @@ impl<S: BlockStore> Port<S> {
 }
 
 // Delivers a message to a response ring.
+#[inline(always)]
 fn put_message(
     responses: &mut Ring,
     memory: &mut [u8],

@@ -10,11 +10,11 @@ SUCCESS = 0x0000
 abbrev pub ALREADY_ONLINE : ℕ
 ALREADY_ONLINE = 0x0100
 
--- invalid command: its length, its opcode, its modifiers, its version
 -- MSCP: Abort
 abbrev pub ABORTED : ℕ
 ABORTED = 0x0002
 
+-- invalid command: its length, its opcode, its modifiers, its version
 abbrev pub INVALID_LENGTH : ℕ
 INVALID_LENGTH = 0x0001
 
@@ -52,6 +52,10 @@ HARDWARE_PROTECTED = 0x2006
 abbrev pub SOFTWARE_PROTECTED : ℕ
 SOFTWARE_PROTECTED = 0x1006
 
+-- compare error: the host's buffer differs from the unit's blocks
+abbrev pub COMPARE_ERROR : ℕ
+COMPARE_ERROR = 0x0007
+
 -- host buffer access: an odd address, an odd byte count, memory that isn't there
 abbrev pub ODD_ADDRESS : ℕ
 ODD_ADDRESS = 0x0029
@@ -82,6 +86,7 @@ status_name word =
     else if word == AVAILABLE then codes "available"
     else if word == HARDWARE_PROTECTED then codes "hardware write protected"
     else if word == SOFTWARE_PROTECTED then codes "software write protected"
+    else if word == COMPARE_ERROR then codes "compare error"
     else if word == ODD_ADDRESS then codes "odd buffer address"
     else if word == ODD_COUNT then codes "odd byte count"
     else if word == NO_SUCH_MEMORY then codes "no such memory"

@@ -35,6 +35,9 @@ pub const NO_VOLUME: u16 = 0x0023;
 /// The unit is available and not online.
 pub const AVAILABLE: u16 = 0x0004;
 
+/// The host's buffer differs from the unit's blocks.
+pub const COMPARE_ERROR: u16 = 0x0007;
+
 /// The host buffer's address is odd.
 pub const ODD_ADDRESS: u16 = 0x0029;
 
@@ -79,6 +82,7 @@ pub fn name(status: u16) -> &'static str
         AVAILABLE => "available",
         HARDWARE_PROTECTED => "hardware write protected",
         SOFTWARE_PROTECTED => "software write protected",
+        COMPARE_ERROR => "compare error",
         ODD_ADDRESS => "odd buffer address",
         ODD_COUNT => "odd byte count",
         NO_SUCH_MEMORY => "no such memory",

@@ -2,7 +2,7 @@
 use Rattle.std.proofs.Common.{◌≡◌, ℕ, ◌==◌, Bool, true, false, Option, Some, None, List, [], ◌∷◌, refl, ap, ◌∙◌}
 use Rattle.uda_packet.specs.declared.reply.Reply.{Reply}
 use Rattle.uda_packet.specs.declared.reply.ReplyBody.{ReplyBody}
-use Rattle.uda_packet.specs.declared.reply.ReplyBody.TheVariants.{Basic, Abort, CommandStatus, AccessPaths, CompareController, Flush}
+use Rattle.uda_packet.specs.declared.reply.ReplyBody.TheVariants.{Basic, Abort, CommandStatus, AccessPaths, CompareController, Flush, SetUnit, Compare}
 use Rattle.uda_packet.specs.declared.end.EndBody.{EndBody}
 use Rattle.uda_packet.specs.declared.end.EndBody.TheVariants as body
 use Rattle.uda_packet.specs.declared.guest_end.Report.{Report}
@@ -53,6 +53,8 @@ module _ (reference number code status : ℕ) where
   of_reply r AccessPaths = refl
   of_reply r CompareController = refl
   of_reply r Flush = refl
+  of_reply r (SetUnit flags size) = of_basic (status == ABORTED) r (body.Online flags size)
+  of_reply r (Compare bytes) = refl
 
 -- the same of a whole end message, by what its head and its fields were written as
 pub writes_guest_end : (r : Report) (e : Reply) (number code : ℕ) (before after : List ℕ)

@@ -17,7 +17,7 @@ use Rattle.uda_packet.specs.Written.{written_command, written_end}
 use Rattle.uda_packet.specs.Range.{EntriesFit}
 use Rattle.uda_packet.specs.declared.reply.Reply.{Reply}
 use Rattle.uda_packet.specs.declared.reply.ReplyBody.{ReplyBody}
-use Rattle.uda_packet.specs.declared.reply.ReplyBody.TheVariants.{Basic, Abort, CommandStatus, AccessPaths, CompareController, Flush}
+use Rattle.uda_packet.specs.declared.reply.ReplyBody.TheVariants.{Basic, Abort, CommandStatus, AccessPaths, CompareController, Flush, SetUnit, Compare}
 use Rattle.uda_packet.specs.Reply.{basic_reply, reply_code, reply_entries, reply_named, ReplyFits, read_reply, written_reply}
 
 -- a command and an end message whose numbers are in the ranges of their types
@@ -300,6 +300,13 @@ module _ (reference unit status : ℕ) where
   reply_lawful AccessPaths = record { entries = refl; long = refl; text = λ h. refl }
   reply_lawful CompareController = record { entries = refl; long = refl; text = λ h. refl }
   reply_lawful Flush = record { entries = refl; long = refl; text = λ h. refl }
+  reply_lawful (SetUnit flags size) = record {
+    entries = refl;
+    long = refl;
+    text = λ h. two (λ x y. Some (SetUnit x y)) (word_back flags h.0) (long_back size h.1);
+  }
+  reply_lawful (Compare bytes) =
+      record { entries = refl; long = refl; text = λ h. one (λ x. Some (Compare x)) (long_back bytes h) }
 
 reply_is_lawful : (r : Reply)
     → LawfulReply r.reference r.unit r.status r.body (reply_entries r.unit r.status r.body)

@@ -19,6 +19,10 @@ use Rattle.uda_packet.specs.Flags.{next_unit}
 use Rattle.uda_packet.specs.Opcode.{opcode_of, allowed_modifiers, op_named}
 use Rattle.uda_packet.specs.Bad.{bad_end}
 use Rattle.uda_packet.specs.Reading.{read_command}
+use Rattle.uda_packet.specs.declared.guest_command.GuestCommand.{GuestCommand}
+use Rattle.uda_packet.specs.declared.guest_command.GuestOp.{GuestOp}
+use Rattle.uda_packet.specs.declared.guest_command.GuestOp.TheVariants as guest
+use Rattle.uda_packet.specs.GuestCommands.{guest_op, opcode_resembled}
 use Rattle.uda_packet.specs.Reply.{basic_reply}
 use Rattle.uda_packet.specs.declared.end.EndBody.TheVariants.{Invalid}
 use Rattle.uda_disk.specs.Status.{SUCCESS, INVALID_OPCODE}
@@ -100,7 +104,24 @@ asked_by identity bytes (Some answer) =
     })
 asked_by identity bytes None = reply_to_bad (read_command (plain_text identity bytes))
 
--- a command to be executed, or the end message of one that is answered at once or is invalid; its unit is the
--- drive that the guest means
-abbrev pub read_guest : Identity → List ℕ → Result Command Reply
-read_guest identity bytes = asked_by identity bytes (body_at_once (number_in code_field bytes) bytes)
+-- the command of a text that the strict profile knows, or the end message of one that is answered at once or is
+-- invalid; its unit is the drive that the guest means
+abbrev pub read_resembled : Identity → List ℕ → Result Command Reply
+read_resembled identity bytes = asked_by identity bytes (body_at_once (number_in code_field bytes) bytes)
+
+-- the text of the command whose parameters this one has: only the opcode differs
+abbrev pub resembled_text : List ℕ → List ℕ
+resembled_text bytes = with_number code_field (opcode_resembled (number_in code_field bytes)) bytes
+
+-- what is to be done with the command, if it is one
+abbrev pub asked_as : GuestOp → Result Command Reply → Result GuestCommand Reply
+asked_as op (Ok c) = Ok (record { command = c; op = op })
+asked_as op (Err r) = Err r
+
+abbrev pub read_as : GuestOp → Identity → List ℕ → Result GuestCommand Reply
+read_as guest.Basic identity bytes = asked_as guest.Basic (read_resembled identity bytes)
+read_as op identity bytes = asked_as op (read_resembled identity (resembled_text bytes))
+
+-- a command to be executed, or the end message of one that is answered at once or is invalid
+abbrev pub read_guest : Identity → List ℕ → Result GuestCommand Reply
+read_guest identity bytes = read_as (guest_op (number_in code_field bytes)) identity bytes

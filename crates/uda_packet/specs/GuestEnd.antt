@@ -8,7 +8,7 @@ use Rattle.uda_disk.specs.Status.{SUCCESS, ABORTED}
 use Rattle.uda_packet.specs.declared.drive_type.DriveTraits.{DriveTraits}
 use Rattle.uda_packet.specs.declared.reply.Reply.{Reply}
 use Rattle.uda_packet.specs.declared.reply.ReplyBody.{ReplyBody}
-use Rattle.uda_packet.specs.declared.reply.ReplyBody.TheVariants.{Basic}
+use Rattle.uda_packet.specs.declared.reply.ReplyBody.TheVariants.{Basic, SetUnit}
 use Rattle.uda_packet.specs.Reply.{reply_code, reply_entries}
 use Rattle.uda_packet.specs.declared.end.EndBody.{EndBody}
 use Rattle.uda_packet.specs.declared.end.EndBody.TheVariants as body
@@ -119,9 +119,12 @@ abbrev pub basic_entries : Bool → Report → ℕ → ℕ → EndBody → List 
 basic_entries true r number status b = []
 basic_entries false r number status b = guest_entries r number status b
 
--- the same of any message; one that only the profile for guests knows has what it answers
+-- the same of any message; Set Unit Characteristics reports what Online does, and any other that only the profile
+-- for guests knows has what it answers
 abbrev pub guest_reply_entries : Report → ℕ → ℕ → ReplyBody → List Entry
 guest_reply_entries r number status (Basic b) = basic_entries (status == ABORTED) r number status b
+guest_reply_entries r number status (SetUnit flags size) =
+    basic_entries (status == ABORTED) r number status (body.Online flags size)
 guest_reply_entries r number status b = reply_entries number status b
 
 -- the text that an end message for a guest is written as

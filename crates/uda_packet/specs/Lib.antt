@@ -13,4 +13,5 @@ pub mod Transfer
 pub mod Display
 pub mod GuestEnd
 pub mod Reply
+pub mod GuestCommands
 pub mod Guest

@@ -1,8 +1,7 @@
--- End messages of the profile for guests: those of the strict profile, and those of the commands that are
--- answered when they are fetched. A body of the second kind has a line in `reply_row`, `reply_entries`,
--- `replies_in` and `ReplyFits`.
+-- End messages of the profile for guests: those of the strict profile, and those of commands that it doesn't
+-- know. A body of the second kind has a line in `reply_row`, `reply_entries`, `replies_in` and `ReplyFits`.
 -- MSCP Basic Disk Functions Manual: end messages; Abort, Get Command Status, Determine Access Paths, Compare
--- Controller Data, Flush.
+-- Controller Data, Flush, Set Unit Characteristics, Compare Host Data.
 use Rattle.std.specs.Prelude.{ℕ, ◌+◌, ◌^◌, ◌<◌, ◌==◌, List, [], ◌∷◌, Option, Some, None, codes}
 use Rattle.std.specs.Prelude.{if◌then◌else◌}
 use Rattle.uda_packet.specs.declared.end.End.{End}
@@ -11,9 +10,10 @@ use Rattle.uda_packet.specs.declared.end.EndBody.TheVariants.{Invalid}
 use Rattle.uda_packet.specs.declared.reply.Reply.{Reply}
 use Rattle.uda_packet.specs.declared.reply.ReplyBody.{ReplyBody}
 use Rattle.uda_packet.specs.declared.reply.ReplyBody.TheVariants.{Basic, Abort, CommandStatus, AccessPaths}
-use Rattle.uda_packet.specs.declared.reply.ReplyBody.TheVariants.{CompareController, Flush}
+use Rattle.uda_packet.specs.declared.reply.ReplyBody.TheVariants.{CompareController, Flush, SetUnit, Compare}
 use Rattle.uda_packet.specs.Field.{Entry, ◌holds◌, text_of, number_in, reference_field, unit_field, code_field}
-use Rattle.uda_packet.specs.Field.{status_field, named_field, progress_field}
+use Rattle.uda_packet.specs.Field.{status_field, named_field, progress_field, byte_count_field}
+use Rattle.uda_packet.specs.Field.{unit_flags_field, unit_size_field}
 use Rattle.uda_packet.specs.Commands.{BodyRow, body_line, body_row, answer_entries, BodyFits}
 use Rattle.uda_packet.specs.Opcode.{body_named}
 
@@ -33,6 +33,8 @@ basic_body (CommandStatus named progress) = Invalid
 basic_body AccessPaths = Invalid
 basic_body CompareController = Invalid
 basic_body Flush = Invalid
+basic_body (SetUnit flags size) = Invalid
+basic_body (Compare bytes) = Invalid
 
 -- the end message that a strict port sends: it has only those of the strict profile
 abbrev pub strict_end : Reply → End
@@ -52,6 +54,8 @@ reply_row (CommandStatus named progress) = body_line 2 20 (codes "Get Command St
 reply_row AccessPaths = body_line 11 12 (codes "Determine Access Paths") []
 reply_row CompareController = body_line 17 12 (codes "Compare Controller Data") []
 reply_row Flush = body_line 19 12 (codes "Flush") []
+reply_row (SetUnit flags size) = body_line 10 44 (codes "Set Unit Characteristics") []
+reply_row (Compare bytes) = body_line 32 32 (codes "Compare Host Data") []
 
 abbrev pub reply_code : ReplyBody → ℕ
 reply_code b = (reply_row b).opcode + 0x80
@@ -71,6 +75,8 @@ ReplyFits (CommandStatus named progress) = (named < 2 ^ 32) × (progress < 2 ^ 3
 ReplyFits AccessPaths = Unit {0}
 ReplyFits CompareController = Unit {0}
 ReplyFits Flush = Unit {0}
+ReplyFits (SetUnit flags size) = (flags < 2 ^ 16) × (size < 2 ^ 32)
+ReplyFits (Compare bytes) = bytes < 2 ^ 32
 
 -- ---- as it is written
 
@@ -83,6 +89,8 @@ reply_entries unit status (CommandStatus named progress) =
 reply_entries unit status AccessPaths = []
 reply_entries unit status CompareController = []
 reply_entries unit status Flush = []
+reply_entries unit status (SetUnit flags size) = unit_flags_field holds flags ∷ unit_size_field holds size ∷ []
+reply_entries unit status (Compare bytes) = byte_count_field holds bytes ∷ []
 
 -- the text that it is written as
 unfoldable pub written_reply : Reply → List ℕ
@@ -98,7 +106,9 @@ abbrev pub replies_in : List ℕ → List ReplyBody
 replies_in bytes =
     let named = number_in named_field bytes in
     Abort named ∷ CommandStatus named (number_in progress_field bytes)
-    ∷ AccessPaths ∷ CompareController ∷ Flush ∷ []
+    ∷ AccessPaths ∷ CompareController ∷ Flush
+    ∷ SetUnit (number_in unit_flags_field bytes) (number_in unit_size_field bytes)
+    ∷ Compare (number_in byte_count_field bytes) ∷ []
 
 abbrev reply_with : ℕ → List ReplyBody → Option ReplyBody
 reply_with code [] = None
@@ -117,7 +127,7 @@ reply_from number drive outcome None = None
 reply_from number drive outcome (Some b) =
     Some (record { reference = number; unit = drive; status = outcome; body = b })
 
--- the end message that the bytes are the text of: the grammar of `read_end`, and five bodies more
+-- the end message that the bytes are the text of: the grammar of `read_end`, and seven bodies more
 unfoldable pub read_reply : List ℕ → Option Reply
 read_reply bytes =
     reply_from (number_in reference_field bytes) (number_in unit_field bytes)

@@ -5,12 +5,15 @@
 ghost use Rattle.std.specs.Prelude.{◌≡◌};
 ghost use Rattle.uda_packet.specs.Guest.{body_at_once, next_from, asks_next, unit_meant, modifiers_meant};
 ghost use Rattle.uda_packet.specs.Guest.{plain_text, read_guest, other_connection_reply};
+ghost use Rattle.uda_packet.specs.Guest.{resembled_text, read_resembled};
+ghost use Rattle.uda_packet.specs.GuestCommands.{guest_op};
 ghost use Rattle.uda_packet.specs.Field.{number_in, code_field};
 
 use crate::command::{Command, Op};
 use crate::decoding::decode_command;
 use crate::end::{End, EndBody};
-use crate::field::{ADDRESS, MODIFIERS, NAMED, REFERENCE, Text, UNIT, code_in};
+use crate::field::{ADDRESS, CODE, MODIFIERS, NAMED, REFERENCE, Text, UNIT, code_in};
+use crate::guest_command::{GuestCommand, GuestOp};
 use crate::guest_end::Identity;
 use crate::reply::{Reply, ReplyBody};
 use crate::status;
@@ -29,7 +32,8 @@ const UNITS: u16 = 4;
 /// Its unit is the number of the drive that the guest means. Modifiers that have no meaning for the command are
 /// ignored, and so are bits of an address that the bus doesn't have. A Get Unit Status with the modifier 0x0001,
 /// *next unit*, is for the lowest of the controller's units that isn't below the unit of the text, and for unit 0
-/// if there is none.
+/// if there is none. A Set Unit Characteristics has the parameters of an Online, and a Compare Host Data those of a
+/// Read.
 ///
 /// # Errors
 ///
@@ -38,8 +42,44 @@ const UNITS: u16 = 4;
 /// Status. For an invalid command, the end message of [`Bad::end`](crate::Bad::end).
 ///
 /// MSCP Basic Disk Functions Manual: command messages, command modifiers.
-pub fn decode_for_guests(text: &[u8; 48], identity: Identity) -> Result<Command, Reply>
+pub fn decode_for_guests(text: &[u8; 48], identity: Identity) -> Result<GuestCommand, Reply>
     ensures asked { result ≡ read_guest identity text.now }
+{
+    let op = guest_op(code_in(text));
+    let command = match op {
+        GuestOp::Basic => decode_resembled(text, identity)?,
+        GuestOp::SetUnit | GuestOp::Compare => decode_resembled(&resembled_text(text), identity)?,
+    };
+    Ok(GuestCommand { command, op })
+}
+
+// Returns what is to be done with the command of an opcode.
+fn guest_op(code: u8) -> GuestOp
+    ensures { result ≡ guest_op code }
+{
+    match code {
+        10 => GuestOp::SetUnit,
+        32 => GuestOp::Compare,
+        _ => GuestOp::Basic,
+    }
+}
+
+// Returns the text of the command whose parameters this one has.
+fn resembled_text(text: &Text) -> Text
+    ensures { result ≡ resembled_text text.now }
+{
+    let mut resembled = *text;
+    resembled[CODE] = match code_in(text) {
+        10 => 9,
+        32 => 33,
+        code => code,
+    };
+    resembled
+}
+
+// Returns the command of a text that the strict profile knows.
+fn decode_resembled(text: &Text, identity: Identity) -> Result<Command, Reply>
+    ensures { result ≡ read_resembled identity text.now }
 {
     match body_at_once(text) {
         None => decode_command(&plain_text(text, identity)).map_err(|bad| Reply::basic(bad.end())),

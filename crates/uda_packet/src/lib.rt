@@ -22,6 +22,7 @@ mod envelope;
 mod field;
 mod flags;
 mod guest;
+mod guest_command;
 mod guest_end;
 mod reply;
 mod transfer;
@@ -36,6 +37,7 @@ pub use end::{End, EndBody, Kind};
 pub use envelope::Envelope;
 pub use flags::Modifiers;
 pub use guest::{decode_for_guests, other_connection_reply};
+pub use guest_command::{GuestCommand, GuestOp};
 pub use guest_end::{
     ATTENTION_LENGTH, Bus, Identity, Report, UnitReport, encode_guest_end, encode_unit_available,
 };

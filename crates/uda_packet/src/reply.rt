@@ -1,7 +1,7 @@
 //! End messages of the profile for guests.
 //!
 //! MSCP Basic Disk Functions Manual: end messages; Abort, Get Command Status, Determine Access Paths, Compare
-//! Controller Data, Flush.
+//! Controller Data, Flush, Set Unit Characteristics, Compare Host Data.
 
 ghost use Rattle.std.specs.Prelude.{◌≡◌, ◌<◌, ◌≤◌, Some, length};
 ghost use Rattle.uda_packet.specs.Field.{with_entries};
@@ -11,7 +11,9 @@ ghost use Rattle.uda_packet.specs.Reply.{read_reply, written_reply};
 
 use crate::encoding::head;
 use crate::end::{BodyRow, END_CODE, End, EndBody};
-use crate::field::{NAMED, PROGRESS, REFERENCE, STATUS, Text, UNIT, code_in};
+use crate::field::{
+    BYTE_COUNT, NAMED, PROGRESS, REFERENCE, STATUS, Text, UNIT, UNIT_FLAGS, UNIT_SIZE, code_in,
+};
 
 /// An end message of the profile for guests. This profile has commands that the strict one doesn't know.
 ///
@@ -80,6 +82,18 @@ pub enum ReplyBody {
     CompareController,
     /// Flush.
     Flush,
+    /// Set Unit Characteristics.
+    SetUnit {
+        /// The unit flags: `UnitFlags` as a word.
+        flags: u16,
+        /// The unit's size in blocks.
+        size: u32,
+    },
+    /// Compare Host Data.
+    Compare {
+        /// How many bytes are equal before the first difference, or before the block that could not be read.
+        bytes: u32,
+    },
 }
 
 impl ReplyBody {
@@ -120,6 +134,8 @@ impl ReplyBody {
             ReplyBody::AccessPaths => EndBody::Invalid,
             ReplyBody::CompareController => EndBody::Invalid,
             ReplyBody::Flush => EndBody::Invalid,
+            ReplyBody::SetUnit { .. } => EndBody::Invalid,
+            ReplyBody::Compare { .. } => EndBody::Invalid,
         }
     }
 
@@ -138,6 +154,8 @@ impl ReplyBody {
             ReplyBody::AccessPaths => BodyRow::new(11, 12, "Determine Access Paths"),
             ReplyBody::CompareController => BodyRow::new(17, 12, "Compare Controller Data"),
             ReplyBody::Flush => BodyRow::new(19, 12, "Flush"),
+            ReplyBody::SetUnit { .. } => BodyRow::new(10, 44, "Set Unit Characteristics"),
+            ReplyBody::Compare { .. } => BodyRow::new(32, 32, "Compare Host Data"),
         }
     }
 
@@ -159,6 +177,13 @@ impl ReplyBody {
             0x8b => ReplyBody::AccessPaths,
             0x91 => ReplyBody::CompareController,
             0x93 => ReplyBody::Flush,
+            0x8a => ReplyBody::SetUnit {
+                flags: UNIT_FLAGS.get(text),
+                size: UNIT_SIZE.get(text),
+            },
+            0xa0 => ReplyBody::Compare {
+                bytes: BYTE_COUNT.get(text),
+            },
             _ => return None,
         })
     }
@@ -176,6 +201,11 @@ impl ReplyBody {
                 PROGRESS.put(text, progress);
             }
             ReplyBody::AccessPaths | ReplyBody::CompareController | ReplyBody::Flush => {}
+            ReplyBody::SetUnit { flags, size } => {
+                UNIT_FLAGS.put(text, flags);
+                UNIT_SIZE.put(text, size);
+            }
+            ReplyBody::Compare { bytes } => BYTE_COUNT.put(text, bytes),
         }
     }
 }

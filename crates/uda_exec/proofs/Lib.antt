@@ -13,3 +13,4 @@ pub mod Swap
 pub mod OrderLaw
 pub mod OrderExamples
 pub mod NamedLaws
+pub mod Comparisons

@@ -1,6 +1,6 @@
 -- The first command that passes a test, by its place.
 use Rattle.std.proofs.Common.{◌≡◌, ℕ, zero, suc, ◌+◌, ◌<◌, ◌≤◌, Bool, true, false, List, [], ◌∷◌, ◌++◌, length, take, drop, Option, Some, None, refl, sym, ap, ◌∙◌, arith, add-one, subst, length-take, length-drop, length-append}
-use Rattle.std.specs.Prelude.{find, position, slice_get, remove, nat_lt, cond}
+use Rattle.std.specs.Prelude.{find, position, slice_get, remove, nat_lt, cond, option_map, unwrap_or}
 use Rattle.std.specs.List.{before_first, after_first, position_or_len}
 use Rattle.std.proofs.lemmas.List.{take_all, drop_all, append-nil}
 use Rattle.std.proofs.lemmas.List.Folds.{find_at}
@@ -8,6 +8,10 @@ use Rattle.std.proofs.lemmas.List.Quantifiers.{position-Some}
 use Rattle.uda_packet.specs.declared.command.Op.TheVariants.{Status}
 use Rattle.std.proofs.lemmas.Option.{slice_get_past}
 use Rattle.std.proofs.lemmas.Bool.Decides.{nat_tests}
+use Rattle.uda_packet.specs.declared.guest_command.GuestOp.{GuestOp}
+use Rattle.uda_packet.specs.declared.reply.Reply.{Reply}
+use Rattle.uda_exec.specs.GuestOps.{op_at}
+use Rattle.uda_exec.specs.Named.{aborted}
 use Rattle.uda_exec.proofs.Words.{Command}
 
 module _ (p : Command → Bool) (xs : List Command) where
@@ -69,3 +73,10 @@ fewer_at p xs None at (Some c) is = let not : Some c ≡ None = is ∙ (is_at p 
 pub fewer : (p : Command → Bool) (xs : List Command) (found : Option Command) → found ≡ find p xs
     → Fewer p xs found
 fewer p xs found is = fewer_at p xs (position p xs) refl found is
+
+-- the end message of the command at its place, by what is to be done with that
+pub aborted_at : (p : Command → Bool) (xs : List Command) (ops : List GuestOp) (place : ℕ) (c : Command) (r : Reply)
+    → Some place ≡ position p xs → find p xs ≡ Some c → r ≡ aborted (op_at ops place) c
+    → Some r ≡ option_map (aborted (op_at ops (unwrap_or (position p xs) 0))) (find p xs)
+aborted_at p xs ops place c r at found is =
+    rw (is, found) (ap (λ (q : Option ℕ). Some (aborted (op_at ops (unwrap_or q 0)) c)) at)

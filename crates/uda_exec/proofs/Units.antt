@@ -1,13 +1,16 @@
 -- One command on the units of an executor.
-use Rattle.std.proofs.Common.{◌≡◌, ℕ, Bool, true, false, List, length, set, Option, Some, None, refl, sym, ap, ap₂, subst, ◌∙◌, add-zero}
+use Rattle.std.proofs.Common.{◌≡◌, ℕ, ◌<◌, ◌≤◌, Bool, true, false, List, length, get_or, set, Option, Some, None, inl, inr, ◌⊎◌, refl, sym, ap, ap₂, subst, ◌∙◌, add-zero}
 use Rattle.std.specs.Prelude.{option_map, slice_get, map, nat_lt, ◌&&◌}
-use Rattle.std.proofs.lemmas.List.{map-set}
-use Rattle.std.proofs.lemmas.Option.{slice_get_within, slice_get-map}
+use Rattle.std.proofs.lemmas.List.{map-set, set_past}
+use Rattle.std.proofs.lemmas.Option.{slice_get_within, slice_get-map, slice_get-get_or}
+use Rattle.std.proofs.lemmas.Bool.{cases_lt}
+use Rattle.std.specs.Prelude.{unwrap_or}
+use Rattle.uda_exec.specs.SetUnit.{unit_set, protection_asked, with_protection}
 use Rattle.std.proofs.lemmas.List.Elements.{All-map, All-weaker}
 use Rattle.uda_packet.specs.declared.command.Op.TheVariants.{Controller}
 use Rattle.uda_disk.specs.Status.{SUCCESS}
 use Rattle.uda_disk.proofs.Slots.{slice_get-set_same, slice_get-set_other, set-itself}
-use Rattle.uda_exec.proofs.Words.{Command, Op, End, Disk, Disks, Act, Refusal, refusal_status, Bar, Barred, Free, bar_at, bar_with, UnitState, disk_of, disks_of, HoldsImage, AreImages, reset_unit, is_controller, blocks_asked, act_of, World, Outcome, Done, disks_by, bar_in, bar_of, is_free, acts_by, acts, does, effect_by, effect, reply, plain_body, LossFits, Answers, Nature, nature_of, natures_of, is_faithful, is_sure, world_of, bar_on, ServesUnit, Executes, disk_by}
+use Rattle.uda_exec.proofs.Words.{Command, Op, End, Disk, Disks, Act, Refusal, refusal_status, Bar, Barred, Free, bar_at, bar_with, UnitState, disk_of, disks_of, HoldsImage, AreImages, reset_unit, is_controller, blocks_asked, act_of, World, Outcome, Done, Mode, disks_by, bar_in, bar_of, is_free, acts_by, acts, does, effect_by, effect, reply, plain_body, LossFits, Answers, Nature, nature_of, natures_of, is_faithful, is_sure, world_of, bar_on, ServesUnit, Executes, disk_by}
 use Rattle.uda_disk.specs.Units.{fails_in_at}
 use Rattle.uda_exec.specs.Execution.{CallsStore, blocks_called}
 use Rattle.uda_exec.proofs.Calls.{go_none}
@@ -15,7 +18,7 @@ use Rattle.uda_exec.proofs.Changes.{changes_nothing, ChangesAt-none}
 use Rattle.uda_exec.proofs.Transferred.{end_of-blank}
 
 -- what is known of each unit stays where it stays of the one that is set
-map-set_same : {A B : Type 0} (f : A → B) (units : List (Option A)) (i : ℕ) (old new : A) → slice_get units i
+pub map-set_same : {A B : Type 0} (f : A → B) (units : List (Option A)) (i : ℕ) (old new : A) → slice_get units i
     ≡ Some (Some old) → f new ≡ f old
     → map (option_map f) (set units i (Some new)) ≡ map (option_map f) units
 map-set_same f units i old new here same =
@@ -180,6 +183,39 @@ module _ (c : Command) (act : Act) (units : List (Option UnitState)) (memory : L
           sure = λ never. let promised = rw here at never in t.sure promised;
         };
   }
+
+-- Set Unit Characteristics leaves the natures of the units
+hard-protection : (soft : Option Bool) (mode : Mode) → (with_protection soft mode).hard ≡ mode.hard
+hard-protection None mode = refl
+hard-protection (Some soft) mode = refl
+
+nature-unit_set : (o : Op) (unit : UnitState) → nature_of (unit_set o unit) ≡ nature_of unit
+nature-unit_set o unit =
+    let make : Bool → Nature = λ hard. record {
+      size = unit.store.size;
+      hard = hard;
+      faithful = unit.store.faithful;
+      never_fails = unit.store.never_fails;
+    } in
+    ap make (hard-protection (protection_asked o) unit.mode)
+
+natures_set_at : (o : Op) (units : List (Option UnitState)) (u : ℕ) (slot : Option (Option UnitState))
+    → slice_get units u ≡ slot
+    → natures_of (set units u (option_map (unit_set o) (unwrap_or slot None))) ≡ natures_of units
+natures_set_at o units u None past = ap natures_of (by_place (cases_lt u (length units)))
+  where
+    by_place : (u < length units) ⊎ (length units ≤ u) → set units u None ≡ units
+    by_place (inl within) =
+        let there : slice_get units u ≡ Some (get_or units u None) = slice_get-get_or units u None within in
+        absurd (cc)
+    by_place (inr past) = set_past units u None past
+natures_set_at o units u (Some None) here = ap natures_of (set-itself units u None here)
+natures_set_at o units u (Some (Some unit)) here =
+    map-set_same nature_of units u unit (unit_set o unit) here (nature-unit_set o unit)
+
+pub natures_set : (o : Op) (units : List (Option UnitState)) (u : ℕ)
+    → natures_of (set units u (option_map (unit_set o) (unwrap_or (slice_get units u) None))) ≡ natures_of units
+natures_set o units u = natures_set_at o units u (slice_get units u) refl
 
 -- a unit that is reset has the blocks that it had
 image_reset : (unit : Option UnitState) → HoldsImage unit → HoldsImage (reset_unit unit)

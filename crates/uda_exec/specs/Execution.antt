@@ -103,11 +103,12 @@ pub record Executes (c : Command) (units : Units) (memory : List ℕ) (e : End) 
   pub by_acting : GoesByActing c (acts c (world_of units memory)) units e units_after
   pub takes_effect : IsTrusted c units memory → TakesEffect c units memory e units_after memory_left
 
--- the command at place j is executed and taken out
+-- the command at place j is executed and taken out, with what a guest asks to be done with it
 pub record ExecutesAt (j : ℕ) (old : ExecState) (memory : List ℕ) (e : End) (new : ExecState)
     (memory_left : List ℕ) : Type 0 where
   pub command : Command
   pub taken : TakesOut old.pending j command new.pending
+  pub ops_left : new.guest_ops ≡ remove old.guest_ops j
   pub executes : Executes command old.units memory e new.units memory_left
 
 -- a command of this act takes effect on the unit that it speaks of, which bars it so

@@ -7,3 +7,8 @@ pub mod Effect
 pub mod Order
 pub mod Execution
 pub mod Named
+pub mod GuestOps
+pub mod SetUnit
+pub mod Compare
+pub mod Comparing
+pub mod GuestExecution

@@ -1,14 +1,18 @@
 -- Pending commands by their unit and reference.
 -- MSCP Basic Disk Functions Manual: Abort, Get Command Status.
-use Rattle.std.specs.Prelude.{ℕ, Bool, ◌&&◌, nat_eq, List, ◌++◌, Option, find}
+use Rattle.std.specs.Prelude.{ℕ, Bool, ◌&&◌, nat_eq, List, ◌++◌, Option, Some, None, find, position, remove}
+use Rattle.std.specs.Prelude.{unwrap_or}
 use Rattle.std.specs.List.{before_first, after_first}
 use Rattle.std.specs.Option.{option_map_or}
 use Rattle.uda_packet.specs.declared.command.Command.{Command}
-use Rattle.uda_packet.specs.declared.end.End.{End}
+use Rattle.uda_packet.specs.declared.guest_command.GuestOp.{GuestOp}
+use Rattle.uda_packet.specs.declared.reply.Reply.{Reply}
+use Rattle.uda_packet.specs.GuestCommands.{blank_reply}
 use Rattle.uda_disk.specs.Status.{ABORTED}
 use Rattle.uda_exec.specs.Disks.{ExecState}
 use Rattle.uda_exec.specs.Commands.{bytes_asked, is_transfer}
-use Rattle.uda_exec.specs.Effect.{plain_body, reply}
+use Rattle.uda_exec.specs.GuestOps.{op_at}
+use Rattle.uda_exec.specs.SetUnit.{guest_reply}
 
 -- a command is for this unit and has this reference
 abbrev pub is_named : ℕ → ℕ → Command → Bool
@@ -18,15 +22,27 @@ is_named drive number c = nat_eq c.unit drive && nat_eq c.reference number
 abbrev pub oldest_named : ℕ → ℕ → List Command → Option Command
 oldest_named drive number pending = find (is_named drive number) pending
 
+-- its place, and what is to be done with it
+abbrev pub place_named : ℕ → ℕ → ExecState → Option ℕ
+place_named drive number exec = position (is_named drive number) exec.pending
+
+abbrev pub op_named : ℕ → ℕ → ExecState → GuestOp
+op_named drive number exec = op_at exec.guest_ops (unwrap_or (place_named drive number exec) 0)
+
+abbrev pub without_op : Option ℕ → List GuestOp → List GuestOp
+without_op None ops = ops
+without_op (Some place) ops = remove ops place
+
 -- the executor without that command
 abbrev pub taken_out : ℕ → ℕ → ExecState → ExecState
 taken_out drive number exec = record exec {
   pending = before_first (is_named drive number) exec.pending ++ after_first (is_named drive number) exec.pending;
+  guest_ops = without_op (place_named drive number exec) exec.guest_ops;
 }
 
 -- MSCP: Abort. The end message of a command that was taken out: all its numbers are 0
-abbrev pub aborted : Command → End
-aborted c = reply c ABORTED (plain_body c.op 0)
+abbrev pub aborted : GuestOp → Command → Reply
+aborted op c = guest_reply c ABORTED (blank_reply op c.op)
 
 -- such a command that is a transfer
 abbrev pub is_named_transfer : ℕ → ℕ → Command → Bool

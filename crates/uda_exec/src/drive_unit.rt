@@ -2,24 +2,28 @@
 //!
 //! MSCP Basic Disk Functions Manual: Access, Available, Erase, Get Unit Status, Online, Read and Write
 //! commands.
-ghost use Rattle.std.specs.Prelude.{◌≡◌, [], Some, None, IsSome, IfSome};
+ghost use Rattle.std.specs.Prelude.{◌≡◌, [], Some, None, IsSome, IfSome, length};
 ghost use Rattle.uda_mem.specs.Slices.{IsMemory};
 ghost use Rattle.uda_packet.specs.Transfer.{transfer_of};
 ghost use Rattle.uda_disk.specs.Request.{Act};
 ghost use Rattle.uda_disk.specs.Plain.{Done, mode_after, answer_on};
-ghost use Rattle.uda_disk.specs.Units.{HoldsImage, disk_of};
+ghost use Rattle.uda_disk.specs.Units.{HoldsImage, disk_of, nature_of};
 ghost use Rattle.uda_exec.specs.Commands.{act_of};
 ghost use Rattle.uda_exec.specs.Effect.{end_for};
 ghost use Rattle.uda_exec.specs.Drives.{drive_state, drive_in, fresh_unit, look_of};
 ghost use Rattle.uda_exec.specs.Execution.{ServesUnit};
+ghost use Rattle.uda_exec.specs.SetUnit.{unit_set, set_unit_reply, protection_asked};
+ghost use Rattle.uda_exec.specs.Compare.{compared, ComparesUnit};
+ghost use Rattle.uda_exec.specs.Refusal.{transfer_refusal};
 
+use crate::compare::{compare_blocks, compared};
 use crate::movement::{BLOCK, move_blocks};
 use crate::refusal::transfer_refusal;
-use crate::reply::{plain_body, refuse, reply};
+use crate::reply::{guest_reply, plain_body, refuse, reply};
 use std::marker::Model;
 use uda_disk::Mode;
 use uda_image::{BlockStore, Drive};
-use uda_packet::{Command, End, EndBody, Op, Transfer, status};
+use uda_packet::{Command, End, EndBody, Op, Reply, ReplyBody, Transfer, status};
 
 /// The store of a unit's blocks, and the unit's mode.
 #[derive(Drop)]
@@ -175,5 +179,61 @@ impl<S: BlockStore> DriveUnit<S> {
             Some(t) => self.transfer(command, t, memory),
             None => self.set_mode(command),
         }
+    }
+
+    /// Does a Set Unit Characteristics: sets software protection, if the command says something of it.
+    ///
+    /// MSCP Basic Disk Functions Manual: Set Unit Characteristics.
+    pub fn set_characteristics(&mut self, command: Command) -> Reply
+        ensures reply { result ≡ set_unit_reply command (Some (Some self.old)) }
+        ensures unit { self.new ≡ unit_set command.op self.old }
+        ensures image { HoldsImage (Some self.old) → HoldsImage (Some self.new) }
+    {
+        if let Some(soft) = protection_asked(command.op) {
+            self.mode.soft = soft;
+        }
+        let (flags, size) = (self.mode.flags(), self.store.size());
+        guest_reply(command, status::SUCCESS, ReplyBody::SetUnit { flags, size })
+    }
+
+    /// Does a Compare Host Data: the checks of a Read, and then the blocks, of which none changes.
+    ///
+    /// MSCP Basic Disk Functions Manual: Compare Host Data.
+    pub fn compare(&mut self, command: Command, memory: &[u8]) -> Reply
+        requires memory { IsMemory memory.now }
+        ensures compares { ComparesUnit
+            (transfer_refusal (compared command.op) (length memory.now) self.old.store.size self.old.mode)
+            command self.old memory.now result self.new }
+        ensures image { HoldsImage (Some self.new) }
+        ensures nature { nature_of self.new ≡ nature_of self.old }
+    {
+        let t = compared(command.op);
+        if let Some(refusal) = transfer_refusal(
+            t,
+            uda_mem::len(memory),
+            self.store.size(),
+            self.mode,
+        ) {
+            return guest_reply(command, refusal.status(), ReplyBody::Compare { bytes: 0 });
+        }
+        let verdict = compare_blocks(t, &mut self.store, memory);
+        let bytes = verdict.bytes(t);
+        guest_reply(command, verdict.status(), ReplyBody::Compare { bytes })
+    }
+}
+
+// Returns what a Set Unit Characteristics says of software protection; None if it says nothing.
+fn protection_asked(op: Op) -> Option<bool>
+    ensures { result ≡ protection_asked op }
+{
+    match op {
+        Op::Online { soft } => soft,
+        Op::Status
+        | Op::Controller
+        | Op::Available
+        | Op::Access { .. }
+        | Op::Erase { .. }
+        | Op::Read { .. }
+        | Op::Write { .. } => None,
     }
 }

@@ -11,19 +11,23 @@ ghost use Rattle.uda_exec.specs.Drives.{drive_state, drive_states, drive_in, fre
 ghost use Rattle.uda_exec.specs.Drives.{drives_in, handed_back, reset_unit, with_drive, look_at};
 ghost use Rattle.uda_exec.specs.Drives.{in_mode, with_mode};
 ghost use Rattle.uda_exec.specs.Execution.{Executes, ExecutesAt};
-ghost use Rattle.uda_exec.specs.Named.{oldest_named, taken_out, aborted, progress_of};
+ghost use Rattle.uda_exec.specs.Named.{oldest_named, op_named, taken_out, aborted, progress_of};
+ghost use Rattle.uda_exec.specs.GuestOps.{op_at, with_accepted, newest_guest};
+ghost use Rattle.uda_exec.specs.GuestExecution.{ExecutesGuestAt};
 
 use crate::choice::{Position, next_place};
 use crate::drive_unit::{DriveUnit, UnitLook};
+use crate::guest_commands::execute_as;
+use crate::guest_ops::{GuestOps, drop_op, note_op, op_at};
 use crate::named::{place_named, progress};
-use crate::reply::{plain_body, refuse, reply};
+use crate::reply::{guest_reply, plain_body, refuse, reply};
 use arrayvec::ArrayVec;
 use std::fmt;
 use std::marker::Model;
 use uda_disk::{Mode, Refusal};
 use uda_image::{BlockStore, Drive};
 use uda_mem::HostMemory;
-use uda_packet::{Command, End, Op, status};
+use uda_packet::{Command, End, GuestCommand, Op, Reply, status};
 
 /// The most commands that may be pending at a time: as many as a host may have out.
 pub const PENDING: usize = 15;
@@ -40,6 +44,7 @@ pub const PENDING: usize = 15;
 pub struct Exec<S: BlockStore> {
     units: [Option<DriveUnit<S>>; 4],
     pending: ArrayVec<Command, PENDING>,
+    guest_ops: GuestOps,
     position: Position,
 }
 
@@ -48,13 +53,18 @@ impl<S: BlockStore> Model for Exec<S> {
     ghost use Rattle.uda_exec.specs.Disks.{ExecState};
     ghost use Rattle.uda_disk.specs.Units.{AreImages};
     ghost use Rattle.arrayvec.specs.ArrayVec.{array_vec_len};
-    ghost use Rattle.std.specs.Prelude.{◌≡◌, length};
+    ghost use Rattle.std.specs.Prelude.{◌≡◌, ◌≤◌, length};
 
     ghost Value = { ExecState };
 
-    ghost view = { λ e. record { units = e.units; pending = e.pending.items } };
+    ghost view = { λ e. record {
+      units = e.units;
+      pending = e.pending.items;
+      guest_ops = e.guest_ops.items;
+    } };
 
-    ghost invariant = { λ e. (length e.units ≡ 4) × AreImages e.units };
+    ghost invariant = { λ e. (length e.units ≡ 4) × (AreImages e.units
+        × (length e.guest_ops.items ≤ length e.pending.items)) };
 }
 
 fn unit_from<S: BlockStore>(drive: Option<Drive<S>>) -> Option<DriveUnit<S>>
@@ -86,12 +96,14 @@ impl<S: BlockStore> Exec<S> {
     pub fn new(drives: [Option<Drive<S>>; 4]) -> Exec<S>
         ensures units { result.units ≡ fresh_units (drive_states S.state drives) }
         ensures pending { result.pending ≡ [] }
+        ensures guest_ops { result.guest_ops ≡ [] }
         ensures four { length result.units ≡ 4 }
         ensures images { AreImages result.units }
     {
         Exec {
             units: units_from(drives),
             pending: ArrayVec::new(),
+            guest_ops: ArrayVec::new(),
             position: Position::START,
         }
     }
@@ -106,6 +118,16 @@ impl<S: BlockStore> Exec<S> {
         ensures last { self.new ≡ record self.old { pending = self.old.pending ++ command ∷ [] } }
     {
         self.pending.push(command);
+    }
+
+    /// Takes in a guest's command, after those that are pending: [`accept`](Exec::accept), and what is to be done
+    /// with it. Its end message comes from [`execute_next_in`](Exec::execute_next_in).
+    pub fn accept_guest(&mut self, asked: GuestCommand)
+        requires room { length self.old.pending < PENDING_LIMIT }
+        ensures last { self.new ≡ with_accepted self.old asked }
+    {
+        note_op(&mut self.guest_ops, self.pending.len(), asked.op);
+        self.pending.push(asked.command);
     }
 
     /// How many commands are pending: those that were accepted and have no end message yet. At most
@@ -132,19 +154,31 @@ impl<S: BlockStore> Exec<S> {
         self.pending.last().copied()
     }
 
+    /// Returns the command that was accepted last of those that are pending, with what is to be done with it.
+    pub fn newest_guest(&self) -> Option<GuestCommand>
+        ensures newest { result ≡ newest_guest self.now }
+    {
+        let command = self.newest()?;
+        let op = op_at(self.guest_ops.as_slice(), self.pending.len() - 1);
+        Some(GuestCommand { command, op })
+    }
+
     /// Takes the oldest pending command of this unit and reference out without executing it, and returns its end
     /// message: its own end code, status 0x0002, and all numbers 0. If there is none, nothing changes.
     ///
     /// MSCP Basic Disk Functions Manual: Abort.
-    pub fn abort(&mut self, unit: u16, reference: u32) -> Option<End>
-        ensures end { result ≡ option_map aborted (oldest_named unit reference self.old.pending) }
+    pub fn abort(&mut self, unit: u16, reference: u32) -> Option<Reply>
+        ensures end { result ≡ option_map (aborted (op_named unit reference self.old))
+            (oldest_named unit reference self.old.pending) }
         ensures taken { self.new ≡ taken_out unit reference self.old }
         ensures fewer { IfSome result (λ _. length self.new.pending + 1 ≡ length self.old.pending) }
         ensures none { IfNone result (self.new ≡ self.old) }
     {
         let place = place_named(self.pending.as_slice(), unit, reference)?;
+        let op = op_at(self.guest_ops.as_slice(), place);
         let named = self.pending.remove(place);
-        Some(reply(named, status::ABORTED, plain_body(named.op, 0)))
+        drop_op(&mut self.guest_ops, place);
+        Some(guest_reply(named, status::ABORTED, op.blank_reply(named.op)))
     }
 
     /// Returns the byte count of the oldest pending transfer of this unit and reference, and 0 if there is none.
@@ -225,8 +259,47 @@ impl<S: BlockStore> Exec<S> {
     {
         let place = next_place(self.pending.as_slice(), self.position)?;
         let command = self.pending.remove(place);
+        drop_op(&mut self.guest_ops, place);
         self.position = self.position.after(command);
         Some(execute(&mut self.units, command, memory))
+    }
+
+    /// Executes one pending command that may go, takes it out and returns its end message: what
+    /// [`execute_one_in`](Exec::execute_one_in) does, with what a guest asks to be done with the command. Returns
+    /// None if nothing is pending, and then nothing changes.
+    ///
+    /// A Set Unit Characteristics sets the software protection of a unit with a drive, if it says something of it.
+    /// The unit stays available or online.
+    ///
+    /// A Compare Host Data passes the checks of a Read, and changes neither blocks nor memory. It calls `read` once
+    /// for each block, in rising order, up to the first byte that differs: then its status is 0x0007, and its byte
+    /// count is of the bytes before that. If a call fails, the status is 0x000B with the byte count of the blocks
+    /// before.
+    ///
+    /// MSCP Basic Disk Functions Manual: Set Unit Characteristics, Compare Host Data.
+    pub fn execute_next_in(&mut self, memory: &mut [u8]) -> Option<Reply>
+        requires memory { IsMemory memory.old }
+        ensures idle { IsNone result ↔ (self.old.pending ≡ []) }
+        ensures unchanged { IfNone result ((self.new ≡ self.old) × (memory.new ≡ memory.old)) }
+        ensures fewer { IfSome result (λ _. length self.new.pending + 1 ≡ length self.old.pending) }
+        ensures four { length self.new.units ≡ 4 }
+        ensures images { AreImages self.new.units }
+        ensures length { length memory.new ≡ length memory.old }
+        ensures faithful { (u : ℕ) → is_faithful (slice_get self.new.units u)
+            ≡ is_faithful (slice_get self.old.units u) }
+        ensures sure { (u : ℕ) → is_sure (slice_get self.new.units u)
+            ≡ is_sure (slice_get self.old.units u) }
+        ensures executes { IfSome result (λ end.
+            (j : ℕ) × ExecutesGuestAt j self.old memory.old end self.new memory.new) }
+    {
+        let pending = self.pending.as_slice();
+        let place = next_place(pending, self.position)?;
+        let op = op_at(self.guest_ops.as_slice(), place);
+        let taken = self.pending.remove(place);
+        drop_op(&mut self.guest_ops, place);
+        self.position = self.position.after(taken);
+        let asked = GuestCommand { command: taken, op };
+        Some(execute_as(&mut self.units, asked, memory))
     }
 
     /// Forgets the pending commands, which get no end message, and makes every unit with a drive
@@ -237,10 +310,12 @@ impl<S: BlockStore> Exec<S> {
     pub fn reset(&mut self)
         ensures units { self.new.units ≡ map reset_unit self.old.units }
         ensures pending { self.new.pending ≡ [] }
+        ensures guest_ops { self.new.guest_ops ≡ [] }
         ensures four { length self.new.units ≡ 4 }
         ensures images { AreImages self.new.units }
     {
         self.pending.clear();
+        self.guest_ops.clear();
         self.position = Position::START;
         reset(&mut self.units);
     }
@@ -377,7 +452,7 @@ fn is_controller(op: Op) -> bool
 }
 
 // Does one command on the units: on its own, or on none where there is no such unit.
-fn execute<S: BlockStore>(
+pub(crate) fn execute<S: BlockStore>(
     units: &mut [Option<DriveUnit<S>>],
     command: Command,
     memory: &mut [u8],

@@ -10,8 +10,11 @@
 #![tactic(auto)]
 
 mod choice;
+mod compare;
 mod drive_unit;
 mod executor;
+mod guest_commands;
+mod guest_ops;
 mod movement;
 mod named;
 pub mod order;

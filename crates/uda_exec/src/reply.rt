@@ -3,10 +3,11 @@
 //! MSCP Basic Disk Functions Manual: end messages.
 ghost use Rattle.std.specs.Prelude.{◌≡◌};
 ghost use Rattle.uda_exec.specs.Effect.{plain_body, reply};
+ghost use Rattle.uda_exec.specs.SetUnit.{guest_reply};
 ghost use Rattle.uda_disk.specs.Plain.{refusal_status};
 
 use uda_disk::Refusal;
-use uda_packet::{Command, End, EndBody, Op};
+use uda_packet::{Command, End, EndBody, Op, Reply, ReplyBody};
 
 // The body of an end message with this byte count, where its opcode has one, and all other numbers 0.
 pub fn plain_body(op: Op, bytes: u32) -> EndBody
@@ -35,4 +36,16 @@ pub fn refuse(command: Command, refusal: Refusal) -> End
     ensures { result ≡ reply command (refusal_status refusal) (plain_body command.op 0) }
 {
     reply(command, refusal.status(), plain_body(command.op, 0))
+}
+
+/// Returns the end message of a guest's command, with this status and this body.
+pub fn guest_reply(command: Command, status: u16, body: ReplyBody) -> Reply
+    ensures { result ≡ guest_reply command status body }
+{
+    Reply {
+        reference: command.reference,
+        unit: command.unit,
+        status,
+        body,
+    }
 }

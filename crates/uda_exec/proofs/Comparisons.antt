@@ -1,4 +1,5 @@
--- How a comparison of blocks with memory goes from block to block; and the list of what is done with each command.
+-- How a comparison of blocks with memory goes from block to block; and the list of what is done with each
+-- command.
 use Rattle.std.proofs.Common.{◌≡◌, ℕ, ◌+◌, ◌-◌, ◌*◌, ◌/◌, ◌%◌, ◌<◌, ◌≤◌, inl, inr, true, List, [], ◌∷◌, ◌++◌, length, get_or, replicate, Option, Some, None, refl, sym, ap, ◌∙◌, arith, append-nil, append_assoc}
 use Rattle.std.specs.Prelude.{slice_index}
 use Rattle.std.proofs.lemmas.Bool.{cases_lt}
@@ -26,7 +27,8 @@ finds_same n (Some at) f g h k left right found = (found.0, record {
   other = λ same. found.1.other (left at found.0 ∙ same ∙ sym (right at found.0));
 })
 
-pub compares_block : (t : Transfer) (k : ℕ) (found : Option ℕ) (old new : StoreState) (memory block window : List ℕ)
+pub compares_block : (t : Transfer) (k : ℕ) (found : Option ℕ) (old new : StoreState)
+    (memory block window : List ℕ)
     → ReadsBlock old (t.lbn + k) new block → window ≡ part memory (t.buffer + 512 * k) (count_at t k)
     → FindsIn (count_at t k) found (λ i. slice_index block i) (λ i. slice_index window i)
     → ComparesBlock t k found old memory new
@@ -55,12 +57,14 @@ loses_read old new fails = record {
 -- ---- a range of blocks
 
 -- the blocks before this one are the same as the buffer
-pub record SameSoFar (t : Transfer) (done : ℕ) (old : StoreState) (memory : List ℕ) (now : StoreState) : Type 0 where
+pub record SameSoFar (t : Transfer) (done : ℕ) (old : StoreState) (memory : List ℕ) (now : StoreState)
+    : Type 0 where
   pub same : (i : ℕ) → i < 512 * done → i < t.bytes → byte_stored t old.blocks i ≡ byte_held t memory i
   pub blocks_stay : now.blocks ≡ old.blocks
   pub failures_stay : now.failures ≡ old.failures
 
-pub record Comparing (t : Transfer) (done : ℕ) (old : StoreState) (memory : List ℕ) (now : StoreState) : Type 0 where
+pub record Comparing (t : Transfer) (done : ℕ) (old : StoreState) (memory : List ℕ) (now : StoreState)
+    : Type 0 where
   pub nature : KeepsNature old now
   pub within : done ≤ block_count t
   pub so_far : old.faithful ≡ true → SameSoFar t done old memory now

@@ -75,7 +75,8 @@ pub fewer : (p : Command → Bool) (xs : List Command) (found : Option Command) 
 fewer p xs found is = fewer_at p xs (position p xs) refl found is
 
 -- the end message of the command at its place, by what is to be done with that
-pub aborted_at : (p : Command → Bool) (xs : List Command) (ops : List GuestOp) (place : ℕ) (c : Command) (r : Reply)
+pub aborted_at : (p : Command → Bool) (xs : List Command) (ops : List GuestOp) (place : ℕ) (c : Command)
+    (r : Reply)
     → Some place ≡ position p xs → find p xs ≡ Some c → r ≡ aborted (op_at ops place) c
     → Some r ≡ option_map (aborted (op_at ops (unwrap_or (position p xs) 0))) (find p xs)
 aborted_at p xs ops place c r at found is =

@@ -18,8 +18,8 @@ use Rattle.uda_exec.proofs.Changes.{changes_nothing, ChangesAt-none}
 use Rattle.uda_exec.proofs.Transferred.{end_of-blank}
 
 -- what is known of each unit stays where it stays of the one that is set
-pub map-set_same : {A B : Type 0} (f : A → B) (units : List (Option A)) (i : ℕ) (old new : A) → slice_get units i
-    ≡ Some (Some old) → f new ≡ f old
+pub map-set_same : {A B : Type 0} (f : A → B) (units : List (Option A)) (i : ℕ) (old new : A)
+    → slice_get units i ≡ Some (Some old) → f new ≡ f old
     → map (option_map f) (set units i (Some new)) ≡ map (option_map f) units
 map-set_same f units i old new here same =
     map-set (option_map f) units i (Some new) ∙ ap (λ b. set (map (option_map f) units) i (Some b)) same
@@ -214,7 +214,8 @@ natures_set_at o units u (Some (Some unit)) here =
     map-set_same nature_of units u unit (unit_set o unit) here (nature-unit_set o unit)
 
 pub natures_set : (o : Op) (units : List (Option UnitState)) (u : ℕ)
-    → natures_of (set units u (option_map (unit_set o) (unwrap_or (slice_get units u) None))) ≡ natures_of units
+    → natures_of (set units u (option_map (unit_set o) (unwrap_or (slice_get units u) None)))
+    ≡ natures_of units
 natures_set o units u = natures_set_at o units u (slice_get units u) refl
 
 -- a unit that is reset has the blocks that it had

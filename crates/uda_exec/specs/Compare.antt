@@ -51,8 +51,8 @@ verdict_status Equal = SUCCESS
 verdict_status (Differs n) = COMPARE_ERROR
 verdict_status (Lost k) = DRIVE_ERROR
 
--- the bytes that count as equal: all of them, those before the first difference, or those of the blocks before the
--- one that was lost
+-- the bytes that count as equal: all of them, those before the first difference, or those of the blocks
+-- before the one that was lost
 abbrev pub bytes_equal : ℕ → Verdict → ℕ
 bytes_equal count Equal = count
 bytes_equal count (Differs n) = n
@@ -111,8 +111,8 @@ ComparesSlot (Some None) c units memory r units_after =
     (r ≡ compare_reply c NO_VOLUME 0) × (units_after ≡ units)
 ComparesSlot (Some (Some unit)) c units memory r units_after =
     (unit_after : UnitState) × ((units_after ≡ set units c.unit (Some unit_after))
-    × ComparesUnit (transfer_refusal (compared c.op) (length memory) unit.store.size unit.mode) c unit memory r
-    unit_after)
+    × ComparesUnit (transfer_refusal (compared c.op) (length memory) unit.store.size unit.mode) c unit memory
+    r unit_after)
 
 -- MSCP: Compare Host Data. Memory stays as it is, and so do all units but the command's own
 pub record ComparesUnits (c : Command) (units : Units) (memory : List ℕ) (r : Reply) (units_after : Units)

@@ -8,8 +8,8 @@ use Rattle.uda_disk.specs.Units.{Units}
 abbrev pub PENDING_LIMIT : ℕ
 PENDING_LIMIT = 15
 
--- an executor: its units, the commands that it has accepted and not done, oldest first, and what a guest asks to be
--- done with each: a command that the last list doesn't reach is done as it is
+-- an executor: its units, the commands that it has accepted and not done, oldest first, and what a guest asks
+-- to be done with each: a command that the last list doesn't reach is done as it is
 pub record ExecState : Type 0 where
   pub units : Units
   pub pending : List Command

@@ -1,5 +1,5 @@
--- What one execution of a guest's command does: a pending command that may go is taken out, and what the guest asks
--- is done with it.
+-- What one execution of a guest's command does: a pending command that may go is taken out, and what the
+-- guest asks is done with it.
 -- MSCP Basic Disk Functions Manual: command ordering, end messages.
 use Rattle.std.specs.Prelude.{◌≡◌, ℕ, List, remove}
 use Rattle.uda_packet.specs.declared.command.Command.{Command}

@@ -36,7 +36,8 @@ without_op (Some place) ops = remove ops place
 -- the executor without that command
 abbrev pub taken_out : ℕ → ℕ → ExecState → ExecState
 taken_out drive number exec = record exec {
-  pending = before_first (is_named drive number) exec.pending ++ after_first (is_named drive number) exec.pending;
+  pending =
+      before_first (is_named drive number) exec.pending ++ after_first (is_named drive number) exec.pending;
   guest_ops = without_op (place_named drive number exec) exec.guest_ops;
 }
 

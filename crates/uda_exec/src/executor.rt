@@ -36,8 +36,8 @@ pub const PENDING: usize = 15;
 ///
 /// A unit has a drive or none. One with a drive is available or online, and has hardware protection,
 /// software protection, both or neither. Contracts see of each drive its store and its mode, and the
-/// pending commands with the oldest first. Only the stores may take memory or touch a file: the executor
-/// itself does neither.
+/// pending commands with the oldest first, with what a guest asks to be done with each. Only the stores may
+/// take memory or touch a file: the executor itself does neither.
 ///
 /// MSCP Basic Disk Functions Manual: unit states, write protection, command ordering.
 #[derive(Drop)]

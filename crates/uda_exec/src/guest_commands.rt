@@ -66,7 +66,8 @@ fn set_one<S: BlockStore>(unit: &mut Option<DriveUnit<S>>, command: Command) -> 
 fn compare<S: BlockStore>(units: &mut [Option<DriveUnit<S>>], command: Command, memory: &[u8]) -> Reply
     requires memory { IsMemory memory.now }
     requires images { AreImages units.old }
-    ensures slot { ComparesSlot (slice_get units.old command.unit) command units.old memory.now result units.new }
+    ensures slot { ComparesSlot (slice_get units.old command.unit) command units.old memory.now result
+        units.new }
     ensures images { AreImages units.new }
     ensures natures { natures_of units.new ≡ natures_of units.old }
     ensures count { length units.new ≡ length units.old }

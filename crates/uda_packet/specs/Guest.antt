@@ -104,8 +104,8 @@ asked_by identity bytes (Some answer) =
     })
 asked_by identity bytes None = reply_to_bad (read_command (plain_text identity bytes))
 
--- the command of a text that the strict profile knows, or the end message of one that is answered at once or is
--- invalid; its unit is the drive that the guest means
+-- the command of a text that the strict profile knows, or the end message of one that is answered at once or
+-- is invalid; its unit is the drive that the guest means
 abbrev pub read_resembled : Identity → List ℕ → Result Command Reply
 read_resembled identity bytes = asked_by identity bytes (body_at_once (number_in code_field bytes) bytes)
 

@@ -1,5 +1,5 @@
--- Commands of the profile for guests: those of the strict profile, and two that it doesn't know, each of which has
--- the parameters of one that it knows. Such a command has a line in each table here.
+-- Commands of the profile for guests: those of the strict profile, and two that it doesn't know, each of
+-- which has the parameters of one that it knows. Such a command has a line in each table here.
 -- MSCP Basic Disk Functions Manual: Set Unit Characteristics, Compare Host Data, opcodes.
 use Rattle.std.specs.Prelude.{ℕ, ◌==◌, List, ◌++◌, codes, if◌then◌else◌}
 use Rattle.std.specs.Fmt.{decimal}

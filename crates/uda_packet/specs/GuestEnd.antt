@@ -119,8 +119,8 @@ abbrev pub basic_entries : Bool → Report → ℕ → ℕ → EndBody → List 
 basic_entries true r number status b = []
 basic_entries false r number status b = guest_entries r number status b
 
--- the same of any message; Set Unit Characteristics reports what Online does, and any other that only the profile
--- for guests knows has what it answers
+-- the same of any message; Set Unit Characteristics reports what Online does, and any other that only the
+-- profile for guests knows has what it answers
 abbrev pub guest_reply_entries : Report → ℕ → ℕ → ReplyBody → List Entry
 guest_reply_entries r number status (Basic b) = basic_entries (status == ABORTED) r number status b
 guest_reply_entries r number status (SetUnit flags size) =

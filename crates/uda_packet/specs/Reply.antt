@@ -89,7 +89,8 @@ reply_entries unit status (CommandStatus named progress) =
 reply_entries unit status AccessPaths = []
 reply_entries unit status CompareController = []
 reply_entries unit status Flush = []
-reply_entries unit status (SetUnit flags size) = unit_flags_field holds flags ∷ unit_size_field holds size ∷ []
+reply_entries unit status (SetUnit flags size) =
+    unit_flags_field holds flags ∷ unit_size_field holds size ∷ []
 reply_entries unit status (Compare bytes) = byte_count_field holds bytes ∷ []
 
 -- the text that it is written as

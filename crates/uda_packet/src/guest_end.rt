@@ -140,7 +140,8 @@ impl Report {
         ensures { text.new ≡ with_entries (guest_reply_entries self.now number status body) text.old }
     {
         match body {
-            ReplyBody::Basic(_) | ReplyBody::SetUnit { .. } if status == ABORTED => {}
+            ReplyBody::Basic(_) if status == ABORTED => {}
+            ReplyBody::SetUnit { .. } if status == ABORTED => {}
             ReplyBody::Basic(body) => self.put(text, number, status, body),
             ReplyBody::SetUnit { .. } => self.put_online(text, number),
             other => other.put(text, number, status),

@@ -154,6 +154,15 @@ impl fmt::Display for ReplyLine {
                 write!(f, "{reference} compare-controller {unit} {status:04x}")
             }
             ReplyBody::Flush => write!(f, "{reference} flush {unit} {status:04x}"),
+            ReplyBody::SetUnit { flags, size } => {
+                write!(
+                    f,
+                    "{reference} set-unit {unit} {status:04x} {flags:04x} {size}"
+                )
+            }
+            ReplyBody::Compare { bytes } => {
+                write!(f, "{reference} compare {unit} {status:04x} {bytes}")
+            }
         }
     }
 }

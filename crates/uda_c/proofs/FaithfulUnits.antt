@@ -2,10 +2,10 @@
 use Rattle.std.proofs.Common.{◌≡◌, ℕ, zero, suc, Bool, true, false, List, [], ◌∷◌, set, Option, Some, None, Result, Ok, Err, refl, sym, ap, ◌∙◌}
 use Rattle.std.specs.Prelude.{option_map, slice_get, unwrap_or, if◌then◌else◌}
 use Rattle.std.proofs.lemmas.Option.{slice_get-map}
-use Rattle.uda_packet.specs.declared.command.Command.{Command}
+use Rattle.uda_packet.specs.declared.guest_command.GuestCommand.{GuestCommand}
 use Rattle.uda_packet.specs.declared.reply.Reply.{Reply}
 use Rattle.uda_packet.specs.declared.reply.ReplyBody.{ReplyBody}
-use Rattle.uda_packet.specs.declared.reply.ReplyBody.TheVariants.{Basic, Abort, CommandStatus, AccessPaths, CompareController, Flush}
+use Rattle.uda_packet.specs.declared.reply.ReplyBody.TheVariants.{Basic, Abort, CommandStatus, AccessPaths, CompareController, Flush, SetUnit, Compare}
 use Rattle.uda_port.specs.AtOnce.{exec_for, exec_at_once}
 use Rattle.uda_port.specs.declared.profile.Profile.TheVariants.{Strict, ForGuests}
 use Rattle.uda_disk.specs.declared.mode.Mode.{Mode}
@@ -22,7 +22,7 @@ use Rattle.uda_port.specs.declared.turn.Turn.TheVariants.{Fetched, Executed, Del
 use Rattle.uda_port.specs.Port.{PortState, port_restarted, port_asked, port_with_drive, drive_put, protected_drive, read_only_at}
 use Rattle.uda_port.specs.Message.{message_in}
 use Rattle.uda_port.specs.Startup.{has_bit, wrap_by, area_of, has_area, refuses_second, refuses_third, asks_test, by_word}
-use Rattle.uda_port.specs.Turn.{port_turn_on, port_with_message, TurnGoes, RunningTurn, GoesOn, Fails, InFetch, InRest, FetchLine}
+use Rattle.uda_port.specs.Turn.{port_turn_on, port_with_message, ExecutesFor, TurnGoes, RunningTurn, GoesOn, Fails, InFetch, InRest, FetchLine}
 
 -- ---- what changes no unit's nature leaves them faithful
 
@@ -60,13 +60,15 @@ guest_natures (CommandStatus named progress) r exec = refl
 guest_natures AccessPaths r exec = refl
 guest_natures CompareController r exec = refl
 guest_natures Flush r exec = refl
+guest_natures (SetUnit flags size) r exec = refl
+guest_natures (Compare bytes) r exec = refl
 
 at_once_natures : (profile : Profile) (r : Reply) (exec : ExecState)
     → natures_of (exec_at_once profile r exec).units ≡ natures_of exec.units
 at_once_natures Strict r exec = refl
 at_once_natures (ForGuests identity) r exec = guest_natures r.body r exec
 
-message_natures : (old : PortState) (message : Result Command Reply)
+message_natures : (old : PortState) (message : Result GuestCommand Reply)
     → natures (port_with_message old message) ≡ natures old
 message_natures old (Ok c) = refl
 message_natures old (Err r) = at_once_natures old.profile r old.exec
@@ -96,11 +98,19 @@ fails_natures : (cause : Fatal) (old : PortState) (memory : List ℕ) (new : Por
 fails_natures cause old memory new after (InFetch line) = fetch_natures cause old memory new after line
 fails_natures cause old memory new after (InRest goes) = rest_natures cause old memory new after goes
 
+executed_natures : (profile : Profile) (j : ℕ) (old : ExecState) (memory : List ℕ) (r : Reply)
+    (new : ExecState) (after : List ℕ) → ExecutesFor profile j old memory r new after
+    → natures_of new.units ≡ natures_of old.units
+executed_natures Strict j old memory r new after done = done.executes.executes.natures_stay
+executed_natures (ForGuests identity) j old memory r new after done = done.natures_stay
+
 running_natures : (turn : Turn) (old : PortState) (memory : List ℕ) (new : PortState) (after : List ℕ)
     → RunningTurn old memory turn new after → natures new ≡ natures old
 running_natures Fetched old memory new after goes =
     ap natures goes.others ∙ message_natures (port_turn_on old) (message_in old.profile goes.packet)
-running_natures Executed old memory new after goes = goes.rest.1.executes.executes.natures_stay
+running_natures Executed old memory new after goes =
+    executed_natures old.profile goes.rest.0 old.exec memory goes.rest.1.end new.exec after
+    goes.rest.1.executes
 running_natures Delivered old memory new after goes = ap natures goes.rest.1.others
 running_natures Notified old memory new after goes = ap natures goes.rest.1.others
 running_natures Idle old memory new after goes = ap natures goes.rest.1.1.state

@@ -139,7 +139,8 @@ pub record Attaches (old : Exchange) (unit : ℕ) (hard : Bool) (answer : CallSt
   pub attached : answer ≡ Done
       → new.0 ≡ controller_with old.0 unit (Some (lent_drive (record { bytes = old.1.held; hard = hard })))
   pub has : answer ≡ Done
-      → image_at new.0 unit ≡ Some (record { bytes = old.1.held; hard = read_only_at old.0.port unit || hard })
+      → image_at new.0 unit
+      ≡ Some (record { bytes = old.1.held; hard = read_only_at old.0.port unit || hard })
   pub taken : answer ≡ Done → new.1 ≡ empty_slot
   pub refused : answer ≢ Done → new ≡ old
 
@@ -274,7 +275,8 @@ pub record TakesInterrupt (old : ControllerState) (before : ℕ) (told : Bool) (
 
 -- ---- the compatible profile's controller
 
--- a controller on the bus that C names, whose units have the numbers from this one on; or there is no such bus
+-- a controller on the bus that C names, whose units have the numbers from this one on; or there is no such
+-- bus
 abbrev pub MakesAs : Option ControllerState → Option Bus → ℕ → CallStatus → Option ControllerState → Type 0
 MakesAs old None first answer new = (answer ≡ NoSuchBus) × (new ≡ old)
 MakesAs old (Some bus) first answer new =

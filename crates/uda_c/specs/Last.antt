@@ -1,12 +1,12 @@
 -- What C is told of a turn, and its line as a text of C.
 use Rattle.std.specs.Prelude.{◌≡◌, ℕ, List, [], ◌∷◌, ◌++◌, length, take, drop, Option, Some, None}
-use Rattle.uda_packet.specs.declared.command.Command.{Command}
+use Rattle.uda_packet.specs.declared.guest_command.GuestCommand.{GuestCommand}
 use Rattle.uda_packet.specs.declared.end.EndBody.TheVariants.{Moved}
 use Rattle.uda_packet.specs.declared.transfer.Transfer.{Transfer}
 use Rattle.uda_packet.specs.declared.reply.Reply.{Reply}
 use Rattle.uda_packet.specs.declared.reply.ReplyBody.{ReplyBody}
-use Rattle.uda_packet.specs.declared.reply.ReplyBody.TheVariants.{Basic}
-use Rattle.uda_packet.specs.Opcode.{opcode_of}
+use Rattle.uda_packet.specs.declared.reply.ReplyBody.TheVariants.{Basic, Compare}
+use Rattle.uda_packet.specs.GuestCommands.{opcode_meant}
 use Rattle.uda_packet.specs.Reply.{reply_code}
 use Rattle.uda_packet.specs.Transfer.{transfer_of}
 use Rattle.uda_port.specs.declared.trace.Trace.{Trace}
@@ -33,20 +33,21 @@ told_count (Some t) = t.bytes
 told_count None = 0
 
 -- a command that was fetched
-abbrev pub told_command : Command → TurnRecord
-told_command c = record {
+abbrev pub told_command : GuestCommand → TurnRecord
+told_command g = record {
   kind = 1;
-  reference = c.reference;
-  lbn = told_lbn (transfer_of c.op);
-  bytes = told_count (transfer_of c.op);
-  unit = c.unit;
-  code = opcode_of c.op;
+  reference = g.command.reference;
+  lbn = told_lbn (transfer_of g.command.op);
+  bytes = told_count (transfer_of g.command.op);
+  unit = g.command.unit;
+  code = opcode_meant g.op g.command.op;
   status = 0;
 }
 
 -- the bytes that an end tells
 abbrev pub told_bytes : ReplyBody → ℕ
 told_bytes (Basic (Moved kind bytes)) = bytes
+told_bytes (Compare bytes) = bytes
 told_bytes _ = 0
 
 -- a turn that was about an end
@@ -61,8 +62,8 @@ told_end kind e = record {
   status = e.status;
 }
 
--- a turn, by what it did: 0 to 5 as a turn is answered, 6 for a packet that is no command, 7 for no turn yet, 8
--- for a command that was answered at once, 9 for an Abort that took a pending command out
+-- a turn, by what it did: 0 to 5 as a turn is answered, 6 for a packet that is no command, 7 for no turn
+-- yet, 8 for a command that was answered at once, 9 for an Abort that took a pending command out
 abbrev pub turn_record : Option Trace → TurnRecord
 turn_record (Some Idle) = told_number 0 0
 turn_record (Some (Fetched command)) = told_command command

@@ -5,7 +5,7 @@ ghost use Rattle.uda_c.specs.Last.{told_number, told_command, told_end, turn_rec
 use crate::call_status::CallStatus;
 use crate::text::put_c_string;
 use std::alloc::Global;
-use uda_packet::{Command, EndBody, Reply, ReplyBody};
+use uda_packet::{EndBody, GuestCommand, Reply, ReplyBody};
 use uda_port::Trace;
 
 /// What a turn did, in the form of C. What it has no word of is 0.
@@ -63,9 +63,10 @@ impl TurnRecord {
     }
 
     // A fetch.
-    fn of_command(command: Command) -> TurnRecord
-        ensures { result ≡ told_command command }
+    fn of_command(asked: GuestCommand) -> TurnRecord
+        ensures { result ≡ told_command asked }
     {
+        let GuestCommand { command, op } = asked;
         let (lbn, bytes) = match command.op.transfer() {
             Some(t) => (t.lbn, t.bytes),
             None => (0, 0),
@@ -76,7 +77,7 @@ impl TurnRecord {
             lbn,
             bytes,
             unit: command.unit,
-            code: u16::from(command.op.opcode()),
+            code: u16::from(op.opcode(command.op)),
             status: 0,
         }
     }
@@ -86,7 +87,7 @@ impl TurnRecord {
         ensures { result ≡ told_end kind end }
     {
         let bytes = match end.body {
-            ReplyBody::Basic(EndBody::Moved { bytes, .. }) => bytes,
+            ReplyBody::Basic(EndBody::Moved { bytes, .. }) | ReplyBody::Compare { bytes } => bytes,
             _ => 0,
         };
         TurnRecord {

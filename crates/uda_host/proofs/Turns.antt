@@ -1,6 +1,6 @@
 -- What a turn of the port does to its host.
-use Rattle.std.proofs.Common.{◌≡◌, ℕ, ◌^◌, ◌+◌, ◌-◌, ◌/◌, ◌%◌, ◌<◌, ◌≤◌, Bool, true, false, List, [], ◌∷◌, ◌++◌, length, drop, Option, Some, None, refl, sym, ap, ap₂, ◌∙◌, arith, subst, length-append}
-use Rattle.std.specs.Prelude.{Result, Ok, Err, slice_get, nat_eq, ◌&&◌, ◌||◌, not, map, All, if◌then◌else◌}
+use Rattle.std.proofs.Common.{◌≡◌, ℕ, zero, suc, ◌^◌, ◌+◌, ◌-◌, ◌/◌, ◌%◌, ◌<◌, ◌≤◌, Bool, true, false, List, [], ◌∷◌, ◌++◌, length, drop, Option, Some, None, refl, sym, ap, ap₂, ◌∙◌, arith, subst, length-append}
+use Rattle.std.specs.Prelude.{Result, Ok, Err, slice_get, remove, nat_eq, ◌&&◌, ◌||◌, not, map, All, if◌then◌else◌}
 use Rattle.std.proofs.Math.Seq.{get_or-append_seam}
 use Rattle.std.proofs.lemmas.Bool.{le-leb, lt-leb}
 use Rattle.std.proofs.lemmas.List.{append-nil, append_assoc, length_push, length-drop, drop-drop, map-append, length-map}
@@ -14,10 +14,12 @@ use Rattle.uda_packet.specs.Reading.{read_command, read_end}
 use Rattle.uda_packet.specs.Bad.{other_length_end}
 use Rattle.uda_packet.proofs.WrittenLaws.{length-written_end}
 use Rattle.uda_exec.specs.Commands.{buffer_start as buffer_of, landing_of}
+use Rattle.uda_exec.specs.Disks.{ExecState}
 use Rattle.uda_exec.proofs.Changes.{landing-le}
 use Rattle.uda_port.specs.declared.descriptor.Descriptor.{Descriptor}
 use Rattle.uda_port.specs.declared.packet.Fetched.{Fetched}
 use Rattle.uda_port.specs.declared.profile.Profile.{Profile}
+use Rattle.uda_port.specs.declared.profile.Profile.TheVariants.{Strict}
 use Rattle.uda_port.specs.declared.phase.Phase.{Phase}
 use Rattle.uda_port.specs.declared.turn.Turn.{Turn}
 use Rattle.uda_port.specs.declared.turn.Turn.TheVariants.{Fetched as TurnFetched, Executed, Delivered, Notified, Idle, Dead}
@@ -29,13 +31,18 @@ use Rattle.uda_port.specs.Report.{end_text, text_by, attention_by, next_by}
 use Rattle.uda_port.specs.Fetch.{Takes}
 use Rattle.uda_port.specs.Delivery.{Puts}
 use Rattle.uda_packet.specs.declared.reply.Reply.{Reply}
-use Rattle.uda_packet.specs.Guest.{reply_to_bad}
+use Rattle.uda_packet.specs.declared.bad.Bad.{Bad}
+use Rattle.uda_packet.specs.declared.guest_command.GuestCommand.{GuestCommand}
+use Rattle.uda_packet.specs.declared.guest_command.GuestOp.{GuestOp}
+use Rattle.uda_packet.specs.declared.guest_command.GuestOp.TheVariants.{Basic}
+use Rattle.uda_packet.specs.GuestCommands.{basic_command}
+use Rattle.uda_packet.specs.Guest.{reply_to_bad, asked_as}
 use Rattle.uda_packet.specs.Reply.{basic_reply, strict_end}
 use Rattle.uda_port.specs.Message.{IsSequential, message_in, flags_kept}
 use Rattle.uda_port.specs.declared.guest.Guest.{Guest}
 use Rattle.uda_port.specs.Interrupt.{told_at, word_below, memory_told}
 use Rattle.uda_port.specs.Port.{PortState, lacks_credit, CreditsAgree, next_grant, commands_told, responses_told, interrupts_told}
-use Rattle.uda_port.specs.Turn.{port_turn_on, port_with_message, delivery_of, FetchesOne, NothingToFetch, FetchLine, GoesOn, Fails, InFetch, InRest, RunningTurn, TurnGoes}
+use Rattle.uda_port.specs.Turn.{port_turn_on, port_with_message, ExecutesFor, ExecutesStrictly, delivery_of, FetchesOne, NothingToFetch, FetchLine, GoesOn, Fails, InFetch, InRest, RunningTurn, TurnGoes}
 use Rattle.uda_port.specs.declared.trace.Trace.{Trace}
 use Rattle.uda_port.specs.declared.trace.Trace.TheVariants as trace
 use Rattle.uda_port.specs.Trace.{turn_of}
@@ -136,19 +143,21 @@ fetched {h = h} {c} {rest} new after host were agree goes =
     let place = port.commands.place in let pending = port.exec.pending in let takes = goes.takes in
     let sound : IsSound c = subst IsSound (get_or-append_seam pending c rest c)
     ((rw were at host.sound) (length pending) c (omega (arith, length-append pending (c ∷ rest)))) in
-    let read : ℕ → List ℕ → Result Command Reply = λ size text.
-    if nat_eq size 48 then reply_to_bad (read_command text)
+    let asked : Result Command Reply → Result GuestCommand Reply = asked_as Basic in
+    let read : ℕ → List ℕ → Result GuestCommand Reply = λ size text.
+    if nat_eq size 48 then asked (reply_to_bad (read_command text))
     else Err (basic_reply (other_length_end text)) in
-    let message : message_in port.profile goes.packet ≡ Ok c =
+    let message : message_in port.profile goes.packet ≡ Ok (basic_command c) =
     ap (λ (p : Profile). message_in p goes.packet) host.port.strict
-    ∙ ap₂ read (size_read host were takes) (text_read host were takes) ∙ ap reply_to_bad sound.legible in
+    ∙ ap₂ read (size_read host were takes) (text_read host were takes)
+    ∙ ap (λ (r : Result Command Bad). asked (reply_to_bad r)) sound.legible in
     let untold : commands_told port h.memory ≡ None =
     ap (λ (p : Profile). told_at p (word_below port.responses.base 4) h.memory port.commands)
     host.port.strict in
     let kept : flags_kept port.profile goes.packet (message_in port.profile goes.packet) port.guest
     ≡ port.guest =
     ap (λ (p : Profile). flags_kept p goes.packet (message_in p goes.packet) port.guest) host.port.strict in
-    let leaves = λ (m : Result Command Reply) (r : RingState) (told : Option ℕ) (g : Guest).
+    let leaves = λ (m : Result GuestCommand Reply) (r : RingState) (told : Option ℕ) (g : Guest).
     record (port_with_message (port_turn_on port) m) {
       commands = r;
       credits = port.credits - 1;
@@ -195,23 +204,41 @@ fetched {h = h} {c} {rest} new after host were agree goes =
 
 -- ---- a command is done
 
+-- a host's commands are all of the strict profile
+abbrev no_ops : List GuestOp
+no_ops = []
+
+none_left : (place : ℕ) → remove no_ops place ≡ no_ops
+none_left zero = refl
+none_left (suc place) = refl
+
+-- the port is strict, so it executes the command as it is
+executed_strictly : {profile : Profile} {j : ℕ} {old new : ExecState} {memory after : List ℕ} {r : Reply}
+    → profile ≡ Strict → ExecutesFor profile j old memory r new after
+    → ExecutesStrictly j old memory r new after
+executed_strictly {j = j} {old} {new} {memory} {after} {r} strict done =
+    subst (λ (p : Profile). ExecutesFor p j old memory r new after) strict done
+
 executed : {S : Type 0} {h : Inside S} (new : PortState) (after : List ℕ) → IsHost h → unfetched h ≡ []
     → CreditsAgree new → GoesOn (port_turn_on h.port) h.memory (Ok Executed) new after
     → HostThat (Works (host_view h)) (record h { memory = after; port = new })
 executed {h = h} new after host none agree goes =
-    let pending = h.port.exec.pending in let one = goes.rest.1 in let taken = one.executes.taken in
-    let op = one.executes.command.op in let at = buffer_of op in let bytes = part after at (landing_of op) in
+    let pending = h.port.exec.pending in let one = goes.rest.1 in
+    let done = executed_strictly host.port.strict one.executes in
+    let taken = done.executes.taken in let op = done.executes.command.op in
+    let at = buffer_of op in let bytes = part after at (landing_of op) in
     let size = length-part after at (landing_of op) in let small = landing-le op in
     let before : pending ++ unfetched h ≡ pending = ap (λ (cs : List Command). pending ++ cs) none
     ∙ append-nil pending in
     let behind : new.exec.pending ++ unfetched h ≡ new.exec.pending =
     ap (λ (cs : List Command). new.exec.pending ++ cs) none ∙ append-nil new.exec.pending in
     let sound : All IsSound pending = rw before at host.sound in
-    let above = (All-at IsSound pending goes.rest.0 one.executes.command sound taken.stands).above in
+    let above = (All-at IsSound pending goes.rest.0 done.executes.command sound taken.stands).above in
     let rings = host.rings in let counts = host.counts in
-    let waits : map strict_end (h.port.waiting ++ basic_reply one.end ∷ [])
-    ≡ map strict_end h.port.waiting ++ one.end ∷ [] =
-    map-append strict_end h.port.waiting (basic_reply one.end ∷ []) in
+    let waits : map strict_end (h.port.waiting ++ one.end ∷ [])
+    ≡ map strict_end h.port.waiting ++ done.end ∷ [] =
+    map-append strict_end h.port.waiting (one.end ∷ [])
+    ∙ ap (λ (r : Reply). map strict_end h.port.waiting ++ strict_end r ∷ []) done.reply_is in
     rw one.others (record {
       host = record {
         port = record { strict = host.port.strict; runs = host.port.runs };
@@ -223,21 +250,26 @@ executed {h = h} new after host none agree goes =
               rings.posts_next;
           looks_within = rings.looks_within;
         };
-        written = rw one.executes.executes.memory_stays
+        written = rw done.executes.executes.memory_stays
             (rings-put at bytes (λ meet. above (omega arith)) host.written);
         agree = subst CreditsAgree one.others agree;
         counts = record {
           fetched = counts.fetched;
           turned =
-              omega (arith, length_push h.port.waiting (basic_reply one.end));
+              omega (arith, length_push h.port.waiting one.end);
           credits = counts.credits;
         };
         sound = rw (behind, taken.taken) (All-remove IsSound pending goes.rest.0 sound);
       };
       so = OneDone (record {
         place = goes.rest.0;
-        end = one.end;
-        executes = rw (before, behind) one.executes;
+        end = done.end;
+        executes = rw (before, behind) (record {
+          command = done.executes.command;
+          taken = taken;
+          ops_left = sym (none_left goes.rest.0);
+          executes = done.executes.executes;
+        });
         is = rw (before, waits);
       });
     })
@@ -449,8 +481,8 @@ module _ {S : Type 0} {h : Inside S} (host : IsHost h) (before : PortState) (aft
       let word : word_at h.memory (address_of lost.next - 4) ≡ word_at h.memory
       (response_packet h.response_place) = ap (word_at h.memory) (omega arith) in
       let n = length goes.rest.1.0.text in
-      subst (λ (p : Profile). HasRoom p h.memory (text_address p lost.next) n → ⊥) host.port.strict lost.no_room
-      (record {
+      subst (λ (p : Profile). HasRoom p h.memory (text_address p lost.next) n → ⊥) host.port.strict
+      lost.no_room (record {
         packet = record { even = omega arith; above = omega arith; within = omega arith };
         long = omega arith;
       })

@@ -58,8 +58,8 @@ pub record Does (old new : HostState) : Type 0 where
   pub place : ℕ
   pub end : End
   pub executes :
-      ExecutesAt place (record { units = old.units; pending = old.due }) old.memory end
-      (record { units = new.units; pending = new.due }) new.memory
+      ExecutesAt place (record { units = old.units; pending = old.due; guest_ops = [] }) old.memory end
+      (record { units = new.units; pending = new.due; guest_ops = [] }) new.memory
   pub is :
       new
       ≡ record old {

@@ -3,7 +3,7 @@ use Rattle.std.proofs.Common.{◌≡◌, ◌≢◌, ℕ, ◌⊎◌, inl, inr, Bo
 use Rattle.std.specs.Prelude.{if◌then◌else◌}
 use Rattle.std.proofs.lemmas.List.Elements.{All-nil, All-cons, All-head, All-tail}
 use borrow.Author.Tests.{ltb-true, ltb-false}
-use Rattle.uda_packet.specs.declared.command.Command.{Command}
+use Rattle.uda_packet.specs.declared.guest_command.GuestCommand.{GuestCommand}
 use Rattle.uda_packet.specs.declared.reply.Reply.{Reply}
 use Rattle.uda_port.specs.declared.phase.Phase.{Phase}
 use Rattle.uda_port.specs.declared.phase.Phase.TheVariants.{Step1, Step2, Step3, Wrap, Purge, Poll, Step4, Running, Dead}
@@ -190,7 +190,7 @@ fails_of cause old memory before memory_after (InRest goes) =
     fails_rest cause old memory before memory_after goes
 
 -- a message leaves the phase
-message_phase : (old : PortState) (message : Result Command Reply)
+message_phase : (old : PortState) (message : Result GuestCommand Reply)
     → (port_with_message old message).phase ≡ old.phase
 message_phase old (Ok c) = refl
 message_phase old (Err e) = refl

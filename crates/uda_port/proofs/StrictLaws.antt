@@ -14,7 +14,8 @@ use Rattle.uda_port.specs.declared.phase.Fatal.TheVariants.{RingWrite, StartUpWo
 use Rattle.uda_port.specs.Message.{message_in}
 use Rattle.uda_port.specs.AtOnce.{replies_at_once, exec_at_once}
 use Rattle.uda_packet.specs.declared.reply.Reply.{Reply}
-use Rattle.uda_packet.specs.Guest.{reply_to_bad}
+use Rattle.uda_packet.specs.declared.guest_command.GuestOp.TheVariants.{Basic}
+use Rattle.uda_packet.specs.Guest.{reply_to_bad, asked_as}
 use Rattle.uda_packet.specs.Reply.{basic_reply}
 use Rattle.uda_exec.specs.Disks.{ExecState}
 use Rattle.uda_port.specs.Packet.{TellsRoom, HasRoom}
@@ -29,7 +30,7 @@ use Rattle.uda_port.specs.Startup.{has_bit, ring_base, response_count, command_c
 
 strict_message : (p : Fetched) → message_in Strict p
     ≡ (
-    if p.words.0 == 48 then reply_to_bad (read_command p.text)
+    if p.words.0 == 48 then asked_as Basic (reply_to_bad (read_command p.text))
     else Err (basic_reply (other_length_end p.text)))
 strict_message p = refl
 

@@ -1,15 +1,19 @@
 -- What can be told of a turn by the ports before and after it.
 use Rattle.std.proofs.Common.{◌≡◌, ℕ, ◌+◌, ◌-◌, ◌<◌, ◌≤◌, List, [], ◌∷◌, ◌++◌, length, Option, Some, None, refl, sym, ap, subst, lt_irrefl, ◌∙◌, arith, length-append, append_assoc}
-use Rattle.std.specs.Prelude.{Result, Ok, Err, slice_get}
+use Rattle.std.specs.Prelude.{Result, Ok, Err, slice_get, option_map, IsSome}
 use Rattle.std.proofs.lemmas.List.{get_or_push}
-use Rattle.std.proofs.lemmas.Option.{slice_get_read}
+use Rattle.std.proofs.lemmas.Option.{slice_get_read, slice_get-get_or}
 use Rattle.circular_buffer.specs.Buffer.{last_item}
 use Rattle.uda_packet.specs.declared.command.Command.{Command}
+use Rattle.uda_packet.specs.declared.command.Op.TheVariants.{Status}
 use Rattle.uda_packet.specs.declared.reply.Reply.{Reply}
 use Rattle.uda_packet.specs.declared.reply.ReplyBody.{ReplyBody}
-use Rattle.uda_packet.specs.declared.reply.ReplyBody.TheVariants.{Basic, Abort, CommandStatus, AccessPaths, CompareController, Flush}
-use Rattle.uda_packet.specs.Reply.{basic_reply}
-use Rattle.uda_exec.specs.Named.{is_named, oldest_named, taken_out, aborted, progress_of}
+use Rattle.uda_packet.specs.declared.reply.ReplyBody.TheVariants.{Basic, Abort, CommandStatus, AccessPaths, CompareController, Flush, SetUnit, Compare}
+use Rattle.uda_packet.specs.declared.guest_command.GuestCommand.{GuestCommand}
+use Rattle.uda_packet.specs.declared.guest_command.GuestOp.{GuestOp}
+use Rattle.uda_exec.specs.Disks.{ExecState}
+use Rattle.uda_exec.specs.GuestOps.{op_at, newest_guest}
+use Rattle.uda_exec.specs.Named.{is_named, oldest_named, op_named, taken_out, aborted, progress_of}
 use Rattle.uda_exec.proofs.NamedLaws.{Fewer, fewer}
 use Rattle.uda_port.specs.declared.profile.Profile.{Profile}
 use Rattle.uda_port.specs.declared.profile.Profile.TheVariants.{Strict, ForGuests}
@@ -20,7 +24,7 @@ use Rattle.uda_port.specs.declared.turn.Turn.TheVariants as turn
 use Rattle.uda_port.specs.Port.{PortState}
 use Rattle.uda_port.specs.Message.{message_in}
 use Rattle.uda_port.specs.Turn.{TurnGoes, port_turn_on, port_with_message}
-use Rattle.uda_port.specs.Trace.{Traces, reply_trace, turn_of, IsDead}
+use Rattle.uda_port.specs.Trace.{Traces, IsPending, reply_trace, turn_of, IsDead}
 
 -- the last item is the one that was put behind the others
 last-is : {A : Type 0} (xs : List A) (y : A) → last_item (xs ++ y ∷ []) ≡ Some y
@@ -48,13 +52,15 @@ pub data OneMore (old new : PortState) : Type 0 where
 abort_of : (old new : PortState) (r : Reply) (named : ℕ) (found : Option Command)
     → oldest_named r.unit named old.exec.pending ≡ found
     → new.exec.pending ≡ (taken_out r.unit named old.exec).pending
-    → new.waiting ≡ old.waiting ++ (replies_aborted found ++ r ∷ []) → OneMore old new
+    → new.waiting ≡ old.waiting ++ (replies_aborted (op_named r.unit named old.exec) found ++ r ∷ [])
+    → OneMore old new
 abort_of old new r named None is pending waiting =
     AnEnd r (pending ∙ fewer (is_named r.unit named) old.exec.pending None (sym is)) waiting
 abort_of old new r named (Some c) is pending waiting =
     let one : Fewer (is_named r.unit named) old.exec.pending (Some c) =
     fewer (is_named r.unit named) old.exec.pending (Some c) (sym is) in
-    AnAbort (basic_reply (aborted c)) r (ap (λ (l : List Command). length l + 1) pending ∙ one) waiting
+    AnAbort (aborted (op_named r.unit named old.exec) c) r
+    (ap (λ (l : List Command). length l + 1) pending ∙ one) waiting
 
 -- a command that is answered at once, by the body of its answer
 answer_of : (old new : PortState) (b : ReplyBody) (r : Reply)
@@ -69,6 +75,8 @@ answer_of old new (CommandStatus named progress) r pending waiting =
 answer_of old new AccessPaths r pending waiting = AnEnd r pending waiting
 answer_of old new CompareController r pending waiting = AnEnd r pending waiting
 answer_of old new Flush r pending waiting = AnEnd r pending waiting
+answer_of old new (SetUnit flags size) r pending waiting = AnEnd r pending waiting
+answer_of old new (Compare bytes) r pending waiting = AnEnd r pending waiting
 
 answered : (old new : PortState) (profile : Profile) (r : Reply)
     → new.exec.pending ≡ (exec_at_once profile r old.exec).pending
@@ -76,10 +84,10 @@ answered : (old new : PortState) (profile : Profile) (r : Reply)
 answered old new Strict r pending waiting = AnEnd r pending waiting
 answered old new (ForGuests identity) r pending waiting = answer_of old new r.body r pending waiting
 
-one_more : (old new : PortState) (message : Result Command Reply)
+one_more : (old new : PortState) (message : Result GuestCommand Reply)
     → new.exec.pending ≡ (port_with_message old message).exec.pending
     → new.waiting ≡ (port_with_message old message).waiting → OneMore old new
-one_more old new (Ok c) pending waiting = ACommand c pending
+one_more old new (Ok c) pending waiting = ACommand c.command pending
 one_more old new (Err r) pending waiting = answered old new old.profile r pending waiting
 
 -- where no command became pending, an end waits
@@ -127,7 +135,7 @@ pub executed : (phase : Phase) (old : PortState) (memory : List ℕ) (new : Port
     → TurnGoes phase old memory turn.Executed new memory_after
     → (end : Reply) × (new.waiting ≡ old.waiting ++ end ∷ [])
 executed Running old memory new memory_after goes =
-    (basic_reply goes.rest.1.end, ap (λ (p : PortState). p.waiting) goes.rest.1.others)
+    (goes.rest.1.end, ap (λ (p : PortState). p.waiting) goes.rest.1.others)
 executed Step1 old memory new memory_after goes = absurd (cc)
 executed (Step2 first) old memory new memory_after goes = absurd (cc)
 executed (Step3 first second) old memory new memory_after goes = absurd (cc)
@@ -174,6 +182,36 @@ told_command old new c (AnAbort taken end less is) more last = absurd (omega (ar
 told_command old new c (AnEnd end stays is) more last =
     absurd (lt_irrefl _ (subst (λ (l : List Command). length old.exec.pending < length l) stays more))
 
+-- the command that was accepted last, by its parts
+abbrev AsGuest : List GuestOp → ℕ → Command → GuestCommand
+AsGuest ops place c = record { command = c; op = op_at ops place }
+
+newest_parts : (ops : List GuestOp) (place : ℕ) (found : Option Command) (g : GuestCommand)
+    → option_map (AsGuest ops place) found ≡ Some g → (found ≡ Some g.command) × (op_at ops place ≡ g.op)
+newest_parts ops place None g is = absurd (cc)
+newest_parts ops place (Some c) g is =
+    let same : AsGuest ops place c ≡ g = cc in
+    (ap (λ (h : GuestCommand). Some h.command) same, ap (λ (h : GuestCommand). h.op) same)
+
+-- it is there if any command is pending
+pub newest_is_there : (exec : ExecState) → 0 < length exec.pending → IsSome (newest_guest exec)
+newest_is_there exec some =
+    let here = slice_get-get_or exec.pending (length exec.pending - 1) nothing (omega (arith, some)) in
+    rw here refl
+  where
+    nothing : Command
+    nothing = record { reference = 0; unit = 0; op = Status }
+
+pub told_guest : (old new : PortState) (g : GuestCommand) → OneMore old new
+    → length old.exec.pending < length new.exec.pending → newest_guest new.exec ≡ Some g → IsPending g old new
+told_guest old new g one more last =
+    let place = length new.exec.pending - 1 in
+    let parts = newest_parts new.exec.guest_ops place (slice_get new.exec.pending place) g last in
+    let command = told_command old new g.command one more parts.0 in
+    let here : place ≡ length old.exec.pending =
+    omega (arith, ap length command, length-append old.exec.pending (g.command ∷ [])) in
+    record { command = command; op = ap (λ (n : ℕ). op_at new.exec.guest_ops n) (sym here) ∙ parts.1 }
+
 pub told_answer : (old new : PortState) (e : Reply) → OneMore old new
     → length new.exec.pending ≡ length old.exec.pending → last_item new.waiting ≡ Some e
     → new.waiting ≡ old.waiting ++ e ∷ []
@@ -190,6 +228,8 @@ turn_of-reply (CommandStatus named progress) e = refl
 turn_of-reply AccessPaths e = refl
 turn_of-reply CompareController e = refl
 turn_of-reply Flush e = refl
+turn_of-reply (SetUnit flags size) e = refl
+turn_of-reply (Compare bytes) e = refl
 
 -- it is told by the body of the end message
 pub told_by_body : (old new : PortState) (b : ReplyBody) (e : Reply) → new.waiting ≡ old.waiting ++ e ∷ []
@@ -200,6 +240,8 @@ told_by_body old new (CommandStatus named progress) e is = is
 told_by_body old new AccessPaths e is = is
 told_by_body old new CompareController e is = is
 told_by_body old new Flush e is = is
+told_by_body old new (SetUnit flags size) e is = is
+told_by_body old new (Compare bytes) e is = is
 
 pub told_abort : (old new : PortState) (e : Reply) → OneMore old new
     → length new.exec.pending < length old.exec.pending → last_item new.waiting ≡ Some e

@@ -5,27 +5,30 @@ use Rattle.uda_packet.specs.declared.command.Command.{Command}
 use Rattle.uda_packet.specs.declared.reply.Reply.{Reply}
 use Rattle.uda_packet.specs.declared.reply.ReplyBody.{ReplyBody}
 use Rattle.uda_packet.specs.declared.reply.ReplyBody.TheVariants.{Basic, Abort, CommandStatus, AccessPaths}
-use Rattle.uda_packet.specs.declared.reply.ReplyBody.TheVariants.{CompareController, Flush}
-use Rattle.uda_packet.specs.Reply.{basic_reply}
+use Rattle.uda_packet.specs.declared.reply.ReplyBody.TheVariants.{CompareController, Flush, SetUnit, Compare}
+use Rattle.uda_packet.specs.declared.guest_command.GuestOp.{GuestOp}
 use Rattle.uda_exec.specs.Disks.{ExecState}
-use Rattle.uda_exec.specs.Named.{oldest_named, taken_out, aborted, progress_of}
+use Rattle.uda_exec.specs.Named.{oldest_named, op_named, taken_out, aborted, progress_of}
 use Rattle.uda_port.specs.declared.profile.Profile.{Profile}
 use Rattle.uda_port.specs.declared.profile.Profile.TheVariants.{Strict, ForGuests}
 
-abbrev pub replies_aborted : Option Command → List Reply
-replies_aborted None = []
-replies_aborted (Some c) = basic_reply (aborted c) ∷ []
+abbrev pub replies_aborted : GuestOp → Option Command → List Reply
+replies_aborted op None = []
+replies_aborted op (Some c) = aborted op c ∷ []
 
 -- MSCP: Abort. The end message of the command that it names, if that is pending, and then its own.
 -- MSCP: Get Command Status. It tells the progress of the command that it names.
 abbrev pub replies_for : ReplyBody → Reply → ExecState → List Reply
 replies_for (Basic b) r exec = r ∷ []
-replies_for (Abort named) r exec = replies_aborted (oldest_named r.unit named exec.pending) ++ r ∷ []
+replies_for (Abort named) r exec =
+    replies_aborted (op_named r.unit named exec) (oldest_named r.unit named exec.pending) ++ r ∷ []
 replies_for (CommandStatus named progress) r exec =
     record r { body = CommandStatus named (progress_of r.unit named exec.pending) } ∷ []
 replies_for AccessPaths r exec = r ∷ []
 replies_for CompareController r exec = r ∷ []
 replies_for Flush r exec = r ∷ []
+replies_for (SetUnit flags size) r exec = r ∷ []
+replies_for (Compare bytes) r exec = r ∷ []
 
 -- only an Abort changes the executor: the command that it names isn't pending any more
 abbrev pub exec_for : ReplyBody → Reply → ExecState → ExecState
@@ -35,6 +38,8 @@ exec_for (CommandStatus named progress) r exec = exec
 exec_for AccessPaths r exec = exec
 exec_for CompareController r exec = exec
 exec_for Flush r exec = exec
+exec_for (SetUnit flags size) r exec = exec
+exec_for (Compare bytes) r exec = exec
 
 -- the end messages that are queued, and the executor; a strict port has no such commands
 abbrev pub replies_at_once : Profile → Reply → ExecState → List Reply

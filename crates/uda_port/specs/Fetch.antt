@@ -74,7 +74,8 @@ FetchGoes f old memory (Err RingLost) new memory_after =
     LosesRing old memory × Stays old memory new memory_after
 
 -- the descriptor at the place is the first that is posted, and what is posted afterwards is the rest
-pub record TakesFirst (old : RingState) (memory : List ℕ) (new : RingState) (memory_after : List ℕ) : Type 0 where
+pub record TakesFirst (old : RingState) (memory : List ℕ) (new : RingState) (memory_after : List ℕ)
+    : Type 0 where
   pub first : Descriptor
   pub is_next : next_descriptor memory old ≡ Some first
   pub in_order : posted_in memory old ≡ first ∷ posted_in memory_after new

@@ -1,13 +1,14 @@
--- What a port for guests reports of its units and of itself: the types of the units, the controller flags, and
--- the units for which an attention message is due.
--- MSCP Basic Disk Functions Manual: controller flags, unit identifiers, attention messages.
+-- What a port for guests reports of its units and of itself: the types of the units, the controller flags,
+-- and the units for which an attention message is due. MSCP Basic Disk Functions Manual: controller flags,
+-- unit identifiers, attention messages.
 use Rattle.std.specs.Prelude.{ℕ, ◌/◌, ◌%◌, ◌==◌, ◌&&◌, ◌||◌, Bool, true, false, List}
 use Rattle.std.specs.Prelude.{replicate, set, slice_get, unwrap_or, Option, Some, None, if◌then◌else◌}
 use Rattle.uda_disk.specs.Status.{SUCCESS, ALREADY_ONLINE}
 use Rattle.uda_packet.specs.declared.drive_type.DriveType.{DriveType}
 use Rattle.uda_packet.specs.declared.drive_type.DriveType.TheVariants.{Ra81}
-use Rattle.uda_packet.specs.declared.end.End.{End}
-use Rattle.uda_packet.specs.declared.end.EndBody.{EndBody}
+use Rattle.uda_packet.specs.declared.reply.Reply.{Reply}
+use Rattle.uda_packet.specs.declared.reply.ReplyBody.{ReplyBody}
+use Rattle.uda_packet.specs.declared.reply.ReplyBody.TheVariants.{Basic}
 use Rattle.uda_packet.specs.declared.end.EndBody.TheVariants as body
 use Rattle.uda_packet.specs.declared.guest_end.Bus.TheVariants.{Unibus}
 use Rattle.uda_packet.specs.declared.guest_end.Identity.{Identity}
@@ -44,16 +45,16 @@ first_due attentions =
     if is_due attentions 0 then Some 0 else if is_due attentions 1 then Some 1
     else if is_due attentions 2 then Some 2 else if is_due attentions 3 then Some 3 else None
 
-abbrev ends_online : EndBody → Bool
-ends_online (body.Online flags size) = true
+abbrev ends_online : ReplyBody → Bool
+ends_online (Basic (body.Online flags size)) = true
 ends_online _ = false
 
 -- an Online brought its unit online, or found it so
-abbrev pub is_online_now : End → Bool
+abbrev pub is_online_now : Reply → Bool
 is_online_now e = ends_online e.body && (e.status == SUCCESS || e.status == ALREADY_ONLINE)
 
 -- then no message is due for its drive any more
-abbrev pub guest_after : End → Guest → Guest
+abbrev pub guest_after : Reply → Guest → Guest
 guest_after e g = if is_online_now e then attention_set g e.unit false else g
 
 -- a unit of this type, by what stands there: without a volume its size is 0

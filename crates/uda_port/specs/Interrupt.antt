@@ -16,8 +16,8 @@ use Rattle.uda_port.specs.Ring.{is_owned, RingState, next_descriptor}
 abbrev pub NO_INTERRUPTS : Interrupts
 NO_INTERRUPTS = record { enabled = false; vector = 0; requested = false }
 
--- what the first word asks for: bit 7 enables interrupts by steps of the start-up, and bits 6-0 are a fourth of their vector; strictly
--- it asks for nothing
+-- what the first word asks for: bit 7 enables interrupts by steps of the start-up, and bits 6-0 are a fourth
+-- of their vector; strictly it asks for nothing
 abbrev pub interrupts_asked : Profile → Interrupts → ℕ → Interrupts
 interrupts_asked Strict i first = i
 interrupts_asked (ForGuests identity) i first =

@@ -4,11 +4,12 @@
 use Rattle.std.specs.Prelude.{◌≡◌, ℕ, ◌-◌, ◌==◌, ◌||◌, nat_le, nat_lt, Bool, true, false, List, replicate, Result, Ok, Err}
 use Rattle.std.specs.Prelude.{if◌then◌else◌}
 use Rattle.uda_mem.specs.Put.{put}
-use Rattle.uda_packet.specs.declared.command.Command.{Command}
+use Rattle.uda_packet.specs.declared.guest_command.GuestCommand.{GuestCommand}
+use Rattle.uda_packet.specs.declared.guest_command.GuestOp.TheVariants as guest
 use Rattle.uda_packet.specs.declared.reply.Reply.{Reply}
 use Rattle.uda_packet.specs.Bad.{other_length_end}
 use Rattle.uda_packet.specs.Envelope.{envelope_of}
-use Rattle.uda_packet.specs.Guest.{read_guest, reply_to_bad, other_connection_reply}
+use Rattle.uda_packet.specs.Guest.{read_guest, reply_to_bad, asked_as, other_connection_reply}
 use Rattle.uda_packet.specs.Reading.{read_command}
 use Rattle.uda_packet.specs.Reply.{basic_reply}
 use Rattle.uda_packet.specs.declared.command.Op.{Op}
@@ -51,8 +52,8 @@ is_length Strict n = n == 48
 is_length (ForGuests identity) n = nat_le 12 n
 
 -- what a text asks: a guest has commands that are answered at once, and modifiers that are ignored
-abbrev pub text_asks : Profile → List ℕ → Result Command Reply
-text_asks Strict text = reply_to_bad (read_command text)
+abbrev pub text_asks : Profile → List ℕ → Result GuestCommand Reply
+text_asks Strict text = asked_as guest.Basic (reply_to_bad (read_command text))
 text_asks (ForGuests identity) text = read_guest identity text
 
 -- the end message of a packet of a length that no command has; a guest's names the drive that the guest means
@@ -62,16 +63,16 @@ length_reply (ForGuests identity) text =
     let end = other_length_end text in
     record (basic_reply end) { unit = drive_number identity end.unit }
 
--- A command to be executed, or an end message: that of a packet of a length that no command has, of a text that
--- is no command's, or of a command that is answered at once.
-abbrev pub mscp_message : Profile → Fetched → Result Command Reply
+-- A command to be executed, or an end message: that of a packet of a length that no command has, of a text
+-- that is no command's, or of a command that is answered at once.
+abbrev pub mscp_message : Profile → Fetched → Result GuestCommand Reply
 mscp_message profile p =
     let text = text_read profile p in
     if is_length profile p.words.0 then text_asks profile text
     else Err (length_reply profile text)
 
 -- the same of any connection
-abbrev pub message_in : Profile → Fetched → Result Command Reply
+abbrev pub message_in : Profile → Fetched → Result GuestCommand Reply
 message_in Strict p = mscp_message Strict p
 message_in (ForGuests identity) p =
     if is_dup (envelope_of p.words.0 p.words.1).connection
@@ -83,10 +84,10 @@ abbrev pub is_controller : Op → Bool
 is_controller op.Controller = true
 is_controller _ = false
 
--- MSCP: Set Controller Characteristics. The controller keeps the flags of bytes 14 and 15; in the strict profile
--- it reports none, and keeps none
-abbrev pub flags_kept : Profile → Fetched → Result Command Reply → Guest → Guest
+-- MSCP: Set Controller Characteristics. The controller keeps the flags of bytes 14 and 15; in the strict
+-- profile it reports none, and keeps none
+abbrev pub flags_kept : Profile → Fetched → Result GuestCommand Reply → Guest → Guest
 flags_kept Strict p message g = g
 flags_kept (ForGuests identity) p (Err reply) g = g
 flags_kept (ForGuests identity) p (Ok c) g =
-    if is_controller c.op then record g { flags = word_at (text_by_length p) 14 } else g
+    if is_controller c.command.op then record g { flags = word_at (text_by_length p) 14 } else g

@@ -14,8 +14,8 @@ use Rattle.uda_port.specs.declared.profile.Profile.{Profile}
 use Rattle.uda_port.specs.declared.profile.Profile.TheVariants.{Strict, ForGuests}
 use Rattle.uda_port.specs.Ring.{address_of}
 
--- the address of the text that a descriptor points to. On a bus a word has an even address, and an address has only
--- so many bits; the others are dropped. Strictly all bits count.
+-- the address of the text that a descriptor points to. On a bus a word has an even address, and an address
+-- has only so many bits; the others are dropped. Strictly all bits count.
 abbrev pub text_address : Profile → Descriptor → ℕ
 text_address Strict d = address_of d
 text_address (ForGuests identity) d = address_of d % addresses_of identity.bus / 2 * 2

@@ -43,7 +43,7 @@ ring_at_start = record { base = 0; count = 1; place = 0 }
 -- nothing is pending, and every unit with a drive is available without software protection; blocks and
 -- hardware protection stay
 abbrev pub exec_at_start : ExecState → ExecState
-exec_at_start exec = record { units = map reset_unit exec.units; pending = [] }
+exec_at_start exec = record { units = map reset_unit exec.units; pending = []; guest_ops = [] }
 
 -- start-up begins over these units
 abbrev pub port_at_start : Profile → ExecState → PortState

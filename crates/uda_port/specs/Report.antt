@@ -29,8 +29,8 @@ report_of identity guest units drive = record {
   unit = unit_report guest units drive;
 }
 
--- the text of an end message as it is delivered: in the strict profile always 48 bytes, to a guest those of its
--- kind, which report the controller and the unit as they are then
+-- the text of an end message as it is delivered: in the strict profile always 48 bytes, to a guest those of
+-- its kind, which report the controller and the unit as they are then
 abbrev pub text_by : Profile → Guest → Units → Reply → List ℕ
 text_by Strict guest units e = written_end (strict_end e)
 text_by (ForGuests identity) guest units e =

@@ -28,9 +28,9 @@ code_of CreditsExceeded = 10
 code_of WrongEnvelope = 14
 code_of StartUpWord = 19
 
--- SA as the host reads it: S1 in step 1; S2 with the high byte of the first word; S3 with its low byte; in wrap
--- mode the last word that was written; 0 during the purge and poll test; S4 with module 6 and version 3; 0 while the port runs; ER with the code of
--- a fatal error
+-- SA as the host reads it: S1 in step 1; S2 with the high byte of the first word; S3 with its low byte; in
+-- wrap mode the last word that was written; 0 during the purge and poll test; S4 with module 6 and version
+-- 3; 0 while the port runs; ER with the code of a fatal error
 abbrev pub sa_of : Phase → ℕ
 sa_of Step1 = 0x0800
 sa_of (Step2 first) = 0x1000 + first / 256
@@ -73,14 +73,16 @@ command_count first = 2 ^ (first / 0x800 % 8)
 abbrev pub ring_base : ℕ → ℕ → ℕ
 ring_base second third = 2 * (second / 2) + 0x10000 * third
 
--- how many values the part of an address above bit 15 has: the UNIBUS has addresses of 18 bits, the Q-bus of 22
+-- how many values the part of an address above bit 15 has: the UNIBUS has addresses of 18 bits, the Q-bus of
+-- 22
 abbrev pub high_addresses : Bus → ℕ
 high_addresses Unibus = 4
 high_addresses Qbus = 64
 
 -- The communication area that the first three words describe. Strictly four bytes below the ring base belong
--- to it, and the third word is the high part of the base. A guest that asks for purge interrupts, by bit 0 of
--- the second word, has eight bytes below, and of its third word only as many bits as an address on its bus has.
+-- to it, and the third word is the high part of the base. A guest that asks for purge interrupts, by bit 0
+-- of the second word, has eight bytes below, and of its third word only as many bits as an address on its
+-- bus has.
 abbrev pub area_of : Profile → ℕ → ℕ → ℕ → Area
 area_of Strict first second third = record {
   base = ring_base second third;

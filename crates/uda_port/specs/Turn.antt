@@ -2,15 +2,19 @@
 -- UDA50 Programmer's Documentation Kit: command ring polling, message envelopes, credits, fatal errors.
 use Rattle.std.specs.Prelude.{◌≡◌, ℕ, ◌+◌, ◌-◌, ◌<◌, Bool, true, false, ◌&&◌, ◌||◌, not, List, [], ◌∷◌, ◌++◌, length}
 use Rattle.std.specs.Prelude.{Some, Result, Ok, Err}
-use Rattle.uda_packet.specs.declared.command.Command.{Command}
+use Rattle.uda_packet.specs.declared.guest_command.GuestCommand.{GuestCommand}
 use Rattle.uda_packet.specs.declared.end.End.{End}
 use Rattle.uda_packet.specs.declared.reply.Reply.{Reply}
 use Rattle.uda_packet.specs.Reply.{basic_reply}
+use Rattle.uda_exec.specs.Disks.{ExecState}
 use Rattle.uda_exec.specs.Execution.{ExecutesAt}
+use Rattle.uda_exec.specs.GuestOps.{with_accepted}
+use Rattle.uda_exec.specs.GuestExecution.{ExecutesGuestAt}
 use Rattle.uda_port.specs.declared.packet.Fetched.{Fetched}
 use Rattle.uda_port.specs.declared.phase.Phase.{Phase}
 use Rattle.uda_port.specs.declared.phase.Phase.TheVariants.{Running, Dead as DeadPhase}
-use Rattle.uda_port.specs.declared.profile.Profile.TheVariants.{Strict}
+use Rattle.uda_port.specs.declared.profile.Profile.{Profile}
+use Rattle.uda_port.specs.declared.profile.Profile.TheVariants.{Strict, ForGuests}
 use Rattle.uda_port.specs.declared.turn.Turn.{Turn}
 use Rattle.uda_port.specs.declared.turn.Turn.TheVariants.{Fetched as TurnFetched, Executed, Delivered, Idle}
 use Rattle.uda_port.specs.declared.turn.Turn.TheVariants.{Notified, Dead}
@@ -47,8 +51,8 @@ pub record Unchanged (old : PortState) (memory : List ℕ) (new : PortState)
 
 -- a command goes last among those pending; the end message of what is none, last among those that wait; a
 -- command that is answered at once is done first
-abbrev pub port_with_message : PortState → Result Command Reply → PortState
-port_with_message old (Ok c) = record old { exec = record old.exec { pending = old.exec.pending ++ c ∷ [] } }
+abbrev pub port_with_message : PortState → Result GuestCommand Reply → PortState
+port_with_message old (Ok c) = record old { exec = with_accepted old.exec c }
 port_with_message old (Err r) = record old {
   exec = exec_at_once old.profile r old.exec;
   waiting = old.waiting ++ replies_at_once old.profile r old.exec;
@@ -135,14 +139,27 @@ FetchLine old memory (Err _) new memory_after = ⊥
 
 -- ---- the second line: a pending command that may go is executed, the one at place j, and its end waits last
 
-pub record ExecutesOne (j : ℕ) (old : PortState) (memory : List ℕ) (new : PortState)
+-- strictly the command is executed as it is
+pub record ExecutesStrictly (j : ℕ) (old : ExecState) (memory : List ℕ) (r : Reply) (new : ExecState)
     (memory_after : List ℕ) : Type 0 where
   pub end : End
-  pub executes : ExecutesAt j old.exec memory end new.exec memory_after
+  pub reply_is : r ≡ basic_reply end
+  pub executes : ExecutesAt j old memory end new memory_after
+
+-- for a guest what that asks is done with it
+abbrev pub ExecutesFor : Profile → ℕ → ExecState → List ℕ → Reply → ExecState → List ℕ → Type 0
+ExecutesFor Strict j old memory r new memory_after = ExecutesStrictly j old memory r new memory_after
+ExecutesFor (ForGuests identity) j old memory r new memory_after =
+    ExecutesGuestAt j old memory r new memory_after
+
+pub record ExecutesOne (j : ℕ) (old : PortState) (memory : List ℕ) (new : PortState)
+    (memory_after : List ℕ) : Type 0 where
+  pub end : Reply
+  pub executes : ExecutesFor old.profile j old.exec memory end new.exec memory_after
   pub others : new
       ≡ record old {
         exec = new.exec;
-        waiting = old.waiting ++ basic_reply end ∷ [];
+        waiting = old.waiting ++ end ∷ [];
         load = old.load + length old.exec.pending;
         guest = guest_after end old.guest;
       }

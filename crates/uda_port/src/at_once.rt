@@ -53,7 +53,7 @@ fn answer_guest<S: BlockStore>(
     match reply.body {
         ReplyBody::Abort { named } => {
             if let Some(aborted) = exec.abort(reply.unit, named) {
-                hold(waiting, Reply::basic(aborted));
+                hold(waiting, aborted);
             }
             hold(waiting, reply);
         }
@@ -66,5 +66,7 @@ fn answer_guest<S: BlockStore>(
         ReplyBody::AccessPaths => hold(waiting, reply),
         ReplyBody::CompareController => hold(waiting, reply),
         ReplyBody::Flush => hold(waiting, reply),
+        ReplyBody::SetUnit { .. } => hold(waiting, reply),
+        ReplyBody::Compare { .. } => hold(waiting, reply),
     }
 }

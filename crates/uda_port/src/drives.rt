@@ -93,7 +93,7 @@ impl<S: BlockStore> Port<S> {
     fn is_read_only(&self, unit: usize) -> bool
         ensures { result ≡ read_only_at self.now unit }
     {
-        match (self.profile, self.guest.types.get(unit).copied()) {
+        match (self.profile, self.drive_type(unit)) {
             (Profile::ForGuests(_), Some(kind)) => kind.traits().is_read_only,
             _ => false,
         }

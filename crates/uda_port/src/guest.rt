@@ -6,7 +6,7 @@ ghost use Rattle.uda_port.specs.Guest.{GUEST_AT_FIRST, guest_restarted, unit_rep
 ghost use Rattle.uda_port.specs.Guest.{attention_set, is_due, first_due, guest_after, is_online_now};
 
 use uda_exec::UnitLook;
-use uda_packet::{DriveType, End, EndBody, UnitReport, status};
+use uda_packet::{DriveType, EndBody, Reply, ReplyBody, UnitReport, status};
 
 /// What a port for guests reports beside its units: a strict port reports nothing of it.
 ///
@@ -61,7 +61,7 @@ impl Guest {
     }
 
     /// Drops the attention message of a unit that this end message says is online.
-    pub(crate) fn note_end(&mut self, end: &End)
+    pub(crate) fn note_end(&mut self, end: &Reply)
         ensures { self.new ≡ guest_after end.now self.old }
     {
         if is_online_now(end) {
@@ -116,10 +116,13 @@ impl Guest {
 }
 
 // Whether an Online brought its unit online, or found it so.
-fn is_online_now(end: &End) -> bool
+fn is_online_now(end: &Reply) -> bool
     ensures { result ≡ is_online_now end.now }
 {
-    match end.body {
+    let ReplyBody::Basic(body) = end.body else {
+        return false;
+    };
+    match body {
         EndBody::Online { .. } => {
             end.status == status::SUCCESS || end.status == status::ALREADY_ONLINE
         }

@@ -5,6 +5,7 @@ ghost use Rattle.std.specs.Prelude.{◌≡◌, ◌↔◌, IsTrue, MatchOption, l
 ghost use Rattle.uda_port.specs.Message.{IsSequential, is_length, message_in, text_by_length, text_read};
 ghost use Rattle.uda_port.specs.Message.{text_asks, length_reply, flags_kept, is_controller};
 ghost use Rattle.uda_port.specs.Message.{mscp_message, HasConnection};
+ghost use Rattle.uda_port.specs.declared.profile.Profile.TheVariants.{Strict};
 ghost use Rattle.uda_packet.specs.Envelope.{envelope_of};
 ghost use Rattle.uda_mem.specs.Words.{word_at};
 
@@ -12,7 +13,8 @@ use crate::guest::Guest;
 use crate::packet::{Fetched, TEXT};
 use crate::profile::Profile;
 use uda_packet::{
-    Command, End, Envelope, Op, Reply, decode_command, decode_for_guests, other_connection_reply,
+    End, Envelope, GuestCommand, GuestOp, Op, Reply, decode_command, decode_for_guests,
+    other_connection_reply,
 };
 
 /// The connection of DUP, the diagnostics protocol.
@@ -23,7 +25,7 @@ const HEAD: u16 = 12;
 
 /// The command of a packet, or the end message of what is none or is answered at once. None where the envelope
 /// is of another connection or message type.
-pub(crate) fn message_in(profile: Profile, packet: &Fetched) -> Option<Result<Command, Reply>>
+pub(crate) fn message_in(profile: Profile, packet: &Fetched) -> Option<Result<GuestCommand, Reply>>
     ensures { MatchOption result (IsSequential profile packet.now → ⊥)
         (λ message. IsSequential profile packet.now × (message ≡ message_in profile packet.now)) }
 {
@@ -45,7 +47,7 @@ fn has_connection(profile: Profile, connection: u8) -> bool
 }
 
 // A packet's message.
-fn message_of(profile: Profile, connection: u8, packet: &Fetched) -> Result<Command, Reply>
+fn message_of(profile: Profile, connection: u8, packet: &Fetched) -> Result<GuestCommand, Reply>
     requires { connection ≡ (envelope_of packet.now.words.0 packet.now.words.1).connection }
     ensures { result ≡ message_in profile packet.now }
 {
@@ -58,7 +60,7 @@ fn message_of(profile: Profile, connection: u8, packet: &Fetched) -> Result<Comm
 }
 
 // The message of a packet on MSCP's connection.
-fn mscp_message(profile: Profile, packet: &Fetched) -> Result<Command, Reply>
+fn mscp_message(profile: Profile, packet: &Fetched) -> Result<GuestCommand, Reply>
     ensures { result ≡ mscp_message profile packet.now }
 {
     let text = text_read(profile, packet);
@@ -87,14 +89,14 @@ pub(crate) fn keep_flags(
     guest: &mut Guest,
     profile: Profile,
     packet: &Fetched,
-    message: &Result<Command, Reply>,
+    message: &Result<GuestCommand, Reply>,
 )
     ensures { guest.new ≡ flags_kept profile packet.now message.now guest.old }
 {
-    let (Profile::ForGuests(_), Ok(command)) = (profile, message) else {
+    let (Profile::ForGuests(_), Ok(asked)) = (profile, message) else {
         return;
     };
-    if is_controller(&command.op) {
+    if is_controller(&asked.command.op) {
         guest.flags = flags_in(&text_by_length(packet));
     }
 }
@@ -117,12 +119,25 @@ fn flags_in(text: &[u8; 48]) -> u16
 }
 
 // What a text asks.
-fn text_asks(profile: Profile, text: &[u8; 48]) -> Result<Command, Reply>
+fn text_asks(profile: Profile, text: &[u8; 48]) -> Result<GuestCommand, Reply>
     ensures { result ≡ text_asks profile text.now }
 {
     match profile {
-        Profile::Strict => decode_command(text).map_err(|bad| Reply::basic(bad.end())),
+        Profile::Strict => decode_strictly(text),
         Profile::ForGuests(identity) => decode_for_guests(text, identity),
+    }
+}
+
+// The command of a text, or its end message, in the strict profile.
+fn decode_strictly(text: &[u8; 48]) -> Result<GuestCommand, Reply>
+    ensures { result ≡ text_asks Strict text.now }
+{
+    match decode_command(text) {
+        Ok(command) => Ok(GuestCommand {
+            command,
+            op: GuestOp::Basic,
+        }),
+        Err(bad) => Err(Reply::basic(bad.end())),
     }
 }
 

@@ -17,13 +17,13 @@ use circular_buffer::HeapCircularBuffer;
 use std::fmt;
 use uda_image::BlockStore;
 use uda_mem::HostMemory;
-use uda_packet::{Command, EndBody, Reply, ReplyBody};
+use uda_packet::{EndBody, GuestCommand, Reply, ReplyBody};
 
 /// What a turn did: a [`Turn`] with the command or the end message that it was about.
 #[derive(Clone, Copy, Debug, PartialEq, Eq)]
 pub enum Trace {
     /// This command was fetched, and is pending.
-    Fetched(Command),
+    Fetched(GuestCommand),
     /// A packet was fetched that is no command, and this end waits.
     Refused(Reply),
     /// A command was fetched that is answered at once, and this end waits.
@@ -102,7 +102,7 @@ impl fmt::Display for EndLine {
         } = self.0;
         let name = body.name();
         match body {
-            ReplyBody::Basic(EndBody::Moved { bytes, .. }) => write!(
+            ReplyBody::Basic(EndBody::Moved { bytes, .. }) | ReplyBody::Compare { bytes } => write!(
                 f,
                 "{reference} {name} unit {unit} status 0x{status:04x} bytes {bytes}"
             ),
@@ -137,7 +137,7 @@ impl<S: BlockStore> Port<S> {
         let turn = self.turn_in(memory);
         let after = self.exec.pending();
         match turn {
-            Turn::Fetched if after > before => Trace::Fetched(self.exec.newest().unwrap()),
+            Turn::Fetched if after > before => Trace::Fetched(self.exec.newest_guest().unwrap()),
             Turn::Fetched if after < before => Trace::Aborted(newest(&self.waiting)),
             Turn::Fetched => reply_trace(newest(&self.waiting)),
             Turn::Executed => Trace::Executed(newest(&self.waiting)),
@@ -160,6 +160,8 @@ fn reply_trace(reply: Reply) -> Trace
         ReplyBody::AccessPaths => Trace::Answered(reply),
         ReplyBody::CompareController => Trace::Answered(reply),
         ReplyBody::Flush => Trace::Answered(reply),
+        ReplyBody::SetUnit { .. } => Trace::Answered(reply),
+        ReplyBody::Compare { .. } => Trace::Answered(reply),
     }
 }
 

@@ -2,6 +2,7 @@
 //!
 //! UDA50 Programmer's Documentation Kit: command ring polling, message envelopes, credits.
 ghost use Rattle.std.specs.Prelude.{◌≡◌, ◌≢◌, ◌+◌, ◌<◌, ◌≤◌, IfSome, option_map, slice_get, [], ◌∷◌, ◌++◌, length, take, Some};
+ghost use Rattle.std.specs.Prelude.{ℕ, IsNone, IfNone, ◌↔◌, ◌||◌};
 ghost use Rattle.uda_mem.specs.Slices.{IsMemory};
 ghost use Rattle.uda_disk.specs.Units.{AreImages};
 ghost use Rattle.uda_exec.specs.Disks.{PENDING_LIMIT};
@@ -9,7 +10,7 @@ ghost use Rattle.circular_buffer.specs.Buffer.{buffer};
 ghost use Rattle.uda_port.specs.Port.{CreditsAgree, next_grant, commands_told, responses_told};
 ghost use Rattle.uda_port.specs.Interrupt.{IsBelow};
 ghost use Rattle.uda_port.specs.Turn.{FetchLine, ExecuteLine, DeliverLine, NotifyLine, RestGoes, LinesGo, RunningTurn};
-ghost use Rattle.uda_port.specs.Turn.{TurnGoes, delivery_of, may_fetch};
+ghost use Rattle.uda_port.specs.Turn.{TurnGoes, ExecutesFor, delivery_of, may_fetch};
 ghost use Rattle.uda_port.specs.Port.{lacks_credit};
 ghost use Rattle.uda_port.specs.Report.{end_text, report_of, attention_text};
 ghost use Rattle.uda_port.specs.Guest.{first_due};
@@ -25,7 +26,7 @@ use crate::port::Port;
 use crate::profile::Profile;
 use crate::ring::{Ring, RingFault};
 use circular_buffer::HeapCircularBuffer;
-use uda_exec::PENDING;
+use uda_exec::{Exec, PENDING};
 use uda_image::BlockStore;
 use uda_mem::HostMemory;
 use uda_packet::{
@@ -219,7 +220,7 @@ impl<S: BlockStore> Port<S> {
         self.fetches.add(1);
         keep_flags(&mut self.guest, self.profile, &fetched, &message);
         match message {
-            Ok(command) => self.exec.accept(command),
+            Ok(asked) => self.exec.accept_guest(asked),
             Err(reply) => {
                 answer_at_once(self.profile, &mut self.exec, &mut self.waiting, reply);
             }
@@ -253,12 +254,12 @@ impl<S: BlockStore> Port<S> {
         if pending == 0 {
             return false;
         }
-        let Some(end) = self.exec.execute_one_in(memory) else {
+        let Some(end) = execute_for(self.profile, &mut self.exec, memory) else {
             return false;
         };
         self.load.add(pending);
         self.guest.note_end(&end);
-        hold(&mut self.waiting, Reply::basic(end));
+        hold(&mut self.waiting, end);
         true
     }
 
@@ -269,7 +270,7 @@ impl<S: BlockStore> Port<S> {
         ensures { DeliverLine self.old memory.old result self.new memory.new }
     {
         let delivery = self.delivery(memory);
-        let looks = self.lacks_credit() || self.looking;
+        let looks = self.looks_again();
         let message = self.end_text(&end);
         match put_message(&mut self.responses, memory, delivery, &message) {
             Err(RingFault::Ring) => return Err(Fatal::RingRead),
@@ -284,6 +285,13 @@ impl<S: BlockStore> Port<S> {
         self.begun = true;
         self.deliveries.add(1);
         Ok(true)
+    }
+
+    // Whether the port looks at its command ring after a delivery: it did, or its guest had no credit.
+    fn looks_again(&self) -> bool
+        ensures { result ≡ (lacks_credit self.now.profile self.now.credits || self.now.looking) }
+    {
+        self.lacks_credit() || self.looking
     }
 
     // Where no end waits: delivers the first attention message that is due, where the response ring takes it. That is
@@ -413,6 +421,27 @@ impl<S: BlockStore> Port<S> {
         ensures room { self.now.credits + result ≤ PENDING_LIMIT + 1 }
     {
         if self.begun { 1 } else { CREDITS }
+    }
+}
+
+// Executes a pending command, if there is one: in the strict profile as it is, and for a guest as that asks.
+fn execute_for<S: BlockStore>(
+    profile: Profile,
+    exec: &mut Exec<S>,
+    memory: &mut [u8],
+) -> Option<Reply>
+    requires memory { IsMemory memory.old }
+    ensures idle { IsNone result ↔ (exec.old.pending ≡ []) }
+    ensures unchanged { IfNone result ((exec.new ≡ exec.old) × (memory.new ≡ memory.old)) }
+    ensures fewer { IfSome result (λ _. length exec.new.pending + 1 ≡ length exec.old.pending) }
+    ensures four { length exec.new.units ≡ 4 }
+    ensures images { AreImages exec.new.units }
+    ensures executes { IfSome result (λ end.
+        (j : ℕ) × ExecutesFor profile j exec.old memory.old end exec.new memory.new) }
+{
+    match profile {
+        Profile::Strict => Some(Reply::basic(exec.execute_one_in(memory)?)),
+        Profile::ForGuests(_) => exec.execute_next_in(memory),
     }
 }
 

@@ -41,7 +41,6 @@ returns g c =
         executes = c.in-Some.ensures.executes.1;
         others = rw (
           c.hold.ensures.last,
-          c.basic.ensures.reply,
           c.add.ensures,
           c.note_end.ensures,
           c.pending-pending.ensures.count,

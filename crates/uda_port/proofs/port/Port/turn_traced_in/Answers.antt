@@ -2,14 +2,21 @@ use Rattle.std.proofs.Common.{◌≡◌, ◌<◌, ◌≤◌, List, [], ◌∷◌
 use Rattle.std.specs.Prelude.{slice_get, IsSome}
 use Rattle.circular_buffer.specs.Buffer.{last_item}
 use Rattle.uda_packet.specs.declared.reply.Reply.{Reply}
+use Rattle.uda_exec.specs.GuestOps.{newest_guest}
 use Rattle.uda_port.specs.Port.{PortState}
 use Rattle.uda_port.specs.Trace.{IsDead}
-use Rattle.uda_port.proofs.TraceLaws.{fetched, one_waits, executed, delivered, notified, died, ends_with, told_command, told_answer, turn_of-reply, told_by_body, told_abort, told_first}
+use Rattle.uda_port.proofs.TraceLaws.{fetched, one_waits, executed, delivered, notified, died, ends_with, told_guest, newest_is_there, told_answer, turn_of-reply, told_by_body, told_abort, told_first}
 use Rattle.uda_port.proofs.port.Port.turn_traced_in.Goals as goal
 use Rattle.uda_port.proofs.port.Port.turn_traced_in.Goals.{in-Fetched, in-Fetched-2, in-Fetched-3, in-Executed, in-Delivered, in-Notified, in-Idle, in-Dead}
 
-pub newest-requires-in-Fetched-2 : goal.newest-requires-in-Fetched-2
-newest-requires-in-Fetched-2 g c =
+pub unwrap-requires : goal.unwrap-requires
+unwrap-requires g c =
+    let counted = c.pending-after.ensures.count in
+    subst IsSome (sym c.newest_guest.ensures.newest)
+    (newest_is_there c.self-2.inside.exec (omega (arith, counted, c.if-after-before.true)))
+
+pub newest-requires : goal.newest-requires
+newest-requires g c =
     let old = c.args.self.now in
     let new = c.turn_in-turn.new.self in
     let more = fetched _ old _ new _ c.in-Fetched-2.ensures.goes in
@@ -86,18 +93,18 @@ returns-clause-tells g c =
           let more : length old.exec.pending < length new.exec.pending =
           omega (arith, first, then, before, after, grown) in
           let last =
-          subst (λ (p : PortState). last_item p.exec.pending ≡ Some w.unwrap.result) c.self-2.view_is
-          (sym w.newest.ensures.newest ∙ w.unwrap.ensures) in
+          subst (λ (p : PortState). newest_guest p.exec ≡ Some w.unwrap.result) c.self-2.view_is
+          (sym w.newest_guest.ensures.newest ∙ w.unwrap.ensures) in
           let one = fetched _ old _ new _ w.in-Fetched.ensures.goes in
-          rw w.result-is (told_command old new w.unwrap.result one more last)
+          rw w.result-is (told_guest old new w.unwrap.result one more last)
       | in-Fetched-2 w ↦
           let shrunk = w.if-after-before-2.true in
           let less : length new.exec.pending < length old.exec.pending =
           omega (arith, first, then, before, after, shrunk) in
-          let e = w.newest-in-Fetched-2.result in
+          let e = w.newest.result in
           let last =
           subst (λ (p : PortState). last_item p.waiting ≡ Some e) c.self-2.view_is
-          w.newest-in-Fetched-2.ensures.newest in
+          w.newest.ensures.newest in
           rw w.result-is (told_abort old new e (fetched _ old _ new _ w.in-Fetched-2.ensures.goes) less last)
       | in-Fetched-3 w ↦
           let grown = w.if-after-before.false in

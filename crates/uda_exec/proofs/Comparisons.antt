@@ -20,12 +20,15 @@ use Rattle.uda_exec.proofs.Words.{part, Transfer, StoreState, KeepsNature, block
 finds_same : (n : ℕ) (found : Option ℕ) (f g h k : ℕ → ℕ) → ((i : ℕ) → i < n → f i ≡ h i)
     → ((i : ℕ) → i < n → g i ≡ k i) → FindsIn n found f g → FindsIn n found h k
 finds_same n None f g h k left right all = λ i below. sym (left i below) ∙ all i below ∙ right i below
-finds_same n (Some at) f g h k left right found = (found.0, record {
-  same = λ i below.
-      let within : i < n = omega (arith, found.0) in
-      sym (left i within) ∙ found.1.same i below ∙ right i within;
-  other = λ same. found.1.other (left at found.0 ∙ same ∙ sym (right at found.0));
-})
+finds_same n (Some at) f g h k left right found = (
+  found.0,
+  record {
+    same = λ i below.
+        let within : i < n = omega (arith, found.0) in
+        sym (left i within) ∙ found.1.same i below ∙ right i within;
+    other = λ same. found.1.other (left at found.0 ∙ same ∙ sym (right at found.0));
+  },
+)
 
 pub compares_block : (t : Transfer) (k : ℕ) (found : Option ℕ) (old new : StoreState)
     (memory block window : List ℕ)

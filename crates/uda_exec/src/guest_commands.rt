@@ -45,7 +45,11 @@ fn set_unit<S: BlockStore>(units: &mut [Option<DriveUnit<S>>], command: Command)
 {
     let unit = usize::from(command.unit);
     if unit >= units.len() {
-        return guest_reply(command, status::UNIT_UNKNOWN, ReplyBody::SetUnit { flags: 0, size: 0 });
+        return guest_reply(
+            command,
+            status::UNIT_UNKNOWN,
+            ReplyBody::SetUnit { flags: 0, size: 0 },
+        );
     }
     set_one(&mut units[unit], command)
 }
@@ -57,13 +61,21 @@ fn set_one<S: BlockStore>(unit: &mut Option<DriveUnit<S>>, command: Command) -> 
     ensures image { HoldsImage unit.old → HoldsImage unit.new }
 {
     match unit {
-        None => guest_reply(command, status::NO_VOLUME, ReplyBody::SetUnit { flags: 0, size: 0 }),
+        None => guest_reply(
+            command,
+            status::NO_VOLUME,
+            ReplyBody::SetUnit { flags: 0, size: 0 },
+        ),
         Some(unit) => unit.set_characteristics(command),
     }
 }
 
 // Does a Compare Host Data.
-fn compare<S: BlockStore>(units: &mut [Option<DriveUnit<S>>], command: Command, memory: &[u8]) -> Reply
+fn compare<S: BlockStore>(
+    units: &mut [Option<DriveUnit<S>>],
+    command: Command,
+    memory: &[u8],
+) -> Reply
     requires memory { IsMemory memory.now }
     requires images { AreImages units.old }
     ensures slot { ComparesSlot (slice_get units.old command.unit) command units.old memory.now result
@@ -74,7 +86,11 @@ fn compare<S: BlockStore>(units: &mut [Option<DriveUnit<S>>], command: Command, 
 {
     let unit = usize::from(command.unit);
     if unit >= units.len() {
-        return guest_reply(command, status::UNIT_UNKNOWN, ReplyBody::Compare { bytes: 0 });
+        return guest_reply(
+            command,
+            status::UNIT_UNKNOWN,
+            ReplyBody::Compare { bytes: 0 },
+        );
     }
     match &mut units[unit] {
         None => guest_reply(command, status::NO_VOLUME, ReplyBody::Compare { bytes: 0 }),

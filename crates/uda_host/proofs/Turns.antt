@@ -109,28 +109,28 @@ module _ {S : Type 0} {h : Inside S} {c : Command} {rest : List Command} (host :
 
   module _ {told : Option ℕ} {p : Fetched} {ring : RingState} {after : List ℕ}
       (takes : Takes (record { profile = h.port.profile; told = told }) h.port.commands h.memory p ring after)
-      where
-    first_is : takes.first ≡ owned (command_packet h.port.commands.place)
-    first_is = let next = takes.is_next in let seen = posted_seen in cc
+    where
+      first_is : takes.first ≡ owned (command_packet h.port.commands.place)
+      first_is = let next = takes.is_next in let seen = posted_seen in cc
 
-    size_read : p.words.0 ≡ 48
-    size_read =
-        let address = ap₂ text_address host.port.strict first_is in
-        takes.is_packet.first_word ∙ ap (word_at h.memory) (omega (arith, address))
-        ∙ ap (λ (s : Slot). s.size)
-        (first_posted rings_were)
+      size_read : p.words.0 ≡ 48
+      size_read =
+          let address = ap₂ text_address host.port.strict first_is in
+          takes.is_packet.first_word ∙ ap (word_at h.memory) (omega (arith, address))
+          ∙ ap (λ (s : Slot). s.size)
+          (first_posted rings_were)
 
-    envelope_read : p.words.1 ≡ 0
-    envelope_read =
-        let address = ap₂ text_address host.port.strict first_is in
-        takes.is_packet.second_word ∙ ap (word_at h.memory) (omega (arith, address))
-        ∙ ap (λ (s : Slot). s.credits) (first_posted rings_were)
+      envelope_read : p.words.1 ≡ 0
+      envelope_read =
+          let address = ap₂ text_address host.port.strict first_is in
+          takes.is_packet.second_word ∙ ap (word_at h.memory) (omega (arith, address))
+          ∙ ap (λ (s : Slot). s.credits) (first_posted rings_were)
 
-    text_read : p.text ≡ written_command c
-    text_read =
-        let address = ap₂ text_address host.port.strict first_is in
-        takes.is_packet.text ∙ ap (λ (a : ℕ). part h.memory a 48) (omega (arith, address))
-        ∙ ap (λ (s : Slot). s.text) (first_posted rings_were)
+      text_read : p.text ≡ written_command c
+      text_read =
+          let address = ap₂ text_address host.port.strict first_is in
+          takes.is_packet.text ∙ ap (λ (a : ℕ). part h.memory a 48) (omega (arith, address))
+          ∙ ap (λ (s : Slot). s.text) (first_posted rings_were)
 
 -- ---- a fetch
 

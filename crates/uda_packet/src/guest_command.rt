@@ -80,7 +80,9 @@ impl fmt::Display for GuestCommand {
     fn fmt<W: fmt::Write>(&self, f: &mut fmt::Formatter<W>) -> fmt::Result {
         let GuestCommand { command, op } = *self;
         let Command {
-            reference, unit, ..
+            reference,
+            unit,
+            ..
         } = command;
         let name = op.name(command.op);
         match command.op.transfer() {

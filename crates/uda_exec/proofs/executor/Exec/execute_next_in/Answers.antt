@@ -21,10 +21,13 @@ returns-clause-executes g c =
     slice_get_read items _ _ _ refl may.stands c.remove-taken.ensures.value in
     let op : c.op_at-op.result ≡ op_at c.self.inside.guest_ops.items c.in_ok-place.place =
     rw c.as_slice.ensures.value at c.op_at-op.ensures in
-    rw (← c.self.view_is) (c.in_ok-place.place, record {
-      command = c.remove-taken.result;
-      taken = record { stands = here; may = may; taken = c.remove-taken.ensures.items };
-      ops_left = c.drop_op.ensures.dropped;
-      executes = rw op at c.execute_as.ensures.executes;
-      natures_stay = c.execute_as.ensures.natures;
-    })
+    rw (← c.self.view_is) (
+      c.in_ok-place.place,
+      record {
+        command = c.remove-taken.result;
+        taken = record { stands = here; may = may; taken = c.remove-taken.ensures.items };
+        ops_left = c.drop_op.ensures.dropped;
+        executes = rw op at c.execute_as.ensures.executes;
+        natures_stay = c.execute_as.ensures.natures;
+      },
+    )

@@ -32,9 +32,12 @@ returns-clause-executes g c =
     let may : MayGo items c.in_ok-place.place = rw c.as_slice.ensures.value at c.in_ok-place.ensures.may in
     let here : slice_get items c.in_ok-place.place ≡ Some c.remove-command.result =
     slice_get_read items _ _ _ refl may.stands c.remove-command.ensures.value in
-    rw (← c.self.view_is) (c.in_ok-place.place, record {
-      command = c.remove-command.result;
-      taken = record { stands = here; may = may; taken = c.remove-command.ensures.items };
-      ops_left = c.drop_op.ensures.dropped;
-      executes = c.execute.ensures.executes;
-    })
+    rw (← c.self.view_is) (
+      c.in_ok-place.place,
+      record {
+        command = c.remove-command.result;
+        taken = record { stands = here; may = may; taken = c.remove-command.ensures.items };
+        ops_left = c.drop_op.ensures.dropped;
+        executes = c.execute.ensures.executes;
+      },
+    )

@@ -208,9 +208,9 @@ fetched {h = h} {c} {rest} new after host were agree goes =
 abbrev no_ops : List GuestOp
 no_ops = []
 
-none_left : (place : ℕ) → remove no_ops place ≡ no_ops
-none_left zero = refl
-none_left (suc place) = refl
+no_op_left : (place : ℕ) → remove no_ops place ≡ no_ops
+no_op_left zero = refl
+no_op_left (suc place) = refl
 
 -- the port is strict, so it executes the command as it is
 executed_strictly : {profile : Profile} {j : ℕ} {old new : ExecState} {memory after : List ℕ} {r : Reply}
@@ -267,7 +267,7 @@ executed {h = h} new after host none agree goes =
         executes = rw (before, behind) (record {
           command = done.executes.command;
           taken = taken;
-          ops_left = sym (none_left goes.rest.0);
+          ops_left = sym (no_op_left goes.rest.0);
           executes = done.executes.executes;
         });
         is = rw (before, waits);

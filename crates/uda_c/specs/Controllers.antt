@@ -60,7 +60,7 @@ profile_of compatible = if compatible then ForGuests usual_identity else Strict
 abbrev pub controller_at_start : Profile → ControllerState
 controller_at_start profile = record {
   port = port_at_start profile
-      (record { units = None ∷ None ∷ None ∷ None ∷ []; pending = [] });
+      (record { units = None ∷ None ∷ None ∷ None ∷ []; pending = []; guest_ops = [] });
   last = None;
 }
 

@@ -151,7 +151,7 @@ module _ {start : Units} {requests : List Request} {n : ℕ} {out : List (Option
       })
   driving_works {new} (OneDone x) =
       let t : Ends start requests n D.due D.ended answers x.place x.end
-      (record { units = new.units; pending = new.due }) new.memory =
+      (record { units = new.units; pending = new.due; guest_ops = [] }) new.memory =
       keeps_execute D.keeps D.are_due refl D.outs.separate x.executes in
       rw x.is (record {
         due = remove D.due x.place;

@@ -1,4 +1,5 @@
-use Rattle.std.proofs.Common.{◌∙◌, List, Option, ap, map}
+use Rattle.std.proofs.Common.{◌∙◌, List, Option, ap, map, length, rules}
+use Rattle.std.proofs.lemmas.List.{length-map}
 use Rattle.uda_disk.specs.Units.{UnitState}
 use Rattle.uda_exec.specs.Disks.{ExecState}
 use Rattle.uda_exec.specs.Drives.{reset_unit, drives_in}
@@ -15,3 +16,13 @@ pub returns-in-Ok-clause-units : goal.returns-in-Ok-clause-units
 returns-in-Ok-clause-units g c =
     c.in-Ok.ensures.started.units_are ∙ ap (λ (units : List (Option UnitState)). map reset_unit units)
     c.new.ensures.units ∙ reset_fresh _
+
+pub invariant_of-result : goal.invariant_of-result
+invariant_of-result g c = record {
+  rest = search rules;
+  four =
+      ap (λ (units : List (Option UnitState)). length units) c.in-Ok.ensures.started.units_are
+      ∙ length-map _ reset_unit ∙ c.new.ensures.four;
+  images = c.in-Ok.ensures.images;
+  adds_up = c.in-Ok.ensures.adds_up;
+}

@@ -121,12 +121,12 @@ static void transfers(void)
     EXPECT(state_of(&uda).queued, 3);
 }
 
-/* The port dies: of a command at an odd address, which is code 1. */
+/* The port dies: of a command at an address that leaves no room for its envelope, which is code 1. */
 static void death(void)
 {
     start(&uda);
     post(0, (command){ ONLINE, 0, 1, 0, 0 });
-    put16(BASE + 4 * RESPONSES, command_at(0) + 1);
+    put16(BASE + 4 * RESPONSES, 2);
     uda50_read_ip(&uda);
     EXPECT(uda50_turn(&uda, memory, SIZE), UDA50_DEAD);
     EXPECT_TURN(UDA50_DEAD, 0, 0, 0, 0, 1, 0);

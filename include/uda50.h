@@ -1,22 +1,25 @@
-/* uda50.h: a simulated UDA50 disk controller, as for an emulator of a PDP-11 or a VAX.
+/* uda50.h: a simulated UDA50 disk controller, for an emulator of a PDP-11 or a VAX.
 
-   The functions are in groups: lifecycle, drives, registers, turns, inspection, and failures for tests.
+   The functions are in groups: lifecycle, drives, registers, turns, inspection, and failures for tests. The project's
+   docs/C.md shows how an emulator uses them, and docs/PORT.md says what the controller does.
 
    A `uda50` is the handle of one controller. Set it to zero before its first use, pass its address, and neither copy
-   it nor write into it. Every function accepts every handle. On a handle without a controller it changes nothing
-   and returns UDA50_NO_CONTROLLER, or 0 or false where its result is no status.
+   it nor write into it. Every function accepts every handle. On a handle without a controller, each function except
+   uda50_new and uda50_new_as changes nothing, and returns UDA50_NO_CONTROLLER, or 0 or false if its result is no
+   status.
 
    Pass no null pointer; only the `at` of an empty image may be null. The handle, image structs, images, guest memory
-   and what a call fills must not overlap, and the library can't detect an overlap. One array for two units is one,
-   and so is an image inside guest memory.
+   and what a call fills must not overlap. The library can't detect an overlap. One array for two units is one, and
+   so is an image inside guest memory.
 
-   Guest memory is passed to each call that uses it, as a pointer and a number of bytes. The library reads and
-   writes it in place during that call alone, so the next call may pass other memory. No other thread writes it
-   during the call. A word is stored low byte first: an array of uint16_t serves on a little-endian machine only.
+   Guest memory is passed to each call that uses it, as a pointer and a number of bytes. Byte n is what the guest's
+   bus shows at address n: pass no more bytes than the bus has memory. The library reads and writes it in place, only
+   during that call, so the next call may pass other memory. No other thread writes it during the call. A word is
+   stored low byte first: an array of uint16_t serves on a little-endian machine only.
 
    One call at a time uses a handle. A handle may go from one thread to another, if a lock or the start or end of a
-   thread orders the calls, and threads may use different handles at once. No call blocks, and only uda50_new,
-   uda50_new_as and uda50_format_last_turn allocate memory. */
+   thread orders the calls. Threads may use different handles at once. No call blocks. Only uda50_new, uda50_new_as
+   and uda50_format_last_turn allocate memory. */
 #ifndef UDA50_H
 #define UDA50_H
 
@@ -43,14 +46,14 @@ enum { UDA50_UNITS = 4, UDA50_MAX_BLOCKS = 2147483647 };
 /* The bytes of a disk image, 512 for each block. If `length` is 0 there are none, and `at` may be null: such a struct
    is empty, as one that is set to zero.
 
-   The struct says who has the bytes. uda50_attach takes them and leaves it empty; uda50_detach and uda50_free put
-   them into an empty one. While a unit has the bytes, nothing else reads or writes them. */
+   The struct says who has the bytes. uda50_attach takes them and leaves the struct empty. uda50_detach and uda50_free
+   put them into an empty struct. While a unit has the bytes, nothing else reads, writes or frees them. */
 typedef struct {
     uint8_t *at;
     size_t length;
 } uda50_image;
 
-/* What a call returns as its status. A call that fails changes nothing. */
+/* The status that a call returns. A call that fails changes nothing. */
 enum {
     UDA50_OK = 0,
     UDA50_NO_CONTROLLER = 64,    /* the handle has no controller */
@@ -66,9 +69,9 @@ enum {
     UDA50_NO_SUCH_TYPE = 74      /* the drive type isn't UDA50_RX50 to UDA50_RRD40 */
 };
 
-/* What a turn did, as uda50_turn and uda50_run return it. */
+/* What a turn did. uda50_turn and uda50_run return it. */
 enum {
-    UDA50_IDLE = 0,      /* nothing: the port isn't running, has nothing to do, or lacks a response descriptor */
+    UDA50_IDLE = 0,      /* nothing: the port is in the initialization, has nothing to do or no response descriptor */
     UDA50_FETCHED = 1,   /* it fetched a packet from the command ring */
     UDA50_EXECUTED = 2,  /* it executed a command and queued its end message */
     UDA50_DELIVERED = 3, /* it delivered an end message to the response ring */
@@ -76,18 +79,18 @@ enum {
     UDA50_DEAD = 5       /* the port is dead, perhaps since this turn; SA has the code of the fatal error */
 };
 
-/* What the kind of a uda50_turn_record can be besides. */
+/* Further kinds of a uda50_turn_record. For the three that fetch, uda50_turn and uda50_run return UDA50_FETCHED. */
 enum {
-    UDA50_INVALID_COMMAND = 6, /* it fetched a packet that is no command, and queued the end message that says so */
+    UDA50_INVALID_COMMAND = 6, /* it fetched a packet that is no command, and queued its end message */
     UDA50_NO_TURN = 7,         /* there was no turn yet */
     UDA50_ANSWERED = 8,        /* it fetched a command that is answered at once, and queued its end message */
-    UDA50_ABORTED = 9          /* it fetched an Abort that took a pending command out: both end messages are queued */
+    UDA50_ABORTED = 9          /* it fetched an Abort that removed a pending command: both end messages are queued */
 };
 
-/* The buses of a controller of the compatible profile: a UDA50's with addresses of 18 bits, and an RQDX3's of 22. */
+/* The buses of a compatible controller: a UDA50's, with addresses of 18 bits, and an RQDX3's, with 22. */
 enum { UDA50_UNIBUS = 0, UDA50_QBUS = 1 };
 
-/* The drive types that such a controller reports. */
+/* The drive types that a compatible controller reports. */
 enum {
     UDA50_RX50 = 0,
     UDA50_RX33 = 1,
@@ -121,78 +124,86 @@ enum {
 
 /* ---- Lifecycle ---- */
 
-/* Returns the library's version, as UDA50_VERSION is made. */
+/* Returns the library's version, in the form of UDA50_VERSION. */
 uint32_t uda50_version(void);
 
-/* Makes a controller without images, in step 1 of the initialization. Its profile is the compatible one, for
-   software that was shipped, or else the strict one, for whoever tests a driver. Returns UDA50_OK,
-   UDA50_HAS_CONTROLLER or UDA50_NO_MEMORY. */
+/* Makes a controller without images, in step 1 of the initialization. If `compatible` is set, its profile is the
+   compatible one, for software that was written for other controllers: on a UNIBUS, with units from 0 on. If not, it
+   is the strict one, for tests of drivers. Returns UDA50_OK, or the first that holds of UDA50_HAS_CONTROLLER and
+   UDA50_NO_MEMORY. */
 uint32_t uda50_new(uda50 *handle, bool compatible);
 
-/* Makes a controller of the compatible profile as uda50_new does, on a bus, whose units the guest knows by the numbers
-   from first_unit on: a PDP-11's second controller usually has 4 to 7. uda50_new makes one on a UNIBUS, with units from
-   0 on. Calls of this library number the units 0 to 3 all the same. Returns UDA50_OK, or the first that holds of
-   UDA50_NO_SUCH_BUS, UDA50_HAS_CONTROLLER and UDA50_NO_MEMORY. */
+/* Makes a compatible controller as uda50_new does, on this bus. The guest knows its units by the numbers from
+   first_unit on: a PDP-11's second controller usually has 4 to 7. The calls of this library number the units 0 to 3
+   all the same. Returns UDA50_OK, or the first that holds of UDA50_NO_SUCH_BUS, UDA50_HAS_CONTROLLER and
+   UDA50_NO_MEMORY. */
 uint32_t uda50_new_as(uda50 *handle, uint32_t bus, uint16_t first_unit);
 
-/* Frees the controller. images[n] is then the image of unit n, as the commands left it, or empty if the unit has
-   none. Returns UDA50_OK, or the first that holds of UDA50_NO_CONTROLLER and UDA50_NOT_EMPTY. */
+/* Frees the controller and returns its images. images[n], which must be empty, is then the image of unit n, as the
+   commands left it, or empty if the unit has none. Returns UDA50_OK, or the first that holds of UDA50_NO_CONTROLLER
+   and UDA50_NOT_EMPTY. */
 uint32_t uda50_free(uda50 *handle, uda50_image images[UDA50_UNITS]);
 
 /* ---- Drives ---- */
 
-/* Gives unit 0 to 3 an image, also while the guest runs: the unit is then available. If `write_protected` is set,
-   no command changes the image. Then *image is empty. Returns UDA50_OK, or the first that holds of
-   UDA50_NO_CONTROLLER, UDA50_NO_SUCH_UNIT, UDA50_ALREADY_ATTACHED, UDA50_BAD_LENGTH and UDA50_TOO_LARGE. */
+/* Attaches an image to unit 0 to 3, also while the guest runs. Then the unit is available, and *image is empty. If
+   `write_protected` is set, no command changes the image. Call uda50_run afterwards: an attention message may be due.
+   Returns UDA50_OK, or the first that holds of UDA50_NO_CONTROLLER, UDA50_NO_SUCH_UNIT, UDA50_ALREADY_ATTACHED,
+   UDA50_BAD_LENGTH and UDA50_TOO_LARGE. */
 uint32_t uda50_attach(uda50 *handle, uint32_t unit, uda50_image *image, bool write_protected);
 
-/* Sets the drive type of a unit without an image: UDA50_RX50 to UDA50_RRD40, at first UDA50_RA81. A guest of the
-   compatible profile learns it, with an image or without. The size of a unit is that of its image, whatever the type.
-   An image of an RRD40 is write-protected. Returns UDA50_OK, or the first that holds of UDA50_NO_CONTROLLER,
+/* Sets the drive type of a unit without an image: UDA50_RX50 to UDA50_RRD40, at first UDA50_RA81. A compatible
+   controller reports it, with an image or without, and write-protects an image that is attached to an RRD40. The size
+   of a unit is that of its image, whatever the type. Returns UDA50_OK, or the first that holds of UDA50_NO_CONTROLLER,
    UDA50_NO_SUCH_UNIT, UDA50_NO_SUCH_TYPE and UDA50_ALREADY_ATTACHED. */
 uint32_t uda50_set_type(uda50 *handle, uint32_t unit, uint32_t drive_type);
 
-/* Takes a unit's image away. *image is then that image, as the commands left it. Returns UDA50_OK, or the first that
-   holds of UDA50_NO_CONTROLLER, UDA50_NO_SUCH_UNIT, UDA50_NOT_ATTACHED and UDA50_NOT_EMPTY. */
+/* Detaches a unit's image. *image, which must be empty, is then that image, as the commands left it. Returns UDA50_OK,
+   or the first that holds of UDA50_NO_CONTROLLER, UDA50_NO_SUCH_UNIT, UDA50_NOT_ATTACHED and UDA50_NOT_EMPTY. */
 uint32_t uda50_detach(uda50 *handle, uint32_t unit, uda50_image *image);
 
 /* ---- Registers ---- */
 
-/* The guest writes IP: the initialization begins anew. */
+/* Writes IP for the guest, whatever the word: the initialization begins anew. The controller drops commands, end and
+   attention messages and an interrupt request, clears its flags, and makes its units available, without software
+   protection. Images and drive types stay. Call it for a reset of the guest's bus too. */
 void uda50_write_ip(uda50 *handle, uint16_t word);
 
-/* The guest reads IP: a running port begins to poll its command ring. Returns 0. */
+/* Reads IP for the guest: a running port begins to poll its command ring, and a port in the poll test goes on to
+   step 4. Returns 0. */
 uint16_t uda50_read_ip(uda50 *handle);
 
-/* The guest writes SA: a step of the initialization. Step 3 sets the communication area in guest memory, which is the
-   rings and the words before them, to zero. If the area isn't whole within `length` bytes, the port dies and memory
-   is as it was. Any length is accepted, also an odd one. */
+/* Writes SA for the guest: one step of the initialization. Step 3 sets the communication area in guest memory, which
+   is the rings and the words before them, to zero. If the area isn't entirely within `length` bytes, the port fails
+   with code 7, and memory is as it was. Any length is accepted, also an odd one. */
 void uda50_write_sa(uda50 *handle, uint16_t word, uint8_t *memory, size_t length);
 
-/* The guest reads SA. Returns the word of the step, 0 while the port runs, or bit 15 with the code of the fatal
-   error. */
+/* Reads SA for the guest. Returns the word of the step; 0 in the purge and poll tests and while the port runs; the
+   last word written in wrap mode; or bit 15 with the code of the fatal error. */
 uint16_t uda50_read_sa(uda50 *handle);
 
-/* Takes the pending interrupt request. Returns true, and *vector is the address of its vector; or returns false if
-   there is none, and *vector is as it was. Call it after each register access and after uda50_turn or uda50_run. */
+/* Takes the pending interrupt request, if there is one. Returns true, and *vector is the address of its vector, 4 to
+   0x1FC; or returns false, and *vector is as it was. Call it after each register access and after uda50_turn or
+   uda50_run. A strict controller has no requests. */
 bool uda50_take_interrupt(uda50 *handle, uint16_t *vector);
 
 /* ---- Turns ---- */
 
-/* Runs one turn of the port. Returns UDA50_IDLE to UDA50_DEAD; or UDA50_NO_CONTROLLER, UDA50_BAD_LENGTH or
-   UDA50_TOO_LARGE. */
+/* Runs one turn of the port: it fetches, executes or delivers one thing, or nothing. Returns UDA50_IDLE to UDA50_DEAD;
+   or the first that holds of UDA50_NO_CONTROLLER, UDA50_BAD_LENGTH and UDA50_TOO_LARGE. */
 uint32_t uda50_turn(uda50 *handle, uint8_t *memory, size_t length);
 
-/* Runs up to `turns` turns, and stops after one that returns UDA50_IDLE or UDA50_DEAD. Returns what the last turn
-   did, or UDA50_IDLE if `turns` is 0; or fails as uda50_turn does.
+/* Runs up to `turns` turns, and stops after one of UDA50_IDLE or UDA50_DEAD. Returns what the last turn did, or
+   UDA50_IDLE if `turns` is 0; or fails as uda50_turn does.
 
-   Call it after each read of IP, and again soon while it returns UDA50_FETCHED, UDA50_EXECUTED, UDA50_DELIVERED or UDA50_NOTIFIED:
-   then the turns were used up. After UDA50_IDLE nothing is left to do until the guest accesses a register, unless
-   end messages are queued (uda50_get_state): then call it again now and then, since a guest frees a response
-   descriptor by a write to its memory. After UDA50_DEAD only a write of IP helps. */
+   Call it after each read of IP and after uda50_attach. Call it again soon while it returns UDA50_FETCHED,
+   UDA50_EXECUTED, UDA50_DELIVERED or UDA50_NOTIFIED: then the turns were used up. After UDA50_DEAD only a write of IP
+   helps. After UDA50_IDLE nothing is left to do until the guest accesses a register, unless a message waits for a
+   response descriptor, which the guest gives by a write to its memory. Then call it again now and then, while
+   `queued` or `attentions` of uda50_get_state isn't 0. */
 uint32_t uda50_run(uda50 *handle, uint32_t turns, uint8_t *memory, size_t length);
 
-/* ---- Inspection: nothing changes ---- */
+/* ---- Inspection ---- */
 
 /* A ring of descriptors. */
 typedef struct {
@@ -201,23 +212,27 @@ typedef struct {
     uint16_t next;  /* the index of the next one that the port will use */
 } uda50_ring;
 
-/* The state of a port. Until the initialization has set the rings, each is one descriptor at 0. */
+/* The state of a port. Until the initialization has set the rings, each is one descriptor at 0. In UDA50_PHASE_DEAD
+   `pending`, `queued`, `polling` and `attentions` are as they were at the fatal error, and mean no work. */
 typedef struct {
     uint32_t phase;       /* UDA50_PHASE_STEP_1 to UDA50_PHASE_WRAP */
     uda50_ring responses;
     uda50_ring commands;
     uint32_t pending;     /* commands that were fetched and not yet executed */
-    uint32_t queued;      /* end messages that wait for a response descriptor */
+    uint32_t queued;      /* end messages that were not yet delivered */
     uint16_t sa;          /* as uda50_read_sa returns it */
     uint16_t credits;     /* commands that the guest may still post */
     uint16_t polling;     /* 1 while the port polls its command ring, else 0 */
-    uint16_t vector;      /* the address of the interrupt vector */
+    uint16_t vector;      /* the address of the interrupt vector, 0 if there is none */
+    uint32_t attentions;  /* units for which an attention message is due: bit u for unit u */
 } uda50_state;
 
-/* Fills *state. Returns UDA50_OK, or UDA50_NO_CONTROLLER, and then *state is as it was. */
+/* Fills *state. Returns UDA50_OK; or UDA50_NO_CONTROLLER, and then *state is as it was. */
 uint32_t uda50_get_state(uda50 *handle, uda50_state *state);
 
-/* What a turn did. A field that doesn't apply is 0. */
+/* A record of what a turn did. A field that doesn't apply is 0: of UDA50_NOTIFIED all but the kind. The unit is 0 to 3
+   for the controller's own, whatever their first number. Any other is the guest's number minus that of the first unit,
+   modulo 65,536. */
 typedef struct {
     uint32_t kind;        /* UDA50_IDLE to UDA50_DEAD, or UDA50_INVALID_COMMAND to UDA50_ABORTED */
     uint32_t reference;   /* the command's reference number */
@@ -228,22 +243,23 @@ typedef struct {
     uint16_t status;      /* the status of an end message */
 } uda50_turn_record;
 
-/* Fills *turn with what the last turn did. Returns UDA50_OK, or UDA50_NO_CONTROLLER, and then *turn is as it was. */
+/* Fills *turn with what the last turn did. Returns UDA50_OK; or UDA50_NO_CONTROLLER, and then *turn is as it was. */
 uint32_t uda50_get_last_turn(uda50 *handle, uda50_turn_record *turn);
 
-/* Writes the same as a line of text, such as "executed 3 Read unit 0 status 0x0000 bytes 512", with a 0 after it. A
-   line that is too long for the buffer is cut off; 96 bytes are enough for any. Before the first turn the line is
-   empty. Returns UDA50_OK; or UDA50_NO_CONTROLLER or UDA50_NO_MEMORY, and then the buffer is as it was. */
+/* Writes what the last turn did as a line of text, such as "executed 3 Read unit 0 status 0x0000 bytes 512", with a 0
+   after it. A line that is too long for the buffer is cut off; 96 bytes are enough for any. A buffer of length 0 gets
+   nothing. Before the first turn the line is empty. Returns UDA50_OK; or UDA50_NO_CONTROLLER or UDA50_NO_MEMORY, and
+   then the buffer is as it was. */
 uint32_t uda50_format_last_turn(uda50 *handle, uint8_t *buffer, size_t length);
 
 /* ---- Failures for tests ---- */
 
 /* Makes the unit's block call number `call` from now on fail, and no other; none if `call` is 0. A block call reads
-   or writes one block; reads and writes are counted together, from 1. A Read or an Access that meets the failure
-   ends with a drive error and the byte count of the blocks before. So does a Write or an Erase, and then the first
-   256 bytes of that block are new and the last 256 are old. The unit's mode doesn't change. A later call replaces an
-   earlier one, and uda50_detach ends it. Returns UDA50_OK, or the first that holds of UDA50_NO_CONTROLLER,
-   UDA50_NO_SUCH_UNIT and UDA50_NOT_ATTACHED. */
+   or writes one block; reads and writes are counted together, from 1. A transfer that meets the failure ends with
+   status 0x000B, a drive error, and the byte count of the blocks before. If it is a Write or an Erase, the first 256
+   bytes of that block are then new and the last 256 are old. A Read leaves that block's part of the buffer as it was.
+   The unit's mode doesn't change. A later call replaces an earlier one, and uda50_detach ends it. Returns UDA50_OK, or
+   the first that holds of UDA50_NO_CONTROLLER, UDA50_NO_SUCH_UNIT and UDA50_NOT_ATTACHED. */
 uint32_t uda50_inject_failure(uda50 *handle, uint32_t unit, uint32_t call);
 
 #ifdef __cplusplus

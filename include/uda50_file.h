@@ -8,8 +8,8 @@
 extern "C" {
 #endif
 
-/* A file as an image. It is closed if it is set to zero, after uda50_file_close and after a failed uda50_file_open.
-   The program uses `image`, and reads the other fields at most. */
+/* A file as an image. It is closed if it is set to zero, after uda50_file_close, and after a failed uda50_file_open.
+   The program uses `image`, and doesn't write the other fields. */
 typedef struct {
     uda50_image image; /* empty while a unit has it */
     uint8_t *map;      /* the whole file */
@@ -19,38 +19,40 @@ typedef struct {
     bool read_only;
 } uda50_file;
 
-/* What these functions return, but for uda50_file_attach. */
+/* What these functions return, except uda50_file_attach. */
 enum {
     UDA50_FILE_OK = 0,
     UDA50_FILE_OPEN = 1,      /* it can't be opened, or isn't a regular file */
     UDA50_FILE_LENGTH = 2,    /* its length is no multiple of 512 */
     UDA50_FILE_TOO_LARGE = 3, /* it has more than UDA50_MAX_BLOCKS blocks */
     UDA50_FILE_MAP = 4,       /* it can't be mapped */
-    UDA50_FILE_SYNC = 5,      /* what was written can't be written out, so it may be lost */
+    UDA50_FILE_SYNC = 5,      /* what was written can't be written to the file, so it may be lost */
     UDA50_FILE_LOCKED = 6     /* another program, or another uda50_file, has a lock that excludes this one */
 };
 
 /* Opens a file and maps it: for reading only, if `read_only` is set, or else for reading and writing. While it is
-   open nobody may shorten it: an access to the missing part ends the program by SIGBUS.
+   open nobody may shorten it: an access to the missing part ends the program by SIGBUS. A file without bytes opens,
+   with an empty image.
 
    It takes the advisory lock (flock) that `uda run` takes: a shared one for reading only, or else an exclusive one.
-   A file system without locks is no failure. Returns UDA50_FILE_OK, or the first that holds of UDA50_FILE_OPEN,
-   UDA50_FILE_LOCKED, UDA50_FILE_LENGTH, UDA50_FILE_TOO_LARGE and UDA50_FILE_MAP, and then *file is closed. It never
-   blocks, and overwrites what *file holds. */
+   On a file system without locks it opens the file without one. It never blocks. It overwrites what *file holds, so
+   close an open one first. Returns UDA50_FILE_OK; or the first that holds of UDA50_FILE_OPEN, UDA50_FILE_LOCKED,
+   UDA50_FILE_LENGTH, UDA50_FILE_TOO_LARGE and UDA50_FILE_MAP, and then *file is closed. */
 int uda50_file_open(uda50_file *file, const char *path, bool read_only);
 
-/* Attaches the file's image to a unit, write protected if the file was opened for reading only: a Write to a
+/* Attaches the file's image to a unit, write-protected if the file was opened for reading only: a Write to a
    read-only map would end the program. Returns what uda50_attach does. */
 uint32_t uda50_file_attach(uda50 *handle, uint32_t unit, uda50_file *file);
 
-/* Writes out what was written. Returns UDA50_FILE_OK or UDA50_FILE_SYNC. */
+/* Writes what was written to the file, also while a unit has the image. Returns UDA50_FILE_OK or UDA50_FILE_SYNC. */
 int uda50_file_sync(uda50_file *file);
 
-/* Writes out what was written, unmaps the file, closes it and so gives up its lock. No unit may still have its image.
-   Returns UDA50_FILE_OK or UDA50_FILE_SYNC; the file is closed in either case. Does nothing to a closed file. */
+/* Writes what was written to the file, unmaps it, closes it and so releases its lock. No unit may still have its
+   image. Returns UDA50_FILE_OK or UDA50_FILE_SYNC; the file is closed in either case. Does nothing to a closed file,
+   and returns UDA50_FILE_OK. */
 int uda50_file_close(uda50_file *file);
 
-/* Returns what such a number says, as a text. */
+/* Returns the text of a number of UDA50_FILE_OK to UDA50_FILE_LOCKED, such as "the file is in use". */
 const char *uda50_file_text(int fault);
 
 #ifdef __cplusplus

@@ -67,7 +67,6 @@ typedef struct {
     uda50_file files[UNITS];
     int32 word;    /* was written to SA: the library gets it at an event */
     int32 request; /* for an interrupt: the processor hasn't granted it yet */
-    uint32 news;   /* units, a bit each, for which an attention message may be due */
 } controller;
 
 #define REGISTERS(address, length) {address, length, &rq_rd, &rq_wr, 1, IVCL(RQ), 0, {&rq_acknowledge}}
@@ -341,7 +340,6 @@ static void begin_anew(controller *it)
     sim_cancel(TICK(it));
     clear_request(it);
     it->dib.vec = 0;
-    it->news = 0;
     uda50_write_ip(&it->uda, 0);
 }
 
@@ -399,13 +397,10 @@ t_stat rq_turn(UNIT *unit)
     bus_memory memory = lend_memory();
     uint32 kind = DEBUG_PRD(it->device) ? traced_turns(it, memory)
                                         : uda50_run(&it->uda, (uint32_t)rq_turns, memory.at, memory.length);
-    uda50_turn_record last;
     uda50_state state;
 
     take_memory_back();
     request_interrupt(it);
-    if (kind == UDA50_NOTIFIED && uda50_get_last_turn(&it->uda, &last) == UDA50_OK)
-        it->news &= ~(1u << last.unit % UNITS);
     if (kind == UDA50_IDLE && uda50_get_state(&it->uda, &state) == UDA50_OK && state.queued == 0)
         return SCPE_OK;
     if (kind < UDA50_DEAD)
@@ -413,13 +408,21 @@ t_stat rq_turn(UNIT *unit)
     return SCPE_OK;
 }
 
-/* A turn each second while an attention message may be due: it may wait for a response descriptor, and the guest
+static bool is_attention_due(controller *it)
+{
+    uda50_state state;
+
+    return uda50_get_state(&it->uda, &state) == UDA50_OK && state.phase == UDA50_PHASE_RUNNING
+           && state.attentions != 0;
+}
+
+/* Takes a turn each second while an attention message is due: it may wait for a response descriptor, and the guest
    frees one by a write to its memory. */
 t_stat rq_tick(UNIT *unit)
 {
     controller *it = of_unit(unit);
 
-    if (it->news != 0) {
+    if (is_attention_due(it)) {
         wake(it);
         sim_activate(unit, tmr_poll * clk_tps);
     }
@@ -478,14 +481,11 @@ static int map_file(UNIT *unit, uda50_file *file)
     return uda50_file_open(file, unit->filename, read_only);
 }
 
-/* A running guest may be told of a volume. */
-static void announce(controller *it, uint32 number)
+/* Starts the turns that deliver an attention message, if one is due. */
+static void announce(controller *it)
 {
-    uda50_state state;
-
-    if (uda50_get_state(&it->uda, &state) != UDA50_OK || state.phase != UDA50_PHASE_RUNNING)
+    if (!is_attention_due(it))
         return;
-    it->news |= 1u << number;
     wake(it);
     sim_activate(TICK(it), tmr_poll * clk_tps);
 }
@@ -513,7 +513,7 @@ t_stat rq_attach(UNIT *unit, char *path)
         detach_unit(unit);
         return SCPE_OPENERR;
     }
-    announce(it, number);
+    announce(it);
     return SCPE_OK;
 }
 
@@ -527,7 +527,6 @@ t_stat rq_detach(UNIT *unit)
         if (fault != UDA50_FILE_OK)
             printf("%s: %s\n", it->device->name, uda50_file_text(fault));
     }
-    it->news &= ~(1u << number);
     return detach_unit(unit);
 }
 

@@ -1,4 +1,4 @@
-//! The same blocks moved by a bare loop.
+//! A loop without the executor that moves the same blocks.
 use crate::work::{Direction, Work};
 use std::fs::File;
 use std::io;
@@ -50,7 +50,8 @@ pub fn move_file_blocks(file: &mut File, work: Work, size: u32) -> io::Result<()
     Ok(())
 }
 
-/// Reads or writes the blocks of a work of transfers of 32 in a file of `size` blocks, a transfer a call.
+/// Reads or writes the blocks of a work of transfers of 32 in a file of `size` blocks, one call for each
+/// transfer.
 pub fn move_file_transfers(file: &mut File, work: Work, size: u32) -> io::Result<()> {
     let mut buffer = [0; 16_384];
     let mut block: u32 = 0;

@@ -1,4 +1,4 @@
-//! The same commands through a port's rings, by a driver, and by the executor alone.
+//! The same commands through a port's rings, by a driver, and by the executor without either.
 use crate::measure::{Contest, by_turns};
 use crate::work::bring_online;
 use anyhow::{Result, bail};
@@ -11,26 +11,26 @@ use uda_mem::HostMemory;
 use uda_packet::{Command, Op, encode_command};
 use uda_port::{Port, Turn};
 
-/// The blocks of the image, which is in memory.
+/// The number of blocks of the image, which is in memory.
 const IMAGE: u32 = 1000;
 
-/// The commands of a round: no more than one run of a driver may have.
+/// The number of commands of a round: no more than one run of a driver can have.
 pub const COMMANDS: u32 = 4096;
 
-/// Where the buffer of a Read begins in host memory, behind rings and texts.
+/// The address of a Read's buffer in host memory, after rings and texts.
 const BUFFER: u32 = 0x1000;
 
-/// What each command of a round asks for.
+/// The operation of each command of a round.
 #[derive(Clone, Copy, Debug, PartialEq, Eq)]
 pub enum Errand {
-    /// So many blocks, 32 or 1.
+    /// A Read of this many blocks, 32 or 1.
     Read(u32),
-    /// The unit's state.
+    /// A Get Unit Status.
     Status,
 }
 
 impl Errand {
-    /// The errand of these words.
+    /// Returns the errand of these arguments.
     pub fn named(work: &str, blocks: &str) -> Result<Errand> {
         match (work, blocks) {
             ("read", "32") => Ok(Errand::Read(32)),
@@ -40,7 +40,8 @@ impl Errand {
         }
     }
 
-    // The first block of the n-th command: behind the one before, round the image.
+    // Returns the first block of the n-th command. It follows the blocks of the command before, and starts
+    // again at the end of the image.
     fn block(self, n: u32) -> u32 {
         match self {
             Errand::Read(32) => 32 * (n % 31),
@@ -59,7 +60,7 @@ impl Errand {
         }
     }
 
-    /// The n-th command of a round.
+    /// Returns the n-th command of a round.
     pub fn command(self, n: u32) -> Command {
         Command {
             reference: n,
@@ -79,7 +80,7 @@ impl Errand {
         }
     }
 
-    // A round's requests.
+    // Returns the requests of a round.
     fn requests(self, alloc: Global) -> Result<Vec<Request>> {
         let mut requests = Vec::new(alloc);
         for n in 0..COMMANDS {
@@ -89,19 +90,19 @@ impl Errand {
     }
 }
 
-/// An image as unit 0, and no other drive.
+/// Returns an image as unit 0, and no other drive.
 pub fn drives(alloc: Global) -> Result<[Option<Drive<MemImage>>; 4]> {
     let store = MemImage::new(alloc, IMAGE)?;
     Ok([Some(Drive { store, hard: false }), None, None, None])
 }
 
-/// The rounds through a port's rings.
+/// Runs the rounds through a port's rings.
 pub fn through_port(rt: &HostRuntime, work: &str, blocks: &str, rounds: u32) -> Result<()> {
     let mut pair = ThroughPort::new(rt.alloc(), Errand::named(work, blocks)?)?;
     by_turns(rt, &mut pair, rounds)
 }
 
-/// The rounds by a driver.
+/// Runs the rounds by a driver.
 pub fn through_driver(rt: &HostRuntime, work: &str, blocks: &str, rounds: u32) -> Result<()> {
     let mut pair = ThroughDriver::new(rt.alloc(), Errand::named(work, blocks)?)?;
     by_turns(rt, &mut pair, rounds)
@@ -127,7 +128,7 @@ impl Alone {
         })
     }
 
-    // A round by the executor alone.
+    // Runs a round by the executor only.
     fn execute(&mut self) -> Result<()> {
         for n in 0..COMMANDS {
             if !self.execute_one(self.errand.command(n)) {
@@ -137,7 +138,7 @@ impl Alone {
         Ok(())
     }
 
-    // Whether a command was executed, with success.
+    // Returns whether a command was executed and succeeded.
     fn execute_one(&mut self, command: Command) -> bool {
         if self.exec.pending() < PENDING {
             self.exec.accept(command);
@@ -149,7 +150,7 @@ impl Alone {
     }
 }
 
-// A driver whose unit 0 is online, with a round's requests.
+// A driver whose unit 0 is online, and the requests of a round.
 #[derive(Drop)]
 struct ThroughDriver {
     driver: Driver<MemImage>,
@@ -180,7 +181,7 @@ impl Contest for ThroughDriver {
     }
 }
 
-// A driver whose unit 0 is online.
+// Starts a driver and brings its unit 0 online.
 fn driver(alloc: Global) -> Result<Driver<MemImage>> {
     let Ok(mut driver) = Driver::start(alloc, drives(alloc)?) else {
         bail!("no memory");
@@ -193,7 +194,7 @@ fn driver(alloc: Global) -> Result<Driver<MemImage>> {
     Ok(driver)
 }
 
-// Requests by a driver.
+// Executes requests by a driver, all of which must succeed.
 fn by_driver(driver: &mut Driver<MemImage>, requests: &[Request]) -> Result<()> {
     match driver.run(requests) {
         Ok(answers) if answers.iter().all(is_success) => Ok(()),
@@ -219,7 +220,7 @@ pub struct ThroughPort {
 }
 
 impl ThroughPort {
-    /// The same, with an executor like its own.
+    /// Makes one, and an executor like the port's.
     pub fn new(alloc: Global, errand: Errand) -> Result<ThroughPort> {
         let mut memory = memory(alloc)?;
         let port = port(alloc, &mut memory)?;
@@ -233,7 +234,7 @@ impl ThroughPort {
 }
 
 impl Contest for ThroughPort {
-    // One command after the other: three turns each.
+    // Runs one command after another, in three turns each.
     fn measured(&mut self) -> Result<()> {
         let errand = self.alone.errand;
         for n in 0..COMMANDS {
@@ -249,7 +250,7 @@ impl Contest for ThroughPort {
     }
 }
 
-// Host memory with room for rings, texts and one buffer.
+// Makes host memory with room for rings, texts and one buffer.
 fn memory(alloc: Global) -> Result<HostMemory> {
     Ok(HostMemory::new(alloc, 32_768)?)
 }
@@ -268,7 +269,7 @@ fn port(alloc: Global, memory: &mut HostMemory) -> Result<Port<MemImage>> {
     Ok(port)
 }
 
-// Rings of one descriptor at 8 and 12, with the texts at 0x100 and 0x200.
+// Initializes a port with rings of one descriptor at 8 and 12, whose texts are at 0x100 and 0x200.
 fn start_up(port: &mut Port<MemImage>, memory: &mut HostMemory) {
     for word in [0x8000, 0x0008, 0x0000, 0x0001] {
         port.write_sa(word, memory);
@@ -278,7 +279,7 @@ fn start_up(port: &mut Port<MemImage>, memory: &mut HostMemory) {
     }
 }
 
-// Posts a command, and lets the port take the turns that it needs. Whether it did, with success.
+// Posts a command, and runs the turns that it needs. Returns whether it succeeded.
 fn send(port: &mut Port<MemImage>, memory: &mut HostMemory, command: &Command) -> bool {
     post(memory, command);
     port.read_ip();

@@ -1,15 +1,22 @@
-//! How fast the executor moves blocks, beside a bare loop that moves the same blocks: 64 MB a round, the
-//! two by turns in one process. Without words it does nothing. `run`, in this crate's folder, makes a
-//! table of all works.
+//! Measures how fast the executor moves blocks, compared with a loop that moves the same blocks without it.
+//! A round moves 64 MB. The two take turns in one process. Without arguments the program does nothing.
+//! `run`, in this crate's folder, makes a table of all works.
 //!
-//! With the word `port` or `driver` in place of a store, 4,096 commands go through a port's rings or by a
-//! driver, beside the executor alone: `read` of `32` or `1`, or `status` of `0`. With the word `slice` they
-//! go through the rings of a port in a slice, beside a port over a host memory.
+//! The arguments are:
 //!
-//! Otherwise the words are a store, `memory` (an image of 1,000 blocks) or the path of an image file of
-//! 131,072 blocks; a work, `read` or `write`; the blocks of each transfer, `32` or `1`; and how many rounds.
-//! The bare loop moves one block a call, and with a last word `32` over a file the 32 of a transfer. Each
-//! round prints a line: the nanoseconds of processor time of the executor, and those of the bare loop.
+//! - a store: `memory` (an image of 1,000 blocks), or the path of an image file of 131,072 blocks;
+//! - a work: `read` or `write`;
+//! - the number of blocks of each transfer: `32` or `1`;
+//! - the number of rounds;
+//! - over a file with transfers of 32 blocks, optionally `32`: the loop then moves the 32 blocks of a
+//!   transfer in one call, instead of one block.
+//!
+//! If the first argument is `port` or `driver`, 4,096 commands go through a port's rings or through a
+//! driver. They are compared with the executor without either. They are `read` of `32` or `1`, or `status`
+//! of `0`. If the first argument is `slice`, they go through the rings of a port in a slice, compared with
+//! a port over a host memory.
+//!
+//! Each round prints a line: the nanoseconds of processor time of the measured way, and those of the other.
 #![tactic(auto)]
 
 mod bare;
@@ -30,7 +37,7 @@ fn main(rt: HostRuntime) -> Result<()> {
     run(&rt, words.as_slice())
 }
 
-// What these words ask for.
+// Executes the measurement of these arguments.
 fn run(rt: &HostRuntime, words: &[&str]) -> Result<()> {
     match words {
         [] => Ok(()),
@@ -47,7 +54,7 @@ fn number(word: &str) -> Result<u32> {
     Ok(word.parse()?)
 }
 
-// The rounds of a layer or of a store.
+// Runs the rounds of a layer or of a store.
 fn rounds_of(rt: &HostRuntime, subject: &str, work: &str, blocks: &str, rounds: u32) -> Result<()> {
     match subject {
         "port" => layers::through_port(rt, work, blocks, rounds),

@@ -1,17 +1,17 @@
-//! Two ways to do the same work, and the times that they take.
+//! Two ways of executing the same work, and their times.
 use anyhow::Result;
 use std::time::{CpuClock, Duration};
 
-/// The same work done in two ways.
+/// The same work, executed in two ways.
 pub trait Contest {
-    /// Does the work in the way that is measured.
+    /// Executes the work in the measured way.
     fn measured(&mut self) -> Result<()>;
 
-    /// Does the work in the way that it is compared with.
+    /// Executes the work in the other way.
     fn compared(&mut self) -> Result<()>;
 }
 
-/// So many rounds of the two by turns; a round prints the processor time of both.
+/// Runs this many rounds of the two by turns. A round prints the processor time of both.
 pub fn by_turns<C: Contest>(rt: &HostRuntime, pair: &mut C, rounds: u32) -> Result<()> {
     for _ in 0..rounds {
         round(rt, pair)?;

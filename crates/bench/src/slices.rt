@@ -1,4 +1,4 @@
-//! The same commands through the rings of two ports: one works in a slice that it is lent, the other in a
+//! The same commands through the rings of two ports: one works in a borrowed slice, the other in a
 //! [`HostMemory`](uda_mem::HostMemory).
 use crate::layers::{COMMANDS, Errand, ThroughPort, drives};
 use crate::measure::{Contest, by_turns};
@@ -10,14 +10,14 @@ use uda_mem::is_memory;
 use uda_packet::{Command, Op, encode_command};
 use uda_port::{Port, Turn};
 
-/// The rounds through a port's rings in a slice.
+/// Runs the rounds through a port's rings in a slice.
 pub fn through_slice(rt: &HostRuntime, work: &str, blocks: &str, rounds: u32) -> Result<()> {
     let mut pair = ThroughSlice::new(rt.alloc(), Errand::named(work, blocks)?)?;
     by_turns(rt, &mut pair, rounds)
 }
 
-// A running port with rings of one descriptor, whose unit 0 is online, the bytes that it is lent, and a port
-// like it over a host memory.
+// A running port with rings of one descriptor, whose unit 0 is online, the bytes that it works in, and a
+// similar port over a host memory.
 #[derive(Drop)]
 struct ThroughSlice {
     port: Port<MemImage>,
@@ -41,7 +41,7 @@ impl ThroughSlice {
 }
 
 impl Contest for ThroughSlice {
-    // One command after the other: three turns each.
+    // Runs one command after another, in three turns each.
     fn measured(&mut self) -> Result<()> {
         for n in 0..COMMANDS {
             if !send(&mut self.port, &mut self.bytes, &self.errand.command(n)) {
@@ -70,7 +70,7 @@ fn port(alloc: Global, memory: &mut [u8]) -> Result<Port<MemImage>> {
     Ok(port)
 }
 
-// Rings of one descriptor at 8 and 12, with the texts at 0x100 and 0x200.
+// Initializes a port with rings of one descriptor at 8 and 12, whose texts are at 0x100 and 0x200.
 fn start_up(port: &mut Port<MemImage>, memory: &mut [u8]) {
     for word in [0x8000, 0x0008, 0x0000, 0x0001] {
         port.write_sa_in(word, memory);
@@ -80,7 +80,7 @@ fn start_up(port: &mut Port<MemImage>, memory: &mut [u8]) {
     }
 }
 
-// Posts a command, and lets the port take the turns that it needs. Whether it did, with success.
+// Posts a command, and runs the turns that it needs. Returns whether it succeeded.
 fn send(port: &mut Port<MemImage>, memory: &mut [u8], command: &Command) -> bool {
     post(memory, command);
     port.read_ip();

@@ -1,4 +1,4 @@
-//! An executor over a store, beside a bare loop over blocks of the same kind.
+//! An executor over a store, compared with a loop over blocks of the same kind.
 use crate::bare::{copy_blocks, move_file_blocks, move_file_transfers};
 use crate::measure::{Contest, by_turns};
 use crate::work::{Work, bring_online, execute_all};
@@ -9,13 +9,13 @@ use uda_exec::Exec;
 use uda_image::{BlockStore, Drive, FileImage, MemImage};
 use uda_mem::HostMemory;
 
-/// The blocks of the image in memory.
+/// The number of blocks of the image in memory.
 const IMAGE: u32 = 1000;
 
-/// The bytes of host memory: as many as the longest transfer has.
+/// The number of bytes of host memory: those of the longest transfer.
 const ROOM: u32 = 16_384;
 
-// An executor with its host memory: unit 0, of `size` blocks, is online.
+// An executor with its host memory. Unit 0, of `size` blocks, is online.
 #[derive(Drop)]
 struct OverStore<S: BlockStore> {
     exec: Exec<S>,
@@ -41,7 +41,7 @@ impl<S: BlockStore + Drop> OverStore<S> {
     }
 }
 
-// An image in memory; the bare loop copies blocks of a like image.
+// An image in memory. The loop copies the blocks of a similar image.
 #[derive(Drop)]
 struct InMemory {
     over: OverStore<MemImage>,
@@ -61,16 +61,16 @@ impl Contest for InMemory {
     }
 }
 
-/// How many blocks a bare call moves.
+/// The number of blocks that one call of the loop moves.
 #[derive(Clone, Copy, Debug, PartialEq, Eq)]
 pub enum Call {
     /// One.
     Block,
-    /// Those of a transfer of 32.
+    /// The blocks of a transfer of 32.
     Transfer,
 }
 
-// An image file; the bare loop reads and writes the same file.
+// An image file. The loop reads and writes the same file.
 #[derive(Drop)]
 struct InFile {
     over: OverStore<FileImage>,
@@ -92,7 +92,7 @@ impl Contest for InFile {
     }
 }
 
-/// The rounds over an image in memory.
+/// Runs the rounds over an image in memory.
 pub fn over_memory(rt: &HostRuntime, work: &str, blocks: &str, rounds: u32) -> Result<()> {
     let mut pair = in_memory(rt.alloc(), Work::named(work, blocks)?)?;
     by_turns(rt, &mut pair, rounds)
@@ -109,14 +109,14 @@ fn in_memory(alloc: Global, work: Work) -> Result<InMemory> {
     })
 }
 
-// An executor with an image in memory as unit 0, and no other drive.
+// Makes an executor with an image in memory as unit 0, and no other drive.
 fn memory_drive(alloc: Global) -> Result<Exec<MemImage>> {
     let store = MemImage::new(alloc, IMAGE)?;
     let drive = Some(Drive { store, hard: false });
     Ok(Exec::new([drive, None, None, None]))
 }
 
-/// The rounds over an image file, beside calls of so many blocks.
+/// Runs the rounds over an image file, compared with such calls.
 pub fn over_file(rt: &HostRuntime, path: &str, work: Work, call: Call, rounds: u32) -> Result<()> {
     let mut pair = in_file(rt, path, work, call)?;
     by_turns(rt, &mut pair, rounds)
@@ -129,7 +129,8 @@ fn in_file(rt: &HostRuntime, path: &str, work: Work, call: Call) -> Result<InFil
     Ok(InFile { over, file, call })
 }
 
-// An executor with an image file as unit 0, and no other drive; and the file's blocks.
+// Makes an executor with an image file as unit 0, and no other drive. Returns the number of the file's
+// blocks too.
 fn file_drive(rt: &HostRuntime, path: &str) -> Result<(Exec<FileImage>, u32)> {
     let store = FileImage::open(rt, path, true)?;
     let size = store.size();

@@ -5,7 +5,7 @@ use uda_image::BlockStore;
 use uda_mem::HostMemory;
 use uda_packet::{Command, End, Op, status};
 
-/// Which way the blocks move.
+/// The direction in which the blocks move.
 #[derive(Clone, Copy, Debug, PartialEq, Eq)]
 pub enum Direction {
     /// From the store to memory.
@@ -28,18 +28,18 @@ impl Direction {
 /// 64 MB, moved by transfers of one length.
 #[derive(Clone, Copy, Debug, PartialEq, Eq)]
 pub struct Work {
-    /// Which way the blocks move.
+    /// The direction in which the blocks move.
     pub direction: Direction,
-    /// The blocks of a transfer.
+    /// The number of blocks of a transfer.
     pub blocks: u32,
-    /// The bytes of a transfer.
+    /// The number of bytes of a transfer.
     pub bytes: u32,
-    /// How many transfers there are.
+    /// The number of transfers.
     pub transfers: u32,
 }
 
 impl Work {
-    /// The work of these words: `read` or `write`, and `32` or `1`.
+    /// Returns the work of these arguments: `read` or `write`, and `32` or `1`.
     pub fn named(direction: &str, blocks: &str) -> Result<Work> {
         let direction = match direction {
             "read" => Direction::Read,
@@ -53,8 +53,8 @@ impl Work {
         }
     }
 
-    /// Where the transfer behind the one at `block` begins, on a unit of `size` blocks: behind it, or at
-    /// block 0 where there is no room.
+    /// Returns the first block of the transfer after the one at `block`, on a unit of `size` blocks. It is
+    /// the next block, or block 0 if there is no room.
     pub fn next(self, block: u32, size: u32) -> u32 {
         let next = block.saturating_add(self.blocks);
         if next.saturating_add(self.blocks) > size {
@@ -64,7 +64,7 @@ impl Work {
         }
     }
 
-    // The operation of the transfer at `lbn`.
+    // Returns the operation of the transfer at `lbn`.
     fn op(self, lbn: u32) -> Op {
         let (bytes, address) = (self.bytes, 0);
         match self.direction {
@@ -87,7 +87,7 @@ pub fn bring_online<S: BlockStore>(exec: &mut Exec<S>, memory: &mut HostMemory) 
     told(execute(exec, memory, Op::Online { soft: None }))
 }
 
-/// Does a work on unit 0, which has `size` blocks.
+/// Executes a work on unit 0, which has `size` blocks.
 pub fn execute_all<S: BlockStore>(
     exec: &mut Exec<S>,
     memory: &mut HostMemory,
@@ -105,8 +105,8 @@ pub fn execute_all<S: BlockStore>(
     Ok(())
 }
 
-// Executes one command of unit 0, which must succeed: else the answer is its end, if it has one. It has no
-// room for an error's text, which would be filled with zeros for each command.
+// Executes one command of unit 0, which must succeed. Otherwise the error is its end message, if it has
+// one. The error has no room for a text, which would be filled with zeros for each command.
 fn execute<S: BlockStore>(
     exec: &mut Exec<S>,
     memory: &mut HostMemory,
@@ -125,7 +125,7 @@ fn execute<S: BlockStore>(
     }
 }
 
-// What came of a command, with the text of what did not.
+// Returns the result of a command, with a text for an error.
 fn told(done: Result<(), Option<End>>) -> Result<()> {
     match done {
         Ok(()) => Ok(()),

@@ -1,5 +1,5 @@
-//! How the executor is called: a drive of 1,000 blocks in memory as unit 0, which is brought online,
-//! written and read, and asked for a block that it doesn't have.
+//! An example of the executor's use. Unit 0 is a drive of 1,000 blocks in memory. It is brought online,
+//! written and read. A last Read is for a block that it doesn't have.
 #![tactic(auto)]
 
 #[cfg(test)]
@@ -40,7 +40,7 @@ fn main(rt: HostRuntime) -> Result<()> {
     Ok(())
 }
 
-// A Write of one block, from the bytes of memory at an address.
+// Returns a Write of one block from the bytes of memory at an address.
 fn write(address: u32, lbn: u32) -> Op {
     Op::Write {
         bytes: 512,
@@ -49,7 +49,7 @@ fn write(address: u32, lbn: u32) -> Op {
     }
 }
 
-// A Read of one block, to the bytes of memory at an address.
+// Returns a Read of one block to the bytes of memory at an address.
 fn read(address: u32, lbn: u32) -> Op {
     Op::Read {
         bytes: 512,

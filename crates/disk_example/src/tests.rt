@@ -1,12 +1,12 @@
-//! What a caller from another crate can say of images and of the executor, each as the contract of a
-//! function of its own.
+//! Facts of images and of the executor that a caller in another crate can prove. Each is the contract of a
+//! function.
 ghost use Rattle.std.specs.Prelude.{◌≡◌, ◌/◌, true, false, [], length, slice_get, IfSome, IfOk, IsSome};
 ghost use Rattle.std.specs.List.{concat};
 ghost use Rattle.std.specs.Simd.{first_chunks};
 ghost use Rattle.uda_image.specs.Image.{blocks_of};
-ghost use Rattle.uda_disk.specs.Units.{AreImages, is_faithful, is_sure};
-ghost use Rattle.uda_exec.specs.Commands.{is_transfer, landing_of};
-ghost use Rattle.uda_exec.specs.Effect.{acts};
+ghost use Rattle.uda_disk.specs.Units.{AreWellFormed, is_faithful, is_infallible};
+ghost use Rattle.uda_exec.specs.Commands.{is_transfer, memory_write_length};
+ghost use Rattle.uda_exec.specs.Effect.{passes_checks};
 ghost use Rattle.uda_exec.specs.Execution.{Executes, world_of};
 
 use super::read;
@@ -17,14 +17,14 @@ use uda_image::{BlockStore, Drive, ImageError, MemImage};
 use uda_mem::HostMemory;
 use uda_packet::{Command, End, Op};
 
-// The bytes of an image are its blocks, one after the other.
+// Returns the bytes of an image, which are its blocks, one after another.
 fn bytes_of(image: &MemImage) -> &[u8]
     ensures { result.now ≡ concat (blocks_of image.now) }
 {
     image.bytes()
 }
 
-// An image that is made of bytes has them as its blocks.
+// Makes an image of bytes, which are then its blocks.
 fn image_of(alloc: Global, bytes: &[u8]) -> Result<MemImage, ImageError>
     ensures { IfOk result (λ image.
         blocks_of image ≡ first_chunks 512 (length bytes.now / 512) bytes.now) }
@@ -32,7 +32,7 @@ fn image_of(alloc: Global, bytes: &[u8]) -> Result<MemImage, ImageError>
     MemImage::from_bytes(alloc, bytes)
 }
 
-// A command that is pending alone is the one that is executed.
+// Executes a command that is the only pending one.
 fn execute_alone<S: BlockStore>(
     exec: &mut Exec<S>,
     memory: &mut HostMemory,
@@ -41,8 +41,8 @@ fn execute_alone<S: BlockStore>(
     requires { exec.old.pending ≡ [] }
     ensures some { IsSome result }
     ensures idle { exec.new.pending ≡ [] }
-    ensures four { length exec.new.units ≡ 4 }
-    ensures images { AreImages exec.new.units }
+    ensures four_units { length exec.new.units ≡ 4 }
+    ensures well_formed { AreWellFormed exec.new.units }
     ensures executes { IfSome result (λ end.
         Executes command exec.old.units memory.old end exec.new.units memory.new) }
 {
@@ -50,35 +50,35 @@ fn execute_alone<S: BlockStore>(
     exec.execute_one(memory)
 }
 
-// Memory is as it was after a command that is no Read, or a Read of nothing.
+// Executes a command that is not a Read, or is a Read of nothing. Memory is unchanged.
 fn memory_kept<S: BlockStore>(
     exec: &mut Exec<S>,
     memory: &mut HostMemory,
     command: Command,
 ) -> Option<End>
     requires alone { exec.old.pending ≡ [] }
-    requires no_read { landing_of command.op ≡ 0 }
+    requires no_read { memory_write_length command.op ≡ 0 }
     ensures kept { memory.new ≡ memory.old }
     ensures idle { exec.new.pending ≡ [] }
 {
     execute_alone(exec, memory, command)
 }
 
-// The units are as they were after a command that is refused.
+// Executes a command that doesn't act on its unit, such as one that is rejected. The units are unchanged.
 fn units_kept<S: BlockStore>(
     exec: &mut Exec<S>,
     memory: &mut HostMemory,
     command: Command,
 ) -> Option<End>
     requires alone { exec.old.pending ≡ [] }
-    requires refused { acts command (world_of exec.old.units memory.old) ≡ false }
+    requires refused { passes_checks command (world_of exec.old.units memory.old) ≡ false }
     ensures kept { exec.new.units ≡ exec.old.units }
     ensures idle { exec.new.pending ≡ [] }
 {
     execute_alone(exec, memory, command)
 }
 
-// A transfer that passes its checks ends well where its unit's store is faithful and never fails.
+// Executes a transfer that passes its checks. It succeeds if its unit's store is faithful and never fails.
 fn transferred<S: BlockStore>(
     exec: &mut Exec<S>,
     memory: &mut HostMemory,
@@ -87,41 +87,41 @@ fn transferred<S: BlockStore>(
     requires alone { exec.old.pending ≡ [] }
     requires transfer { is_transfer command.op ≡ true }
     requires faithful { is_faithful (slice_get exec.old.units command.unit) ≡ true }
-    requires sure { is_sure (slice_get exec.old.units command.unit) ≡ true }
-    requires passes { acts command (world_of exec.old.units memory.old) ≡ true }
+    requires infallible { is_infallible (slice_get exec.old.units command.unit) ≡ true }
+    requires passes { passes_checks command (world_of exec.old.units memory.old) ≡ true }
     ensures success { IfSome result (λ end. end.status ≡ 0) }
     ensures idle { exec.new.pending ≡ [] }
 {
     execute_alone(exec, memory, command)
 }
 
-// Whatever is executed: memory keeps its length, and a unit whose store is faithful and never fails stays
-// so.
+// Executes any pending command. Memory keeps its length. A unit whose store is faithful and never fails
+// stays so.
 fn execute_any<S: BlockStore>(exec: &mut Exec<S>, memory: &mut HostMemory) -> Option<End>
     requires faithful { is_faithful (slice_get exec.old.units 0) ≡ true }
-    requires sure { is_sure (slice_get exec.old.units 0) ≡ true }
+    requires infallible { is_infallible (slice_get exec.old.units 0) ≡ true }
     ensures length { length memory.new ≡ length memory.old }
     ensures faithful { is_faithful (slice_get exec.new.units 0) ≡ true }
-    ensures sure { is_sure (slice_get exec.new.units 0) ≡ true }
+    ensures infallible { is_infallible (slice_get exec.new.units 0) ≡ true }
 {
     exec.execute_one(memory)
 }
 
-// A unit over an image in memory is faithful and never fails.
+// Makes an executor of a unit over an image in memory, which is faithful and never fails.
 fn executor_of(store: MemImage) -> Exec<MemImage>
     ensures idle { result.pending ≡ [] }
-    ensures four { length result.units ≡ 4 }
-    ensures images { AreImages result.units }
+    ensures four_units { length result.units ≡ 4 }
+    ensures well_formed { AreWellFormed result.units }
     ensures faithful { is_faithful (slice_get result.units 0) ≡ true }
-    ensures sure { is_sure (slice_get result.units 0) ≡ true }
+    ensures infallible { is_infallible (slice_get result.units 0) ≡ true }
 {
     Exec::new([Some(Drive { store, hard: false }), None, None, None])
 }
 
-// An executor that was reset has four units, and images where their stores are faithful.
+// Resets an executor. It has four units, and those with faithful stores are well formed.
 fn reset_any<S: BlockStore>(exec: &mut Exec<S>)
-    ensures four { length exec.new.units ≡ 4 }
-    ensures images { AreImages exec.new.units }
+    ensures four_units { length exec.new.units ≡ 4 }
+    ensures well_formed { AreWellFormed exec.new.units }
 {
     exec.reset();
 }
@@ -157,7 +157,7 @@ fn units_that_stay_trusted(rt: HostRuntime) -> Result<(), Fail> {
     Ok(())
 }
 
-// A command of unit 0.
+// Returns a command for unit 0.
 fn command(reference: u32, op: Op) -> Command
     ensures { result.op ≡ op }
 {

@@ -4,39 +4,39 @@ use Rattle.std.specs.Prelude.{slice_get, slice_set, option_map}
 use Rattle.std.specs.List.{concat}
 use Rattle.std.proofs.lemmas.Bool.{le-ltb}
 use Rattle.std.proofs.lemmas.Option.{slice_get-map, slice_get_within}
-use Rattle.uda_image.specs.Store.{IsImage}
+use Rattle.uda_image.specs.Store.{HasWholeBlocks}
 use Rattle.uda_disk.specs.declared.mode.Mode.{Mode}
 use Rattle.uda_disk.specs.Status.{SUCCESS}
 use Rattle.uda_disk.specs.Disk.{Disk, Disks}
 use Rattle.uda_disk.specs.Request.{Act, Online, Read, Write, Request}
 use Rattle.uda_disk.specs.Answer.{Answer, Data}
-use Rattle.uda_disk.specs.Plain.{bar_at, Done, answer_on, disk_after, mode_after, serve_by}
-use Rattle.uda_disk.specs.PlainRun.{step, plain, too_long}
-use Rattle.uda_disk.specs.Units.{Units, UnitState, disk_of, disks_of, AllFaithful, AreImages, HoldsImage, is_faithful}
+use Rattle.uda_disk.specs.RequestEffect.{check_at, Done, answer_on, disk_after, mode_after, serve_by}
+use Rattle.uda_disk.specs.InOrderRun.{step, run_in_order, too_long}
+use Rattle.uda_disk.specs.Units.{Units, UnitState, disk_of, disks_of, AllFaithful, AreWellFormed, IsWellFormed, is_faithful}
 use Rattle.uda_disk.specs.Laws.{IsAllowed}
 use Rattle.uda_disk.proofs.Callers.{allowed_is_done, whole_read, whole_write, unwritten_stays}
 use Rattle.uda_disk.proofs.Lists.{All-at}
 use Rattle.uda_exec.proofs.Blocks.{length-concat_blocks}
 use Rattle.uda_disk.proofs.Slots.{slice_get-set_same, slice_get-set_other}
-use Rattle.uda_driver.specs.Run.{IsPlainRun}
+use Rattle.uda_driver.specs.Run.{IsInOrderRun}
 use Rattle.driver_example.specs.Copy.{CanCopy, blocks_in, IsCopied}
 
 -- ---- what is known of a unit's disk
 
-image_in : (slots : List (Option UnitState)) (u : ℕ) (disk : Disk) → AllFaithful slots → AreImages slots
-    → slice_get (disks_of slots) u ≡ Some (Some disk) → IsImage disk.size disk.blocks
-image_in slots u disk faithful images here = by (slice_get slots u) refl
+image_in : (slots : List (Option UnitState)) (u : ℕ) (disk : Disk) → AllFaithful slots → AreWellFormed slots
+    → slice_get (disks_of slots) u ≡ Some (Some disk) → HasWholeBlocks disk.size disk.blocks
+image_in slots u disk faithful well_formed here = by (slice_get slots u) refl
     (sym (slice_get-map (option_map disk_of) slots u) ∙ here)
   where
     by : (slot : Option (Option UnitState)) → slice_get slots u ≡ slot → option_map (option_map disk_of) slot
-        ≡ Some (Some disk) → IsImage disk.size disk.blocks
+        ≡ Some (Some disk) → HasWholeBlocks disk.size disk.blocks
     by None at is = absurd (cc)
     by (Some None) at is = absurd (cc)
     by (Some (Some unit)) at is =
         let same : disk_of unit ≡ disk = cc in
-        let sure : unit.store.faithful ≡ true = sym (ap is_faithful at) ∙ faithful u in
-        let holds : HoldsImage (Some unit) = All-at HoldsImage slots u (Some unit) images at in
-        subst (λ (d : Disk). IsImage d.size d.blocks) same (holds sure)
+        let infallible : unit.store.faithful ≡ true = sym (ap is_faithful at) ∙ faithful u in
+        let holds : IsWellFormed (Some unit) = All-at IsWellFormed slots u (Some unit) well_formed at in
+        subst (λ (d : Disk). HasWholeBlocks d.size d.blocks) same (holds infallible)
 
 -- ---- one request
 
@@ -44,7 +44,7 @@ online_step : (u : ℕ) (disks : Disks) (disk : Disk) → slice_get disks u ≡ 
     → step (record { unit = u; act = Online false }) disks
     ≡ (answer_on Done (Online false) disk, slice_set disks u (Some (disk_after Done (Online false) disk)))
 online_step u disks disk here = ap (λ (slot : Option (Option Disk)).
-    serve_by Done (record { unit = u; act = Online false }) (bar_at (Online false) slot) disks) here
+    serve_by Done (record { unit = u; act = Online false }) (check_at (Online false) slot) disks) here
 
 is_online : (mode : Mode) → (mode_after (Online false) mode).online ≡ true
 is_online mode = by mode.online refl
@@ -53,12 +53,12 @@ is_online mode = by mode.online refl
     by true is = rw is refl
     by false is = rw is refl
 
--- a list of requests, the first of which does this
+-- a list of requests, of which the first has this effect
 plain_more : (r : Request) (rest : List Request) (disks next left : Disks) (answer : Answer)
-    (later : List Answer) → step r disks ≡ (answer, next) → plain next rest ≡ (later, left)
-    → plain disks (r ∷ rest) ≡ (answer ∷ later, left)
+    (later : List Answer) → step r disks ≡ (answer, next) → run_in_order next rest ≡ (later, left)
+    → run_in_order disks (r ∷ rest) ≡ (answer ∷ later, left)
 plain_more r rest disks next left answer later now later_is =
-    ap (λ (x : Answer × Disks). (x.0 ∷ (plain x.1 rest).0, (plain x.1 rest).1)) now
+    ap (λ (x : Answer × Disks). (x.0 ∷ (run_in_order x.1 rest).0, (run_in_order x.1 rest).1)) now
     ∙ ap (λ (y : List Answer × Disks). (answer ∷ y.0, y.1)) later_is
 
 last_is : (front : List Answer) (l a b c : Answer) → front ++ l ∷ [] ≡ a ∷ b ∷ c ∷ [] → l ≡ c
@@ -75,8 +75,8 @@ on disk = disk_after Done (Online false) disk
 blocks-on : (disk : Disk) → (on disk).blocks ≡ disk.blocks
 blocks-on disk = unwritten_stays Done (Online false) disk refl
 
-image-on : (disk : Disk) → IsImage disk.size disk.blocks → IsImage (on disk).size (on disk).blocks
-image-on disk image = subst (λ (b : List (List ℕ)). IsImage disk.size b) (sym (blocks-on disk)) image
+image-on : (disk : Disk) → HasWholeBlocks disk.size disk.blocks → HasWholeBlocks (on disk).size (on disk).blocks
+image-on disk image = subst (λ (b : List (List ℕ)). HasWholeBlocks disk.size b) (sym (blocks-on disk)) image
 
 abbrev first : Request
 first = record { unit = 0; act = Online false }
@@ -90,7 +90,7 @@ third n = record { unit = 0; act = Read 0 (512 * n) }
 abbrev pub asked : ℕ → List Request
 asked n = first ∷ second ∷ third n ∷ []
 
-module _ (units : Units) (n : ℕ) (faithful : AllFaithful units) (images : AreImages units)
+module _ (units : Units) (n : ℕ) (faithful : AllFaithful units) (well_formed : AreWellFormed units)
     (can : CanCopy units n) where
   abbrev read_all : Act
   read_all = Read 0 (512 * n)
@@ -121,11 +121,11 @@ module _ (units : Units) (n : ℕ) (faithful : AllFaithful units) (images : AreI
       (λ same. absurd (omega (arith, same))) ∙ slice_get-set_same one 1 (Some (on can.target))
       (slice_get_within one 1 (Some can.target) to_one)
 
-  image_s : IsImage can.source.size can.source.blocks
-  image_s = image_in units 0 can.source faithful images can.from
+  image_s : HasWholeBlocks can.source.size can.source.blocks
+  image_s = image_in units 0 can.source faithful well_formed can.from
 
-  image_t : IsImage can.target.size can.target.blocks
-  image_t = image_in units 1 can.target faithful images can.to
+  image_t : HasWholeBlocks can.target.size can.target.blocks
+  image_t = image_in units 1 can.target faithful well_formed can.to
 
   may_read : IsAllowed (record { lbn = 0; bytes = 512 * n; writes = false }) (on can.source)
   may_read = record {
@@ -145,7 +145,7 @@ module _ (units : Units) (n : ℕ) (faithful : AllFaithful units) (images : AreI
       ∙ whole_read (on can.source) (image-on can.source image_s)
       ∙ ap (λ (b : List (List ℕ)). Data SUCCESS (concat b)) (blocks-on can.source)
 
-  read_run : plain start (asked n) ≡ (
+  read_run : run_in_order start (asked n) ≡ (
     answer_on Done (Online false) can.source ∷ answer_on Done
         (Online false) can.target ∷ answer_on Done read_all (on can.source) ∷ [],
     three,
@@ -158,7 +158,7 @@ module _ (units : Units) (n : ℕ) (faithful : AllFaithful units) (images : AreI
 
   -- what was read are the blocks of unit 0, joined
   pub bytes_read : (between : Units) (front : List Answer) (status : ℕ) (bytes : List ℕ)
-      → IsPlainRun units (asked n) (front ++ Data status bytes ∷ []) between
+      → IsInOrderRun units (asked n) (front ++ Data status bytes ∷ []) between
       → bytes ≡ concat can.source.blocks
   bytes_read between front status bytes run =
       let told = ap (λ (x : List Answer × Disks). x.0) (run ∙ read_run) in
@@ -168,8 +168,8 @@ module _ (units : Units) (n : ℕ) (faithful : AllFaithful units) (images : AreI
 
   -- and once they are written to unit 1, it has them
   module _ (between after : Units) (told written : List Answer) (bytes : List ℕ)
-      (run : IsPlainRun units (asked n) told between) (are : bytes ≡ concat can.source.blocks)
-      (next : IsPlainRun between (record { unit = 1; act = Write 0 bytes } ∷ []) written after) where
+      (run : IsInOrderRun units (asked n) told between) (are : bytes ≡ concat can.source.blocks)
+      (next : IsInOrderRun between (record { unit = 1; act = Write 0 bytes } ∷ []) written after) where
     between_is : disks_of between ≡ three
     between_is = ap (λ (x : List Answer × Disks). x.1) (run ∙ read_run)
 
@@ -193,13 +193,13 @@ module _ (units : Units) (n : ℕ) (faithful : AllFaithful units) (images : AreI
     left : disks_of after ≡ slice_set three 1 (Some (disk_after Done (Write 0 bytes) (on can.target)))
     left =
         ap (λ (x : List Answer × Disks). x.1) next
-        ∙ ap (λ (ds : Disks). (plain ds (record { unit = 1; act = Write 0 bytes } ∷ [])).1) between_is
+        ∙ ap (λ (ds : Disks). (run_in_order ds (record { unit = 1; act = Write 0 bytes } ∷ [])).1) between_is
         ∙ ap (λ (x : List Answer × Disks). x.1)
         (plain_more (record { unit = 1; act = Write 0 bytes }) [] three _ _ _ []
         (allowed_is_done (record { unit = 1; act = Write 0 bytes }) _
         (on can.target) three refl may_write write_short to_three) refl)
 
-    fits : IsImage can.target.size can.source.blocks
+    fits : HasWholeBlocks can.target.size can.source.blocks
     fits = record { counted = image_s.counted ∙ can.source_size ∙ sym can.target_size; whole = image_s.whole }
 
     all_written : (disk_after Done (Write 0 bytes) (on can.target)).blocks ≡ can.source.blocks

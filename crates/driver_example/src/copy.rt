@@ -1,13 +1,14 @@
-//! A unit copied to another, over two runs of one driver.
+//! The copy of a unit to another, in two runs of one driver.
 ghost use Rattle.std.specs.Prelude.{◌≡◌, true, IfOk};
 ghost use Rattle.uda_disk.specs.Units.{AllFaithful};
 ghost use Rattle.uda_driver.specs.Run.{units_of};
 ghost use Rattle.driver_example.specs.Copy.{CanCopy, IsCopied};
 
-use uda_driver::{Answer, Driver, Request, RunError, tells_drive_error};
+use uda_driver::{Answer, Driver, Request, RunError, any_drive_error};
 use uda_image::BlockStore;
 
-/// Copies unit 0 to unit 1, which have so many blocks, and answers whether it did: a store may fail.
+/// Copies unit 0 to unit 1, which both have `blocks` blocks. Returns whether it succeeded, since a store
+/// may fail.
 pub fn copy<S: BlockStore>(driver: &mut Driver<S>, blocks: u32) -> Result<bool, RunError>
     requires faithful { AllFaithful (units_of driver.old) }
     requires able { CanCopy (units_of driver.old) blocks }
@@ -29,7 +30,7 @@ pub fn copy<S: BlockStore>(driver: &mut Driver<S>, blocks: u32) -> Result<bool, 
             bytes: 512 * u64::from(blocks),
         },
     ])?;
-    if tells_drive_error(&read) {
+    if any_drive_error(&read) {
         return Ok(false);
     }
     let Some(Answer::Data { bytes, .. }) = read.pop() else {
@@ -40,5 +41,5 @@ pub fn copy<S: BlockStore>(driver: &mut Driver<S>, blocks: u32) -> Result<bool, 
         lbn: 0,
         payload: bytes,
     }])?;
-    Ok(!tells_drive_error(&written))
+    Ok(!any_drive_error(&written))
 }

@@ -1,10 +1,14 @@
-//! How the driver is called: two disks in memory, of which one is copied to the other over two runs, then
-//! requests for both, and what each was answered; a unit that no controller has, asked for; a run whose
-//! stores never fail; and a block that is read whole.
+//! An example of the driver's use. It executes:
+//!
+//! - the copy of one disk in memory to another, in two runs;
+//! - requests for both disks, of which it prints the answers;
+//! - a request for a unit that no controller has;
+//! - a run over stores that never fail;
+//! - the Read of a whole block.
 #![tactic(auto)]
 
 ghost use Rattle.std.specs.Prelude.{◌≡◌, ℕ, ◌*◌, true, length, slice_get, IfOk};
-ghost use Rattle.uda_disk.specs.Units.{AllFaithful, is_sure};
+ghost use Rattle.uda_disk.specs.Units.{AllFaithful, is_infallible};
 ghost use Rattle.uda_driver.specs.Run.{units_of};
 ghost use Rattle.driver_example.specs.Copy.{CanCopy};
 
@@ -13,12 +17,12 @@ mod promised;
 
 use anyhow::{Result, bail};
 use copy::copy;
-use promised::{ask_unit_seven, first_block, run_surely};
+use promised::{ask_unit_seven, first_block, run_infallible};
 use std::alloc::Global;
 use uda_driver::{Answer, Driver, Request};
 use uda_image::{Drive, MemImage};
 
-/// How many blocks each disk has.
+/// The number of blocks of each disk.
 const BLOCKS: u32 = 10;
 
 fn main(rt: HostRuntime) -> Result<()> {
@@ -26,7 +30,7 @@ fn main(rt: HostRuntime) -> Result<()> {
     surely(&rt)
 }
 
-// One disk copied to the other, and what comes of requests for both then.
+// Copies one disk to the other, and executes requests for both.
 fn copied(rt: &HostRuntime) -> Result<()> {
     let mut driver = start(rt.alloc())?;
     if !copy(&mut driver, BLOCKS)? {
@@ -35,7 +39,7 @@ fn copied(rt: &HostRuntime) -> Result<()> {
     asked(rt, &mut driver)
 }
 
-// Requests for both disks, and for a unit that isn't there.
+// Executes requests for both disks, and for a unit that doesn't exist.
 fn asked(rt: &HostRuntime, driver: &mut Driver<MemImage>) -> Result<()> {
     let alloc = rt.alloc();
     let answers = driver.run(&[
@@ -51,15 +55,15 @@ fn asked(rt: &HostRuntime, driver: &mut Driver<MemImage>) -> Result<()> {
     print(rt, &ask_unit_seven(driver)?)
 }
 
-// A run whose stores never fail.
+// Executes a run over stores that never fail.
 fn surely(rt: &HostRuntime) -> Result<()> {
     let mut driver = start(rt.alloc())?;
-    let answers = run_surely(&mut driver, &[protect(0), read(0, 9, 512)])?;
+    let answers = run_infallible(&mut driver, &[protect(0), read(0, 9, 512)])?;
     print(rt, &answers)?;
     whole(rt, &mut driver)
 }
 
-// A block that is read whole.
+// Reads a whole block.
 fn whole(rt: &HostRuntime, driver: &mut Driver<MemImage>) -> Result<()> {
     let Some(block) = first_block(driver)? else {
         bail!("not read");
@@ -68,7 +72,7 @@ fn whole(rt: &HostRuntime, driver: &mut Driver<MemImage>) -> Result<()> {
     Ok(())
 }
 
-// Each answer on a line.
+// Prints each answer on a line.
 fn print(rt: &HostRuntime, answers: &[Answer]) -> Result<()> {
     for answer in answers {
         println!(rt; "{answer}")?;
@@ -76,11 +80,11 @@ fn print(rt: &HostRuntime, answers: &[Answer]) -> Result<()> {
     Ok(())
 }
 
-// A driver over two disks, one of bytes 0x55 and one of zeros.
+// Starts a driver over two disks, one of bytes 0x55 and one of zeros.
 fn start(alloc: Global) -> Result<Driver<MemImage>>
     ensures faithful { IfOk result (λ driver. AllFaithful (units_of driver)) }
-    ensures sure { IfOk result (λ driver.
-        (u : ℕ) → is_sure (slice_get (units_of driver) u) ≡ true) }
+    ensures infallible { IfOk result (λ driver.
+        (u : ℕ) → is_infallible (slice_get (units_of driver) u) ≡ true) }
     ensures able { IfOk result (λ driver. CanCopy (units_of driver) 10) }
 {
     let bytes = Vec::from_elem(alloc, 0x55, 5120)?;
@@ -110,7 +114,7 @@ fn read(unit: u16, lbn: u32, bytes: u64) -> Request {
     Request::Read { unit, lbn, bytes }
 }
 
-// A Write of so many bytes 0xAA.
+// Returns a Write of `count` bytes 0xAA.
 fn write(alloc: Global, unit: u16, lbn: u32, count: usize) -> Result<Request> {
     let payload = Vec::from_elem(alloc, 0xAA, count)?;
     Ok(Request::Write { unit, lbn, payload })

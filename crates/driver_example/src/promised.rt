@@ -1,31 +1,32 @@
-//! What a caller has of a run whose answers it doesn't search for losses: over stores that never fail, and over
-//! whatever stores.
+//! The promises of a run to a caller that doesn't search its answers for drive errors: over stores that
+//! never fail, and over any stores.
 ghost use Rattle.std.specs.Prelude.{◌≡◌, ℕ, true, [], ◌∷◌, length, slice_get, IfOk, IfSome};
 ghost use Rattle.uda_disk.specs.Answer.{Status};
 ghost use Rattle.uda_disk.specs.Status.{UNIT_UNKNOWN};
-ghost use Rattle.uda_disk.specs.Units.{AllFaithful, is_sure};
+ghost use Rattle.uda_disk.specs.Units.{AllFaithful, is_infallible};
 ghost use Rattle.uda_disk.specs.Values.{request_values, answer_values};
-ghost use Rattle.uda_driver.specs.Run.{units_of, IsPlainRun};
+ghost use Rattle.uda_driver.specs.Run.{units_of, IsInOrderRun};
 
 use uda_driver::{Answer, Driver, Request, RunError};
 use uda_image::BlockStore;
 
-/// Has requests done by stores that never fail, as images in memory are: the run is the plain one.
-pub fn run_surely<S: BlockStore>(
+/// Executes requests over stores that never fail, such as images in memory. The run is the in-order run.
+pub fn run_infallible<S: BlockStore>(
     driver: &mut Driver<S>,
     requests: &[Request],
 ) -> Result<Vec<Answer>, RunError>
     requires faithful { AllFaithful (units_of driver.old) }
-    requires sure { (u : ℕ) → is_sure (slice_get (units_of driver.old) u) ≡ true }
-    ensures plain { IfOk result (λ answers.
-        IsPlainRun (units_of driver.old) (request_values requests.now)
+    requires infallible { (u : ℕ) → is_infallible (slice_get (units_of driver.old) u) ≡ true }
+    ensures in_order_run { IfOk result (λ answers.
+        IsInOrderRun (units_of driver.old) (request_values requests.now)
         (answer_values answers.items) (units_of driver.new)) }
 {
     let answers = driver.run(requests)?;
     Ok(answers)
 }
 
-/// Asks for the status of unit 7, which no controller has: whatever the stores, it is told to be unknown.
+/// Requests the status of unit 7, which no controller has. Over any stores the answer is that it is
+/// unknown.
 pub fn ask_unit_seven<S: BlockStore>(driver: &mut Driver<S>) -> Result<Vec<Answer>, RunError>
     ensures unknown { IfOk result (λ answers.
         answer_values answers.items ≡ Status UNIT_UNKNOWN 0 ∷ []) }
@@ -34,7 +35,7 @@ pub fn ask_unit_seven<S: BlockStore>(driver: &mut Driver<S>) -> Result<Vec<Answe
     Ok(answers)
 }
 
-/// The first block of unit 0, where a Read of it succeeds: whatever the stores, that is one whole block.
+/// Returns the first block of unit 0, if a Read of it succeeds. Over any stores it is one whole block.
 pub fn first_block<S: BlockStore>(driver: &mut Driver<S>) -> Result<Option<Vec<u8>>, RunError>
     ensures whole { IfOk result (λ found. IfSome found (λ block. length block.items ≡ 512)) }
 {

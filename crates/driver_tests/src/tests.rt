@@ -1,4 +1,4 @@
-//! The driver by its requests: tables of runs, over each kind of store.
+//! The driver by its requests: tables of runs over each kind of store.
 mod asked;
 mod cases;
 mod stores;

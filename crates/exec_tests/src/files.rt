@@ -1,4 +1,4 @@
-//! Transfers over files.
+//! Transfers with files as stores.
 
 use std::alloc::Global;
 use std::fs::{File, OpenFile};
@@ -13,7 +13,8 @@ use uda_packet::{Command, End, EndBody, Op};
 
 /// An executor over a file as unit 0, and the memory of its host.
 ///
-/// Its methods promise nothing, so that a test is proved from few facts: what they do is asserted.
+/// Its methods promise nothing, so that the proof of a test needs few facts. The tests assert what the
+/// methods do.
 #[derive(Drop)]
 struct Bench {
     exec: Exec<FileImage>,
@@ -21,7 +22,7 @@ struct Bench {
 }
 
 impl Bench {
-    /// Over a file that may be written or may not.
+    /// Makes a bench over a file that is writable or not.
     fn new(rt: &HostRuntime, path: &PathBuf, writable: bool) -> Result<Bench, Fail> {
         let drive = Drive {
             store: FileImage::open(rt, path.as_str(), writable)?,
@@ -32,7 +33,7 @@ impl Bench {
         Ok(Bench { exec, memory })
     }
 
-    /// Takes a command of unit 0 in and executes it.
+    /// Queues a command of unit 0 and executes it.
     fn execute(&mut self, op: Op) -> Option<End> {
         let command = Command {
             reference: 1,
@@ -45,14 +46,14 @@ impl Bench {
         self.exec.execute_one(&mut self.memory)
     }
 
-    /// Sets bytes of memory.
+    /// Fills bytes of memory.
     fn fill(&mut self, address: u32, count: u32, byte: u8) {
         if let Some(buffer) = self.memory.window_mut(address, count) {
             buffer.fill(byte);
         }
     }
 
-    /// Asserts that these bytes are there in memory, and each is `byte`.
+    /// Asserts that each of these bytes of memory is `byte`.
     fn assert_filled(&self, rt: &impl Abort, address: u32, count: u32, byte: u8) {
         match self.memory.window(address, count) {
             Some(bytes) => assert!(rt; bytes.iter().all(|b| *b == byte), "at {address}"),
@@ -102,7 +103,7 @@ fn write(address: u32, bytes: u32, lbn: u32) -> Op {
     }
 }
 
-/// Eight blocks, each of 512 times its byte.
+/// Returns eight blocks, each of 512 times its byte.
 fn blocks_of(bytes: [u8; 8]) -> [u8; 4096] {
     let mut blocks = [0; 4096];
     for (block, byte) in blocks.chunks_exact_mut(512).zip(bytes) {
@@ -111,12 +112,12 @@ fn blocks_of(bytes: [u8; 8]) -> [u8; 4096] {
     blocks
 }
 
-/// Eight blocks that differ.
+/// Returns eight different blocks.
 fn eight_blocks() -> [u8; 4096] {
     blocks_of([0x30, 0x31, 0x32, 0x33, 0x34, 0x35, 0x36, 0x37])
 }
 
-/// A file of this process's own, by a word, of eight blocks.
+/// Makes a file of eight blocks, named by this process and a word.
 fn file_of_eight(rt: &HostRuntime, word: &str) -> io::Result<PathBuf> {
     let name = format!(in rt.alloc(); "uda-exec-{}-{word}", process::id(rt.process()))?;
     let path = env::temp_dir(rt)?.join(rt.alloc(), name.as_str())?;
@@ -130,7 +131,7 @@ fn cut(rt: &HostRuntime, path: &PathBuf, len: u64) -> io::Result<()> {
     file.set_len(len)
 }
 
-/// The bytes of a file, which is removed.
+/// Returns the bytes of a file, and removes the file.
 fn taken(rt: &HostRuntime, path: &PathBuf) -> io::Result<Vec<u8>> {
     let bytes = fs::read(rt, path.as_path())?;
     fs::remove_file(rt, path.as_path())?;
@@ -159,7 +160,7 @@ fn a_file_as_a_unit(rt: HostRuntime) -> Result<(), Fail> {
     Ok(())
 }
 
-/// Asserts that these bytes begin the eight blocks, with 2,048 of them.
+/// Asserts that these are the first 2,048 bytes of the eight blocks.
 fn assert_front(rt: &impl Abort, kept: &[u8]) {
     assert_eq!(rt; kept.len(), 2048);
     assert!(rt; eight_blocks().starts_with(kept));
@@ -173,7 +174,7 @@ fn a_file_that_fails(rt: HostRuntime) -> Result<(), Fail> {
     cut(&rt, &path, 2048)?;
     bench.execute(Op::Online { soft: None });
     let transfers = [
-        // opened to be read
+        // opened for reading
         (write(0, 1024, 0), 0x000b, 0),
         // shorter than it was when it was opened
         (read(0x1000, 2048, 2), 0x000b, 1024),

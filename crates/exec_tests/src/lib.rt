@@ -1,4 +1,4 @@
-//! The tests of the executor that are no scenarios: those over files. All others are cases of the crate
+//! Tests of the executor that aren't scenarios: those with files. All others are cases of the crate
 //! `scenarios`.
 #![tactic(auto)]
 

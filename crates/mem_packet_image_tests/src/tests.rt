@@ -1,4 +1,4 @@
-//! The three lowest crates, a module each.
+//! The three lowest crates, one module for each.
 mod images;
 mod memory;
 mod slices;

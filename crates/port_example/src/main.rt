@@ -1,6 +1,6 @@
-//! How the port is called: an emulator whose guest starts the port up, posts a Get Unit Status of
-//! unit 0, and finds its end message in its own memory. After each call the emulator asks the port for
-//! the interrupt that it would request of its bus.
+//! An example of the port's use: an emulator with a guest. The guest initializes the port and posts a Get
+//! Unit Status of unit 0. It finds the end message in its own memory. After each call the emulator asks the
+//! port for the interrupt request that it would assert on its bus.
 #![tactic(auto)]
 
 use anyhow::Result;
@@ -24,16 +24,16 @@ fn main(rt: HostRuntime) -> Result<()> {
     Ok(())
 }
 
-// The emulator makes a port with one drive, which is protected.
+// Makes the emulator's port with one drive, which has hardware write protection.
 fn port_of_a_guest(alloc: Global) -> Result<Port<MemImage>> {
     let store = MemImage::new(alloc, 8)?;
     let drive = Drive { store, hard: true };
     let exec = Exec::new([Some(drive), None, None, None]);
-    Ok(Port::for_guests(alloc, exec)?)
+    Ok(Port::compatible(alloc, exec)?)
 }
 
-// The guest writes four words to SA, and reads it after each: interrupts by the vector at 108, and
-// rings of one descriptor from 8 on.
+// Writes the guest's four words to SA, and reads SA after each. They request interrupts with the vector at
+// 108, and rings of one descriptor from address 8.
 fn start_up(rt: &HostRuntime, port: &mut Port<MemImage>, memory: &mut HostMemory) -> Result<()> {
     for word in [0x809b, 0x0008, 0x0000, 0x0001] {
         port.write_sa(word, memory);
@@ -43,7 +43,7 @@ fn start_up(rt: &HostRuntime, port: &mut Port<MemImage>, memory: &mut HostMemory
     Ok(())
 }
 
-// It hands the port a buffer and a command: a text and its length, and both descriptors, owned and
+// Gives the port a buffer and a command: a text and its length, and both descriptors, owned by the port,
 // with the flag.
 fn post(memory: &mut HostMemory) {
     let command = Command {
@@ -66,7 +66,7 @@ fn post(memory: &mut HostMemory) {
     }
 }
 
-// It reads IP, and the emulator lets the port take its turns.
+// Reads IP for the guest, and runs the port's turns for the emulator.
 fn serve(rt: &HostRuntime, port: &mut Port<MemImage>, memory: &mut HostMemory) -> Result<()> {
     port.read_ip();
     for _ in 0..4 {
@@ -77,7 +77,7 @@ fn serve(rt: &HostRuntime, port: &mut Port<MemImage>, memory: &mut HostMemory) -
     Ok(())
 }
 
-// The guest finds the end message where its buffer is.
+// Returns the end message in the guest's buffer.
 fn end_message(memory: &HostMemory) -> Option<End> {
     decode_end(memory.window(0x100, 48)?.as_array()?)
 }

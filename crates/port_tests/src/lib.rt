@@ -1,5 +1,5 @@
-//! The tests of the port that are no scenarios: callers for any store, and a port that wasn't made. All others
-//! are cases of the crate `scenarios`.
+//! Tests of the port that aren't scenarios: callers for any store, and a port whose allocation fails. All
+//! others are cases of the crate `scenarios`.
 #![tactic(auto)]
 
 #[cfg(test)]

@@ -4,14 +4,14 @@ use std::alloc::Global;
 use std::test::Fail;
 use uda_exec::Exec;
 use uda_image::{BlockStore, Drive, MemImage};
-use uda_port::{NoPort, Phase, Port};
+use uda_port::{Phase, Port, PortAllocError};
 
 // Callers for any store: free functions, which have the types of what they move in their signatures. A method
-// does as well whose type has the port as its last field, as `uda_host`'s `Host` has.
+// works as well if its type has the port as its last field, as `uda_host`'s `Host` has.
 fn port_over<S: BlockStore>(
     alloc: Global,
     drives: [Option<Drive<S>>; 4],
-) -> Result<Port<S>, NoPort<Exec<S>>> {
+) -> Result<Port<S>, PortAllocError<Exec<S>>> {
     Port::new(alloc, Exec::new(drives))
 }
 
@@ -19,7 +19,7 @@ fn stores_of<S: BlockStore>(port: Port<S>) -> [Option<Drive<S>>; 4] {
     port.into_exec().into_stores()
 }
 
-/// A drive of three blocks, with hardware protection.
+/// Returns a drive of three blocks, with hardware write protection.
 fn drive(alloc: Global) -> Result<Drive<MemImage>, Fail> {
     Ok(Drive {
         store: MemImage::new(alloc, 3)?,
@@ -27,7 +27,7 @@ fn drive(alloc: Global) -> Result<Drive<MemImage>, Fail> {
     })
 }
 
-/// The hardware protection of a drive, and its size.
+/// Returns the hardware write protection of a drive, and its size in blocks.
 fn seen_of(drive: &Option<Drive<MemImage>>) -> Option<(bool, u32)> {
     let drive = drive.as_ref()?;
     Some((drive.hard, drive.store.size()))
@@ -47,9 +47,9 @@ fn a_port_over_any_stores(rt: HostRuntime) -> Result<(), Fail> {
 }
 
 #[test]
-fn a_port_that_was_not_made_has_its_text(rt: HostRuntime) -> Result<(), Fail> {
+fn port_alloc_error_has_its_text(rt: HostRuntime) -> Result<(), Fail> {
     let second = Some(drive(rt.alloc())?);
-    let refusal = NoPort {
+    let refusal = PortAllocError {
         exec: Exec::new([None, second, None, None]),
     };
     let told = format!(in rt.alloc(); "{refusal}")?;

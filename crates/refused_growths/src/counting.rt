@@ -2,7 +2,7 @@
 use std::alloc::Global;
 use uda_image::{BlockStore, Drive, ImageError, MemImage, StoreError};
 
-/// An image in memory, faithful as that is, and how often it was read or written.
+/// An image in memory, which is faithful, and the number of its reads and writes.
 #[derive(Drop)]
 pub struct Counting {
     pub image: MemImage,
@@ -11,13 +11,13 @@ pub struct Counting {
 
 impl BlockStore for Counting {
     ghost use Rattle.uda_image.specs.Image.{image_state};
-    ghost use Rattle.uda_image.specs.StoreLaws.{block_count-le, IsImage-blocks_of};
+    ghost use Rattle.uda_image.specs.StoreLaws.{block_count-le, HasWholeBlocks-blocks_of};
 
     ghost state = { λ store. image_state store.image };
 
     ghost within_limit = { λ store. block_count-le store.image };
 
-    ghost is_image = { λ store _. IsImage-blocks_of store.image };
+    ghost is_image = { λ store _. HasWholeBlocks-blocks_of store.image };
 
     fn size(&self) -> u32 {
         self.image.size()
@@ -37,7 +37,7 @@ impl BlockStore for Counting {
 /// The drives of a controller.
 pub type Drives = [Option<Drive<Counting>>; 4];
 
-/// One drive, protected or not, of so many blocks of zeros.
+/// Makes one drive of `blocks` blocks of zeros, with this hardware protection.
 pub fn one_drive(alloc: Global, blocks: u32, hard: bool) -> Result<Drives, ImageError> {
     let store = Counting {
         image: MemImage::new(alloc, blocks)?,

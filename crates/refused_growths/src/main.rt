@@ -1,6 +1,7 @@
-//! The library's calls that take memory, each between two lines of its own, `begun` and `ended`: so that
-//! a memory that refuses one growth knows which call it refuses. After a refusal comes a line that says
-//! so, and then the same as with ample memory: what the call was given, or the same call again.
+//! The library's calls that allocate. Each is between two lines of its own, `begun` and `ended`. So a test
+//! that makes one allocation fail knows the call in which it fails. After a failure a line says so. Then
+//! the program prints the same as with enough memory: the values that the call was given, or the same call
+//! again.
 #![tactic(auto)]
 
 mod counting;

@@ -1,4 +1,4 @@
-//! A run of more requests than may be out at once.
+//! A run of more requests than can be outstanding at once.
 use crate::counting::{Counting, one_drive};
 use crate::tell::{tell, tell_bytes, tell_drives};
 use anyhow::{Result, anyhow};
@@ -6,7 +6,7 @@ use std::alloc::{AllocError, Global};
 use uda_disk::{Answer, Request};
 use uda_driver::Driver;
 
-/// Has ten Writes and ten Reads done, and prints the answers and the drives.
+/// Executes ten Writes and ten Reads, and prints the answers and the drives.
 pub fn more_than_eight(rt: &HostRuntime) -> Result<()> {
     let requests = requests(rt.alloc())?;
     let mut driver = started(rt.alloc(), 10)?;
@@ -14,7 +14,7 @@ pub fn more_than_eight(rt: &HostRuntime) -> Result<()> {
     tell_drives(rt, &driver.into_stores())
 }
 
-// Has requests done and prints the answers. Where memory was refused the same driver is asked again.
+// Executes requests and prints the answers. If an allocation fails, it runs them again on the same driver.
 fn ask_twice(rt: &HostRuntime, driver: &mut Driver<Counting>, requests: &[Request]) -> Result<()> {
     tell(rt, "begun run")?;
     let first = ask(driver, requests);
@@ -29,13 +29,13 @@ fn ask_twice(rt: &HostRuntime, driver: &mut Driver<Counting>, requests: &[Reques
     }
 }
 
-/// A driver over one drive of so many blocks of zeros.
+/// Starts a driver over one drive of `blocks` blocks of zeros.
 pub fn started(alloc: Global, blocks: u32) -> Result<Driver<Counting>> {
     let drives = one_drive(alloc, blocks, false)?;
     Driver::start(alloc, drives).map_err(|_| anyhow!("no memory"))
 }
 
-// The answers, or none where memory was refused.
+// Returns the answers, or `None` if an allocation failed.
 fn ask(driver: &mut Driver<Counting>, requests: &[Request]) -> Option<Vec<Answer>> {
     driver.run(requests).ok()
 }

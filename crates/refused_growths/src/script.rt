@@ -8,10 +8,10 @@ use uda_driver::Driver;
 use uda_grammar::{Script, parse};
 use uda_script_run::run_script;
 
-/// Blocks are filled, read, and asked for.
+/// A script that fills blocks, reads some, and requests a status.
 const SCRIPT: &str = "online 0\nfill 0 2 2 a5\nread 0 3 1\nstatus 0\nread 0 0 33\n";
 
-/// What a run writes. There is room for it, so that it takes no memory while the script runs.
+/// The texts that a run writes. Their memory is allocated before the script runs.
 #[derive(Drop)]
 struct Texts {
     out: Vec<u8>,
@@ -34,7 +34,7 @@ pub fn fill_and_read(rt: &HostRuntime) -> Result<()> {
     tell_drives(rt, &driver.into_stores())
 }
 
-// Runs a script. Where memory was refused nothing is to be written, and the same driver is asked again.
+// Runs a script. If an allocation fails, nothing must be written, and it runs again on the same driver.
 fn ask_twice(
     rt: &HostRuntime,
     script: &Script,
@@ -66,7 +66,7 @@ fn with_room(alloc: Global) -> Result<Texts> {
     Ok(Texts { out, report })
 }
 
-// Whether the script was run.
+// Returns whether the script was run.
 fn ask(alloc: Global, script: &Script, texts: &mut Texts, driver: &mut Driver<Counting>) -> bool {
     let mut none: &[u8] = &[];
     let (out, report) = (&mut texts.out, &mut texts.report);

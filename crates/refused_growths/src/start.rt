@@ -1,4 +1,4 @@
-//! How port and driver are made.
+//! Construction of port and driver.
 use crate::counting::{Counting, Drives, one_drive};
 use crate::tell::{tell, tell_drives};
 use anyhow::Result;
@@ -8,7 +8,7 @@ use uda_exec::Exec;
 use uda_image::ImageError;
 use uda_port::Port;
 
-/// Makes a port over an executor, and prints the drives that it gives back.
+/// Makes a port over an executor, and prints the drives that it returns.
 pub fn port(rt: &HostRuntime) -> Result<()> {
     let exec = executor(rt.alloc())?;
     tell(rt, "begun port")?;
@@ -28,7 +28,7 @@ fn executor(alloc: Global) -> Result<Exec<Counting>, ImageError> {
     Ok(Exec::new(one_drive(alloc, 8, true)?))
 }
 
-/// Starts a driver over drives, and prints the drives that it gives back.
+/// Starts a driver over drives, and prints the drives that it returns.
 pub fn driver(rt: &HostRuntime) -> Result<()> {
     let drives = one_drive(rt.alloc(), 8, true)?;
     tell(rt, "begun start")?;

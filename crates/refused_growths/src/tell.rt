@@ -1,4 +1,4 @@
-//! What is printed of disks and texts.
+//! Printing of disks and texts.
 use crate::counting::Drives;
 use anyhow::Result;
 
@@ -8,7 +8,7 @@ pub fn tell(rt: &HostRuntime, line: &str) -> Result<()> {
     Ok(())
 }
 
-/// Prints what each drive is, how often its store was called, and its blocks.
+/// Prints each drive's protection, the number of calls of its store, and its blocks.
 pub fn tell_drives(rt: &HostRuntime, drives: &Drives) -> Result<()> {
     for drive in drives.iter().flatten() {
         println!(rt; "protected {}, {} calls", drive.hard, drive.store.calls)?;
@@ -17,7 +17,7 @@ pub fn tell_drives(rt: &HostRuntime, drives: &Drives) -> Result<()> {
     Ok(())
 }
 
-/// Prints a line a block: which byte all of it is.
+/// Prints a line for each block: the byte that fills it.
 pub fn tell_bytes(rt: &HostRuntime, bytes: &[u8]) -> Result<()> {
     for block in bytes.chunks(512) {
         let first = block.first().copied().unwrap_or(0);

@@ -1,27 +1,27 @@
-//! A case: its lines are carried out one by one, and what differs is written.
+//! A case: its lines are executed one by one, and each difference is reported.
 use crate::fault::Fault;
-use crate::machine::Machine;
+use crate::machine::CaseMachine;
 use crate::verb::Verb;
 use crate::words::{Words, are_alike, split};
 use std::alloc::Global;
 use std::fmt::Write;
 
-/// What is written of a case.
+/// The report of a case.
 #[derive(Drop)]
-pub struct Report {
+pub struct CaseReport {
     /// The text.
     pub text: String,
-    // what each of its lines begins with
+    // The prefix of each of its lines.
     name: String,
     traces: bool,
     looks: u32,
     differ: u32,
 }
 
-/// Carries out a case, and answers what is written of it and whether all was as expected.
+/// Executes a case, and returns its report and whether all values were as expected.
 pub fn carry_out(alloc: Global, name: &str, case: &str) -> Result<(String, bool), Fault> {
-    let mut report = Report::new(alloc, name)?;
-    let mut machine = Machine::new(alloc)?;
+    let mut report = CaseReport::new(alloc, name)?;
+    let mut machine = CaseMachine::new(alloc)?;
     for (line, number) in case.lines().zip(1u32..) {
         let bare = match line.split_once('#') {
             Some((head, _)) => head,
@@ -30,13 +30,13 @@ pub fn carry_out(alloc: Global, name: &str, case: &str) -> Result<(String, bool)
         report.step(&mut machine, number, bare)?;
     }
     report.close()?;
-    let Report { text, differ, .. } = report;
+    let CaseReport { text, differ, .. } = report;
     Ok((text, differ == 0))
 }
 
-impl Report {
-    fn new(alloc: Global, name: &str) -> Result<Report, Fault> {
-        Ok(Report {
+impl CaseReport {
+    fn new(alloc: Global, name: &str) -> Result<CaseReport, Fault> {
+        Ok(CaseReport {
             text: String::new(alloc),
             name: String::from_str(alloc, name)?,
             traces: false,
@@ -45,8 +45,8 @@ impl Report {
         })
     }
 
-    // Carries out a line; one that can't be carried out counts as one that differs.
-    fn step(&mut self, machine: &mut Machine, number: u32, line: &str) -> Result<(), Fault> {
+    // Executes a line. A line that can't be executed counts as one that differs.
+    fn step(&mut self, machine: &mut CaseMachine, number: u32, line: &str) -> Result<(), Fault> {
         let (head, tail) = match line.split_once('=') {
             Some((head, tail)) => (head, Some(tail)),
             None => (line, None),
@@ -71,10 +71,10 @@ impl Report {
         }
     }
 
-    // Carries out the step that the first word of a line names.
+    // Executes the step that the first word of a line names.
     fn step_of(
         &mut self,
-        machine: &mut Machine,
+        machine: &mut CaseMachine,
         number: u32,
         (first, head, tail): (&str, &str, Option<&str>),
         words: &mut Words<'_>,
@@ -92,10 +92,10 @@ impl Report {
         self.turns(machine)
     }
 
-    // Carries out a line that doesn't look.
+    // Executes a line that expects no value.
     fn deed(
         &mut self,
-        machine: &mut Machine,
+        machine: &mut CaseMachine,
         number: u32,
         (verb, head): (Verb, &str),
         words: &mut Words<'_>,
@@ -114,7 +114,7 @@ impl Report {
         Ok(())
     }
 
-    // Compares what came with what is expected.
+    // Compares the actual value with the expected one.
     fn compare(
         &mut self,
         number: u32,
@@ -135,8 +135,8 @@ impl Report {
         Ok(())
     }
 
-    // Writes the turns that were taken, where they are traced.
-    fn turns(&mut self, machine: &mut Machine) -> Result<(), Fault> {
+    // Writes the turns that were run, if they are traced.
+    fn turns(&mut self, machine: &mut CaseMachine) -> Result<(), Fault> {
         if self.traces {
             self.text.push_str(&machine.turns)?;
         }
@@ -152,9 +152,9 @@ impl Report {
         Ok(())
     }
 
-    // Writes the last line. A case that expects nothing would pass whatever came, so it counts as one that differs.
+    // Writes the last line. A case that expects nothing would always pass, so it counts as one that differs.
     fn close(&mut self) -> Result<(), Fault> {
-        let Report {
+        let CaseReport {
             text,
             name,
             looks,
@@ -173,9 +173,9 @@ impl Report {
     }
 }
 
-// Carries out a line that looks, and writes what came.
+// Executes a line that expects a value, and writes the actual value.
 fn look(
-    machine: &mut Machine,
+    machine: &mut CaseMachine,
     verb: Verb,
     words: &mut Words<'_>,
     wanted: usize,

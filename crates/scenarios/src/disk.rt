@@ -1,11 +1,11 @@
-//! The stores of a case's units: images in memory that keep which calls they got, and may fail.
+//! The stores of a case's units: images in memory that record their calls, and may fail.
 ghost use Rattle.std.specs.Prelude.{◌≡◌, length};
 
 use arrayvec::ArrayVec;
 use std::fmt;
 use uda_image::{BlockStore, MemImage, StoreError};
 
-/// How many calls are kept.
+/// The most calls that are recorded.
 const CALLS: usize = 64;
 
 /// A call of a store.
@@ -13,12 +13,12 @@ const CALLS: usize = 64;
 pub struct Call {
     writes: bool,
     first: u32,
-    // how many blocks at once; 0 of a call for one block
+    // The number of blocks of a call for several; 0 for a call of one block.
     count: u32,
     declined: bool,
 }
 
-/// As `read:5`, `write:5+4` for four blocks at once, or `read:5+4:declined`.
+/// Formats the call, as `read:5`, `write:5+4` for four blocks in one call, or `read:5+4:declined`.
 impl fmt::Display for Call {
     fn fmt<W: fmt::Write>(&self, f: &mut fmt::Formatter<W>) -> fmt::Result {
         let Call {
@@ -36,22 +36,22 @@ impl fmt::Display for Call {
     }
 }
 
-/// How a store fails and what it declines.
+/// The calls that a store fails or declines.
 #[derive(Clone, Copy)]
 pub struct Plan {
-    /// Which call for one block fails, counted from 1; 0 where none does.
+    /// The number of the call for one block that fails, counted from 1; 0 for none.
     pub fails: u32,
     /// A block that can't be read or written.
     pub bad: Option<u32>,
-    /// How many calls for several blocks are served before the first that is declined.
+    /// The number of calls for several blocks that succeed before the first that is declined.
     pub at_once: u32,
-    /// How many are declined then, before all others are served.
+    /// The number of calls that are declined then, before all others succeed.
     pub declines: u32,
-    /// Whether a read that fails spoils the first half of the block that it was handed.
+    /// Whether a failing read overwrites the first half of the block that it was given.
     pub spoils: bool,
 }
 
-/// What a store keeps of its calls, and what is left of its plan.
+/// The recorded calls of a store, and the rest of its plan.
 #[derive(Drop)]
 pub struct Book {
     plan: Plan,
@@ -63,7 +63,7 @@ impl Book {
         let _ = self.calls.try_push(call);
     }
 
-    // Keeps a call for one block, and says whether it fails.
+    // Records a call for one block, and returns whether it fails.
     fn fails(&mut self, writes: bool, first: u32) -> bool {
         self.keep(Call {
             writes,
@@ -76,7 +76,7 @@ impl Book {
         fails
     }
 
-    // Keeps a call for several blocks, and says whether it is served.
+    // Records a call for several blocks, and returns whether it succeeds.
     fn serves(&mut self, writes: bool, first: u32, count: u32) -> bool {
         let declined = self.plan.at_once == 0 && self.plan.declines > 0;
         if declined {
@@ -93,40 +93,40 @@ impl Book {
     }
 }
 
-/// An image in memory with a plan of its own, that keeps which calls it got.
+/// An image in memory with a plan of its own, which records its calls.
 #[derive(Drop)]
-pub struct Disk {
+pub struct RecordingImage {
     image: MemImage,
     book: Book,
 }
 
-impl Disk {
-    /// Makes a store of an image.
-    pub fn new(image: MemImage, plan: Plan) -> Disk {
+impl RecordingImage {
+    /// Returns a store of an image.
+    pub fn new(image: MemImage, plan: Plan) -> RecordingImage {
         let book = Book {
             plan,
             calls: ArrayVec::new(),
         };
-        Disk { image, book }
+        RecordingImage { image, book }
     }
 
-    /// The bytes of the blocks.
+    /// Returns the bytes of the blocks.
     pub fn bytes(&self) -> &[u8] {
         self.image.bytes()
     }
 
-    /// The calls since they were last forgotten.
+    /// Returns the calls since the record was cleared.
     pub fn calls(&self) -> &[Call] {
         self.book.calls.as_slice()
     }
 
-    /// Forgets which calls there were.
+    /// Clears the record of calls.
     pub fn forget(&mut self) {
         self.book.calls.clear();
     }
 }
 
-// Writes over the first half of a block.
+// Overwrites the first half of a block.
 fn spoil(block: &mut [u8; 512])
     ensures { length block.new ≡ 512 }
 {
@@ -139,7 +139,7 @@ fn copy_half(block: &mut [u8; 512], from: &[u8; 512]) {
     block[..256].copy_from_slice(&from[..256]);
 }
 
-impl BlockStore for Disk {
+impl BlockStore for RecordingImage {
     ghost use Rattle.std.specs.Prelude.{[], false, None};
     ghost use Rattle.uda_image.specs.Image.{block_count_of};
     ghost use Rattle.uda_image.specs.StoreLaws.{block_count-le, no_image};
@@ -150,7 +150,7 @@ impl BlockStore for Disk {
       faithful = false;
       never_fails = false;
       failures = 0;
-      fails_in = None;
+      failing_call = None;
     } };
 
     ghost within_limit = { λ store. block_count-le store.image };
@@ -182,11 +182,11 @@ impl BlockStore for Disk {
         self.image.write(n, from)
     }
 
-    fn read_at_once(&mut self, n: u32, count: u32, to: &mut [u8]) -> bool {
-        self.book.serves(false, n, count) && self.image.read_at_once(n, count, to)
+    fn try_read_blocks(&mut self, n: u32, count: u32, to: &mut [u8]) -> bool {
+        self.book.serves(false, n, count) && self.image.try_read_blocks(n, count, to)
     }
 
-    fn write_at_once(&mut self, n: u32, count: u32, from: &[u8]) -> bool {
-        self.book.serves(true, n, count) && self.image.write_at_once(n, count, from)
+    fn try_write_blocks(&mut self, n: u32, count: u32, from: &[u8]) -> bool {
+        self.book.serves(true, n, count) && self.image.try_write_blocks(n, count, from)
     }
 }

@@ -1,7 +1,7 @@
-//! Drives that are put in and taken out, and commands for an executor.
-use crate::disk::{Disk, Plan};
+//! Drives that are attached and removed, and commands for an executor.
+use crate::disk::{Plan, RecordingImage};
 use crate::fault::Fault;
-use crate::machine::{Machine, NO_UNITS, Subject};
+use crate::machine::{CaseMachine, NO_UNITS, Subject};
 use crate::op::command;
 use crate::verb::Change;
 use crate::words::Words;
@@ -11,8 +11,8 @@ use uda_exec::PENDING;
 use uda_image::{BLOCK_LIMIT, Drive, MemImage};
 use uda_packet::DriveType;
 
-impl Machine {
-    /// Changes which drives and commands there are.
+impl CaseMachine {
+    /// Changes the drives and the commands.
     pub fn change(&mut self, change: Change, words: &mut Words<'_>) -> Result<(), Fault> {
         match change {
             Change::Unit => self.new_drive(words),
@@ -35,15 +35,15 @@ impl Machine {
         }
     }
 
-    // Puts a new drive in, and the old one on the shelf.
+    // Attaches a new drive, and puts the old one on the shelf.
     fn new_drive(&mut self, words: &mut Words<'_>) -> Result<(), Fault> {
         let unit = words.unit()?;
-        let drive = drive(self.alloc, words)?;
+        let drive = parse_drive(self.alloc, words)?;
         self.shelf = self.exchange(unit, Some(drive))?;
         Ok(())
     }
 
-    // Puts a unit into a mode: online or available, with these flags.
+    // Sets the mode of a unit: online or available, with these flags.
     fn restore(&mut self, words: &mut Words<'_>) -> Result<(), Fault> {
         let unit = words.unit()?;
         let online = words.takes("online");
@@ -76,7 +76,7 @@ impl Machine {
         }
     }
 
-    /// Puts a unit into a mode.
+    /// Sets the mode of a unit.
     pub fn restore_mode(&mut self, unit: usize, mode: Mode) -> Result<(), Fault> {
         match &mut self.subject {
             Subject::Port(port) => port.restore_mode(unit, mode),
@@ -86,7 +86,7 @@ impl Machine {
         Ok(())
     }
 
-    // Has the executor take a command in.
+    // Queues a command in the executor.
     fn accept(&mut self, words: &mut Words<'_>) -> Result<(), Fault> {
         let reference = words.number()?;
         let command = command(words, reference)?;
@@ -99,8 +99,8 @@ impl Machine {
     }
 }
 
-// A drive of so many blocks, block k of bytes k unless something else is said.
-fn drive(alloc: Global, words: &mut Words<'_>) -> Result<Drive<Disk>, Fault> {
+// Returns a drive of n blocks. Block k has bytes k unless the line says otherwise.
+fn parse_drive(alloc: Global, words: &mut Words<'_>) -> Result<Drive<RecordingImage>, Fault> {
     let count = words.number()?;
     if count > BLOCK_LIMIT {
         return Err(Fault::Wanted("fewer blocks"));
@@ -117,11 +117,11 @@ fn drive(alloc: Global, words: &mut Words<'_>) -> Result<Drive<Disk>, Fault> {
         };
         number_blocks(&mut bytes, first);
     }
-    let store = Disk::new(MemImage::from_bytes(alloc, &bytes)?, plan(words)?);
+    let store = RecordingImage::new(MemImage::from_bytes(alloc, &bytes)?, plan(words)?);
     Ok(Drive { store, hard })
 }
 
-// Fills each block with a byte: the first one with this.
+// Fills each block with a byte, which counts up from that of the first block.
 fn number_blocks(bytes: &mut [u8], first: u8) {
     let mut byte = first;
     for block in bytes.chunks_mut(512) {
@@ -130,7 +130,7 @@ fn number_blocks(bytes: &mut [u8], first: u8) {
     }
 }
 
-// How a store fails.
+// Returns the plan of a store's failures.
 fn plan(words: &mut Words<'_>) -> Result<Plan, Fault> {
     Ok(Plan {
         fails: number_after(words, "fails", 0)?,
@@ -145,7 +145,7 @@ fn plan(words: &mut Words<'_>) -> Result<Plan, Fault> {
     })
 }
 
-// Returns the number after a word, or another one if the word doesn't follow.
+// Returns the number after a word, or `without` if the word doesn't follow.
 fn number_after(words: &mut Words<'_>, word: &str, without: u32) -> Result<u32, Fault> {
     if words.takes(word) {
         words.number()

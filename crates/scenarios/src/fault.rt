@@ -1,23 +1,23 @@
-//! Why a line of a case can't be carried out.
+//! Why a line of a case can't be executed.
 use std::alloc::{AllocError, AllocFailed};
 use std::fmt;
 use uda_image::ImageError;
 use uda_mem::NoMemory;
 
-/// Why a line of a case can't be carried out.
+/// Why a line of a case can't be executed.
 #[derive(Clone, Copy)]
 pub enum Fault {
-    /// The line wants a word of this kind, which isn't there.
+    /// The line needs a word of this kind, and has none.
     Wanted(&'static str),
-    /// The line has more words than its step takes.
+    /// The line has more words than its step accepts.
     MoreWords,
-    /// An address isn't in memory, or is odd and that of a word.
+    /// An address isn't in memory, or is odd although it is that of a word.
     Address,
-    /// No such memory can be.
+    /// A memory of this size isn't possible.
     Memory,
     /// The executor has no room for one more command.
     Full,
-    /// The program has no memory left.
+    /// An allocation failed.
     NoMemory,
 }
 

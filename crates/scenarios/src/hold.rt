@@ -1,18 +1,18 @@
-//! What is to be seen of drives.
-use crate::disk::Disk;
+//! The visible state of drives.
+use crate::disk::RecordingImage;
 use crate::fault::Fault;
-use crate::machine::Machine;
+use crate::machine::CaseMachine;
 use crate::place::run_of;
 use crate::verb::Hold;
 use crate::words::Words;
 use std::fmt::Write;
 use uda_image::Drive;
 
-/// How many runs of bytes of a block are written at most.
+/// The most runs of equal bytes that are written of a block.
 const RUNS: usize = 6;
 
-impl Machine {
-    /// Writes what is to be seen of drives.
+impl CaseMachine {
+    /// Writes the visible state of drives.
     pub fn open(
         &mut self,
         hold: Hold,
@@ -27,7 +27,7 @@ impl Machine {
         }
     }
 
-    // Whether a unit is online, its flags, and its size.
+    // Writes whether a unit is online, its flags, and its size.
     fn mode(&self, unit: usize, came: &mut String) -> Result<(), Fault> {
         match self.look(unit) {
             Some(look) => {
@@ -43,7 +43,7 @@ impl Machine {
         Ok(())
     }
 
-    // The drive of a unit or its calls: it is taken out, looked at, and put back as it was.
+    // Writes the drive of a unit or its calls. It removes the drive, reads it, and puts it back unchanged.
     fn opened(&mut self, unit: usize, calls: bool, came: &mut String) -> Result<(), Fault> {
         let look = self.look(unit);
         let drive = self.exchange(unit, None)?;
@@ -61,8 +61,11 @@ impl Machine {
     }
 }
 
-// Writes the calls that a store got since they were looked at last, and forgets them.
-fn with_calls(drive: Option<Drive<Disk>>, came: &mut String) -> Result<Option<Drive<Disk>>, Fault> {
+// Writes the calls that a store got since they were written last, and clears their record.
+fn with_calls(
+    drive: Option<Drive<RecordingImage>>,
+    came: &mut String,
+) -> Result<Option<Drive<RecordingImage>>, Fault> {
     let Some(mut drive) = drive else {
         came.push_str("no drive")?;
         return Ok(None);
@@ -77,21 +80,21 @@ fn with_calls(drive: Option<Drive<Disk>>, came: &mut String) -> Result<Option<Dr
     Ok(Some(drive))
 }
 
-// The hardware protection of a drive, and its blocks.
-fn write_drive(drive: &Option<Drive<Disk>>, came: &mut String) -> Result<(), Fault> {
+// Writes the hardware write protection of a drive, and its blocks.
+fn write_drive(drive: &Option<Drive<RecordingImage>>, came: &mut String) -> Result<(), Fault> {
     let Some(drive) = drive else {
         return Ok(came.push_str("none")?);
     };
     came.push_str(if drive.hard { "protected" } else { "free" })?;
     for block in drive.store.bytes().chunks(512) {
         came.push(' ')?;
-        write_block(block, came)?;
+        write_runs(block, came)?;
     }
     Ok(())
 }
 
-// A block as runs of a byte: `30` where all of it is one, `66*256/32*256` where its halves differ.
-fn write_block(block: &[u8], came: &mut String) -> Result<(), Fault> {
+// Writes a block as runs of a byte: `30` if all bytes are equal, `66*256/32*256` if its halves differ.
+fn write_runs(block: &[u8], came: &mut String) -> Result<(), Fault> {
     let mut rest = block;
     for _ in 0..RUNS {
         let Some(&byte) = rest.first() else {

@@ -1,13 +1,13 @@
-//! What a host does.
+//! The actions of a host.
 use crate::fault::Fault;
-use crate::machine::Machine;
+use crate::machine::CaseMachine;
 use crate::op::command;
 use crate::verb::Deed;
 use crate::words::Words;
 use uda_packet::encode_command;
 
-impl Machine {
-    /// Does what a host does.
+impl CaseMachine {
+    /// Executes an action of a host.
     pub fn act(&mut self, deed: Deed, words: &mut Words<'_>) -> Result<(), Fault> {
         match deed {
             Deed::Start => self.start(),
@@ -22,7 +22,7 @@ impl Machine {
         }
     }
 
-    // Writes the words of a start-up.
+    // Writes the words of initialization.
     fn start(&mut self) -> Result<(), Fault> {
         for word in self.layout.start_up() {
             self.memory.write_sa(self.subject.port()?, word)?;
@@ -80,7 +80,7 @@ impl Machine {
         self.memory.fill(address, count, words.byte()?)
     }
 
-    // Hands descriptor i of both rings to the port, with the length word of its packet.
+    // Gives descriptor i of both rings to the port, with the length word of its packet.
     fn hand(&mut self, i: u16, length: u16) -> Result<(), Fault> {
         let descriptor = self.layout.descriptor(i);
         let packet = self.layout.packet(i);
@@ -92,7 +92,7 @@ impl Machine {
         self.memory.poke(descriptor.saturating_add(2), high)
     }
 
-    // Hands response descriptor i to the port, with a buffer of 60 bytes or of as many as are named.
+    // Gives response descriptor i to the port, with a buffer of 60 bytes or of the named size.
     fn open_response(&mut self, words: &mut Words<'_>) -> Result<(), Fault> {
         let i = words.small()?;
         let length = if words.count() > 0 {
@@ -103,7 +103,7 @@ impl Machine {
         self.hand(i, length)
     }
 
-    // Posts a command as command i, of the reference i + 1.
+    // Posts a command as command i, with the reference i + 1.
     fn post(&mut self, words: &mut Words<'_>) -> Result<(), Fault> {
         let i = words.small()?;
         let command = command(words, u32::from(i) + 1)?;
@@ -116,7 +116,7 @@ impl Machine {
         self.hand(i, 48)
     }
 
-    // Posts a text as command i: these bytes, and zeros behind them.
+    // Posts a text as command i: these bytes, followed by zeros.
     fn post_text(&mut self, words: &mut Words<'_>) -> Result<(), Fault> {
         let i = self.layout.command(words.small()?);
         let text = self.layout.packet(i).saturating_add(4);
@@ -125,7 +125,7 @@ impl Machine {
         self.hand(i, 48)
     }
 
-    // Keeps the bytes of memory.
+    // Stores a copy of memory.
     fn keep(&mut self) -> Result<(), Fault> {
         self.kept = self.memory.bytes().to_vec(self.alloc)?;
         Ok(())

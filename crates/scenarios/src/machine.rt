@@ -1,40 +1,40 @@
-//! The machine of a case: a port, an executor alone or a ring by itself, and the memory of its host.
-use crate::disk::Disk;
+//! The machine of a case: a port, an executor without a port, or a ring, and the memory of its host.
+use crate::disk::RecordingImage;
 use crate::fault::Fault;
 use crate::memory::{Memory, Slice};
-use crate::verb::Setting;
+use crate::verb::Preparation;
 use crate::words::Words;
 use std::alloc::Global;
-use uda_exec::{Exec, UnitLook};
+use uda_exec::{Exec, UnitInfo};
 use uda_image::Drive;
 use uda_packet::{Bus, Identity};
 use uda_port::{Phase, Port, Ring};
 
-/// How many bytes a memory has at first.
+/// The initial size of a memory in bytes.
 const MEMORY: u32 = 135_168;
 
-/// What a case is about.
+/// The subject of a case.
 #[derive(Drop)]
 pub enum Subject {
     Nothing,
-    Port(Port<Disk>),
-    Executor(Exec<Disk>),
+    Port(Port<RecordingImage>),
+    Executor(Exec<RecordingImage>),
     Ring(Ring),
 }
 
-/// Where the rings of a host and their packets are: response descriptors from `base` on and behind them as
-/// many command descriptors, and the packets from `packets` on in the same order, 64 bytes each.
+/// The addresses of a host's rings and packets. The response descriptors begin at `base`, and as many command
+/// descriptors follow. The packets begin at `packets`, in the same order, 64 bytes each.
 #[derive(Clone, Copy)]
 pub struct Layout {
-    /// How many descriptors each ring has.
+    /// The number of descriptors of each ring.
     pub count: u16,
-    /// Where the rings begin.
+    /// The address of the rings.
     pub base: u32,
-    /// Where the packets begin.
+    /// The address of the packets.
     pub packets: u32,
 }
 
-/// The layout at first.
+/// The initial layout.
 const LAYOUT: Layout = Layout {
     count: 8,
     base: 8,
@@ -42,22 +42,22 @@ const LAYOUT: Layout = Layout {
 };
 
 impl Layout {
-    /// Where descriptor i of both rings is.
+    /// Returns the address of descriptor i of both rings.
     pub fn descriptor(self, i: u16) -> u32 {
         self.base.saturating_add(4 * u32::from(i))
     }
 
-    /// Where its packet is, from the envelope on.
+    /// Returns the address of its packet's envelope.
     pub fn packet(self, i: u16) -> u32 {
         self.packets.saturating_add(64 * u32::from(i))
     }
 
-    /// Which descriptor of both rings command i has.
+    /// Returns the descriptor of both rings that command i has.
     pub fn command(self, i: u16) -> u16 {
         self.count.saturating_add(i)
     }
 
-    /// The words of a start-up with these rings.
+    /// Returns the words of initialization with these rings.
     pub fn start_up(self) -> [u16; 4] {
         let exponent = match self.count {
             1 => 0,
@@ -81,25 +81,25 @@ impl Layout {
 
 /// The machine of a case.
 #[derive(Drop)]
-pub struct Machine {
+pub struct CaseMachine {
     pub alloc: Global,
     pub subject: Subject,
     pub memory: Memory,
     pub layout: Layout,
-    /// The drive that was put out of a unit last.
-    pub shelf: Option<Drive<Disk>>,
-    /// The bytes of memory that are kept.
+    /// The drive that was removed last.
+    pub shelf: Option<Drive<RecordingImage>>,
+    /// A stored copy of memory.
     pub kept: Vec<u8>,
-    /// What the port was doing after random events.
+    /// The port's phase after random events.
     pub played: Option<Phase>,
-    /// The turns that were taken since they were printed, a line each.
+    /// The turns that were run since the last printout, one a line.
     pub turns: String,
 }
 
-impl Machine {
-    /// Makes a machine without port and executor.
-    pub fn new(alloc: Global) -> Result<Machine, Fault> {
-        Ok(Machine {
+impl CaseMachine {
+    /// Returns a machine without port and executor.
+    pub fn new(alloc: Global) -> Result<CaseMachine, Fault> {
+        Ok(CaseMachine {
             alloc,
             subject: Subject::Nothing,
             memory: Memory::host(alloc, MEMORY, 0)?,
@@ -112,28 +112,28 @@ impl Machine {
     }
 
     /// Prepares the machine.
-    pub fn set(&mut self, setting: Setting, words: &mut Words<'_>) -> Result<(), Fault> {
+    pub fn set(&mut self, setting: Preparation, words: &mut Words<'_>) -> Result<(), Fault> {
         match setting {
-            Setting::New => self.begin(words),
-            Setting::Memory => {
+            Preparation::New => self.begin(words),
+            Preparation::Memory => {
                 let (count, byte) = size(words)?;
                 self.memory = Memory::host(self.alloc, count, byte)?;
                 Ok(())
             }
-            Setting::Slice => {
+            Preparation::Slice => {
                 let (count, byte) = size(words)?;
                 self.memory = Memory::Slice(Slice::new(self.alloc, count, byte)?);
                 Ok(())
             }
-            Setting::Wander => self.memory.wander(self.alloc),
-            Setting::Layout => {
+            Preparation::Wander => self.memory.wander(self.alloc),
+            Preparation::Layout => {
                 self.layout = layout_of(words)?;
                 Ok(())
             }
         }
     }
 
-    // Begins anew, with memory and layout as at first.
+    // Restarts with the initial memory and layout.
     fn begin(&mut self, words: &mut Words<'_>) -> Result<(), Fault> {
         self.subject = subject_of(self.alloc, words)?;
         self.memory = Memory::host(self.alloc, MEMORY, 0)?;
@@ -142,12 +142,12 @@ impl Machine {
         Ok(())
     }
 
-    /// Puts a drive in the place of a unit's, which is answered.
+    /// Replaces the drive of a unit, and returns the old one.
     pub fn exchange(
         &mut self,
         unit: usize,
-        drive: Option<Drive<Disk>>,
-    ) -> Result<Option<Drive<Disk>>, Fault> {
+        drive: Option<Drive<RecordingImage>>,
+    ) -> Result<Option<Drive<RecordingImage>>, Fault> {
         match &mut self.subject {
             Subject::Port(port) => Ok(port.set_drive(unit, drive)),
             Subject::Executor(exec) => Ok(exec.set_drive(unit, drive)),
@@ -155,8 +155,8 @@ impl Machine {
         }
     }
 
-    /// What is to be seen of a unit.
-    pub fn look(&self, unit: usize) -> Option<UnitLook> {
+    /// Returns the mode and the size of a unit.
+    pub fn look(&self, unit: usize) -> Option<UnitInfo> {
         match &self.subject {
             Subject::Port(port) => port.unit(unit),
             Subject::Executor(exec) => exec.unit(unit),
@@ -165,20 +165,20 @@ impl Machine {
     }
 }
 
-/// A case whose subject has no units.
+/// The fault of a case whose subject has no units.
 pub const NO_UNITS: Fault = Fault::Wanted("a port or an executor before this line");
 
 impl Subject {
-    /// The port.
-    pub fn port(&mut self) -> Result<&mut Port<Disk>, Fault> {
+    /// Returns the port.
+    pub fn port(&mut self) -> Result<&mut Port<RecordingImage>, Fault> {
         match self {
             Subject::Port(port) => Ok(port),
             _ => Err(Fault::Wanted("a port before this line")),
         }
     }
 
-    /// The executor.
-    pub fn executor(&mut self) -> Result<&mut Exec<Disk>, Fault> {
+    /// Returns the executor.
+    pub fn executor(&mut self) -> Result<&mut Exec<RecordingImage>, Fault> {
         match self {
             Subject::Executor(exec) => Ok(exec),
             _ => Err(Fault::Wanted("an executor before this line")),
@@ -186,7 +186,7 @@ impl Subject {
     }
 }
 
-// What the words name: a port without drives, an executor without drives, or a ring.
+// Returns the subject that the words name: a port without drives, an executor without drives, or a ring.
 fn subject_of(alloc: Global, words: &mut Words<'_>) -> Result<Subject, Fault> {
     let kind = "strict, guests, executor or ring";
     let name = words.word(kind)?;
@@ -194,12 +194,12 @@ fn subject_of(alloc: Global, words: &mut Words<'_>) -> Result<Subject, Fault> {
         "strict" => strict(alloc),
         "guests" => guests(alloc, identity(words)?),
         "executor" => Ok(Subject::Executor(no_drives())),
-        "ring" => ring(words),
+        "ring" => parse_ring(words),
         _ => Err(Fault::Wanted(kind)),
     }
 }
 
-// A port of the strict profile.
+// Returns a strict port.
 fn strict(alloc: Global) -> Result<Subject, Fault> {
     match Port::new(alloc, no_drives()) {
         Ok(port) => Ok(Subject::Port(port)),
@@ -207,7 +207,7 @@ fn strict(alloc: Global) -> Result<Subject, Fault> {
     }
 }
 
-// The controller that a guest sees: on a UNIBUS, or on a Q-bus, and with units from a number on.
+// Returns the identity of the controller: on a UNIBUS or on a Q-bus, with units from a number on.
 fn identity(words: &mut Words<'_>) -> Result<Identity, Fault> {
     let bus = if words.takes("qbus") {
         Bus::Qbus
@@ -219,19 +219,19 @@ fn identity(words: &mut Words<'_>) -> Result<Identity, Fault> {
     Ok(Identity { bus, first_unit })
 }
 
-// A port of the profile for guests.
+// Returns a port of the compatible profile.
 fn guests(alloc: Global, identity: Identity) -> Result<Subject, Fault> {
-    match Port::for_guests_as(alloc, identity, no_drives()) {
+    match Port::compatible_as(alloc, identity, no_drives()) {
         Ok(port) => Ok(Subject::Port(port)),
         Err(_) => Err(Fault::NoMemory),
     }
 }
 
-fn no_drives() -> Exec<Disk> {
+fn no_drives() -> Exec<RecordingImage> {
     Exec::new([None, None, None, None])
 }
 
-// Takes a number of bytes and the byte that all of them are: 0 where none is named.
+// Takes a number of bytes, and the byte that all of them have: 0 if none is named.
 fn size(words: &mut Words<'_>) -> Result<(u32, u8), Fault> {
     let count = words.number()?;
     let byte = if words.count() > 0 { words.byte()? } else { 0 };
@@ -246,7 +246,7 @@ fn layout_of(words: &mut Words<'_>) -> Result<Layout, Fault> {
     })
 }
 
-fn ring(words: &mut Words<'_>) -> Result<Subject, Fault> {
+fn parse_ring(words: &mut Words<'_>) -> Result<Subject, Fault> {
     let base = words.address()?;
     let count = words.small()?;
     if !Ring::is_base(base) {

@@ -1,8 +1,9 @@
-//! Scenarios: cases for a port, an executor or a ring, each a file of lines that are carried out one by one.
+//! Scenarios: cases for a port, an executor or a ring. Each is a file of lines that are executed one by one.
 //!
-//! With no arguments one case is read from standard input; with arguments each names a case's file. For each
-//! line whose values differ from what it expects a line is printed, and one more at the end of each case. The
-//! exit status is 1 where any line differed or any case could not be read. docs/SCENARIOS.md has the language.
+//! Without arguments the program reads one case from standard input; otherwise each argument names a case's
+//! file. For each line whose values differ from the expected ones it prints a line, and one more at the end
+//! of each case. The exit status is 1 if any line differed or any case couldn't be read. docs/SCENARIOS.md
+//! describes the language.
 #![tactic(auto)]
 
 mod case;
@@ -35,7 +36,7 @@ fn main(rt: HostRuntime) -> ExitCode {
     }
 }
 
-// Carries out each case that the arguments name, or one from standard input, and answers whether all was as
+// Executes each case that the arguments name, or one from standard input. Returns whether all values were as
 // expected.
 fn run_all(rt: &HostRuntime) -> io::Result<bool> {
     let names: Vec<String> = env::args(rt)?.skip(1).collect(rt.alloc())?;

@@ -1,6 +1,6 @@
-//! The memory of a case's host: one of its own, or somebody else's in a slice, at each call another one where
-//! it wanders.
-use crate::disk::Disk;
+//! The memory of a case's host: one of its own, or borrowed bytes in a slice. A memory that wanders is
+//! another slice at each call.
+use crate::disk::RecordingImage;
 use crate::fault::Fault;
 use std::alloc::Global;
 use uda_exec::Exec;
@@ -8,19 +8,19 @@ use uda_mem::{HostMemory, MEMORY_LIMIT, SLICE_LIMIT, is_memory};
 use uda_packet::End;
 use uda_port::{Fetched, HostEvent, Port, Ring, RingFault, Trace};
 
-/// What a slice holds that its memory has left.
+/// The byte that fills a slice that its memory has left.
 const LEFT: u8 = 0xee;
 
 /// The memory of a host.
 #[derive(Drop)]
 pub enum Memory {
-    /// A host's own.
+    /// Memory of the host's own.
     Host(HostMemory),
-    /// Somebody else's.
+    /// Borrowed bytes.
     Slice(Slice),
 }
 
-/// Memory in a slice, with the slice that it goes to next where it wanders.
+/// Memory in a slice, with the next slice if it wanders.
 #[derive(Drop)]
 pub struct Slice {
     bytes: Vec<u8>,
@@ -28,7 +28,7 @@ pub struct Slice {
 }
 
 impl Slice {
-    /// Makes a memory of so many bytes.
+    /// Returns a memory of `count` bytes.
     pub fn new(alloc: Global, count: u32, byte: u8) -> Result<Slice, Fault> {
         if count > SLICE_LIMIT {
             return Err(Fault::Memory);
@@ -39,7 +39,7 @@ impl Slice {
         })
     }
 
-    // The bytes for the next call.
+    // Returns the bytes for the next call.
     fn next(&mut self) -> Result<&mut [u8], Fault> {
         if let Some(spare) = &mut self.spare {
             if spare.len() != self.bytes.len() {
@@ -54,7 +54,7 @@ impl Slice {
 }
 
 impl Memory {
-    /// Makes a host's own memory of so many bytes.
+    /// Returns a host's own memory of `count` bytes.
     pub fn host(alloc: Global, count: u32, byte: u8) -> Result<Memory, Fault> {
         if count % 2 != 0 || count > MEMORY_LIMIT {
             return Err(Fault::Memory);
@@ -64,7 +64,7 @@ impl Memory {
         Ok(memory)
     }
 
-    /// Has the memory in another slice at each call.
+    /// Moves the memory to another slice at each following call.
     pub fn wander(&mut self, alloc: Global) -> Result<(), Fault> {
         if let Memory::Slice(slice) = self {
             let count = slice.bytes.len();
@@ -73,7 +73,7 @@ impl Memory {
         Ok(())
     }
 
-    /// All bytes.
+    /// Returns all bytes.
     pub fn bytes(&self) -> &[u8] {
         match self {
             Memory::Host(memory) => memory.as_slice(),
@@ -81,7 +81,7 @@ impl Memory {
         }
     }
 
-    /// All bytes, to be written.
+    /// Returns all bytes for writing.
     pub fn bytes_mut(&mut self) -> &mut [u8] {
         match self {
             Memory::Host(memory) => memory.as_mut_slice(),
@@ -89,12 +89,12 @@ impl Memory {
         }
     }
 
-    /// So many bytes from an address on.
+    /// Returns `count` bytes from an address on.
     pub fn window(&self, address: u32, count: u32) -> Result<&[u8], Fault> {
         uda_mem::window(self.bytes(), address, count).ok_or(Fault::Address)
     }
 
-    /// The word at an address.
+    /// Returns the word at an address.
     pub fn word(&self, address: u32) -> Result<u16, Fault> {
         uda_mem::read_word(self.bytes(), address).ok_or(Fault::Address)
     }
@@ -117,7 +117,7 @@ impl Memory {
         Ok(())
     }
 
-    /// Writes one byte to so many places from an address on.
+    /// Writes one byte to `count` addresses from one on.
     pub fn fill(&mut self, address: u32, count: u32, byte: u8) -> Result<(), Fault> {
         let start = address as usize;
         match self.bytes_mut().get_mut(start..start + count as usize) {
@@ -128,7 +128,7 @@ impl Memory {
     }
 
     /// Writes a word to a port's SA.
-    pub fn write_sa(&mut self, port: &mut Port<Disk>, word: u16) -> Result<(), Fault> {
+    pub fn write_sa(&mut self, port: &mut Port<RecordingImage>, word: u16) -> Result<(), Fault> {
         match self {
             Memory::Host(memory) => port.write_sa(word, memory),
             Memory::Slice(slice) => port.write_sa_in(word, slice.next()?),
@@ -136,8 +136,8 @@ impl Memory {
         Ok(())
     }
 
-    /// Lets a port take a turn.
-    pub fn turn(&mut self, port: &mut Port<Disk>) -> Result<Trace, Fault> {
+    /// Runs a turn of a port.
+    pub fn turn(&mut self, port: &mut Port<RecordingImage>) -> Result<Trace, Fault> {
         match self {
             Memory::Host(memory) => Ok(port.turn_traced(memory)),
             Memory::Slice(slice) => {
@@ -150,8 +150,12 @@ impl Memory {
         }
     }
 
-    /// Plays events to a port.
-    pub fn play(&mut self, port: &mut Port<Disk>, events: &[HostEvent]) -> Result<u16, Fault> {
+    /// Applies events to a port.
+    pub fn play(
+        &mut self,
+        port: &mut Port<RecordingImage>,
+        events: &[HostEvent],
+    ) -> Result<u16, Fault> {
         match self {
             Memory::Host(memory) => Ok(port.play(events, memory)),
             Memory::Slice(slice) => {
@@ -164,8 +168,8 @@ impl Memory {
         }
     }
 
-    /// Has an executor do one of its commands.
-    pub fn execute(&mut self, exec: &mut Exec<Disk>) -> Result<Option<End>, Fault> {
+    /// Executes a command of an executor.
+    pub fn execute(&mut self, exec: &mut Exec<RecordingImage>) -> Result<Option<End>, Fault> {
         match self {
             Memory::Host(memory) => Ok(exec.execute_one(memory)),
             Memory::Slice(slice) => {

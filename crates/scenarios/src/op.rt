@@ -1,10 +1,10 @@
-//! Commands and end messages, as a case writes them.
+//! Commands and end messages, in the notation of a case.
 use crate::fault::Fault;
 use crate::words::Words;
 use std::fmt;
 use uda_packet::{Command, End, EndBody, Kind, Op, Reply, ReplyBody};
 
-// What a command is asked for by.
+// The parameters of a command.
 #[derive(Clone, Copy)]
 enum Name {
     Status,
@@ -28,7 +28,7 @@ const NAMES: [(&str, Name); 8] = [
     ("write", Name::Write),
 ];
 
-fn name_of(word: &str) -> Option<Name> {
+fn parse_name(word: &str) -> Option<Name> {
     for &(text, name) in &NAMES {
         if text == word {
             return Some(name);
@@ -37,11 +37,11 @@ fn name_of(word: &str) -> Option<Name> {
     None
 }
 
-/// Takes a command: its name, its unit, and its parameters, as `read 0 5 512 1000` of block 5, 512 bytes, to
-/// the address 0x1000.
+/// Takes a command: its name, its unit, and its parameters. `read 0 5 512 1000` reads 512 bytes from block 5
+/// on to the address 0x1000.
 pub fn command(words: &mut Words<'_>, reference: u32) -> Result<Command, Fault> {
     let kind = "a command's name";
-    let name = name_of(words.word(kind)?).ok_or(Fault::Wanted(kind))?;
+    let name = parse_name(words.word(kind)?).ok_or(Fault::Wanted(kind))?;
     let unit = words.small()?;
     let op = operation(words, name)?;
     Ok(Command {
@@ -63,7 +63,7 @@ fn operation(words: &mut Words<'_>, name: Name) -> Result<Op, Fault> {
     }
 }
 
-// What an Online says of software protection.
+// Returns the software write protection that an Online asks for.
 fn protection(words: &mut Words<'_>) -> Option<bool> {
     if words.takes("protect") {
         Some(true)
@@ -93,11 +93,11 @@ fn transfer(words: &mut Words<'_>, name: Name) -> Result<Op, Fault> {
     }
 }
 
-/// What an end message answers: the status and its numbers, as `0000 512`.
+/// The outcome of an end message: the status and its numbers, as `0000 512`.
 #[derive(Drop)]
-pub struct Outcome(pub End);
+pub struct StatusAndNumbers(pub End);
 
-impl fmt::Display for Outcome {
+impl fmt::Display for StatusAndNumbers {
     fn fmt<W: fmt::Write>(&self, f: &mut fmt::Formatter<W>) -> fmt::Result {
         let End { status, body, .. } = self.0;
         match body {
@@ -109,11 +109,11 @@ impl fmt::Display for Outcome {
     }
 }
 
-/// An end message whole: its reference, its command's name, its unit and its outcome.
+/// A complete end message: its reference, its command's name, its unit and its outcome.
 #[derive(Drop)]
-pub struct EndLine(pub End);
+pub struct EndMessageLine(pub End);
 
-impl fmt::Display for EndLine {
+impl fmt::Display for EndMessageLine {
     fn fmt<W: fmt::Write>(&self, f: &mut fmt::Formatter<W>) -> fmt::Result {
         let End {
             reference,
@@ -122,11 +122,11 @@ impl fmt::Display for EndLine {
             ..
         } = self.0;
         let name = name_of_body(body);
-        write!(f, "{reference} {name} {unit} {}", Outcome(self.0))
+        write!(f, "{reference} {name} {unit} {}", StatusAndNumbers(self.0))
     }
 }
 
-/// The same of an end message that a guest may get.
+/// The same of an end message of the compatible profile.
 #[derive(Drop)]
 pub struct ReplyLine(pub Reply);
 
@@ -139,7 +139,7 @@ impl fmt::Display for ReplyLine {
             body,
         } = self.0;
         match body {
-            ReplyBody::Basic(_) => write!(f, "{}", EndLine(self.0.strict_end())),
+            ReplyBody::Basic(_) => write!(f, "{}", EndMessageLine(self.0.strict_end())),
             ReplyBody::Abort { named } => {
                 write!(f, "{reference} abort {unit} {status:04x} {named}")
             }
@@ -183,7 +183,7 @@ fn name_of_body(body: EndBody) -> &'static str {
     }
 }
 
-/// Whether an end message is one of this command's: of its reference, its unit and its name.
+/// Returns whether an end message belongs to this command, by its reference, its unit and its name.
 pub fn is_of(end: &End, command: &Command) -> bool {
     end.reference == command.reference
         && end.unit == command.unit

@@ -1,6 +1,6 @@
-//! What is to be seen in memory.
+//! The visible state of memory.
 use crate::fault::Fault;
-use crate::machine::Machine;
+use crate::machine::CaseMachine;
 use crate::op::ReplyLine;
 use crate::verb::Place;
 use crate::words::Words;
@@ -9,8 +9,8 @@ use uda_mem::is_memory;
 use uda_packet::decode_reply;
 use uda_port::Descriptor;
 
-impl Machine {
-    /// Writes what is to be seen in memory.
+impl CaseMachine {
+    /// Writes the visible state of memory.
     pub fn find(
         &self,
         place: Place,
@@ -29,7 +29,7 @@ impl Machine {
         }
     }
 
-    // As many words as are wanted, from an address on.
+    // Writes `wanted` words from an address on.
     fn words(&self, first: u32, wanted: usize, came: &mut String) -> Result<(), Fault> {
         let mut address = first;
         for _ in 0..wanted {
@@ -39,7 +39,7 @@ impl Machine {
         Ok(())
     }
 
-    // As many bytes as are wanted, from an address on.
+    // Writes `wanted` bytes from an address on.
     fn bytes(&self, first: u32, wanted: usize, came: &mut String) -> Result<(), Fault> {
         let bytes = self.memory.bytes();
         for byte in bytes.iter().skip(first as usize).take(wanted) {
@@ -48,7 +48,7 @@ impl Machine {
         Ok(())
     }
 
-    // The byte that so many bytes from an address on are, and the first that is another.
+    // Writes the byte that a number of bytes from an address on have, and the first that differs.
     fn filled(&self, words: &mut Words<'_>, came: &mut String) -> Result<(), Fault> {
         let first = words.address()?;
         let count = words.number()?;
@@ -68,8 +68,7 @@ impl Machine {
         Ok(())
     }
 
-    // The byte that all others are beside so many zeros from an address on, and the first place where it
-    // isn't so.
+    // Writes the byte that memory has outside a range of zeros, and the first address that differs.
     fn cleared(&self, words: &mut Words<'_>, came: &mut String) -> Result<(), Fault> {
         let start = words.address()? as usize;
         let end = start.saturating_add(words.number()? as usize);
@@ -87,7 +86,7 @@ impl Machine {
         Ok(())
     }
 
-    // Whether memory is as it was kept.
+    // Writes whether memory is equal to the stored copy.
     fn same(&self, came: &mut String) -> Result<(), Fault> {
         let bytes = self.memory.bytes();
         if bytes.len() != self.kept.len() {
@@ -103,7 +102,7 @@ impl Machine {
         Ok(())
     }
 
-    // The end message of response i.
+    // Writes the end message of response i.
     fn end(&self, words: &mut Words<'_>, came: &mut String) -> Result<(), Fault> {
         let packet = self.layout.packet(words.small()?);
         let bytes = self.memory.window(packet.saturating_add(4), 48)?;
@@ -118,7 +117,8 @@ impl Machine {
         Ok(())
     }
 
-    // The descriptor at an even address: its words, its owner, its address, and its second word given back.
+    // Writes the descriptor at an even address: its words, its owner, its address, and its second word as the
+    // port returns it.
     fn descriptor(&self, at: u32, came: &mut String) -> Result<(), Fault> {
         let bytes = self.memory.bytes();
         if at % 2 != 0 || !is_memory(bytes) {
@@ -134,13 +134,13 @@ impl Machine {
             d.low,
             d.high,
             d.address(),
-            d.given_back()
+            d.returned_word()
         )?;
         Ok(())
     }
 }
 
-/// How many bytes from the first on are this one.
+/// Returns the number of bytes from the first on that are this one.
 pub fn run_of(bytes: &[u8], byte: u8) -> usize {
     for (place, other) in bytes.iter().enumerate() {
         if *other != byte {

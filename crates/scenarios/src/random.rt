@@ -1,31 +1,31 @@
-//! Hosts that do anything: random events played to a port, and which deaths are lawful.
+//! Random hosts: random events applied to a port, and checks that every fatal error is allowed.
 ghost use Rattle.std.specs.Prelude.{◌<◌};
 
 use crate::fault::Fault;
-use crate::machine::Machine;
+use crate::machine::CaseMachine;
 use crate::sight::write_phase;
 use crate::words::Words;
 use std::fmt::Write;
 use uda_port::{Fatal, HostEvent, Phase};
 
-/// The words of a start-up with rings of 8 descriptors from the address 8 on.
+/// The words of initialization with rings of 8 descriptors from the address 8 on.
 const START_UP: [u16; 4] = [0x9b00, 0x0008, 0x0000, 0x0001];
 
-/// How many deaths and how many turns with work there are more than.
+/// More fatal errors and more busy turns than this must occur.
 const ENOUGH: u32 = 20;
 
-/// A host that tries things out, the same of each seed: mostly it keeps the rules.
+/// A random host, the same for each seed. It mostly follows the rules.
 #[derive(Drop)]
-struct Host {
+struct RandomHost {
     // a linear congruential generator
     state: u64,
-    // which word of a start-up comes next; none from 4 on
+    // The next word of initialization; none from 4 on.
     words: usize,
 }
 
-impl Host {
-    fn new(seed: u32) -> Host {
-        Host {
+impl RandomHost {
+    fn new(seed: u32) -> RandomHost {
+        RandomHost {
             state: u64::from(seed),
             words: 4,
         }
@@ -61,7 +61,7 @@ impl Host {
         }
     }
 
-    // A word of memory: mostly of a descriptor or a packet.
+    // Returns a write of a word of memory: mostly of a descriptor or a packet.
     fn word(&mut self, i: u16, choice: u16) -> HostEvent {
         let at = u32::from(i);
         let (address, word) = match choice {
@@ -78,7 +78,7 @@ impl Host {
     }
 }
 
-// Whether the port may be in these phases before and after an event.
+// Returns whether the port may have these phases before and after an event.
 fn is_lawful(before: Phase, event: HostEvent, after: Phase) -> bool {
     match (before, after) {
         (Phase::Dead { cause }, Phase::Dead { cause: still }) => {
@@ -88,7 +88,7 @@ fn is_lawful(before: Phase, event: HostEvent, after: Phase) -> bool {
         (
             _,
             Phase::Dead {
-                cause: Fatal::StartUpWord | Fatal::RingWrite,
+                cause: Fatal::InitializationError | Fatal::RingWrite,
             },
         ) => event != HostEvent::Turn && before != Phase::Running,
         (_, Phase::Dead { .. }) => event == HostEvent::Turn && before == Phase::Running,
@@ -96,10 +96,10 @@ fn is_lawful(before: Phase, event: HostEvent, after: Phase) -> bool {
     }
 }
 
-impl Machine {
-    /// Plays so many random events of a seed one by one, and writes whether all was lawful.
+impl CaseMachine {
+    /// Applies a number of random events of a seed one by one, and writes whether all phases were allowed.
     pub fn random(&mut self, words: &mut Words<'_>, came: &mut String) -> Result<(), Fault> {
-        let mut host = Host::new(words.address()?);
+        let mut host = RandomHost::new(words.address()?);
         let (mut deaths, mut busy) = (0u32, 0u32);
         for number in 0..words.number()? {
             let event = host.event();
@@ -125,7 +125,7 @@ impl Machine {
         Ok(())
     }
 
-    // Plays an event, and answers what the port does then, if SA shows it.
+    // Applies an event, and returns the port's phase if SA shows it.
     fn play_one(&mut self, event: HostEvent) -> Result<Phase, Fault> {
         let port = self.subject.port()?;
         let sa = self.memory.play(port, &[event])?;
@@ -142,9 +142,10 @@ impl Machine {
         Ok(port.pending() > 0 || port.waiting() > 0)
     }
 
-    /// Plays the same in one call, and writes whether the port is as it was after the last random events.
+    /// Applies the same events in one call, and writes whether the port's phase is the one after the last
+    /// random events.
     pub fn replay(&mut self, words: &mut Words<'_>, came: &mut String) -> Result<(), Fault> {
-        let mut host = Host::new(words.address()?);
+        let mut host = RandomHost::new(words.address()?);
         let mut events = Vec::new(self.alloc);
         for _ in 0..words.number()? {
             events.push(host.event())?;

@@ -1,15 +1,15 @@
-//! Work: what a port, an executor or a ring does when it is let.
+//! Turns, executions and fetches.
 use crate::fault::Fault;
-use crate::machine::{Machine, Subject};
-use crate::op::{EndLine, Outcome, command, is_of};
+use crate::machine::{CaseMachine, Subject};
+use crate::op::{EndMessageLine, StatusAndNumbers, command, is_of};
 use crate::verb::Work;
 use crate::words::Words;
 use std::fmt::Write;
 use uda_exec::PENDING;
 use uda_port::{Fetched, Turn};
 
-impl Machine {
-    /// Lets the port, the executor or the ring work, and writes what came of it.
+impl CaseMachine {
+    /// Runs the port, the executor or the ring, and writes the result.
     pub fn run(
         &mut self,
         work: Work,
@@ -33,24 +33,24 @@ impl Machine {
         }
     }
 
-    // One turn, with the command or the end message that it was about.
+    // Runs one turn, and writes it with its command or end message.
     fn turn(&mut self, came: &mut String) -> Result<(), Fault> {
         let trace = self.memory.turn(self.subject.port()?)?;
         write!(came, "{trace}")?;
         Ok(())
     }
 
-    // So many turns, by their kinds.
+    // Runs several turns, and writes their kinds.
     fn turns(&mut self, wanted: usize, came: &mut String) -> Result<(), Fault> {
         for _ in 0..wanted {
             let trace = self.memory.turn(self.subject.port()?)?;
-            write!(came, "{} ", name_of(trace.turn()))?;
+            write!(came, "{} ", turn_name(trace.turn()))?;
             writeln!(self.turns, "    {trace}")?;
         }
         Ok(())
     }
 
-    // A command that the executor takes in and does at once.
+    // Queues a command in the executor and executes it at once.
     fn execute(&mut self, words: &mut Words<'_>, came: &mut String) -> Result<(), Fault> {
         let command = command(words, 1)?;
         let exec = self.subject.executor()?;
@@ -59,14 +59,14 @@ impl Machine {
         }
         exec.accept(command);
         match self.memory.execute(exec)? {
-            Some(end) if is_of(&end, &command) => write!(came, "{}", Outcome(end))?,
-            Some(end) => write!(came, "{}", EndLine(end))?,
+            Some(end) if is_of(&end, &command) => write!(came, "{}", StatusAndNumbers(end))?,
+            Some(end) => write!(came, "{}", EndMessageLine(end))?,
             None => came.push_str("none")?,
         }
         Ok(())
     }
 
-    // A command that the executor chooses.
+    // Executes the command that the executor chooses.
     fn next(&mut self, came: &mut String) -> Result<(), Fault> {
         match self.memory.execute(self.subject.executor()?)? {
             Some(end) => write!(came, "{} {:04x}", end.reference, end.status)?,
@@ -75,7 +75,7 @@ impl Machine {
         Ok(())
     }
 
-    // A packet from the ring.
+    // Fetches a packet from the ring.
     fn fetch(&mut self, came: &mut String) -> Result<(), Fault> {
         let Subject::Ring(ring) = &mut self.subject else {
             return Err(Fault::Wanted("a ring before this line"));
@@ -88,7 +88,7 @@ impl Machine {
     }
 }
 
-fn name_of(turn: Turn) -> &'static str {
+fn turn_name(turn: Turn) -> &'static str {
     match turn {
         Turn::Fetched => "fetched",
         Turn::Executed => "executed",
@@ -99,7 +99,7 @@ fn name_of(turn: Turn) -> &'static str {
     }
 }
 
-// A packet: both words of its envelope, and the bytes of its text up to the last that isn't 0.
+// Writes a packet: both words of its envelope, and the bytes of its text up to the last that isn't 0.
 fn write_packet(packet: &Fetched, came: &mut String) -> Result<(), Fault> {
     let (length, second) = packet.words;
     write!(came, "{length:04x} {second:04x}")?;

@@ -1,12 +1,12 @@
-//! What is to be seen of a port, an executor or a ring.
+//! The visible state of a port, an executor or a ring.
 use crate::fault::Fault;
-use crate::machine::{Machine, NO_UNITS, Subject};
+use crate::machine::{CaseMachine, NO_UNITS, Subject};
 use crate::verb::Sight;
 use std::fmt::Write;
 use uda_port::{Phase, Profile, Ring};
 
-impl Machine {
-    /// Writes what is to be seen.
+impl CaseMachine {
+    /// Writes the visible state.
     pub fn show(&mut self, sight: Sight, came: &mut String) -> Result<(), Fault> {
         match sight {
             Sight::Load => self.load(came),
@@ -17,25 +17,25 @@ impl Machine {
         }
     }
 
-    // What is to be seen of a port alone.
+    // Writes the visible state that only a port has.
     fn port_sight(&mut self, sight: Sight, came: &mut String) -> Result<(), Fault> {
         let port = self.subject.port()?;
         match sight {
             Sight::Sa => write!(came, "{:04x}", port.read_sa())?,
             Sight::Phase => write_phase(port.phase(), came)?,
             Sight::Cause => write_cause(port.phase(), came)?,
-            Sight::Looking => came.push_str(if port.is_looking() { "yes" } else { "no" })?,
+            Sight::Looking => came.push_str(if port.is_polling() { "yes" } else { "no" })?,
             Sight::Credits => write!(came, "{}", port.credits())?,
             Sight::Profile => came.push_str(match port.profile() {
                 Profile::Strict => "strict",
-                Profile::ForGuests(_) => "guests",
+                Profile::Compatible(_) => "guests",
             })?,
             _ => write_ring(port.responses(), came)?,
         }
         Ok(())
     }
 
-    // The vector of the request that waits, which is taken; and of a second one, if there were one.
+    // Takes the pending request and writes its vector; and that of a second one, if there were one.
     fn interrupt(&mut self, came: &mut String) -> Result<(), Fault> {
         let port = self.subject.port()?;
         match port.take_interrupt() {
@@ -48,7 +48,7 @@ impl Machine {
         Ok(())
     }
 
-    // How many commands are pending and how many ends wait.
+    // Writes the number of pending commands and of queued end messages.
     fn load(&mut self, came: &mut String) -> Result<(), Fault> {
         match &self.subject {
             Subject::Port(port) => write!(came, "{} {}", port.pending(), port.waiting())?,
@@ -67,7 +67,7 @@ impl Machine {
         Ok(())
     }
 
-    // The command ring.
+    // Writes the command ring.
     fn commands(&mut self, came: &mut String) -> Result<(), Fault> {
         match &self.subject {
             Subject::Port(port) => write_ring(port.commands(), came),
@@ -77,15 +77,15 @@ impl Machine {
     }
 }
 
-/// Writes what a port is doing.
+/// Writes the phase of a port.
 pub fn write_phase(phase: Phase, came: &mut String) -> Result<(), Fault> {
     came.push_str(match phase {
         Phase::Step1 => "step1",
         Phase::Step2 { .. } => "step2",
         Phase::Step3 { .. } => "step3",
         Phase::Wrap { .. } => "wrap",
-        Phase::Purge => "purge",
-        Phase::Poll => "poll",
+        Phase::PurgeTest => "purge",
+        Phase::PollTest => "poll",
         Phase::Step4 => "step4",
         Phase::Running => "running",
         Phase::Dead { .. } => "dead",
@@ -96,7 +96,7 @@ pub fn write_phase(phase: Phase, came: &mut String) -> Result<(), Fault> {
     Ok(())
 }
 
-// Why a port is dead.
+// Writes the cause of a dead port's fatal error.
 fn write_cause(phase: Phase, came: &mut String) -> Result<(), Fault> {
     match phase {
         Phase::Dead { cause } => write!(came, "{cause}")?,
@@ -105,7 +105,7 @@ fn write_cause(phase: Phase, came: &mut String) -> Result<(), Fault> {
     Ok(())
 }
 
-// A ring: where it begins, how many descriptors it has, and the place of the next.
+// Writes a ring: its base, its number of descriptors, and its next index.
 fn write_ring(ring: Ring, came: &mut String) -> Result<(), Fault> {
     write!(came, "{:x} {} {}", ring.base(), ring.count(), ring.place())?;
     Ok(())

@@ -1,27 +1,27 @@
 //! The steps of a case, each named by the first word of its line.
 
-/// What a line does. A line that looks has the values that it expects behind `=`.
+/// The action of a line. A line that expects values has them after `=`.
 #[derive(Clone, Copy)]
 pub enum Verb {
     /// It prepares a machine.
-    Set(Setting),
-    /// It does what a host does.
+    Set(Preparation),
+    /// It executes an action of a host.
     Do(Deed),
-    /// It changes which drives there are.
+    /// It changes the drives.
     Move(Change),
-    /// It lets the port or the executor work, and looks at what was done.
+    /// It runs the port or the executor, and expects the result.
     Run(Work),
-    /// It looks at the port or the executor.
+    /// It expects a state of the port or the executor.
     Show(Sight),
-    /// It looks at memory.
+    /// It expects a state of memory.
     Find(Place),
-    /// It looks at drives.
+    /// It expects a state of drives.
     Open(Hold),
 }
 
-/// What a machine is made of.
+/// The parts of a machine.
 #[derive(Clone, Copy)]
-pub enum Setting {
+pub enum Preparation {
     New,
     Memory,
     Slice,
@@ -29,7 +29,7 @@ pub enum Setting {
     Layout,
 }
 
-/// What a host does.
+/// The actions of a host.
 #[derive(Clone, Copy)]
 pub enum Deed {
     Start,
@@ -43,7 +43,7 @@ pub enum Deed {
     Keep,
 }
 
-/// How drives and an executor are changed.
+/// The changes of drives and of an executor.
 #[derive(Clone, Copy)]
 pub enum Change {
     Unit,
@@ -55,7 +55,7 @@ pub enum Change {
     Reset,
 }
 
-/// How a port or an executor is let work.
+/// The runs of a port or an executor.
 #[derive(Clone, Copy)]
 pub enum Work {
     Ip,
@@ -68,7 +68,7 @@ pub enum Work {
     Replay,
 }
 
-/// What is to be seen of a port or an executor.
+/// The visible state of a port or an executor.
 #[derive(Clone, Copy)]
 pub enum Sight {
     Sa,
@@ -84,7 +84,7 @@ pub enum Sight {
     Debug,
 }
 
-/// What is to be seen in memory.
+/// The visible state of memory.
 #[derive(Clone, Copy)]
 pub enum Place {
     Words,
@@ -96,7 +96,7 @@ pub enum Place {
     Descriptor,
 }
 
-/// What is to be seen of drives.
+/// The visible state of drives.
 #[derive(Clone, Copy)]
 pub enum Hold {
     Mode,
@@ -106,11 +106,11 @@ pub enum Hold {
 }
 
 const VERBS: [(&str, Verb); 51] = [
-    ("new", Verb::Set(Setting::New)),
-    ("memory", Verb::Set(Setting::Memory)),
-    ("slice", Verb::Set(Setting::Slice)),
-    ("wander", Verb::Set(Setting::Wander)),
-    ("layout", Verb::Set(Setting::Layout)),
+    ("new", Verb::Set(Preparation::New)),
+    ("memory", Verb::Set(Preparation::Memory)),
+    ("slice", Verb::Set(Preparation::Slice)),
+    ("wander", Verb::Set(Preparation::Wander)),
+    ("layout", Verb::Set(Preparation::Layout)),
     ("start", Verb::Do(Deed::Start)),
     ("write", Verb::Do(Deed::Write)),
     ("poke", Verb::Do(Deed::Poke)),
@@ -160,7 +160,7 @@ const VERBS: [(&str, Verb); 51] = [
 ];
 
 impl Verb {
-    /// The step that a word names.
+    /// Returns the step that a word names, or None.
     pub fn of_word(word: &str) -> Option<Verb> {
         for &(name, verb) in &VERBS {
             if name == word {

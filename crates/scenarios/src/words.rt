@@ -2,7 +2,7 @@
 use crate::fault::Fault;
 use arrayvec::ArrayVec;
 
-/// How many words each side of `=` has at most.
+/// The most words of each side of `=`.
 pub const LINE_WORDS: usize = 96;
 
 /// The words of a text.
@@ -27,12 +27,12 @@ pub struct Words<'a> {
 }
 
 impl<'a> Words<'a> {
-    /// All of these words.
+    /// Returns the words of a line, none of which is taken.
     pub fn new(all: &'a [&'a str]) -> Words<'a> {
         Words { all, taken: 0 }
     }
 
-    /// How many words are left.
+    /// Returns the number of words that are left.
     pub fn count(&self) -> usize {
         self.all.len().saturating_sub(self.taken)
     }
@@ -44,7 +44,7 @@ impl<'a> Words<'a> {
         Some(word)
     }
 
-    /// Takes the next word, where it is this one, and answers whether it was.
+    /// Takes the next word if it is this one, and returns whether it was.
     pub fn takes(&mut self, word: &str) -> bool {
         match self.all.get(self.taken) {
             Some(next) if *next == word => {
@@ -63,7 +63,7 @@ impl<'a> Words<'a> {
     /// Takes a hexadecimal number of at most 32 bits.
     pub fn address(&mut self) -> Result<u32, Fault> {
         let kind = "a hexadecimal number";
-        hexadecimal(self.word(kind)?).ok_or(Fault::Wanted(kind))
+        parse_hexadecimal(self.word(kind)?).ok_or(Fault::Wanted(kind))
     }
 
     /// Takes a hexadecimal number of at most 16 bits.
@@ -82,7 +82,7 @@ impl<'a> Words<'a> {
         }
     }
 
-    /// Takes the number of a place among the units.
+    /// Takes the number of a unit.
     pub fn unit(&mut self) -> Result<usize, Fault> {
         let kind = "a decimal number";
         match self.word(kind)?.parse::<usize>() {
@@ -107,7 +107,7 @@ impl<'a> Words<'a> {
         }
     }
 
-    /// Tests that no word is left.
+    /// Fails if a word is left.
     pub fn end(&self) -> Result<(), Fault> {
         if self.count() == 0 {
             Ok(())
@@ -117,7 +117,7 @@ impl<'a> Words<'a> {
     }
 }
 
-// The value of a hexadecimal digit.
+// Returns the value of a hexadecimal digit.
 fn nibble(digit: u8) -> Option<u32> {
     match digit {
         b'0'..=b'9' => Some(u32::from(digit - b'0')),
@@ -126,8 +126,8 @@ fn nibble(digit: u8) -> Option<u32> {
     }
 }
 
-// The number of at most 32 bits that a word is in hexadecimal.
-fn hexadecimal(word: &str) -> Option<u32> {
+// Returns the hexadecimal number of at most 32 bits that a word has.
+fn parse_hexadecimal(word: &str) -> Option<u32> {
     if word.is_empty() {
         return None;
     }
@@ -138,7 +138,7 @@ fn hexadecimal(word: &str) -> Option<u32> {
     Some(value)
 }
 
-/// Whether two texts have the same words, but for zeros at their heads.
+/// Returns whether two texts have the same words, except for leading zeros.
 pub fn are_alike(one: &str, other: &str) -> Result<bool, Fault> {
     let one = split(one)?;
     let other = split(other)?;

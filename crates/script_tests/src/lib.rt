@@ -1,4 +1,4 @@
-//! The tests of the program, by its words and streams.
+//! The tests of the program, by its arguments and streams.
 #![tactic(auto)]
 
 #[cfg(test)]

@@ -1,4 +1,4 @@
-//! Scripts by their lines, and scripts and the program over streams that fail or move bytes by parts.
+//! Scripts by their lines, and scripts and the program over streams that fail or move bytes in parts.
 mod batches;
 mod lines;
 mod program;

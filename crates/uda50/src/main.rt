@@ -1,4 +1,4 @@
-// The program `uda50`: hands the arguments to the library of its verbs.
+// The program `uda50`: passes the arguments to the library of its verbs.
 #![tactic(auto)]
 
 use std::process::ExitCode;
@@ -6,14 +6,14 @@ use std::{env, io};
 use uda50_verbs::{program, unreadable_arguments};
 
 fn main(rt: HostRuntime) -> ExitCode {
-    ExitCode::from(match run(&rt) {
+    ExitCode::from(match run_program(&rt) {
         Ok(status) => status,
         Err(error) => unreadable_arguments(&rt, &error),
     })
 }
 
 // Runs the program on its arguments.
-fn run(rt: &HostRuntime) -> io::Result<u8> {
+fn run_program(rt: &HostRuntime) -> io::Result<u8> {
     let owned: Vec<String> = env::args(rt)?.collect(rt.alloc())?;
     let arguments: Vec<&str> = owned
         .iter()

@@ -1,17 +1,17 @@
 //! Ranges of blocks.
 ghost use Rattle.std.specs.Prelude.{◌≡◌, ◌+◌, ◌<◌, ◌≤◌, ◌↔◌, IfSome, IsTrue, IsSome};
 
-/// Blocks from one on to before another; never empty.
+/// A range of blocks, never empty.
 #[derive(Clone, Copy, Debug, PartialEq, Eq)]
 pub struct BlockRange {
     /// The first block.
     pub start: u32,
-    /// The block after the last.
+    /// The block after the last one.
     pub end: u32,
 }
 
 impl BlockRange {
-    /// Reads a range as `3..17`; `None` if the text is no range, or the range is empty.
+    /// Reads a range such as `3..17`. Returns `None` if the text is not a range, or the range is empty.
     pub fn parse(text: &str) -> Option<BlockRange>
         ensures nonempty { IfSome result (λ range. range.start < range.end) }
     {
@@ -19,7 +19,7 @@ impl BlockRange {
         BlockRange::between(start.parse().ok()?, end.parse().ok()?)
     }
 
-    /// Returns the blocks from `start` on to before `end`; `None` if there are none.
+    /// Returns the blocks from `start` to `end` - 1, or `None` if there are none.
     pub fn between(start: u32, end: u32) -> Option<BlockRange>
         ensures value { IfSome result (λ range. (range.start ≡ start) × (range.end ≡ end)) }
         ensures nonempty { IsSome result ↔ (start < end) }
@@ -28,7 +28,7 @@ impl BlockRange {
         (start < end).then_some(range)
     }
 
-    /// Returns `count` blocks from `start` on; `None` if there are none, or a number is too large.
+    /// Returns `count` blocks from `start`. Returns `None` if there are none, or a number is too large.
     pub fn of_count(start: u32, count: u32) -> Option<BlockRange>
         ensures value { IfSome result (λ range. (range.start ≡ start) × (range.end ≡ start + count)) }
         ensures nonempty { IfSome result (λ range. range.start < range.end) }

@@ -5,7 +5,7 @@ use clap::{Arg, ArgAction, ArgGroup, Command, value_parser};
 use std::alloc::{AllocError, Global};
 
 /// The version that `--version` prints.
-const VERSION: &str = "0.1";
+const PROGRAM_VERSION: &str = "0.1.0";
 
 /// The most blocks of an image.
 const MAX_BLOCKS: i64 = 2_147_483_647;
@@ -13,10 +13,10 @@ const MAX_BLOCKS: i64 = 2_147_483_647;
 const STATUSES: &str = "Exit status: 0 if all is well, 1 after a fault, 2 for wrong arguments, \
     3 if a request failed";
 
-/// Builds the whole command line; `drives` are the names of the drive types.
+/// Builds the whole command line. `drives` are the names of the drive types.
 pub(crate) fn grammar<'w>(alloc: Global, drives: &'w [&'w str]) -> Result<Command<'w>, AllocError> {
     Command::new(alloc, "uda50")
-        .version(VERSION)
+        .version(PROGRAM_VERSION)
         .about("Works on disk images through a simulated DEC UDA50 disk controller")
         .after_help(STATUSES)
         .subcommand_required(true)
@@ -34,7 +34,7 @@ fn run_grammar<'w>(alloc: Global) -> Result<Command<'w>, AllocError> {
     Command::new(alloc, "run")
         .about("Executes a script of requests on one to four images")
         .arg(script(alloc))?
-        .arg(units(alloc))?
+        .arg(images_argument(alloc))?
         .arg(flag(alloc, "names", "Adds the name of the status to each line"))?
         .arg(flag(alloc, "quiet", "Reports only the requests that failed").short('q'))
 }
@@ -77,8 +77,8 @@ pub(crate) fn dump_grammar<'w>(alloc: Global) -> Result<Command<'w>, AllocError>
     Command::new(alloc, "dump")
         .about("Prints blocks in hexadecimal and as text")
         .arg(one(alloc, "IMAGE", "The image"))?
-        .arg(number(alloc, "LBN", 0).help("The first block; without it, all blocks"))?
-        .arg(number(alloc, "COUNT", 1).help("The number of blocks; without it, 1"))?
+        .arg(number_argument(alloc, "LBN", 0).help("The first block; without it, all blocks"))?
+        .arg(number_argument(alloc, "COUNT", 1).help("The number of blocks; without it, 1"))?
         .arg(flag(alloc, "octal", "Prints words in octal").short('o'))?
         .arg(
             flag(alloc, "raw", "Writes the blocks as they are")
@@ -105,7 +105,7 @@ pub(crate) fn create_grammar<'w>(
                 .help("Makes it as large as this drive"),
         )?
         .arg(
-            number(alloc, "blocks", 1)
+            number_argument(alloc, "blocks", 1)
                 .long("blocks")
                 .value_name("N")
                 .help("Makes it N blocks large"),
@@ -133,10 +133,10 @@ fn trace_grammar<'w>(alloc: Global) -> Result<Command<'w>, AllocError> {
     Command::new(alloc, "trace")
         .about("Executes a script, and prints each turn of the controller's port")
         .arg(script(alloc))?
-        .arg(units(alloc))
+        .arg(images_argument(alloc))
 }
 
-// The script of `run` and `trace`.
+// Returns the argument for the script of `run` and `trace`.
 fn script<'w>(alloc: Global) -> Arg<'w> {
     one(
         alloc,
@@ -145,8 +145,8 @@ fn script<'w>(alloc: Global) -> Arg<'w> {
     )
 }
 
-// The images of `run` and `trace`.
-fn units<'w>(alloc: Global) -> Arg<'w> {
+// Returns the argument for the images of `run` and `trace`.
+fn images_argument<'w>(alloc: Global) -> Arg<'w> {
     Arg::new(alloc, "IMAGE")
         .required(true)
         .num_args(1..=4)
@@ -154,12 +154,12 @@ fn units<'w>(alloc: Global) -> Arg<'w> {
         .help("The images of units 0 to 3: FILE, lock:FILE to protect it, or - for no drive")
 }
 
-// An argument that must be there.
+// Returns a required argument.
 fn one<'w>(alloc: Global, name: &'w str, help: &'w str) -> Arg<'w> {
     Arg::new(alloc, name).required(true).help(help)
 }
 
-// An option without a value.
+// Returns an option without a value.
 fn flag<'w>(alloc: Global, name: &'w str, help: &'w str) -> Arg<'w> {
     Arg::new(alloc, name)
         .long(name)
@@ -167,7 +167,7 @@ fn flag<'w>(alloc: Global, name: &'w str, help: &'w str) -> Arg<'w> {
         .help(help)
 }
 
-// A number of blocks.
-fn number<'w>(alloc: Global, name: &'w str, least: i64) -> Arg<'w> {
+// Returns an argument for a number of blocks.
+fn number_argument<'w>(alloc: Global, name: &'w str, least: i64) -> Arg<'w> {
     Arg::new(alloc, name).value_parser(value_parser!(u32).range(least..=MAX_BLOCKS))
 }

@@ -1,4 +1,4 @@
-//! The command line of the program `uda50`: what each verb takes, and what the arguments ask for.
+//! The command line of the program `uda50`: the arguments of each verb, and the task that they describe.
 #![tactic(auto)]
 
 mod block_range;
@@ -9,5 +9,5 @@ mod task;
 
 pub use block_range::BlockRange;
 pub use image_name::ImageName;
-pub use reading::{Asked, read_arguments};
+pub use reading::{ParsedArguments, read_arguments};
 pub use task::{Copy, Create, Dump, DumpFormat, Run, Task};

@@ -1,4 +1,4 @@
-//! Arguments read.
+//! Reading of the arguments.
 
 use crate::block_range::BlockRange;
 use crate::grammar::{copy_grammar, create_grammar, dump_grammar, grammar};
@@ -7,18 +7,18 @@ use crate::task::{Copy, Create, Dump, DumpFormat, Run, Task};
 use clap::error::ErrorKind;
 use clap::{ArgMatches, Error};
 use std::alloc::Global;
-use uda50_show::DriveType;
+use uda50_show::DriveTypeEntry;
 
-/// What the arguments ask for.
+/// The result of reading the arguments.
 #[derive(Debug, Drop)]
-pub enum Asked<'w> {
+pub enum ParsedArguments<'w> {
     /// A task.
     Task(Task<'w>),
     /// A text to print.
     Text {
-        /// The help, the version, or what is wrong with the arguments.
+        /// The help, the version, or the error of the arguments.
         text: Error,
-        /// The usage of the verb, if the text should have it and doesn't.
+        /// The usage of the verb, if the text needs it and doesn't have it.
         usage: Option<String>,
     },
 }
@@ -28,9 +28,9 @@ pub fn read_arguments<'w>(
     alloc: Global,
     arguments: &'w [&'w str],
     drives: &'w [&'static str],
-) -> Asked<'w> {
-    match read(alloc, arguments, drives) {
-        Ok(task) => Asked::Task(task),
+) -> ParsedArguments<'w> {
+    match read_task(alloc, arguments, drives) {
+        Ok(task) => ParsedArguments::Task(task),
         Err(text) => {
             let usage = match text.kind() {
                 ErrorKind::InvalidValue | ErrorKind::ValueValidation => {
@@ -38,12 +38,12 @@ pub fn read_arguments<'w>(
                 }
                 _ => None,
             };
-            Asked::Text { text, usage }
+            ParsedArguments::Text { text, usage }
         }
     }
 }
 
-// The usage of the verb that the arguments name, if its options have values that can be wrong.
+// Returns the usage of the verb in the arguments, if its options have values that can be invalid.
 fn usage_of<'w>(
     alloc: Global,
     arguments: &'w [&'w str],
@@ -57,7 +57,7 @@ fn usage_of<'w>(
     verb.ok()?.render_usage().ok()
 }
 
-fn read<'w>(
+fn read_task<'w>(
     alloc: Global,
     arguments: &'w [&'w str],
     drives: &'w [&'static str],
@@ -111,7 +111,7 @@ fn read_copy<'w>(alloc: Global, found: &ArgMatches<'w>) -> Result<Task<'w>, Erro
     }))
 }
 
-// The error of an invalid range.
+// Returns the error of an invalid range.
 fn wrong_range(alloc: Global, text: &str) -> Result<Error, Error> {
     let message = format!(in alloc;
         "invalid value '{text}' for '--blocks <A..B>': expected a range of blocks, as 0..400176"
@@ -143,7 +143,7 @@ fn read_dump<'w>(found: &ArgMatches<'w>) -> Task<'w> {
 }
 
 fn read_create<'w>(found: &ArgMatches<'w>) -> Task<'w> {
-    let blocks = match DriveType::named(text(found, "drive")) {
+    let blocks = match DriveTypeEntry::named(text(found, "drive")) {
         Some(drive) => drive.blocks,
         None => found.get_one::<u32>("blocks").unwrap_or(0),
     };
@@ -154,17 +154,17 @@ fn read_create<'w>(found: &ArgMatches<'w>) -> Task<'w> {
     })
 }
 
-// The value of an argument that must be there or has a default, and else the empty text.
+// Returns the value of an argument that is required or has a default, or the empty text.
 fn text<'w>(found: &ArgMatches<'w>, name: &str) -> &'w str {
     found.get_str(name).unwrap_or("")
 }
 
-// The image that an argument names.
+// Returns the image of an argument.
 fn image<'w>(found: &ArgMatches<'w>, name: &str) -> ImageName<'w> {
     ImageName::parse(text(found, name))
 }
 
-// The images that the arguments IMAGE name.
+// Returns the images of the arguments IMAGE.
 fn images<'w>(alloc: Global, found: &ArgMatches<'w>) -> Result<Vec<ImageName<'w>>, Error> {
     let mut images = Vec::new(alloc);
     for name in found.get_strs("IMAGE").unwrap_or(&[]) {
@@ -173,7 +173,7 @@ fn images<'w>(alloc: Global, found: &ArgMatches<'w>) -> Result<Vec<ImageName<'w>
     Ok(images)
 }
 
-// The images of units 0 to 3.
+// Returns the images of units 0 to 3.
 fn units<'w>(alloc: Global, found: &ArgMatches<'w>) -> Result<Vec<Option<ImageName<'w>>>, Error> {
     let mut units = Vec::new(alloc);
     for name in found.get_strs("IMAGE").unwrap_or(&[]) {

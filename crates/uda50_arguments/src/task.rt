@@ -1,9 +1,9 @@
-//! What the program is asked to do.
+//! The tasks of the program.
 
 use crate::block_range::BlockRange;
 use crate::image_name::ImageName;
 
-/// What the program is asked to do, by verb.
+/// The task of the program, by verb.
 #[derive(Debug, Drop)]
 pub enum Task<'w> {
     /// `run`: executes a script.
@@ -70,20 +70,20 @@ pub struct Dump<'w> {
     pub image: ImageName<'w>,
     /// The blocks to print; `None` for all.
     pub blocks: Option<BlockRange>,
-    /// How to print them.
+    /// The format.
     pub format: DumpFormat,
 }
 
-/// How `dump` prints blocks.
+/// The format in which `dump` prints blocks.
 #[derive(Clone, Copy, Debug, PartialEq, Eq)]
 pub enum DumpFormat {
     /// Bytes in hexadecimal, and as text.
     Hexadecimal,
     /// Words in octal, and as text.
     Octal,
-    /// The blocks themselves.
+    /// The unchanged bytes of the blocks.
     Raw {
-        /// Whether also to a terminal.
+        /// Whether they may be written to a terminal.
         force: bool,
     },
 }

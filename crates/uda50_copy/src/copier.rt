@@ -1,7 +1,10 @@
-//! A driver over two drives, of which the second becomes a copy of the first.
+//! A driver over two drives that copies the first to the second.
 
 use crate::error::{CopyError, Side};
-use crate::requests::{PIECE, Reading, reading_of, reads, room_of, status_of, write, written};
+use crate::requests::{
+    REQUEST_BLOCKS, Reading, make_write, reading_of, reads, reusable_answers,
+    status_or_invalid_length, written,
+};
 use std::alloc::Global;
 use std::mem;
 use std::ops::Range;
@@ -10,14 +13,14 @@ use uda_driver::{Driver, Unwatched};
 use uda_image::BlockStore;
 
 /// The most blocks that one run of the driver copies: those of 64 requests.
-const RUN: u32 = 64 * PIECE;
+const RUN: u32 = 64 * REQUEST_BLOCKS;
 
-/// Is shown how far a copy has come.
+/// An observer of a copy's progress.
 pub trait Observer {
-    /// Is called when all blocks before `end` are done.
+    /// Called when all blocks before `end` are copied or compared.
     fn reached(&mut self, end: u32);
 
-    /// Is called for each block of the source that can't be read, in rising order.
+    /// Called for each block of the source that can't be read, in rising order.
     fn lost(&mut self, block: u32);
 }
 
@@ -31,8 +34,8 @@ pub struct Copier<S: BlockStore> {
 }
 
 impl<S: BlockStore + Drop> Copier<S> {
-    /// Brings both drives of a driver online: unit 0 is the source, and unit 1 the target. If `skips_lost`, a
-    /// block of the source that can't be read is skipped, else it is an error.
+    /// Brings both drives of a driver online: unit 0 is the source, and unit 1 the target. A block of the
+    /// source that can't be read is skipped if `skips_lost`, and is an error otherwise.
     pub fn new(
         alloc: Global,
         mut driver: Driver<S>,
@@ -48,7 +51,7 @@ impl<S: BlockStore + Drop> Copier<S> {
         })
     }
 
-    /// Copies blocks of the source to the same numbers of the target.
+    /// Copies blocks of the source to the same block numbers of the target.
     pub fn copy<W: Observer>(
         &mut self,
         blocks: Range<u32>,
@@ -63,7 +66,7 @@ impl<S: BlockStore + Drop> Copier<S> {
         Ok(())
     }
 
-    /// Compares blocks of the source with those of the same numbers of the target.
+    /// Compares blocks of the source with the same block numbers of the target.
     pub fn compare<W: Observer>(
         &mut self,
         blocks: Range<u32>,
@@ -84,8 +87,8 @@ impl<S: BlockStore + Drop> Copier<S> {
         driver
     }
 
-    // Copies blocks by one run of Reads and one of Writes. The Writes take the bytes that the Reads returned,
-    // and the memory of these bytes serves the next run.
+    // Copies blocks by one run of Reads and one of Writes. The Writes have the bytes that the Reads
+    // returned. The next run reuses the memory of these bytes.
     fn copy_run<W: Observer>(
         &mut self,
         blocks: Range<u32>,
@@ -93,13 +96,13 @@ impl<S: BlockStore + Drop> Copier<S> {
     ) -> Result<(), CopyError> {
         let end = blocks.end;
         let mut lbn = blocks.start;
-        let requests = reads(self.alloc, &[Side::Source], blocks, PIECE)?;
+        let requests = reads(self.alloc, &[Side::Source], blocks, REQUEST_BLOCKS)?;
         let room = mem::replace(&mut self.room, Vec::new(self.alloc));
         let mut writes = Vec::with_capacity(self.alloc, requests.len())?;
         for answer in self.driver.run_reusing(&requests, room, &mut Unwatched)? {
-            let stop = end.min(lbn.saturating_add(PIECE));
+            let stop = end.min(lbn.saturating_add(REQUEST_BLOCKS));
             match reading_of(Side::Source, answer)? {
-                Reading::Bytes(payload) => add(&mut writes, write(lbn, payload))?,
+                Reading::Bytes(payload) => add(&mut writes, make_write(lbn, payload))?,
                 Reading::Failed => self.read_singly(lbn..stop, &mut writes, observer)?,
             }
             lbn = stop;
@@ -118,7 +121,7 @@ impl<S: BlockStore + Drop> Copier<S> {
         let requests = reads(self.alloc, &[Side::Source], blocks, 1)?;
         for answer in self.driver.run(&requests)? {
             match reading_of(Side::Source, answer)? {
-                Reading::Bytes(payload) => add(writes, write(lbn, payload))?,
+                Reading::Bytes(payload) => add(writes, make_write(lbn, payload))?,
                 Reading::Failed => {
                     if !self.skips_lost {
                         return Err(CopyError::Read(Side::Source, lbn));
@@ -131,7 +134,7 @@ impl<S: BlockStore + Drop> Copier<S> {
         Ok(())
     }
 
-    // Does the Writes of one run, and keeps the memory of their bytes.
+    // Executes the Writes of one run, and keeps the memory of their bytes.
     fn write(&mut self, writes: Vec<Request>) -> Result<(), CopyError> {
         let answers = self.driver.run(&writes)?;
         for (request, answer) in writes.iter().zip(answers.iter()) {
@@ -139,7 +142,7 @@ impl<S: BlockStore + Drop> Copier<S> {
                 written(*lbn, answer)?;
             }
         }
-        self.room = room_of(self.alloc, writes)?;
+        self.room = reusable_answers(self.alloc, writes)?;
         Ok(())
     }
 
@@ -147,11 +150,16 @@ impl<S: BlockStore + Drop> Copier<S> {
     fn compare_run(&mut self, blocks: Range<u32>) -> Result<(), CopyError> {
         let end = blocks.end;
         let mut lbn = blocks.start;
-        let requests = reads(self.alloc, &[Side::Source, Side::Target], blocks, PIECE)?;
+        let requests = reads(
+            self.alloc,
+            &[Side::Source, Side::Target],
+            blocks,
+            REQUEST_BLOCKS,
+        )?;
         let room = mem::replace(&mut self.room, Vec::new(self.alloc));
         let answers = self.driver.run_reusing(&requests, room, &mut Unwatched)?;
         for pair in answers.chunks(2) {
-            let stop = end.min(lbn.saturating_add(PIECE));
+            let stop = end.min(lbn.saturating_add(REQUEST_BLOCKS));
             if !are_equal(pair) {
                 self.compare_singly(lbn..stop)?;
             }
@@ -161,7 +169,8 @@ impl<S: BlockStore + Drop> Copier<S> {
         Ok(())
     }
 
-    // Compares blocks one by one. A block that can't be read from the source is skipped if lost blocks are.
+    // Compares blocks one by one. If lost blocks are skipped, it skips a block that can't be read from the
+    // source.
     fn compare_singly(&mut self, blocks: Range<u32>) -> Result<(), CopyError> {
         for lbn in blocks {
             let source = self.read_block(Side::Source, lbn)?;
@@ -205,14 +214,14 @@ fn bring_online<S: BlockStore>(driver: &mut Driver<S>, side: Side) -> Result<(),
         protect: false,
     };
     for answer in driver.run(&[online])? {
-        if status_of(&answer) != status::SUCCESS {
-            return Err(CopyError::Rejected(side, status_of(&answer)));
+        if status_or_invalid_length(&answer) != status::SUCCESS {
+            return Err(CopyError::Rejected(side, status_or_invalid_length(&answer)));
         }
     }
     Ok(())
 }
 
-// Whether both answers have all bytes, and the same.
+// Returns whether both Reads succeeded and returned the same bytes.
 fn are_equal(pair: &[Answer]) -> bool {
     match pair {
         [

@@ -1,4 +1,4 @@
-//! Why a copy stopped.
+//! The errors of a copy.
 ghost use Rattle.std.specs.Prelude.{◌≡◌};
 
 use std::alloc::AllocError;
@@ -28,7 +28,7 @@ impl Side {
     }
 }
 
-/// Why a copy stopped. The text doesn't name the drive.
+/// The reason why a copy stopped. The text doesn't name the drive.
 #[derive(Clone, Copy, Debug, PartialEq, Eq, Error)]
 pub enum CopyError {
     /// An allocation failed.
@@ -40,7 +40,7 @@ pub enum CopyError {
     /// A block can't be written.
     #[error("block {0} can't be written")]
     Write(u32),
-    /// A block of the target isn't that of the source.
+    /// A block of the target differs from that of the source.
     #[error("block {0} differs")]
     Differs(u32),
     /// The controller rejected a request.
@@ -49,7 +49,7 @@ pub enum CopyError {
 }
 
 impl CopyError {
-    /// Returns the drive that the error is of, if it is of one.
+    /// Returns the drive that the error concerns, if it concerns one.
     pub fn side(self) -> Option<Side> {
         match self {
             CopyError::NoMemory => None,

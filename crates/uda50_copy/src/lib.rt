@@ -1,4 +1,4 @@
-//! Blocks copied from one drive to another through the driver, and compared.
+//! Copying of blocks from one drive to another through the driver, and comparing them.
 //!
 //! The source is unit 0 and the target unit 1.
 #![tactic(auto)]

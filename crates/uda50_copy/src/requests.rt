@@ -1,4 +1,4 @@
-//! The requests of a copy, and what their answers say.
+//! The requests of a copy, and the results in their answers.
 
 use crate::error::{CopyError, Side};
 use std::alloc::{AllocError, Global};
@@ -6,10 +6,10 @@ use std::ops::Range;
 use uda_disk::{Answer, Request, TRANSFER_LIMIT, status};
 
 /// The most blocks of one request.
-pub(crate) const PIECE: u32 = TRANSFER_LIMIT / 512;
+pub(crate) const REQUEST_BLOCKS: u32 = TRANSFER_LIMIT / 512;
 
 /// Returns a Read of blocks.
-pub(crate) fn read(side: Side, lbn: u32, count: u32) -> Request {
+pub(crate) fn make_read(side: Side, lbn: u32, count: u32) -> Request {
     Request::Read {
         unit: side.unit(),
         lbn,
@@ -18,7 +18,7 @@ pub(crate) fn read(side: Side, lbn: u32, count: u32) -> Request {
 }
 
 /// Returns a Write of blocks to the target.
-pub(crate) fn write(lbn: u32, payload: Vec<u8>) -> Request {
+pub(crate) fn make_write(lbn: u32, payload: Vec<u8>) -> Request {
     Request::Write {
         unit: Side::Target.unit(),
         lbn,
@@ -38,13 +38,13 @@ pub(crate) fn reads(
     for lbn in blocks.step_by(piece.max(1) as usize) {
         let count = piece.min(end.saturating_sub(lbn));
         for side in sides {
-            requests.push(read(*side, lbn, count))?;
+            requests.push(make_read(*side, lbn, count))?;
         }
     }
     Ok(requests)
 }
 
-/// What came of a Read.
+/// The result of a Read.
 #[derive(Drop)]
 pub(crate) enum Reading {
     /// All bytes were read.
@@ -53,7 +53,7 @@ pub(crate) enum Reading {
     Failed,
 }
 
-/// Returns what came of a Read, or the error that the controller rejected it.
+/// Returns the result of a Read, or the error that the controller rejected it.
 pub(crate) fn reading_of(side: Side, answer: Answer) -> Result<Reading, CopyError> {
     match answer {
         Answer::Data {
@@ -64,11 +64,11 @@ pub(crate) fn reading_of(side: Side, answer: Answer) -> Result<Reading, CopyErro
             status: status::DRIVE_ERROR,
             ..
         } => Ok(Reading::Failed),
-        other => Err(CopyError::Rejected(side, status_of(&other))),
+        other => Err(CopyError::Rejected(side, status_or_invalid_length(&other))),
     }
 }
 
-/// Checks the answer of a Write of blocks from `lbn` on.
+/// Checks the answer of a Write of blocks from `lbn`.
 pub(crate) fn written(lbn: u32, answer: &Answer) -> Result<(), CopyError> {
     match answer {
         Answer::Moved {
@@ -79,12 +79,12 @@ pub(crate) fn written(lbn: u32, answer: &Answer) -> Result<(), CopyError> {
             status: status::DRIVE_ERROR,
             bytes,
         } => Err(CopyError::Write(lbn.saturating_add(bytes / 512))),
-        other => Err(CopyError::Rejected(Side::Target, status_of(other))),
+        other => Err(CopyError::Rejected(Side::Target, status_or_invalid_length(other))),
     }
 }
 
-/// Returns the status word of an answer; that of an invalid length if the request was too long.
-pub(crate) fn status_of(answer: &Answer) -> u16 {
+/// Returns the status word of an answer, or that of an invalid length if the request was too long.
+pub(crate) fn status_or_invalid_length(answer: &Answer) -> u16 {
     match answer {
         Answer::TooLong => status::INVALID_LENGTH,
         Answer::Plain { status }
@@ -96,7 +96,10 @@ pub(crate) fn status_of(answer: &Answer) -> u16 {
 }
 
 /// Returns the bytes of Writes as answers whose memory the driver can reuse.
-pub(crate) fn room_of(alloc: Global, writes: Vec<Request>) -> Result<Vec<Answer>, AllocError> {
+pub(crate) fn reusable_answers(
+    alloc: Global,
+    writes: Vec<Request>,
+) -> Result<Vec<Answer>, AllocError> {
     let mut room = Vec::with_capacity(alloc, writes.len())?;
     for request in writes {
         if let Request::Write { payload, .. } = request {

@@ -18,9 +18,9 @@ word_at offset block = little_from offset 2 block
 abbrev pub long_at : ℕ → List ℕ → ℕ
 long_at offset block = little_from offset 4 block
 
--- `count` bytes from an offset on
-abbrev pub bytes_at : ℕ → ℕ → List ℕ → List ℕ
-bytes_at offset count block = take count (drop offset block)
+-- `count` bytes from an offset
+abbrev pub block_bytes : ℕ → ℕ → List ℕ → List ℕ
+block_bytes offset count block = take count (drop offset block)
 
 -- the first words of a block
 unfoldable pub words : ℕ → List ℕ → List ℕ
@@ -31,13 +31,13 @@ words (suc count) block = words count block ++ word_at (2 * count) block ∷ []
 abbrev pub word_sum : ℕ → List ℕ → ℕ
 word_sum count block = sum (words count block) % 65536
 
--- the exclusive or of `count` words from an offset on
+-- the exclusive or of `count` words from an offset
 unfoldable pub word_parity : ℕ → ℕ → List ℕ → ℕ
 word_parity offset zero block = 0
 word_parity offset (suc count) block =
     bit_xor (word_parity offset count block) (word_at (offset + 2 * count) block)
 
--- what a checksum says, by whether it fits
+-- the result of checking a checksum
 abbrev pub checksum_of : Bool → Checksum
 checksum_of true = Right
 checksum_of false = Wrong

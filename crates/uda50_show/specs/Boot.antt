@@ -1,5 +1,5 @@
--- How boot blocks begin. PDP-11 Processor Handbook: the instructions NOP and BR. KA630 CPU Module Technical
--- Manual: the boot block of a disk.
+-- The beginnings of boot blocks. PDP-11 Processor Handbook: the instructions NOP and BR. KA630 CPU Module
+-- Technical Manual: the boot block of a disk.
 use Rattle.std.specs.Prelude.{ℕ, ◌+◌, ◌*◌, ◌/◌, ◌%◌, ◌==◌, List, Bool, ◌&&◌, ◌||◌, nat_le, Option, Some, None, if◌then◌else◌}
 use Rattle.uda50_show.specs.declared.boot_block.BootBlock.{BootBlock}
 use Rattle.uda50_show.specs.declared.boot_block.BootBlock.TheVariants as boot
@@ -13,7 +13,7 @@ begins_with_nop block = word_at 0 block == 160
 abbrev pub has_branch : ℕ → List ℕ → Bool
 has_branch offset block = word_at offset block / 256 == 1
 
--- what block 0 shows of a bootstrap for a PDP-11
+-- the kind of bootstrap for a PDP-11 in block 0
 abbrev pub pdp11_boot : List ℕ → Option BootBlock
 pdp11_boot block =
     if begins_with_nop block && has_branch 2 block then Some boot.Pdp11
@@ -21,20 +21,20 @@ pdp11_boot block =
     else None
 
 -- the offset of a VAX's identification area: byte 2 counts words
-abbrev pub area_of : List ℕ → ℕ
-area_of block = 2 * byte_at 2 block
+abbrev pub area_offset : List ℕ → ℕ
+area_offset block = 2 * byte_at 2 block
 
 -- block 0 is marked as a bootstrap for a VAX: byte 3 is 1, and the area begins with 0x18, for the VAX
 abbrev pub is_vax_boot : List ℕ → Bool
 is_vax_boot block =
-    (byte_at 3 block == 1) && (nat_le (area_of block + 4) 512 && (byte_at (area_of block) block == 0x18))
+    (byte_at 3 block == 1) && (nat_le (area_offset block + 4) 512 && (byte_at (area_offset block) block == 0x18))
 
 -- the sum of the area's first four bytes, which is 0xFF if the fourth is the complement of the others' sum
 abbrev pub area_sum : List ℕ → ℕ
-area_sum block = let area = area_of block in
+area_sum block = let area = area_offset block in
     (byte_at area block + byte_at (area + 1) block
     + byte_at (area + 2) block + byte_at (area + 3) block) % 256
 
--- what block 0 shows of a bootstrap for a VAX
+-- the kind of bootstrap for a VAX in block 0
 abbrev pub vax_boot : List ℕ → BootBlock
 vax_boot block = boot.Vax (checksum_of (area_sum block == 0xFF))

@@ -7,24 +7,25 @@ use Rattle.uda50_show.specs.declared.home_block.VolumeFormat.{VolumeFormat}
 use Rattle.uda50_show.specs.declared.home_block.VolumeFormat.TheVariants.{Rt11, Ods1, Ods2}
 use Rattle.uda50_show.specs.Block.{word_at, word_sum, checksum_of}
 
--- the text at byte 496 that names a format
+-- the text at byte 496 that identifies a format
 abbrev pub format_text : VolumeFormat → List ℕ
 format_text Rt11 = codes "DECRT11A    "
 format_text Ods1 = codes "DECFILE11A  "
 format_text Ods2 = codes "DECFILE11B  "
 
--- where the volume's name is
+-- the offset of the volume's name
 abbrev pub volume_offset : VolumeFormat → ℕ
 volume_offset Rt11 = 472
 volume_offset Ods1 = 14
 volume_offset Ods2 = 472
 
--- Files-11 has the sum of the words before byte 58 there, and that of the words before byte 510 there
+-- Files-11 has two checksums: the sum of the words before byte 58 is at that byte, and so is the sum of
+-- those before byte 510
 abbrev pub files11_checksum : List ℕ → Checksum
 files11_checksum block =
     checksum_of ((word_sum 29 block == word_at 58 block) && (word_sum 255 block == word_at 510 block))
 
--- RT-11 has none that is kept
+-- RT-11's checksum is not checked
 abbrev pub home_checksum : VolumeFormat → List ℕ → Checksum
 home_checksum Rt11 block = Unchecked
 home_checksum Ods1 block = files11_checksum block

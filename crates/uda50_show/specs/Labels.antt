@@ -1,28 +1,29 @@
--- Disk labels of Unix systems: the headers sys/disklabel.h of 4.3BSD and 2.11BSD, and Ultrix's partition table.
+-- Disk labels of Unix systems: the headers sys/disklabel.h of 4.3BSD and 2.11BSD, and Ultrix's partition
+-- table.
 use Rattle.std.specs.Prelude.{ℕ, ◌+◌, ◌*◌, ◌==◌, List, Bool, ◌&&◌, ◌||◌, nat_le}
 use Rattle.uda50_show.specs.declared.checksum.Checksum.{Checksum}
 use Rattle.uda50_show.specs.Block.{word_at, long_at, word_parity, checksum_of}
 
--- a VAX's label begins at byte 64 of block 0, and has its number again 132 bytes on
+-- a VAX's label begins at byte 64 of block 0, and has its magic number again 132 bytes later
 abbrev pub has_bsd_label : List ℕ → Bool
 has_bsd_label block = (long_at 64 block == 0x82564557) && (long_at 196 block == 0x82564557)
 
--- the number of its partitions, of 16 bytes each from byte 212 on, of which the block has room for 18
+-- the number of its partitions; each has 16 bytes, from byte 212, and the block has room for 18
 abbrev pub partitions_of : List ℕ → ℕ
 partitions_of block = word_at 202 block
 
--- the exclusive or of all its words, the checksum among them, is 0
+-- the exclusive or of all its words, including the checksum, is 0
 abbrev pub bsd_checksum : List ℕ → Checksum
 bsd_checksum block =
     checksum_of (nat_le (partitions_of block) 18
     && (word_parity 64 (74 + 8 * partitions_of block) block == 0))
 
--- a PDP-11's label begins block 1, with its number's halves exchanged, and has it again
+-- a PDP-11's label begins block 1 with the magic number, its halves exchanged, and has it a second time
 abbrev pub has_bsd211_label : List ℕ → Bool
 has_bsd211_label block =
     (long_at 0 block == 0x45578256)
     && ((long_at 108 block == 0x45578256) || (long_at 132 block == 0x45578256))
 
--- Ultrix has its partition table in the last 72 bytes of block 31, and 1 for a valid one
+-- Ultrix has its partition table in the last 72 bytes of block 31, with 1 for a valid one
 abbrev pub has_ultrix_table : List ℕ → Bool
 has_ultrix_table block = (long_at 440 block == 0x00032957) && (long_at 444 block == 1)

@@ -1,18 +1,18 @@
-//! Boot blocks: what block 0 shows of a bootstrap.
+//! Boot blocks: the bootstrap that block 0 may contain.
 ghost use Rattle.std.specs.Prelude.{◌≡◌, ◌/◌, ◌==◌, true, false};
 ghost use Rattle.uda50_show.specs.Boot.{is_vax_boot, area_sum};
 
 use crate::checksum::{Checksum, word_at};
 use std::fmt;
 
-/// What a block shows of a bootstrap.
+/// The kind of bootstrap in a block.
 #[derive(Clone, Copy, Debug, PartialEq, Eq)]
 pub enum BootBlock {
     /// A bootstrap for a PDP-11: NOP and a branch.
     Pdp11,
-    /// It begins as some bootstraps for a PDP-11 do, but other data can too: with a NOP or a branch.
+    /// Perhaps a bootstrap for a PDP-11: it begins with a NOP or a branch, as other data can too.
     PerhapsPdp11,
-    /// A bootstrap for a VAX, and whether the checksum of its identification area fits.
+    /// A bootstrap for a VAX, and whether the checksum of its identification area is right.
     Vax(Checksum),
 }
 
@@ -26,7 +26,7 @@ impl BootBlock {
     ghost use Rattle.std.specs.Prelude.{Some};
     ghost use Rattle.uda50_show.specs.Boot.{vax_boot, pdp11_boot};
 
-    /// Looks at block 0, and returns what it shows; `None` if it begins as no bootstrap does.
+    /// Returns the kind of bootstrap in block 0, or `None` if the block doesn't begin like one.
     pub fn read(block: &[u8; 512]) -> Option<BootBlock>
         ensures vax { is_vax_boot block.now ≡ true → result ≡ Some (vax_boot block.now) }
         ensures pdp11 { is_vax_boot block.now ≡ false → result ≡ pdp11_boot block.now }
@@ -45,15 +45,15 @@ impl BootBlock {
     }
 }
 
-// Whether a word is the PDP-11's instruction BR.
+// Returns whether a word is the PDP-11's instruction BR.
 fn is_branch(word: u16) -> bool
     ensures { result ≡ (word / 256 == 1) }
 {
     word / 256 == 1
 }
 
-// Whether a block is marked as a bootstrap for a VAX. Byte 2 is the offset in words of its identification
-// area.
+// Returns whether a block is marked as a bootstrap for a VAX. Byte 2 is the offset in words of its
+// identification area.
 fn is_vax_boot(block: &[u8; 512]) -> bool
     ensures { result ≡ is_vax_boot block.now }
 {
@@ -61,7 +61,7 @@ fn is_vax_boot(block: &[u8; 512]) -> bool
     block[3] == 1 && area + 4 <= 512 && block[area] == VAX
 }
 
-// The sum of the first four bytes of the identification area of such a block, without carries out of 8 bits.
+// Returns the sum, modulo 256, of the first four bytes of the identification area of such a block.
 fn area_sum(block: &[u8; 512]) -> u16
     requires { is_vax_boot block.now ≡ true }
     ensures { result ≡ area_sum block.now }
@@ -76,7 +76,7 @@ fn area_sum(block: &[u8; 512]) -> u16
     (u16::from(first) + u16::from(second) + u16::from(third) + u16::from(fourth)) % 256
 }
 
-/// As `VAX boot block, checksum right`.
+/// Writes a text such as `VAX boot block, checksum right`.
 impl fmt::Display for BootBlock {
     fn fmt<W: fmt::Write>(&self, f: &mut fmt::Formatter<W>) -> fmt::Result {
         match self {

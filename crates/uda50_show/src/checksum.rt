@@ -5,19 +5,19 @@ ghost use Rattle.uda50_show.specs.Block.{word_at, long_at, word_sum, word_parity
 use byteorder::{ByteOrder, LittleEndian};
 use std::fmt;
 
-/// What a block's checksum says of it.
+/// The result of checking a block's checksum.
 #[derive(Clone, Copy, Debug, PartialEq, Eq)]
 pub enum Checksum {
-    /// It fits the bytes.
+    /// The checksum is right for the bytes.
     Right,
-    /// It doesn't.
+    /// The checksum is wrong.
     Wrong,
-    /// The format has none, or none that is checked here.
+    /// The format has no checksum, or none that is checked here.
     Unchecked,
 }
 
 impl Checksum {
-    // What a comparison says.
+    // Returns the result of a comparison.
     pub(crate) fn of(fits: bool) -> Checksum
         ensures { result ≡ checksum_of fits }
     {
@@ -29,7 +29,7 @@ impl Checksum {
     }
 }
 
-/// As `, checksum wrong`, and nothing if there is no checksum.
+/// Writes a text such as `, checksum wrong`, or nothing if there is no checksum.
 impl fmt::Display for Checksum {
     fn fmt<W: fmt::Write>(&self, f: &mut fmt::Formatter<W>) -> fmt::Result {
         f.write_str(match self {
@@ -40,7 +40,7 @@ impl fmt::Display for Checksum {
     }
 }
 
-// The word at an offset, its low byte first.
+// Returns the word at an offset, low byte first.
 pub(crate) fn word_at(block: &[u8; 512], offset: usize) -> u16
     requires { offset + 2 ≤ 512 }
     ensures { result ≡ word_at offset block.now }
@@ -48,7 +48,7 @@ pub(crate) fn word_at(block: &[u8; 512], offset: usize) -> u16
     LittleEndian::read_u16(&block[offset..])
 }
 
-// The long word at an offset, its low byte first.
+// Returns the long word at an offset, low byte first.
 pub(crate) fn long_at(block: &[u8; 512], offset: usize) -> u32
     requires { offset + 4 ≤ 512 }
     ensures { result ≡ long_at offset block.now }
@@ -56,7 +56,7 @@ pub(crate) fn long_at(block: &[u8; 512], offset: usize) -> u32
     LittleEndian::read_u32(&block[offset..])
 }
 
-// The sum of the first words, without carries out of 16 bits.
+// Returns the sum of the first words, modulo 2^16.
 #[tactic(auto, unfolding(crate::specs::Block::words))]
 pub(crate) fn word_sum(block: &[u8; 512], count: usize) -> u16
     requires { 2 * count ≤ 512 }
@@ -69,7 +69,7 @@ pub(crate) fn word_sum(block: &[u8; 512], count: usize) -> u16
     sum
 }
 
-// The exclusive or of words from an offset on.
+// Returns the exclusive or of words from an offset.
 #[tactic(auto, unfolding(crate::specs::Block::word_parity))]
 pub(crate) fn word_parity(block: &[u8; 512], offset: usize, count: usize) -> u16
     requires { offset + 2 * count ≤ 512 }

@@ -7,18 +7,18 @@ use std::fmt;
 /// A disk label, by its magic numbers.
 #[derive(Clone, Copy, Debug, PartialEq, Eq)]
 pub enum DiskLabel {
-    /// 4.3BSD's on a VAX, in block 0 from byte 64 on.
+    /// 4.3BSD's on a VAX, at byte 64 of block 0.
     Bsd(Checksum),
-    /// 2.11BSD's on a PDP-11, at the start of block 1. Its checksum isn't looked at.
+    /// 2.11BSD's on a PDP-11, at the start of block 1. Its checksum isn't checked.
     Bsd211,
     /// Ultrix's partition table, in block 31.
     Ultrix,
 }
 
-// The number with which a BSD disk label begins, and which it has again.
+// The magic number at the start of a BSD disk label. The label has it a second time.
 const BSD_MAGIC: u32 = 0x8256_4557;
 
-// The same with its halves exchanged, as a PDP-11 has them.
+// The same number with its halves exchanged, as on a PDP-11.
 const BSD_MAGIC_PDP11: u32 = 0x4557_8256;
 
 const ULTRIX_MAGIC: u32 = 0x0003_2957;

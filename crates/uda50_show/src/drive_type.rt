@@ -1,91 +1,91 @@
-//! The drive types that an image can be of.
+//! The drive types of which an image can be.
 
 use std::fmt;
 
 /// A drive type, with the size of its units.
 #[derive(Clone, Copy, Debug)]
-pub struct DriveType {
-    /// The name, as `RA81`.
+pub struct DriveTypeEntry {
+    /// The name, such as `RA81`.
     pub name: &'static str,
     /// The number of logical blocks that a host sees.
     pub blocks: u32,
 }
 
 /// The known drive types.
-pub static DRIVE_TYPES: [DriveType; 17] = [
-    DriveType {
+pub static DRIVE_TYPES: [DriveTypeEntry; 17] = [
+    DriveTypeEntry {
         name: "RX50",
         blocks: 800,
     },
-    DriveType {
+    DriveTypeEntry {
         name: "RX33",
         blocks: 2_400,
     },
-    DriveType {
+    DriveTypeEntry {
         name: "RD51",
         blocks: 21_600,
     },
-    DriveType {
+    DriveTypeEntry {
         name: "RD31",
         blocks: 41_560,
     },
-    DriveType {
+    DriveTypeEntry {
         name: "RD52",
         blocks: 60_480,
     },
-    DriveType {
+    DriveTypeEntry {
         name: "RD53",
         blocks: 138_672,
     },
-    DriveType {
+    DriveTypeEntry {
         name: "RA80",
         blocks: 237_212,
     },
-    DriveType {
+    DriveTypeEntry {
         name: "RD54",
         blocks: 311_200,
     },
-    DriveType {
+    DriveTypeEntry {
         name: "RA60",
         blocks: 400_176,
     },
-    DriveType {
+    DriveTypeEntry {
         name: "RA70",
         blocks: 547_041,
     },
-    DriveType {
+    DriveTypeEntry {
         name: "RA81",
         blocks: 891_072,
     },
-    DriveType {
+    DriveTypeEntry {
         name: "RA82",
         blocks: 1_216_665,
     },
-    DriveType {
+    DriveTypeEntry {
         name: "RRD40",
         blocks: 1_331_200,
     },
-    DriveType {
+    DriveTypeEntry {
         name: "RA71",
         blocks: 1_367_310,
     },
-    DriveType {
+    DriveTypeEntry {
         name: "RA72",
         blocks: 1_953_300,
     },
-    DriveType {
+    DriveTypeEntry {
         name: "RA90",
         blocks: 2_376_153,
     },
-    DriveType {
+    DriveTypeEntry {
         name: "RA92",
         blocks: 2_940_951,
     },
 ];
 
-impl DriveType {
-    /// Returns the drive type of this name, in any case.
-    pub fn named(name: &str) -> Option<DriveType> {
+impl DriveTypeEntry {
+    /// Returns the drive type of this name. Upper and lower case are equal.
+    pub fn named(name: &str) -> Option<DriveTypeEntry> {
         DRIVE_TYPES
             .iter()
             .find(|drive| drive.name.eq_ignore_ascii_case(name))
@@ -98,7 +98,7 @@ impl DriveType {
     }
 }
 
-/// The names of the drive types of a size, as `RD53, RA60`; `none` if there are none.
+/// The names of the drive types of a size, such as `RD53, RA60`, or `none` if there are none.
 #[derive(Clone, Copy, Debug, PartialEq, Eq)]
 pub struct TypesOfSize(pub u32);
 

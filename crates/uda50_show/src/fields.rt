@@ -1,9 +1,9 @@
-//! The fields of a message that every message has.
+//! The fields that every message has.
 ghost use Rattle.std.specs.Prelude.{◌≤◌, ◌+◌};
 
 use byteorder::{ByteOrder, LittleEndian};
 
-// A field of two bytes.
+// Returns a field of two bytes.
 pub(crate) fn word(text: &[u8; 48], offset: usize) -> u16
     requires { offset + 2 ≤ 48 }
 {

@@ -1,9 +1,9 @@
-//! Home blocks: the block of a volume that names its format and its label.
+//! Home blocks: the block of a volume that contains its format and its label.
 //!
 //! RT-11 Volume and File Formats Manual; Files-11 On-Disk Structure, levels 1 and 2.
 ghost use Rattle.std.specs.Prelude.{◌≡◌, ◌≢◌, ◌≤◌, ◌+◌, ◌↔◌, IfSome, IsNone, IsTrue};
 ghost use Rattle.uda50_show.specs.declared.home_block.VolumeFormat.{VolumeFormat};
-ghost use Rattle.uda50_show.specs.Block.{bytes_at};
+ghost use Rattle.uda50_show.specs.Block.{block_bytes};
 ghost use Rattle.uda50_show.specs.Home.{format_text, volume_offset, home_checksum};
 
 use crate::checksum::{Checksum, word_at, word_sum};
@@ -22,7 +22,7 @@ pub enum VolumeFormat {
 }
 
 impl VolumeFormat {
-    // The format that the text at the end of a home block names.
+    // Returns the format for the text at the end of a home block.
     fn named(text: &[u8]) -> Option<VolumeFormat>
         ensures some { IfSome result (λ format. text.now ≡ format_text format) }
         ensures none { IsNone result → (format : VolumeFormat) → text.now ≢ format_text format }
@@ -49,7 +49,7 @@ impl fmt::Display for VolumeFormat {
     }
 }
 
-/// What a home block says of its volume.
+/// The facts of a volume in its home block.
 #[derive(Clone, Copy, Debug, PartialEq, Eq)]
 pub struct HomeBlock {
     /// The format.
@@ -58,19 +58,19 @@ pub struct HomeBlock {
     pub volume: [u8; 12],
     /// The volume's owner.
     pub owner: [u8; 12],
-    /// Whether both checksums of a Files-11 home block fit.
+    /// The result for both checksums of a Files-11 home block.
     pub checksum: Checksum,
 }
 
 impl HomeBlock {
-    /// Reads block 1 of a volume; `None` if it names none of the formats.
+    /// Reads block 1 of a volume. Returns `None` if it has none of the formats.
     pub fn read(block: &[u8; 512]) -> Option<HomeBlock>
-        ensures format { IfSome result (λ home. bytes_at 496 12 block.now ≡ format_text home.format) }
+        ensures format { IfSome result (λ home. block_bytes 496 12 block.now ≡ format_text home.format) }
         ensures none { IsNone result
-            → (format : VolumeFormat) → bytes_at 496 12 block.now ≢ format_text format }
+            → (format : VolumeFormat) → block_bytes 496 12 block.now ≢ format_text format }
         ensures volume { IfSome result (λ home.
-            home.volume ≡ bytes_at (volume_offset home.format) 12 block.now) }
-        ensures owner { IfSome result (λ home. home.owner ≡ bytes_at 484 12 block.now) }
+            home.volume ≡ block_bytes (volume_offset home.format) 12 block.now) }
+        ensures owner { IfSome result (λ home. home.owner ≡ block_bytes 484 12 block.now) }
         ensures checksum { IfSome result (λ home.
             home.checksum ≡ home_checksum home.format block.now) }
     {
@@ -88,14 +88,14 @@ impl HomeBlock {
     }
 }
 
-// Whether two texts are the same.
+// Returns whether two texts are equal.
 fn is_same(text: &[u8], other: &[u8]) -> bool
     ensures { IsTrue result ↔ (text.now ≡ other.now) }
 {
     text == other
 }
 
-// What the checksums of a home block say.
+// Returns the result of checking a home block's checksums.
 fn checksum_in(format: VolumeFormat, block: &[u8; 512]) -> Checksum
     ensures { result ≡ home_checksum format block.now }
 {
@@ -108,17 +108,17 @@ fn checksum_in(format: VolumeFormat, block: &[u8; 512]) -> Checksum
     }
 }
 
-// The twelve bytes from an offset on.
+// Returns the twelve bytes from an offset.
 fn twelve_at(block: &[u8; 512], offset: usize) -> [u8; 12]
     requires { offset + 12 ≤ 512 }
-    ensures { result ≡ bytes_at offset 12 block.now }
+    ensures { result ≡ block_bytes offset 12 block.now }
 {
     let mut bytes = [0; 12];
     bytes.copy_from_slice(&block[offset..offset + 12]);
     bytes
 }
 
-/// As `RT-11 home block, volume "RT11A", owner ""`.
+/// Writes a text such as `RT-11 home block, volume "RT11A", owner ""`.
 impl fmt::Display for HomeBlock {
     fn fmt<W: fmt::Write>(&self, f: &mut fmt::Formatter<W>) -> fmt::Result {
         write!(

@@ -1,4 +1,4 @@
-//! What the program `uda50` prints of packets, blocks and images: values with their texts.
+//! The printed forms of packets, blocks and images for the program `uda50`: values with their texts.
 #![tactic(auto)]
 
 mod boot_block;
@@ -17,7 +17,7 @@ mod text;
 pub use boot_block::BootBlock;
 pub use checksum::Checksum;
 pub use disk_label::DiskLabel;
-pub use drive_type::{DRIVE_TYPES, DriveType, TypesOfSize};
+pub use drive_type::{DRIVE_TYPES, DriveTypeEntry, TypesOfSize};
 pub use home_block::{HomeBlock, VolumeFormat};
 pub use number::Grouped;
 pub use packet::Packet;

@@ -1,12 +1,12 @@
-//! Numbers for people.
+//! Numbers for human readers.
 
 use std::fmt;
 
-/// A number whose digits are in groups of three, as `65,537`.
+/// A number whose digits are in groups of three, such as `65,537`.
 #[derive(Clone, Copy, Debug, PartialEq, Eq)]
 pub struct Grouped(pub u64);
 
-// What the groups of a number count, the highest first.
+// The values of the digit groups, the highest first.
 const SCALES: [u64; 7] = [
     1_000_000_000_000_000_000,
     1_000_000_000_000_000,

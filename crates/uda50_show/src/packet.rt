@@ -1,4 +1,4 @@
-//! The text of a packet: its fields by name.
+//! The text of a packet, field by field.
 
 use crate::fields::word;
 use std::fmt;
@@ -7,13 +7,13 @@ use uda_packet::{
     decode_end, status,
 };
 
-/// The 48 bytes of a message. Its text has a line for each field: of an end message if byte 8 is an end
-/// code, else of a command, or of what is wrong with it.
+/// The 48 bytes of a message. Its text has a line for each field. If byte 8 is an end code, the text is
+/// that of an end message. Otherwise it is that of a command, or of an invalid command.
 #[derive(Clone, Copy, Debug, PartialEq, Eq)]
 pub struct Packet(pub [u8; 48]);
 
 impl Packet {
-    /// Returns whether the bytes are a command or an end message.
+    /// Returns whether the bytes are a command or an end message of the strict profile.
     pub fn is_valid(&self) -> bool {
         decode_end(&self.0).is_some() || decode_command(&self.0).is_ok()
     }
@@ -26,13 +26,13 @@ impl fmt::Display for Packet {
         }
         let (code, modifiers) = (self.0[8], word(&self.0, 10));
         match decode_command(&self.0) {
-            Ok(command) => write_command(f, &command, modifiers),
+            Ok(command) => write_command_lines(f, &command, modifiers),
             Err(bad) => write_bad(f, &bad, code, modifiers),
         }
     }
 }
 
-// The lines of an end message.
+// Writes the lines of an end message.
 fn write_end<W: fmt::Write>(f: &mut fmt::Formatter<W>, end: &End) -> fmt::Result {
     let End {
         reference,
@@ -57,7 +57,7 @@ fn write_end<W: fmt::Write>(f: &mut fmt::Formatter<W>, end: &End) -> fmt::Result
     }
 }
 
-// The line of the unit flags.
+// Writes the line of the unit flags.
 fn write_flags<W: fmt::Write>(f: &mut fmt::Formatter<W>, flags: u16) -> fmt::Result {
     let bits = UnitFlags::from_bits_retain(flags);
     let software = bits.contains(UnitFlags::SOFT);
@@ -71,8 +71,8 @@ fn write_flags<W: fmt::Write>(f: &mut fmt::Formatter<W>, flags: u16) -> fmt::Res
     writeln!(f, "  unit flags  0x{flags:04x}{names}")
 }
 
-// The lines of a command.
-fn write_command<W: fmt::Write>(
+// Writes the lines of a command.
+fn write_command_lines<W: fmt::Write>(
     f: &mut fmt::Formatter<W>,
     command: &Command,
     modifiers: u16,
@@ -97,7 +97,7 @@ fn write_command<W: fmt::Write>(
     }
 }
 
-// The lines of a transfer's parameters.
+// Writes the lines of a transfer's parameters.
 fn write_transfer<W: fmt::Write>(f: &mut fmt::Formatter<W>, transfer: &Transfer) -> fmt::Result {
     writeln!(f, "  byte count  {}", transfer.bytes)?;
     if transfer.kind.has_buffer() {
@@ -106,7 +106,7 @@ fn write_transfer<W: fmt::Write>(f: &mut fmt::Formatter<W>, transfer: &Transfer)
     writeln!(f, "  lbn         {}", transfer.lbn)
 }
 
-// The lines of a text that is no command.
+// Writes the lines of an invalid command.
 fn write_bad<W: fmt::Write>(
     f: &mut fmt::Formatter<W>,
     bad: &Bad,

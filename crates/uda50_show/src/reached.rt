@@ -2,10 +2,11 @@
 
 use std::fmt;
 
-/// How far a copy has come, as ` 45 %  205 of 456 MB  812 MB/s  0:03 left`. A MB is 1,000,000 bytes.
+/// The progress of a copy, with a text such as ` 45 %  205 of 456 MB  812 MB/s  0:03 left`. A MB is
+/// 1,000,000 bytes.
 #[derive(Clone, Copy, Debug, PartialEq, Eq)]
 pub struct Reached {
-    /// The number of blocks that are done.
+    /// The number of blocks that are complete.
     pub done: u32,
     /// The number of all blocks.
     pub all: u32,
@@ -13,18 +14,18 @@ pub struct Reached {
     pub elapsed: u64,
 }
 
-// Returns the MB of blocks.
+// Returns the size of blocks in MB.
 fn megabytes(blocks: u32) -> u64 {
     u64::from(blocks) * 512 / 1_000_000
 }
 
 impl Reached {
-    // Returns the MB of a second.
+    // Returns the MB per second.
     fn rate(self) -> u64 {
         u64::from(self.done) * 512 / 1_000 / self.elapsed.max(1)
     }
 
-    // Returns the seconds that the other blocks will take at the same rate.
+    // Returns the seconds that the remaining blocks will take at the same rate.
     fn left(self) -> u64 {
         let left = u64::from(self.all.saturating_sub(self.done));
         left.saturating_mul(self.elapsed) / u64::from(self.done.max(1)) / 1_000

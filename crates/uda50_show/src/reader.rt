@@ -1,4 +1,4 @@
-//! Packets read from text.
+//! Reading of packets from text.
 ghost use Rattle.std.specs.Prelude.{◌≡◌, ◌<◌, ◌≤◌, ◌∷◌, ◌++◌, ◌↔◌, ◌⊎◌, [], length, None, IsSome, IfSome};
 ghost use Rattle.std.specs.Prelude.{OnErr, IsOk, IfOk};
 ghost use Rattle.std.specs.Str.Parse.{IsNumeral, digits_value};
@@ -9,7 +9,7 @@ use std::error::Error;
 use std::fmt;
 use std::marker::Model;
 
-/// A token that is no part of a packet.
+/// The error of a token that cannot be part of a packet.
 #[derive(Clone, Copy, Debug, PartialEq, Eq)]
 pub struct TokenError;
 
@@ -21,8 +21,8 @@ impl fmt::Display for TokenError {
 
 impl Error for TokenError {}
 
-/// Collects the bytes of packets from tokens: two hexadecimal digits are a byte, and six octal digits a
-/// word of two bytes, the low byte first. Contracts see the bytes of the packet that isn't whole yet.
+/// Collects the bytes of packets from tokens. Two hexadecimal digits are a byte. Six octal digits are a
+/// word of two bytes, low byte first. Contracts see the bytes of the packet that isn't complete yet.
 #[derive(Debug, Drop)]
 pub struct PacketReader {
     bytes: [u8; 48],
@@ -58,7 +58,7 @@ impl PacketReader {
         self.filled
     }
 
-    /// Takes a token, and returns the packet that it completes.
+    /// Adds a token, and returns the packet that it completes.
     pub fn push_token(&mut self, token: &str) -> Result<Option<Packet>, TokenError>
         ensures byte { IsByteToken token.now → IsOk result }
         ensures word { IsWordToken token.now → IsOk result }
@@ -80,7 +80,7 @@ impl PacketReader {
         }
     }
 
-    // Takes a byte.
+    // Adds a byte, and returns the packet that it completes.
     fn push(&mut self, byte: u8) -> Option<Packet>
         ensures more { length self.old < 47 → (result ≡ None) × (self.new ≡ self.old ++ byte ∷ []) }
         ensures whole { length self.old ≡ 47 → IsSome result × (self.new ≡ []) }
@@ -96,7 +96,7 @@ impl PacketReader {
     }
 }
 
-// The number that a token of digits writes; a sign is no digit.
+// Returns the number of a token of digits. A sign is not a digit.
 fn digits(token: &str, radix: u32) -> Result<u16, TokenError>
     requires low { 2 ≤ radix }
     requires high { radix ≤ 16 }

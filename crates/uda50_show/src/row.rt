@@ -3,8 +3,8 @@
 use crate::text::printable;
 use std::fmt;
 
-/// Sixteen bytes of a block as `1f0  44 45 43 ..  |DECRT11A    ....|`: the offset and the bytes in
-/// hexadecimal, and the bytes as text.
+/// Sixteen bytes of a block, with a text such as `1f0  44 45 43 ..  |DECRT11A    ....|`: the offset and the
+/// bytes in hexadecimal, and the bytes as text.
 #[derive(Clone, Copy, Debug, PartialEq, Eq)]
 pub struct HexRow {
     /// The offset of the first byte in its block.
@@ -27,8 +27,8 @@ impl fmt::Display for HexRow {
     }
 }
 
-/// Sixteen bytes of a block as `760  042504 ..  |DECRT11A    ....|`: the offset and words of two bytes in
-/// octal, and the bytes as text.
+/// Sixteen bytes of a block, with a text such as `760  042504 ..  |DECRT11A    ....|`: the offset and words
+/// of two bytes in octal, and the bytes as text.
 #[derive(Clone, Copy, Debug, PartialEq, Eq)]
 pub struct OctalRow {
     /// The offset of the first byte in its block.

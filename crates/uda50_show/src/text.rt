@@ -2,8 +2,8 @@
 
 use std::fmt;
 
-/// A text field of fixed length: without the spaces and zero bytes at its end, and with a point for each
-/// byte that is no printable ASCII character.
+/// A text field of fixed length. It is printed without the spaces and zero bytes at its end. A point
+/// replaces each byte that isn't a printable ASCII character.
 #[derive(Clone, Copy, Debug)]
 pub struct FixedText<'b>(pub &'b [u8]);
 
@@ -21,7 +21,7 @@ impl fmt::Display for FixedText<'_> {
     }
 }
 
-/// Returns the character of a printable ASCII byte, and a point for any other.
+/// Returns the character of a printable ASCII byte, or a point for any other.
 pub(crate) fn printable(byte: u8) -> char {
     if byte.is_ascii_graphic() || byte == b' ' {
         char::from(byte)

@@ -1,9 +1,9 @@
-//! `uda50 copy`: an image copied to another through the controller.
+//! `uda50 copy`: copies an image to another through the controller.
 
 use crate::fault::{Fault, Reason};
 use crate::image::open;
 use crate::outcome::Outcome;
-use crate::progress::Progress;
+use crate::progress::CopyProgress;
 use crate::target::open_target;
 use std::ops::Range;
 use uda_driver::Driver;
@@ -11,13 +11,14 @@ use uda_image::{BlockStore, Drive, FileImage, StoreError};
 use uda50_arguments::Copy;
 use uda50_copy::{Copier, CopyError, Side};
 
-/// Copies blocks of an image to the same numbers of another image. With `--verify`, compares them then.
+/// Copies blocks of an image to the same block numbers of another image. With `--verify`, it then compares
+/// them.
 pub(crate) fn copy<'w>(rt: &HostRuntime, copy: &Copy<'w>) -> Result<Outcome, Fault<'w>> {
     let source = open(rt, copy.from.path, false)?;
     let size = source.size();
-    let Range { start: first, end } = blocks_of(copy, size)?;
+    let Range { start: first, end } = blocks_to_copy(copy, size)?;
     let target = open_target(rt, copy, size)?;
-    let mut progress = Progress::start(rt, copy.from.path, first..end);
+    let mut progress = CopyProgress::start(rt, copy.from.path, first..end);
     let mut copier = start(rt, copy, source, target)?;
     let copied = copier.copy(first..end, &mut progress);
     let lost = progress.end();
@@ -25,7 +26,7 @@ pub(crate) fn copy<'w>(rt: &HostRuntime, copy: &Copy<'w>) -> Result<Outcome, Fau
     if copy.verify {
         verify(rt, copy, &mut copier, first..end)?;
     }
-    sync(copy, copier)?;
+    sync_target(copy, copier)?;
     Ok(if lost > 0 {
         Outcome::Failed
     } else {
@@ -54,8 +55,8 @@ fn start<'w>(
     Copier::new(rt.alloc(), driver, copy.skips_lost).map_err(|error| fault(copy, error))
 }
 
-// The blocks to copy, all of which the source has.
-fn blocks_of<'w>(copy: &Copy<'w>, size: u32) -> Result<Range<u32>, Fault<'w>> {
+// Returns the blocks to copy, after a check that the source has all of them.
+fn blocks_to_copy<'w>(copy: &Copy<'w>, size: u32) -> Result<Range<u32>, Fault<'w>> {
     match copy.blocks {
         None => Ok(0..size),
         Some(range) if range.end <= size => Ok(range.start..range.end),
@@ -77,14 +78,14 @@ fn verify<'w>(
     blocks: Range<u32>,
 ) -> Result<(), Fault<'w>> {
     let Range { start: first, end } = blocks;
-    let mut progress = Progress::start(rt, copy.to.path, first..end);
+    let mut progress = CopyProgress::start(rt, copy.to.path, first..end);
     let compared = copier.compare(first..end, &mut progress);
     progress.end();
     compared.map_err(|error| fault(copy, error))
 }
 
-// Hands what was written on to the medium.
-fn sync<'w>(copy: &Copy<'w>, copier: Copier<FileImage>) -> Result<(), Fault<'w>> {
+// Syncs the written blocks to the medium.
+fn sync_target<'w>(copy: &Copy<'w>, copier: Copier<FileImage>) -> Result<(), Fault<'w>> {
     let mut drives = copier.into_driver().into_stores();
     for drive in drives.iter_mut().flatten() {
         if drive.store.sync().is_err() {
@@ -94,7 +95,7 @@ fn sync<'w>(copy: &Copy<'w>, copier: Copier<FileImage>) -> Result<(), Fault<'w>>
     Ok(())
 }
 
-// The fault of the file that an error is of.
+// Returns the fault for an error, with the file that it concerns.
 fn fault<'w>(copy: &Copy<'w>, error: CopyError) -> Fault<'w> {
     let name = match error.side() {
         Some(Side::Source) => copy.from.path,

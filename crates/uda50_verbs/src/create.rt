@@ -6,7 +6,7 @@ use std::fs;
 use std::fs::{File, OpenFile, OpenOptions, TryLockError};
 use uda50_arguments::Create;
 
-/// Makes an image of zeros, or makes an existing file one.
+/// Makes an image of zeros. With `--force`, an existing file becomes one.
 pub(crate) fn create<'w>(rt: &HostRuntime, create: &Create<'w>) -> Result<Outcome, Fault<'w>> {
     let path = create.image.path;
     if create.image.protected {
@@ -37,7 +37,7 @@ pub(crate) fn create<'w>(rt: &HostRuntime, create: &Create<'w>) -> Result<Outcom
     }
 }
 
-// Opens a file that nobody else uses, and makes it empty.
+// Opens a file whose lock nobody else holds, and empties it.
 fn emptied<'w>(rt: &HostRuntime, path: &'w str) -> Result<File, Fault<'w>> {
     let file = OpenOptions::new()
         .write(true)

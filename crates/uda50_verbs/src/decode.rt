@@ -1,4 +1,4 @@
-//! `uda50 decode`: packets by their fields.
+//! `uda50 decode`: prints packets by their fields.
 
 use crate::fault::{Fault, Reason, STANDARD_INPUT};
 use crate::outcome::Outcome;
@@ -7,15 +7,15 @@ use std::fs::{File, OpenFile};
 use std::io::{BufRead, BufReader, Write};
 use uda50_show::PacketReader;
 
-// The packets that were read so far.
+// The state of reading packets.
 #[derive(Debug, Drop)]
-struct Progress {
+struct DecodeProgress {
     reader: PacketReader,
     packets: u64,
     invalid: bool,
 }
 
-/// Prints the packets of a file, or of standard input, each once it is whole.
+/// Prints the packets of a file, or of standard input, each when it is complete.
 pub(crate) fn decode<'w, W: Write>(
     rt: &HostRuntime,
     path: &'w str,
@@ -37,7 +37,7 @@ fn decode_from<'w, R: BufRead + Drop, W: Write>(
     input: R,
     out: &mut W,
 ) -> Result<Outcome, Fault<'w>> {
-    let mut progress = Progress {
+    let mut progress = DecodeProgress {
         reader: PacketReader::new(),
         packets: 0,
         invalid: false,
@@ -55,12 +55,12 @@ fn decode_from<'w, R: BufRead + Drop, W: Write>(
     }
 }
 
-// Takes the tokens of a line, and prints the packets that they complete. `#` begins a comment.
+// Reads the tokens of a line, and prints the packets that they complete. `#` begins a comment.
 fn decode_line<'w, W: Write>(
     name: &'w str,
     line: u64,
     text: &str,
-    progress: &mut Progress,
+    progress: &mut DecodeProgress,
     out: &mut W,
 ) -> Result<(), Fault<'w>> {
     let tokens = match text.split_once('#') {

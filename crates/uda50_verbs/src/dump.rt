@@ -1,7 +1,7 @@
-//! `uda50 dump`: blocks as text, or as they are.
+//! `uda50 dump`: prints blocks as text, or writes their bytes.
 
 use crate::fault::{Fault, Reason, STANDARD_OUTPUT};
-use crate::image::{open, read_block};
+use crate::image::{open, read_block_or_zeros};
 use crate::outcome::Outcome;
 use std::io::{IsTerminal, Write};
 use uda_image::BlockStore;
@@ -26,14 +26,14 @@ pub(crate) fn dump<'w, W: Write>(
         Some(range) => return Err(Fault::new(path, Reason::PastEnd { range, blocks })),
     };
     for block in start..end {
-        let bytes = read_block(&mut image, path, block)?;
-        write_block(out, block, &bytes, dump.format)?;
+        let bytes = read_block_or_zeros(&mut image, path, block)?;
+        dump_block(out, block, &bytes, dump.format)?;
     }
     Ok(Outcome::Done)
 }
 
 // Writes a block.
-fn write_block<'w, W: Write>(
+fn dump_block<'w, W: Write>(
     out: &mut W,
     block: u32,
     bytes: &[u8; 512],

@@ -16,28 +16,31 @@ use clap::Error;
 use clap::error::ErrorKind as UsageError;
 use std::io;
 use std::io::{BufWriter, ErrorKind, Write};
-use uda50_arguments::{Asked, Task, read_arguments};
-use uda50_show::DriveType;
+use uda50_arguments::{ParsedArguments, Task, read_arguments};
+use uda50_show::DriveTypeEntry;
 
-/// The status of wrong arguments.
+/// The exit status for invalid arguments.
 const USAGE: u8 = 2;
 
-/// The status of a fault.
+/// The exit status for a fault.
 const FAULT: u8 = 1;
 
-/// Does what the arguments ask for, of which the first is the program's name. Returns the exit status: 0 if
-/// all is well, 1 after a fault, 2 for wrong arguments, 3 if a request failed. A fault has a line on standard
-/// error, unless it is only that the reader of standard output closed it.
+/// Executes the task of the arguments, of which the first is the program's name. Returns the exit status:
+///
+/// - 0 if all succeeded, or if the reader of standard output closed it;
+/// - 1 after a fault, which has a line on standard error;
+/// - 2 for invalid arguments;
+/// - 3 if a request failed, blocks were lost, or a packet was invalid.
 pub fn program(rt: &HostRuntime, arguments: &[&str]) -> u8
     ensures status { result ≤ 3 }
 {
     let Some(held) = fill_closed_streams(rt) else {
         return report(rt, &Fault::new("standard streams", Reason::NoSuchFile));
     };
-    let drives = DriveType::names();
+    let drives = DriveTypeEntry::names();
     let status = match read_arguments(rt.alloc(), arguments, &drives) {
-        Asked::Text { text, usage } => print_text(rt, &text, usage.as_ref()),
-        Asked::Task(task) => match perform(rt, &task) {
+        ParsedArguments::Text { text, usage } => print_text(rt, &text, usage.as_ref()),
+        ParsedArguments::Task(task) => match perform(rt, &task) {
             Ok(outcome) => outcome.status(),
             Err(fault) => report(rt, &fault),
         },
@@ -59,7 +62,7 @@ pub fn unreadable_arguments(rt: &HostRuntime, error: &io::Error) -> u8
     USAGE
 }
 
-// Prints the help, the version, or what is wrong with the arguments, and returns the exit status.
+// Prints the help, the version, or the error of the arguments, and returns the exit status.
 fn print_text(rt: &HostRuntime, text: &Error, usage: Option<&String>) -> u8
     ensures { result ≤ 2 }
 {
@@ -77,7 +80,8 @@ fn print_text(rt: &HostRuntime, text: &Error, usage: Option<&String>) -> u8
     }
 }
 
-// Prints a fault's line, and returns its exit status. A closed reader of standard output is no fault.
+// Prints a fault's line, and returns its exit status. It is no fault if the reader of standard output
+// closed it.
 fn report(rt: &HostRuntime, fault: &Fault<'_>) -> u8
     ensures { result ≤ 1 }
 {
@@ -88,7 +92,7 @@ fn report(rt: &HostRuntime, fault: &Fault<'_>) -> u8
     FAULT
 }
 
-// Does a task, its output gathered before it is written.
+// Executes a task with buffered output.
 fn perform<'w>(rt: &HostRuntime, task: &Task<'w>) -> Result<Outcome, Fault<'w>> {
     let mut out = BufWriter::new(rt.alloc(), rt.stdout())?;
     let done = perform_with(rt, task, &mut out);

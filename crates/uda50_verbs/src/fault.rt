@@ -1,4 +1,4 @@
-//! Faults: why a verb ended early.
+//! Faults: the reasons why a verb ended early.
 
 use std::alloc::AllocError;
 use std::io::ErrorKind;
@@ -9,22 +9,22 @@ use uda_image::StoreError;
 use uda50_arguments::BlockRange;
 use uda50_show::{Grouped, TokenError};
 
-/// What standard input is called in faults.
+/// The name of standard input in faults.
 pub(crate) const STANDARD_INPUT: &str = "standard input";
 
-/// What standard output is called in faults.
+/// The name of standard output in faults.
 pub(crate) const STANDARD_OUTPUT: &str = "standard output";
 
-/// A fault, with the file or stream that it is of.
+/// A fault, with the file or stream that it concerns.
 #[derive(Debug, Drop)]
 pub struct Fault<'w> {
     /// The path of the file, or the name of the stream.
     pub name: &'w str,
-    /// Why.
+    /// The reason.
     pub reason: Reason,
 }
 
-/// Why a file can't be used, or a verb can't go on.
+/// The reason why a file can't be used, or a verb can't continue.
 #[derive(Debug, Drop, Error)]
 pub enum Reason {
     /// An allocation failed.
@@ -33,31 +33,31 @@ pub enum Reason {
     /// There is no file.
     #[error("no such file")]
     NoSuchFile,
-    /// The file may not be opened.
+    /// The system denied permission to open the file.
     #[error("permission denied")]
     PermissionDenied,
-    /// The file is there and was to be made.
+    /// The file to make exists already.
     #[error("exists already; --force overwrites it")]
     Exists,
     /// The path is a folder, a device, a pipe or a socket.
     #[error("not a plain file")]
     NotPlain,
-    /// The image was named with `lock:` and was to be written.
+    /// The image to write has the prefix `lock:`.
     #[error("write protected")]
     Protected,
     /// Another process or unit holds the file's lock.
     #[error("in use by another process")]
     InUse,
-    /// The length is no multiple of 512.
+    /// The length is not a multiple of 512.
     #[error("{} bytes is not a multiple of 512; perhaps another emulator's format with a trailing record?", Grouped(*.0))]
     Length(u64),
-    /// There are more blocks than are supported.
+    /// There are more blocks than an image can have.
     #[error("{} blocks are more than 2,147,483,647", Grouped(*.0))]
     TooLarge(u64),
     /// The image doesn't have the blocks.
     #[error("no blocks {} to {}: the image has {} blocks", .range.start, .range.end.saturating_sub(1), Grouped(u64::from(*.blocks)))]
     PastEnd {
-        /// The blocks that were asked for.
+        /// The requested blocks.
         range: BlockRange,
         /// The size of the image.
         blocks: u32,
@@ -67,10 +67,10 @@ pub enum Reason {
     Block {
         /// The block.
         block: u32,
-        /// What failed.
+        /// The error of the image.
         error: StoreError,
     },
-    /// A block of the copy isn't that of the source.
+    /// A block of the copy differs from that of the source.
     #[error("block {0} differs from the source's")]
     Differs(u32),
     /// The controller rejected a request.
@@ -79,7 +79,7 @@ pub enum Reason {
     /// The target of a copy is its source.
     #[error("is the source of the copy")]
     SameFile,
-    /// What was written may not be on the medium.
+    /// Written blocks could not be synced to the medium.
     #[error("cannot be written out")]
     NotSynced,
     /// A stream can't be read.
@@ -88,18 +88,18 @@ pub enum Reason {
     /// A stream can't be written.
     #[error("cannot be written")]
     Unwritable,
-    /// A line of the script is no statement.
+    /// A line of the script is not a statement.
     #[error("line {line}, {expected}")]
     Syntax {
         /// The line, from 1.
         line: u64,
-        /// What it should have had.
+        /// The part that is expected in the line.
         expected: Expected,
     },
-    /// Standard input ended inside the data of a line.
+    /// Standard input ended before a line had all its data.
     #[error("line {0}: standard input ended inside its data")]
     DataEnded(u64),
-    /// Raw blocks were to be written to a terminal.
+    /// Raw blocks would be written to a terminal.
     #[error("is a terminal; --force writes raw blocks to it")]
     Terminal,
     /// A token is neither a byte nor a word.
@@ -109,7 +109,7 @@ pub enum Reason {
         line: u64,
         /// The number of the token on its line, from 1.
         word: u64,
-        /// What is wrong.
+        /// The error of the token.
         error: TokenError,
     },
     /// The text ends inside a packet.
@@ -134,7 +134,7 @@ impl<'w> Fault<'w> {
         }
     }
 
-    /// Returns whether the fault is of this file or stream.
+    /// Returns whether the fault concerns this file or stream.
     pub fn is_of(&self, name: &str) -> bool {
         self.name == name
     }
@@ -176,7 +176,7 @@ impl<'w> From<io::Error> for Fault<'w> {
     }
 }
 
-/// As `disk.img: no such file`.
+/// Writes a text such as `disk.img: no such file`.
 impl fmt::Display for Fault<'_> {
     fn fmt<W: fmt::Write>(&self, f: &mut fmt::Formatter<W>) -> fmt::Result {
         write!(f, "{}: {}", self.name, self.reason)

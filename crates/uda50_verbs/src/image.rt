@@ -1,4 +1,4 @@
-//! Images opened for reading, and why one can't be.
+//! Opening and reading of images.
 
 use crate::fault::{Fault, Reason};
 use std::fs;
@@ -18,7 +18,7 @@ pub(crate) fn open<'w>(
     ))
 }
 
-/// Returns why an image could not be opened, by looking at the path again.
+/// Returns the reason why an image could not be opened. It examines the path again.
 fn reason(rt: &HostRuntime, path: &str, writable: bool, error: ImageError) -> Reason {
     let metadata = match fs::metadata(rt, path) {
         Ok(metadata) => metadata,
@@ -39,8 +39,8 @@ fn reason(rt: &HostRuntime, path: &str, writable: bool, error: ImageError) -> Re
     }
 }
 
-/// Reads a block; zeros if the image doesn't have it.
-pub(crate) fn read_block<'w>(
+/// Reads a block. Returns zeros if the image doesn't have it.
+pub(crate) fn read_block_or_zeros<'w>(
     image: &mut FileImage,
     path: &'w str,
     block: u32,

@@ -1,7 +1,7 @@
-//! `uda50 info`: what images are.
+//! `uda50 info`: describes images.
 
 use crate::fault::Fault;
-use crate::image::{is_writable, open, read_block};
+use crate::image::{is_writable, open, read_block_or_zeros};
 use crate::outcome::Outcome;
 use std::fmt;
 use std::io::Write;
@@ -9,7 +9,7 @@ use uda_image::BlockStore;
 use uda50_arguments::ImageName;
 use uda50_show::{BootBlock, DiskLabel, Grouped, HomeBlock, TypesOfSize};
 
-/// Describes each image. The fault of one has its line, and the others follow.
+/// Describes each image. If one has a fault, it prints the fault's line and continues with the others.
 pub(crate) fn info<'w, W: Write>(
     rt: &HostRuntime,
     images: &[ImageName<'w>],
@@ -39,9 +39,9 @@ fn describe<'w, W: Write>(
 ) -> Result<(), Fault<'w>> {
     let path = name.path;
     let mut image = open(rt, path, false)?;
-    let zero = read_block(&mut image, path, 0)?;
-    let one = read_block(&mut image, path, 1)?;
-    let thirty_one = read_block(&mut image, path, 31)?;
+    let zero = read_block_or_zeros(&mut image, path, 0)?;
+    let one = read_block_or_zeros(&mut image, path, 1)?;
+    let thirty_one = read_block_or_zeros(&mut image, path, 31)?;
     write_size(out, path, image.size())?;
     let writable = match (name.protected, is_writable(rt, name)) {
         (true, _) => "no (lock:)",
@@ -64,7 +64,7 @@ fn write_size<'w, W: Write>(out: &mut W, path: &str, blocks: u32) -> Result<(), 
     Ok(writeln!(out, "  drive types of this size: {}", TypesOfSize(blocks))?)
 }
 
-// Writes a line for each thing that blocks 0, 1 and 31 show.
+// Writes a line for each structure found in blocks 0, 1 and 31.
 fn write_contents<'w, W: Write>(
     out: &mut W,
     zero: &[u8; 512],
@@ -84,7 +84,7 @@ fn write_contents<'w, W: Write>(
     Ok(())
 }
 
-// Writes the line of what a block shows, and returns whether it shows anything.
+// Writes the line of a structure in a block, and returns whether there is one.
 fn write_found<'w, W: Write, D: fmt::Display + Drop>(
     out: &mut W,
     block: u32,

@@ -1,15 +1,15 @@
-//! How a verb ended.
+//! The outcomes of a verb.
 
-use uda_script_run::Outcome as ScriptOutcome;
+use uda_script_run::ScriptOutcome;
 
-/// How a verb ended that met no fault of its own.
+/// The outcome of a verb that had no unreported fault.
 #[derive(Clone, Copy, Debug, PartialEq, Eq)]
 pub enum Outcome {
-    /// All is well.
+    /// All succeeded.
     Done,
     /// A request failed, blocks were lost, or a packet was invalid.
     Failed,
-    /// A fault was reported already.
+    /// A fault has been reported already.
     FaultReported,
 }
 

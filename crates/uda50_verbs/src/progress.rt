@@ -1,4 +1,4 @@
-//! How far a copy has come, on standard error.
+//! The progress of a copy, on standard error.
 
 use std::io::IsTerminal;
 use std::ops::Range;
@@ -6,41 +6,41 @@ use std::time::Instant;
 use uda50_copy::Observer;
 use uda50_show::Reached;
 
-/// How often the line of progress is written, in milliseconds.
+/// The least time between two lines of progress, in milliseconds.
 const INTERVAL: u64 = 200;
 
-/// Takes the line of progress away.
+/// The text that clears the line of progress.
 const CLEAR: &str = "\r\x1b[K";
 
-/// Shows how far a copy has come, if standard error is a terminal, and lists the blocks that are lost.
+/// Prints the progress of a copy, if standard error is a terminal, and lists the lost blocks.
 #[derive(Drop)]
-pub(crate) struct Progress<'r, 'w> {
+pub(crate) struct CopyProgress<'r, 'w> {
     rt: &'r HostRuntime,
     name: &'w str,
     blocks: Range<u32>,
-    line: Option<Line>,
+    line: Option<ProgressLine>,
     run: Range<u32>,
     lost: u32,
 }
 
-// The line of progress: when the copy began, and when the line is to be written next.
+// The line of progress: the start of the copy, and the time in milliseconds of the next line.
 #[derive(Clone, Copy)]
-struct Line {
+struct ProgressLine {
     start: Instant,
     next: u64,
 }
 
-impl<'r, 'w> Progress<'r, 'w> {
-    /// Begins to show what happens to these blocks of a file.
+impl<'r, 'w> CopyProgress<'r, 'w> {
+    /// Starts the progress of these blocks of a file.
     pub(crate) fn start(rt: &'r HostRuntime, name: &'w str, blocks: Range<u32>) -> Self {
         let line = match Instant::now(rt) {
-            Ok(start) if rt.stderr().is_terminal() => Some(Line {
+            Ok(start) if rt.stderr().is_terminal() => Some(ProgressLine {
                 start,
                 next: INTERVAL,
             }),
             _ => None,
         };
-        Progress {
+        CopyProgress {
             rt,
             name,
             blocks,
@@ -50,7 +50,7 @@ impl<'r, 'w> Progress<'r, 'w> {
         }
     }
 
-    /// Takes the line of progress away, lists the last lost blocks, and returns how many were lost in all.
+    /// Clears the line of progress, lists the last lost blocks, and returns the number of all lost blocks.
     pub(crate) fn end(mut self) -> u32 {
         self.clear();
         self.list();
@@ -61,7 +61,7 @@ impl<'r, 'w> Progress<'r, 'w> {
         self.lost
     }
 
-    // Lists the lost blocks that follow one another, if there are any.
+    // Lists the current run of consecutive lost blocks, if there is one.
     fn list(&mut self) {
         if self.run.start < self.run.end {
             self.clear();
@@ -77,7 +77,7 @@ impl<'r, 'w> Progress<'r, 'w> {
     }
 }
 
-impl Observer for Progress<'_, '_> {
+impl Observer for CopyProgress<'_, '_> {
     fn reached(&mut self, end: u32) {
         let Some(line) = self.line else {
             return;
@@ -87,7 +87,7 @@ impl Observer for Progress<'_, '_> {
         };
         let elapsed = u64::try_from(elapsed.as_millis()).unwrap_or(u64::MAX);
         if elapsed >= line.next {
-            self.line = Some(Line {
+            self.line = Some(ProgressLine {
                 next: elapsed.saturating_add(INTERVAL),
                 ..line
             });

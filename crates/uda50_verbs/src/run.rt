@@ -1,19 +1,19 @@
-//! `uda50 run`: scripts of any length.
+//! `uda50 run`: executes scripts of any length.
 
 use crate::fault::{Fault, STANDARD_INPUT};
 use crate::outcome::Outcome;
-use crate::script::{Drives, Job, execute, open_drives};
+use crate::script::{Drives, Job, execute_script, open_drives};
 use std::fs::{File, OpenFile};
 use std::io::{BufRead, BufReader, BufWriter, Read};
 use uda_driver::Unwatched;
 use uda_script_run::{Channels, ReportStyle};
 use uda50_arguments::Run;
 
-/// The size of the buffers of standard output and standard error.
+/// The capacity of the buffers of standard output and standard error, in bytes.
 const BUFFER: usize = 4_096;
 
-/// Executes a script on images, in batches, as it is read. The script `-` comes from standard input, and its
-/// `write` lines then find no data.
+/// Executes a script on images, in batches, as it is read. The script `-` is read from standard input, so
+/// its `write` lines have no data.
 pub(crate) fn run<'w>(rt: &HostRuntime, run: &Run<'w>) -> Result<Outcome, Fault<'w>> {
     let drives = open_drives(rt, run.units.as_slice())?;
     if run.script == "-" {
@@ -26,7 +26,7 @@ pub(crate) fn run<'w>(rt: &HostRuntime, run: &Run<'w>) -> Result<Outcome, Fault<
     run_from(rt, run, text, rt.stdin(), drives)
 }
 
-// Executes a script, with standard output for what it reads and standard error for the report.
+// Executes a script. The blocks that it reads go to standard output, and the report goes to standard error.
 fn run_from<'w, T: BufRead + Drop, R: Read + Drop>(
     rt: &HostRuntime,
     run: &Run<'w>,
@@ -49,13 +49,13 @@ fn run_from<'w, T: BufRead + Drop, R: Read + Drop>(
             failures_only: run.quiet,
         },
     };
-    let done = execute(rt, job, drives, &mut channels);
+    let done = execute_script(rt, job, drives, &mut channels);
     let Channels { out, report, .. } = channels;
     drop((out.into_parts(), report.into_parts()));
     Ok(Outcome::of_script(done?))
 }
 
-/// Returns what faults call a script.
+/// Returns the name of a script in faults.
 pub(crate) fn script_name(path: &str) -> &str {
     match path {
         "-" => STANDARD_INPUT,

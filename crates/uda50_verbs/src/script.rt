@@ -1,4 +1,4 @@
-//! Scripts executed on images.
+//! Execution of scripts on images.
 
 use crate::fault::{Fault, Reason, STANDARD_INPUT};
 use crate::image::open;
@@ -6,13 +6,13 @@ use std::io::{BufRead, Read, Write};
 use uda_driver::{Driver, Watch};
 use uda_grammar::ScriptError;
 use uda_image::{Drive, FileImage};
-use uda_script_run::{Channels, Outcome, ReportStyle, TextError, run_text};
+use uda_script_run::{Channels, ReportStyle, ScriptOutcome, TextError, run_text};
 use uda50_arguments::ImageName;
 
 /// The drives of units 0 to 3.
 pub(crate) type Drives = [Option<Drive<FileImage>>; 4];
 
-/// A script, the images that it is executed on, and how its requests are reported.
+/// A script, the images on which it is executed, and the style of its report.
 #[derive(Drop)]
 pub(crate) struct Job<'j, 'w, T> {
     /// The name of the script's file.
@@ -26,12 +26,12 @@ pub(crate) struct Job<'j, 'w, T> {
 }
 
 /// Executes a script on its images, in batches, as it is read, and syncs the images that it wrote.
-pub(crate) fn execute<'w, T: BufRead + Drop, R: Read, W: Write, V: Write, H: Watch>(
+pub(crate) fn execute_script<'w, T: BufRead + Drop, R: Read, W: Write, V: Write, H: Watch>(
     rt: &HostRuntime,
     job: Job<'_, 'w, T>,
     drives: Drives,
     channels: &mut Channels<R, W, V, H>,
-) -> Result<Outcome, Fault<'w>> {
+) -> Result<ScriptOutcome, Fault<'w>> {
     let Job {
         name,
         text,
@@ -42,10 +42,8 @@ pub(crate) fn execute<'w, T: BufRead + Drop, R: Read, W: Write, V: Write, H: Wat
         return Err(Fault::new("uda50", Reason::NoMemory));
     };
     let done = run_text(rt.alloc(), style, text, channels, &mut driver);
-    let synced = sync(rt, driver.into_stores(), units);
-    let outcome = done.map_err(|error| fault_of(name, error))?;
-    synced?;
-    Ok(outcome)
+    let outcome = done.map_err(|error| fault_of(name, error));
+    sync(rt, driver.into_stores(), units, outcome)
 }
 
 /// Opens the images of units 0 to 3, in this order.
@@ -78,13 +76,15 @@ fn open_drive<'w>(
     }
 }
 
-// Syncs each image that was written. Each that can't be has a line, and the last is the fault.
+// Syncs each image that was written. Of the faults, the script's and then those of the images, the last is
+// returned, and the others are printed.
 fn sync<'w>(
     rt: &HostRuntime,
     mut drives: Drives,
     units: &[Option<ImageName<'w>>],
-) -> Result<(), Fault<'w>> {
-    let mut done = Ok(());
+    outcome: Result<ScriptOutcome, Fault<'w>>,
+) -> Result<ScriptOutcome, Fault<'w>> {
+    let mut done = outcome;
     for (drive, unit) in drives.iter_mut().zip(units) {
         let (Some(drive), Some(image)) = (drive, unit) else {
             continue;
@@ -99,7 +99,7 @@ fn sync<'w>(
     done
 }
 
-// The fault of a script that stopped.
+// Returns the fault of a script that stopped.
 fn fault_of<'w>(script: &'w str, error: TextError) -> Fault<'w> {
     match error {
         TextError::Unreadable => Fault::new(script, Reason::Unreadable),

@@ -2,14 +2,16 @@
 
 use std::fs::{File, OpenFile};
 
-/// Files that take the numbers of closed standard streams, and are to be kept while others are open. Without
-/// them an image could get such a number, and what is printed would be written to it. `None` if neither
-/// `/dev/null` nor `/` can be opened.
+/// Opens files that replace closed standard streams. The caller keeps them open while it uses other files.
+/// Without them an image could be opened in place of a closed stream, and printed text would be written to
+/// it.
+///
+/// Returns `None` if neither `/dev/null` nor `/` can be opened.
 pub(crate) fn fill_closed_streams(rt: &HostRuntime) -> Option<[File; 3]> {
     Some([nothing(rt)?, nothing(rt)?, nothing(rt)?])
 }
 
-// A file that gives no bytes and takes none.
+// Opens a file that has no bytes to read and accepts none.
 fn nothing(rt: &HostRuntime) -> Option<File> {
     ["/dev/null", "/"]
         .iter()

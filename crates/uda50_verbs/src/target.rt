@@ -1,4 +1,4 @@
-//! The file that a copy is written to.
+//! The target file of a copy.
 
 use crate::fault::{Fault, Reason};
 use crate::image::open;
@@ -8,9 +8,11 @@ use std::os::unix::fs::MetadataExt;
 use uda_image::{BlockStore, FileImage};
 use uda50_arguments::Copy;
 
-/// Opens the target of a copy, whose source has `size` blocks. A file that doesn't exist is made as long as the
-/// source. An existing file is opened only by `--force`. If all blocks are copied, it becomes as long as the
-/// source. If some are, it keeps its length, and must have them.
+/// Opens the target of a copy whose source has `size` blocks.
+///
+/// - A file that doesn't exist is made as long as the source.
+/// - An existing file is opened only with `--force`. If all blocks are copied, it becomes as long as the
+///   source. If only some are, it keeps its length, and must have those blocks.
 pub(crate) fn open_target<'w>(
     rt: &HostRuntime,
     copy: &Copy<'w>,
@@ -54,7 +56,7 @@ pub(crate) fn open_target<'w>(
     }
 }
 
-// Refuses a target that is the source by another name, or by the same.
+// Fails if the target is the source, by the same name or by another.
 fn is_another<'w>(rt: &HostRuntime, copy: &Copy<'w>, dev: u64, ino: u64) -> Result<(), Fault<'w>> {
     match fs::metadata(rt, copy.from.path) {
         Ok(source) if source.dev() == dev && source.ino() == ino => {
@@ -64,7 +66,7 @@ fn is_another<'w>(rt: &HostRuntime, copy: &Copy<'w>, dev: u64, ino: u64) -> Resu
     }
 }
 
-// Opens a file that nobody else uses.
+// Opens a file whose lock nobody else holds.
 fn locked<'w>(rt: &HostRuntime, path: &'w str) -> Result<File, Fault<'w>> {
     let file = OpenOptions::new()
         .write(true)
@@ -76,7 +78,7 @@ fn locked<'w>(rt: &HostRuntime, path: &'w str) -> Result<File, Fault<'w>> {
     }
 }
 
-// Gives a file the length of `blocks` blocks.
+// Sets the length of a file to `blocks` blocks.
 fn set_blocks<'w>(path: &'w str, file: &File, blocks: u32) -> Result<(), Fault<'w>> {
     file.set_len(512 * u64::from(blocks))
         .map_err(|error| Fault::system(path, error))

@@ -1,9 +1,9 @@
-//! `uda50 trace`: each turn of the port.
+//! `uda50 trace`: prints each turn of the port.
 
 use crate::fault::Fault;
 use crate::outcome::Outcome;
 use crate::run::script_name;
-use crate::script::{Drives, Job, execute, open_drives};
+use crate::script::{Drives, Job, execute_script, open_drives};
 use std::fs::{File, OpenFile};
 use std::io;
 use std::io::{BufRead, BufReader, Read, Write};
@@ -12,8 +12,8 @@ use uda_packet::status;
 use uda_script_run::{Channels, ReportStyle};
 use uda50_arguments::ImageName;
 
-/// Executes a script on images as `run` does, and prints each turn of the port: what it fetched, executed or
-/// delivered, and how many credits are left. The blocks that the script reads are not printed.
+/// Executes a script on images as `run` does, and prints each turn of the port: what it fetched, executed
+/// or delivered, and the number of credits left. The blocks that the script reads are not printed.
 pub(crate) fn trace<'w, W: Write>(
     rt: &HostRuntime,
     script: &'w str,
@@ -58,14 +58,14 @@ fn trace_job<'w, T: BufRead + Drop, R: Read + Drop, W: Write>(
             printed: Ok(()),
         },
     };
-    let done = execute(rt, job, drives, &mut channels);
+    let done = execute_script(rt, job, drives, &mut channels);
     let Channels { watch, .. } = channels;
     let outcome = done?;
     watch.printed?;
     Ok(Outcome::of_script(outcome))
 }
 
-// Prints turns until it can't.
+// Prints turns until a write fails.
 #[derive(Drop)]
 struct Printer<'o, W> {
     out: &'o mut W,
@@ -77,7 +77,7 @@ impl<'o, W: Write> Printer<'o, W> {
     fn print(&mut self, trace: &Trace, credits: u32) -> io::Result<()> {
         let turn = self.turns;
         write!(self.out, "turn {turn}: {trace}")?;
-        if let Trace::Executed(end) | Trace::Delivered(end) | Trace::Refused(end) = trace {
+        if let Trace::Executed(end) | Trace::Delivered(end) | Trace::InvalidCommand(end) = trace {
             let name = status::name(end.status);
             write!(self.out, " ({name})")?;
         }

@@ -1,5 +1,5 @@
-//! Lists of requests drawn at random, and the scripts that ask for them, on which the driver and the
-//! plain program are compared.
+//! A comparison of the driver and the in-order program, on random lists of requests and on the scripts of
+//! such lists.
 #![tactic(auto)]
 
 #[cfg(test)]

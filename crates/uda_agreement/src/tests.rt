@@ -1,4 +1,4 @@
-//! The driver beside the plain program.
+//! The driver compared with the in-order program.
 mod draw;
 mod text;
 
@@ -14,20 +14,21 @@ use uda_image::{Drive, MemImage};
 use uda_plain::{PlainDisk, PlainUnits};
 use uda_script_run::run_script;
 
-/// How many pairs are compared.
+/// The number of pairs that are compared.
 const PAIRS: u64 = 60;
 
-/// How many times each pair has its lists, or its script: most of the time would else go to making drivers.
+/// The number of lists, or scripts, of each pair. With fewer, most of the time would be spent on making
+/// drivers.
 const ROUNDS: u32 = 5;
 
-/// The same blocks for both: a drive of the driver's, and a disk of the plain program's.
+/// The same blocks for both: a drive for the driver, and a disk for the in-order program.
 #[derive(Drop)]
 struct Twins {
     drive: Drive<MemImage>,
     disk: PlainDisk,
 }
 
-/// The bytes of blocks, one after the other.
+/// Returns the bytes of blocks, one after another.
 fn joined(alloc: Global, blocks: &[[u8; 512]]) -> Result<Vec<u8>, Fail> {
     let mut bytes = Vec::new(alloc);
     for block in blocks {
@@ -36,14 +37,14 @@ fn joined(alloc: Global, blocks: &[[u8; 512]]) -> Result<Vec<u8>, Fail> {
     Ok(bytes)
 }
 
-/// A drive of these blocks.
+/// Makes a drive of these blocks.
 fn drive_of(alloc: Global, blocks: &[[u8; 512]], hard: bool) -> Result<Drive<MemImage>, Fail> {
     let bytes = joined(alloc, blocks)?;
     let store = MemImage::from_bytes(alloc, &bytes)?;
     Ok(Drive { store, hard })
 }
 
-/// Twins of blocks that are drawn, protected once in so many times.
+/// Makes twins of random blocks. One in `times` of them is protected.
 fn drawn_twins(alloc: Global, draw: &mut Draw, times: u32) -> Result<Twins, Fail> {
     let blocks = draw.blocks(alloc)?;
     let hard = draw.once_in(times);
@@ -52,14 +53,14 @@ fn drawn_twins(alloc: Global, draw: &mut Draw, times: u32) -> Result<Twins, Fail
     Ok(Twins { drive, disk })
 }
 
-/// A driver and the plain program, over the same units.
+/// A driver and the in-order program, over the same units.
 #[derive(Drop)]
 struct Pair {
     driver: Driver<MemImage>,
     plain: PlainUnits,
 }
 
-/// A driver over these drives.
+/// Starts a driver over these drives.
 fn started(
     alloc: Global,
     first: Drive<MemImage>,
@@ -72,7 +73,7 @@ fn started(
 }
 
 impl Pair {
-    /// A pair over two units of drawn blocks.
+    /// Makes a pair over two units of random blocks.
     fn new(alloc: Global, draw: &mut Draw) -> Result<Pair, Fail> {
         let first = drawn_twins(alloc, draw, 8)?;
         let second = drawn_twins(alloc, draw, 4)?;
@@ -81,7 +82,7 @@ impl Pair {
         Ok(Pair { driver, plain })
     }
 
-    /// Whether both answer these requests alike.
+    /// Returns whether both answer these requests alike.
     fn answers_alike(&mut self, alloc: Global, requests: &[Request]) -> Result<bool, Fail> {
         let Ok(answers) = self.driver.run(requests) else {
             return Err("not run".into());
@@ -90,7 +91,7 @@ impl Pair {
         Ok(answers == plain)
     }
 
-    /// Whether both leave the same blocks, protected alike.
+    /// Returns whether both leave the same blocks, protected alike.
     fn leaves_alike(self) -> bool {
         let drives = self.driver.into_stores();
         drives
@@ -100,7 +101,7 @@ impl Pair {
     }
 }
 
-/// Whether a drive holds a disk's blocks, and is protected as it is.
+/// Returns whether a drive holds a disk's blocks, with the same protection.
 fn agree(drive: &Option<Drive<MemImage>>, disk: &Option<PlainDisk>) -> bool {
     match (drive, disk) {
         (None, None) => true,
@@ -109,7 +110,7 @@ fn agree(drive: &Option<Drive<MemImage>>, disk: &Option<PlainDisk>) -> bool {
     }
 }
 
-/// Whether an image holds a disk's blocks.
+/// Returns whether an image holds a disk's blocks.
 fn holds(image: &MemImage, disk: &PlainDisk) -> bool {
     image
         .bytes()
@@ -117,7 +118,7 @@ fn holds(image: &MemImage, disk: &PlainDisk) -> bool {
         .eq(disk.blocks().iter().map(|block| block.as_slice()))
 }
 
-/// Lists drawn from this seed have the same answers from both, and leave the same blocks.
+/// Returns whether lists drawn from this seed have the same answers from both, and leave the same blocks.
 fn agree_on(alloc: Global, seed: u64) -> Result<bool, Fail> {
     let mut draw = Draw::new(seed);
     let mut pair = Pair::new(alloc, &mut draw)?;
@@ -141,14 +142,14 @@ fn driver_and_plain_program_agree(rt: HostRuntime) -> Result<(), Fail> {
     Ok(())
 }
 
-/// What a script's run prints.
+/// The output of a script's run.
 #[derive(Drop, PartialEq)]
 struct Printed {
     out: Vec<u8>,
     report: Vec<u8>,
 }
 
-/// What it prints of these answers: the bytes that were read, and a line each.
+/// Returns the output for these answers: the bytes that were read, and a line for each answer.
 fn expected(alloc: Global, answers: &[Answer]) -> Result<Printed, Fail> {
     let (mut out, mut report) = (Vec::new(alloc), Vec::new(alloc));
     for (n, answer) in answers.iter().enumerate() {
@@ -160,7 +161,7 @@ fn expected(alloc: Global, answers: &[Answer]) -> Result<Printed, Fail> {
     Ok(Printed { out, report })
 }
 
-/// What a run of this script prints; None where the script is refused, or leaves some of its data.
+/// Returns the output of this script's run, or `None` if the script is rejected or leaves some of its data.
 fn run(alloc: Global, driver: &mut Driver<MemImage>, text: &Text) -> Option<Printed> {
     let script = parse(alloc, text.script.as_bytes()).ok()?;
     let mut data = text.data.as_slice();
@@ -171,7 +172,8 @@ fn run(alloc: Global, driver: &mut Driver<MemImage>, text: &Text) -> Option<Prin
 }
 
 impl Pair {
-    /// Whether a script of these requests prints what the plain program answers them, and takes all its data.
+    /// Returns whether a script of these requests prints the answers of the in-order program, and uses all
+    /// its data.
     fn prints_alike(&mut self, alloc: Global, requests: &[Request]) -> Result<bool, Fail> {
         let text = text_of(alloc, requests)?;
         let told = run(alloc, &mut self.driver, &text);
@@ -181,7 +183,8 @@ impl Pair {
     }
 }
 
-/// Scripts drawn from this seed print what the plain program answers their requests.
+/// Returns whether scripts drawn from this seed print the answers of the in-order program to their
+/// requests.
 fn prints_alike(alloc: Global, seed: u64) -> Result<bool, Fail> {
     let mut draw = Draw::new(seed);
     let mut pair = Pair::new(alloc, &mut draw)?;

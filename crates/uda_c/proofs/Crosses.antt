@@ -1,11 +1,11 @@
--- What may go to another thread: bytes that are lent.
+-- Lent bytes may move to another thread.
 use denote.Array.{Array}
 use denote.Builtin.{u8}
 use denote.Struct.Struct.{exits_of}
 use denote.Struct.Owning.{shape, fields, to}
 use denote.Param.Send.{IsSend, AllSend, owning_send, struct_send, array_send, sendable}
 use Rattle.std_alloc.proofs.SendSync.{quiet, lies}
-use Rattle.uda_c.specs.contracts.lent.Lent.{the_row, the_type}
+use Rattle.uda_c.specs.contracts.lent.BorrowedBytes.{the_row, the_type}
 
 pub lent_send : IsSend the_row
 lent_send =

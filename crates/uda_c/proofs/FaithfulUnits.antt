@@ -1,4 +1,4 @@
--- The units of a controller are faithful, and each call of its port leaves them so.
+-- The units of a controller are faithful, and remain so after each call of its port.
 use Rattle.std.proofs.Common.{◌≡◌, ℕ, zero, suc, Bool, true, false, List, [], ◌∷◌, set, Option, Some, None, Result, Ok, Err, refl, sym, ap, ◌∙◌}
 use Rattle.std.specs.Prelude.{option_map, slice_get, unwrap_or, if◌then◌else◌}
 use Rattle.std.proofs.lemmas.Option.{slice_get-map}
@@ -7,53 +7,53 @@ use Rattle.uda_packet.specs.declared.reply.Reply.{Reply}
 use Rattle.uda_packet.specs.declared.reply.ReplyBody.{ReplyBody}
 use Rattle.uda_packet.specs.declared.reply.ReplyBody.TheVariants.{Basic, Abort, CommandStatus, AccessPaths, CompareController, Flush, SetUnit, Compare}
 use Rattle.uda_port.specs.AtOnce.{exec_for, exec_at_once}
-use Rattle.uda_port.specs.declared.profile.Profile.TheVariants.{Strict, ForGuests}
+use Rattle.uda_port.specs.declared.profile.Profile.TheVariants.{Strict, Compatible}
 use Rattle.uda_disk.specs.declared.mode.Mode.{Mode}
-use Rattle.uda_disk.specs.Units.{UnitState, Units, Nature, nature_of, natures_of, is_faithful, AllFaithful}
+use Rattle.uda_disk.specs.Units.{UnitState, Units, FixedAttributes, attributes_of, unit_attributes, is_faithful, AllFaithful}
 use Rattle.uda_exec.specs.Drives.{DriveState, fresh_unit, reset_unit, in_mode, with_drive, with_mode}
 use Rattle.uda_exec.specs.Disks.{ExecState}
 use Rattle.uda_port.specs.declared.phase.Phase.{Phase}
-use Rattle.uda_port.specs.declared.phase.Phase.TheVariants.{Step1, Step2, Step3, Wrap, Purge, Poll, Step4, Running, Dead}
+use Rattle.uda_port.specs.declared.phase.Phase.TheVariants.{Step1, Step2, Step3, Wrap, PurgeTest, PollTest, Step4, Running, Dead}
 use Rattle.uda_port.specs.declared.phase.Fatal.{Fatal}
-use Rattle.uda_port.specs.declared.phase.Fatal.TheVariants.{PacketRead, PacketWrite, RingRead, RingWrite, CreditsExceeded, WrongEnvelope, StartUpWord}
+use Rattle.uda_port.specs.declared.phase.Fatal.TheVariants.{PacketRead, PacketWrite, RingRead, RingWrite, CreditsExceeded, InvalidConnection, InitializationError}
 use Rattle.uda_port.specs.declared.profile.Profile.{Profile}
 use Rattle.uda_port.specs.declared.turn.Turn.{Turn}
 use Rattle.uda_port.specs.declared.turn.Turn.TheVariants.{Fetched, Executed, Delivered, Notified, Idle, Dead as DeadTurn}
-use Rattle.uda_port.specs.Port.{PortState, port_restarted, port_asked, port_with_drive, drive_put, protected_drive, read_only_at}
+use Rattle.uda_port.specs.Port.{PortState, port_restarted, port_after_ip_read, port_with_drive, drive_put, protected_drive, read_only_at}
 use Rattle.uda_port.specs.Message.{message_in}
-use Rattle.uda_port.specs.Startup.{has_bit, wrap_by, area_of, has_area, refuses_second, refuses_third, asks_test, by_word}
-use Rattle.uda_port.specs.Turn.{port_turn_on, port_with_message, ExecutesFor, TurnGoes, RunningTurn, GoesOn, Fails, InFetch, InRest, FetchLine}
+use Rattle.uda_port.specs.Startup.{has_bit, after_wrap_request, area_of, has_area, refuses_second, refuses_third, asks_test, after_sa_write}
+use Rattle.uda_port.specs.Turn.{port_turn_on, port_with_message, ExecutesFor, TurnEffect, RunningTurn, GoesOn, Fails, InFetch, InRest, FetchRule}
 
--- ---- what changes no unit's nature leaves them faithful
+-- ---- a change that keeps the fixed attributes of all units keeps them faithful
 
-abbrev natures : PortState → List (Option Nature)
-natures port = natures_of port.exec.units
+abbrev all_attributes : PortState → List (Option FixedAttributes)
+all_attributes port = unit_attributes port.exec.units
 
-abbrev nature_faithful : Option (Option Nature) → Bool
-nature_faithful (Some (Some nature)) = nature.faithful
+abbrev nature_faithful : Option (Option FixedAttributes) → Bool
+nature_faithful (Some (Some attributes)) = attributes.faithful
 nature_faithful _ = true
 
 by_nature : (o : Option (Option UnitState))
-    → is_faithful o ≡ nature_faithful (option_map (option_map nature_of) o)
+    → is_faithful o ≡ nature_faithful (option_map (option_map attributes_of) o)
 by_nature (Some (Some unit)) = refl
 by_nature (Some None) = refl
 by_nature None = refl
 
 of_natures : (units : Units) (u : ℕ) → is_faithful (slice_get units u) ≡ nature_faithful (slice_get
-    (natures_of units) u)
+    (unit_attributes units) u)
 of_natures units u = by_nature (slice_get units u)
-    ∙ ap nature_faithful (sym (slice_get-map (option_map nature_of) units u))
+    ∙ ap nature_faithful (sym (slice_get-map (option_map attributes_of) units u))
 
-along : (old new : PortState) → natures new ≡ natures old → AllFaithful old.exec.units
+along : (old new : PortState) → all_attributes new ≡ all_attributes old → AllFaithful old.exec.units
     → AllFaithful new.exec.units
 along old new same all u = of_natures new.exec.units u
-    ∙ ap (λ (ns : List (Option Nature)). nature_faithful (slice_get ns u)) same
+    ∙ ap (λ (ns : List (Option FixedAttributes)). nature_faithful (slice_get ns u)) same
     ∙ sym (of_natures old.exec.units u) ∙ all u
 
 -- ---- a turn
 
 guest_natures : (b : ReplyBody) (r : Reply) (exec : ExecState)
-    → natures_of (exec_for b r exec).units ≡ natures_of exec.units
+    → unit_attributes (exec_for b r exec).units ≡ unit_attributes exec.units
 guest_natures (Basic b) r exec = refl
 guest_natures (Abort named) r exec = refl
 guest_natures (CommandStatus named progress) r exec = refl
@@ -64,97 +64,97 @@ guest_natures (SetUnit flags size) r exec = refl
 guest_natures (Compare bytes) r exec = refl
 
 at_once_natures : (profile : Profile) (r : Reply) (exec : ExecState)
-    → natures_of (exec_at_once profile r exec).units ≡ natures_of exec.units
+    → unit_attributes (exec_at_once profile r exec).units ≡ unit_attributes exec.units
 at_once_natures Strict r exec = refl
-at_once_natures (ForGuests identity) r exec = guest_natures r.body r exec
+at_once_natures (Compatible identity) r exec = guest_natures r.body r exec
 
 message_natures : (old : PortState) (message : Result GuestCommand Reply)
-    → natures (port_with_message old message) ≡ natures old
+    → all_attributes (port_with_message old message) ≡ all_attributes old
 message_natures old (Ok c) = refl
 message_natures old (Err r) = at_once_natures old.profile r old.exec
 
 fetch_natures : (cause : Fatal) (old : PortState) (memory : List ℕ) (new : PortState) (after : List ℕ)
-    → FetchLine old memory (Err cause) new after → natures new ≡ natures old
-fetch_natures PacketRead old memory new after line = ap natures line.1.state
-fetch_natures RingRead old memory new after line = ap natures line.1.state
-fetch_natures CreditsExceeded old memory new after line = ap natures line.taken.others
-fetch_natures WrongEnvelope old memory new after line = ap natures line.taken.others
+    → FetchRule old memory (Err cause) new after → all_attributes new ≡ all_attributes old
+fetch_natures PacketRead old memory new after line = ap all_attributes line.1.state
+fetch_natures RingRead old memory new after line = ap all_attributes line.1.state
+fetch_natures CreditsExceeded old memory new after line = ap all_attributes line.taken.others
+fetch_natures InvalidConnection old memory new after line = ap all_attributes line.taken.others
 fetch_natures PacketWrite old memory new after line = absurd line
 fetch_natures RingWrite old memory new after line = absurd line
-fetch_natures StartUpWord old memory new after line = absurd line
+fetch_natures InitializationError old memory new after line = absurd line
 
 rest_natures : (cause : Fatal) (old : PortState) (memory : List ℕ) (new : PortState) (after : List ℕ)
-    → GoesOn old memory (Err cause) new after → natures new ≡ natures old
-rest_natures PacketWrite old memory new after goes = ap natures goes.rest.1.1.state
-rest_natures RingRead old memory new after goes = ap natures goes.rest.1.1.state
+    → GoesOn old memory (Err cause) new after → all_attributes new ≡ all_attributes old
+rest_natures PacketWrite old memory new after goes = ap all_attributes goes.rest.1.1.state
+rest_natures RingRead old memory new after goes = ap all_attributes goes.rest.1.1.state
 rest_natures PacketRead old memory new after goes = absurd goes.rest.1
 rest_natures CreditsExceeded old memory new after goes = absurd goes.rest.1
-rest_natures WrongEnvelope old memory new after goes = absurd goes.rest.1
+rest_natures InvalidConnection old memory new after goes = absurd goes.rest.1
 rest_natures RingWrite old memory new after goes = absurd goes.rest.1
-rest_natures StartUpWord old memory new after goes = absurd goes.rest.1
+rest_natures InitializationError old memory new after goes = absurd goes.rest.1
 
 fails_natures : (cause : Fatal) (old : PortState) (memory : List ℕ) (new : PortState) (after : List ℕ)
-    → Fails cause old memory new after → natures new ≡ natures old
+    → Fails cause old memory new after → all_attributes new ≡ all_attributes old
 fails_natures cause old memory new after (InFetch line) = fetch_natures cause old memory new after line
 fails_natures cause old memory new after (InRest goes) = rest_natures cause old memory new after goes
 
 executed_natures : (profile : Profile) (j : ℕ) (old : ExecState) (memory : List ℕ) (r : Reply)
     (new : ExecState) (after : List ℕ) → ExecutesFor profile j old memory r new after
-    → natures_of new.units ≡ natures_of old.units
-executed_natures Strict j old memory r new after done = done.executes.executes.natures_stay
-executed_natures (ForGuests identity) j old memory r new after done = done.natures_stay
+    → unit_attributes new.units ≡ unit_attributes old.units
+executed_natures Strict j old memory r new after done = done.executes.executes.all_attributes_stay
+executed_natures (Compatible identity) j old memory r new after done = done.all_attributes_stay
 
 running_natures : (turn : Turn) (old : PortState) (memory : List ℕ) (new : PortState) (after : List ℕ)
-    → RunningTurn old memory turn new after → natures new ≡ natures old
+    → RunningTurn old memory turn new after → all_attributes new ≡ all_attributes old
 running_natures Fetched old memory new after goes =
-    ap natures goes.others ∙ message_natures (port_turn_on old) (message_in old.profile goes.packet)
+    ap all_attributes goes.others ∙ message_natures (port_turn_on old) (message_in old.profile goes.packet)
 running_natures Executed old memory new after goes =
     executed_natures old.profile goes.rest.0 old.exec memory goes.rest.1.end new.exec after
     goes.rest.1.executes
-running_natures Delivered old memory new after goes = ap natures goes.rest.1.others
-running_natures Notified old memory new after goes = ap natures goes.rest.1.others
-running_natures Idle old memory new after goes = ap natures goes.rest.1.1.state
+running_natures Delivered old memory new after goes = ap all_attributes goes.rest.1.others
+running_natures Notified old memory new after goes = ap all_attributes goes.rest.1.others
+running_natures Idle old memory new after goes = ap all_attributes goes.rest.1.1.state
 running_natures DeadTurn old memory new after goes =
-    ap natures goes.died ∙ fails_natures goes.cause (port_turn_on old) memory goes.before after goes.fails
+    ap all_attributes goes.died ∙ fails_natures goes.cause (port_turn_on old) memory goes.before after goes.fails
 
 turn_natures : (p : Phase) (turn : Turn) (old : PortState) (memory : List ℕ) (new : PortState) (after : List
     ℕ)
-    → TurnGoes p old memory turn new after → natures new ≡ natures old
+    → TurnEffect p old memory turn new after → all_attributes new ≡ all_attributes old
 turn_natures Running turn old memory new after goes = running_natures turn old memory new after goes
-turn_natures (Dead before) turn old memory new after goes = ap natures goes.unchanged.state
-turn_natures Step1 turn old memory new after goes = ap natures goes.unchanged.state
-turn_natures (Step2 first) turn old memory new after goes = ap natures goes.unchanged.state
-turn_natures (Step3 first second) turn old memory new after goes = ap natures goes.unchanged.state
-turn_natures Purge turn old memory new after goes = ap natures goes.unchanged.state
-turn_natures Poll turn old memory new after goes = ap natures goes.unchanged.state
-turn_natures Step4 turn old memory new after goes = ap natures goes.unchanged.state
-turn_natures (Wrap word) turn old memory new after goes = ap natures goes.unchanged.state
+turn_natures (Dead before) turn old memory new after goes = ap all_attributes goes.unchanged.state
+turn_natures Step1 turn old memory new after goes = ap all_attributes goes.unchanged.state
+turn_natures (Step2 first) turn old memory new after goes = ap all_attributes goes.unchanged.state
+turn_natures (Step3 first second) turn old memory new after goes = ap all_attributes goes.unchanged.state
+turn_natures PurgeTest turn old memory new after goes = ap all_attributes goes.unchanged.state
+turn_natures PollTest turn old memory new after goes = ap all_attributes goes.unchanged.state
+turn_natures Step4 turn old memory new after goes = ap all_attributes goes.unchanged.state
+turn_natures (Wrap word) turn old memory new after goes = ap all_attributes goes.unchanged.state
 
 pub turn_faithful : (turn : Turn) (old : PortState) (memory : List ℕ) (new : PortState) (after : List ℕ)
-    → TurnGoes old.phase old memory turn new after → AllFaithful old.exec.units → AllFaithful new.exec.units
+    → TurnEffect old.phase old memory turn new after → AllFaithful old.exec.units → AllFaithful new.exec.units
 turn_faithful turn old memory new after goes =
     along old new (turn_natures old.phase turn old memory new after goes)
 
 -- ---- the registers
 
-chosen : (a : Bool) (one other : PortState) (same : List (Option Nature)) → natures one ≡ same
-    → natures other ≡ same
-    → natures (if a then one else other) ≡ same
+chosen : (a : Bool) (one other : PortState) (same : List (Option FixedAttributes)) → all_attributes one ≡ same
+    → all_attributes other ≡ same
+    → all_attributes (if a then one else other) ≡ same
 chosen true one other same h k = h
 chosen false one other same h k = k
 
-chosen_pair : (a : Bool) (one other : PortState × List ℕ) (same : List (Option Nature)) → natures one.0 ≡ same
-    → natures other.0 ≡ same → natures (if a then one else other).0 ≡ same
+chosen_pair : (a : Bool) (one other : PortState × List ℕ) (same : List (Option FixedAttributes)) → all_attributes one.0 ≡ same
+    → all_attributes other.0 ≡ same → all_attributes (if a then one else other).0 ≡ same
 chosen_pair true one other same h k = h
 chosen_pair false one other same h k = k
 
-wrap_natures : (profile : Profile) (old : PortState) (word : ℕ) → natures (wrap_by profile old word)
-    ≡ natures old
+wrap_natures : (profile : Profile) (old : PortState) (word : ℕ) → all_attributes (after_wrap_request profile old word)
+    ≡ all_attributes old
 wrap_natures Strict old word = refl
-wrap_natures (ForGuests identity) old word = refl
+wrap_natures (Compatible identity) old word = refl
 
 word_natures : (p : Phase) (old : PortState) (memory : List ℕ) (word : ℕ)
-    → natures (by_word p old memory word).0 ≡ natures old
+    → all_attributes (after_sa_write p old memory word).0 ≡ all_attributes old
 word_natures Step1 old memory word =
     chosen (has_bit word 15) _ old _ (chosen (has_bit word 14) _ _ _ (wrap_natures old.profile old word) refl)
     refl
@@ -163,33 +163,33 @@ word_natures (Step3 first second) old memory word =
     chosen_pair (refuses_third old.profile word) _ _ _ refl
     (chosen_pair (has_area (area_of old.profile first second word) _) _ _ _
     (chosen (asks_test old.profile word) _ _ _ refl refl) refl)
-word_natures Purge old memory word = chosen _ _ old _ refl refl
-word_natures Poll old memory word = refl
+word_natures PurgeTest old memory word = chosen _ _ old _ refl refl
+word_natures PollTest old memory word = refl
 word_natures Step4 old memory word = chosen (has_bit word 0) _ old _ refl refl
 word_natures Running old memory word = refl
 word_natures (Dead cause) old memory word = refl
 word_natures (Wrap before) old memory word = refl
 
 pub word_faithful : (old : PortState) (memory : List ℕ) (word : ℕ) (new : PortState) (after : List ℕ)
-    → (new, after) ≡ by_word old.phase old memory word → AllFaithful old.exec.units
+    → (new, after) ≡ after_sa_write old.phase old memory word → AllFaithful old.exec.units
     → AllFaithful new.exec.units
 word_faithful old memory word new after is = along old new
-    (ap (λ (x : PortState × List ℕ). natures x.0) is ∙ word_natures old.phase old memory word)
+    (ap (λ (x : PortState × List ℕ). all_attributes x.0) is ∙ word_natures old.phase old memory word)
 
-asked_natures : (p : Phase) (old : PortState) → natures (port_asked p old) ≡ natures old
+asked_natures : (p : Phase) (old : PortState) → all_attributes (port_after_ip_read p old) ≡ all_attributes old
 asked_natures Running old = refl
-asked_natures Poll old = refl
+asked_natures PollTest old = refl
 asked_natures Step1 old = refl
 asked_natures (Step2 first) old = refl
 asked_natures (Step3 first second) old = refl
-asked_natures Purge old = refl
+asked_natures PurgeTest old = refl
 asked_natures Step4 old = refl
 asked_natures (Dead cause) old = refl
 asked_natures (Wrap word) old = refl
 
-pub asked_faithful : (old new : PortState) → new ≡ port_asked old.phase old → AllFaithful old.exec.units
+pub asked_faithful : (old new : PortState) → new ≡ port_after_ip_read old.phase old → AllFaithful old.exec.units
     → AllFaithful new.exec.units
-asked_faithful old new is = along old new (ap natures is ∙ asked_natures old.phase old)
+asked_faithful old new is = along old new (ap all_attributes is ∙ asked_natures old.phase old)
 
 reset_faithful : (o : Option (Option UnitState)) → is_faithful (option_map reset_unit o) ≡ is_faithful o
 reset_faithful (Some (Some unit)) = refl
@@ -205,7 +205,7 @@ start_faithful old new is all u =
 
 pub same_faithful : (old new : PortState) → new.exec ≡ old.exec → AllFaithful old.exec.units
     → AllFaithful new.exec.units
-same_faithful old new is = along old new (ap (λ (e : ExecState). natures_of e.units) is)
+same_faithful old new is = along old new (ap (λ (e : ExecState). unit_attributes e.units) is)
 
 -- ---- drives
 
@@ -226,7 +226,7 @@ drive_faithful old new u drive given is all k =
     ap (λ (p : PortState). is_faithful (slice_get p.exec.units k)) is
     ∙ set_faithful old.exec.units u (option_map fresh_unit drive) given all k
 
--- the same of a drive that a guest learns of
+-- the same of a drive whose attachment the guest learns
 put_is : (read_only : Bool) (drive : Option DriveState) → is_faithful (Some (option_map fresh_unit drive))
     ≡ true
     → is_faithful (Some (option_map fresh_unit (protected_drive read_only drive))) ≡ true

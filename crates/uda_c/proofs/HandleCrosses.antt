@@ -1,4 +1,4 @@
--- A handle may go to another thread, with the controller that it holds.
+-- A handle may move to another thread, with its controller.
 use Rattle.std.specs.Prelude.{Option, None, Some}
 use mir.Raw.{raw}
 use base.Shift.{Keyless}
@@ -23,8 +23,8 @@ use Rattle.uda_packet.specs.contracts.reply.Reply.{the_row as E}
 use Rattle.uda_port.specs.contracts.trace.Trace.{the_row as T}
 use Rattle.uda_exec.specs.contracts.executor.Exec as Exec
 use Rattle.uda_port.specs.contracts.port.Port as Port
-use Rattle.uda_c.specs.contracts.lent_image.LentImage.{the_row as I}
-use Rattle.uda_c.specs.contracts.lent_image.LentImageBlockStore.TheImpl.{ghosts as image_ghosts}
+use Rattle.uda_c.specs.contracts.lent_image.BorrowedImage.{the_row as I}
+use Rattle.uda_c.specs.contracts.lent_image.BorrowedImageBlockStore.TheImpl.{ghosts as image_ghosts}
 use Rattle.uda_c.specs.contracts.controller.Controller.{the_row as X}
 use Rattle.uda_c.specs.contracts.handle.Handle.{the_row, the_type}
 

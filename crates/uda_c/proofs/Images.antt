@@ -12,7 +12,7 @@ use Rattle.uda_image.specs.StoreLaws.{block_count-le}
 pub within_limit : (bytes : List ℕ) → block_count_of bytes ≤ store_limit
 within_limit = block_count-le
 
--- a write leaves as many bytes
+-- a write keeps the number of bytes
 pub length_with_block : (bytes : List ℕ) (n : ℕ) (block : List ℕ) → n < block_count_of bytes
     → length block ≡ 512
     → length (with_block bytes n block) ≡ length bytes
@@ -22,7 +22,7 @@ length_with_block bytes n block h e = simp (length-append, length-take, length-d
 pub length_put : (bytes : List ℕ) (at : ℕ) (from : List ℕ) → length (put bytes at from) ≡ length bytes
 length_put = length-put
 
--- a call that isn't the one that fails leaves the count of those that failed
+-- a call that doesn't fail keeps the count of those that failed
 pub failures_stay : (left : ℕ) → left ≢ 1 → failures_by (left - 1) ≡ failures_by left
 failures_stay zero h = refl
 failures_stay (suc zero) h = absurd (h refl)

@@ -1,4 +1,4 @@
--- Images that are lent, and given back.
+-- Images that are lent and returned.
 use Rattle.std.proofs.Common.{◌≡◌, ◌≢◌, ℕ, ◌<◌, ◌≤◌, Bool, true, false, List, [], length, length-set, set, Option, Some, None, refl, sym, ap, subst, ◌∙◌, arith}
 use Rattle.uda_port.specs.declared.profile.Profile.{Profile}
 use Rattle.std.specs.Prelude.{◌==◌, ◌||◌, option_map, slice_get, unwrap_or, is_some, if◌then◌else◌}
@@ -7,15 +7,15 @@ use Rattle.std.proofs.lemmas.Bool.{le-ltb, ne_eqb}
 use Rattle.uda_disk.proofs.Slots.{slice_get-set_same}
 use Rattle.uda_disk.specs.Units.{UnitState}
 use Rattle.uda_image.proofs.ImageLaws.{concat-blocks_of}
-use Rattle.uda_exec.specs.declared.drive_unit.UnitLook.{UnitLook}
-use Rattle.uda_exec.specs.Drives.{DriveState, drive_in, fresh_unit, handed_back, look_at}
+use Rattle.uda_exec.specs.declared.drive_unit.UnitInfo.{UnitInfo}
+use Rattle.uda_exec.specs.Drives.{DriveState, drive_in, fresh_unit, returned_drive, info_at}
 use Rattle.uda_port.specs.Port.{PortState, port_with_drive, read_only_at}
 use Rattle.uda_c.proofs.FailingUnits.{seen, handed}
 use Rattle.uda_c.specs.ControllerState.{ControllerState}
 use Rattle.uda_c.specs.declared.call_status.CallStatus.TheVariants.{Done, NoSuchUnit, AlreadyAttached, NotAttached, NotEmpty, HasController}
 use Rattle.uda_c.specs.declared.slot.Slot.{Slot}
-use Rattle.uda_c.specs.declared.lent.Lent.{Lent}
-use Rattle.uda_c.specs.LentImage.{LentBlocks, IsWhole, lent_state}
+use Rattle.uda_c.specs.declared.lent.BorrowedBytes.{BorrowedBytes}
+use Rattle.uda_c.specs.BorrowedImage.{BorrowedBlocks, IsWhole, borrowed_state}
 use Rattle.uda_c.specs.Slots.{empty_slot, lent_in, slot_of, is_empty}
 use Rattle.uda_c.specs.Controllers.{Lending, Attaches, Detaches, MakesNew, image_answer, image_in, has_image, lent_drive}
 
@@ -30,23 +30,23 @@ attached units u lending there whole =
 
 -- the calls that do it
 pub attaches : (old : ControllerState) (u : ℕ) (slot after : Slot) (hard : Bool) (bytes : List ℕ) (store :
-    LentBlocks) (new : PortState)
+    BorrowedBlocks) (new : PortState)
     → u ≤ 3 → has_image old u ≡ false → bytes ≡ slot.held → IsWhole bytes → after ≡ empty_slot
     → image_answer (length slot.held) ≡ Done → store ≡ record { bytes = bytes; left = None }
-    → new ≡ port_with_drive old.port u (Some (record { store = lent_state store; hard = hard }))
+    → new ≡ port_with_drive old.port u (Some (record { store = borrowed_state store; hard = hard }))
     → length new.exec.units ≡ 4 → Attaches (old, slot) u hard Done (record old { port = new }, after)
-attaches old u slot after hard bytes store new low free are whole gone fits store_is new_is four =
+attaches old u slot after hard bytes store new low free are whole gone fits store_is new_is four_units =
     let units : List (Option UnitState) = old.port.exec.units in
     let lending : Lending = record { bytes = slot.held; hard = hard } in
     let kept : Lending = record { bytes = slot.held; hard = read_only_at old.port u || hard } in
-    let drive_is : record { store = lent_state store; hard = hard } ≡ lent_drive lending =
-    ap (λ (s : LentBlocks). record { store = lent_state s; hard = hard }) (store_is
+    let drive_is : record { store = borrowed_state store; hard = hard } ≡ lent_drive lending =
+    ap (λ (s : BorrowedBlocks). record { store = borrowed_state s; hard = hard }) (store_is
     ∙ ap (λ (b : List ℕ). record { bytes = b; left = None }) are) in
     let is : new ≡ port_with_drive old.port u (Some (lent_drive lending)) =
     new_is ∙ ap (λ (d : DriveState). port_with_drive old.port u (Some d)) drive_is in
     let long : length units ≡ 4 =
     sym (length-set units u (Some (fresh_unit (lent_drive kept))))
-    ∙ sym (ap (λ (p : PortState). length p.exec.units) is) ∙ four in
+    ∙ sym (ap (λ (p : PortState). length p.exec.units) is) ∙ four_units in
     record {
       answer_is = sym (ap (λ b. if b then NoSuchUnit else if has_image old u then AlreadyAttached else
           image_answer (length slot.held)) (le-ltb 3 u low)
@@ -58,8 +58,8 @@ attaches old u slot after hard bytes store new low free are whole gone fits stor
       refused = λ no. absurd (no refl);
     }
 
--- bytes that are put back where they were
-pub put_back : (old new : Slot) (lent : Lent) → new ≡ slot_of lent → lent ≡ lent_in old → new ≡ old
+-- the return of the same bytes leaves the slot unchanged
+pub put_back : (old new : Slot) (lent : BorrowedBytes) → new ≡ slot_of lent → lent ≡ lent_in old → new ≡ old
 put_back old new lent put were = put ∙ ap slot_of were
 
 pub empty : (slot : Slot) → slot.held ≡ [] → true ≡ is_empty slot
@@ -69,14 +69,14 @@ pub full : (slot : Slot) → length slot.held ≢ 0 → false ≡ is_empty slot
 full slot some = sym (ne_eqb (length slot.held) 0 some)
 
 -- an image isn't put into a slot that has bytes
-pub not_put : (old : ControllerState) (u : ℕ) (look : UnitLook) (slot after : Slot) (lent : Lent) → u ≤ 3
-    → look_at (slice_get old.port.exec.units u) ≡ Some look → length slot.held ≢ 0 → lent ≡ lent_in slot
+pub not_put : (old : ControllerState) (u : ℕ) (look : UnitInfo) (slot after : Slot) (lent : BorrowedBytes) → u ≤ 3
+    → info_at (slice_get old.port.exec.units u) ≡ Some look → length slot.held ≢ 0 → lent ≡ lent_in slot
     → after ≡ slot_of lent
     → Detaches (old, slot) u NotEmpty (old, after)
 not_put old u look slot after lent low e some were put = record {
   answer_is = sym (ap (λ b. if b then NoSuchUnit else if has_image old u then (if length slot.held == 0 then
       Done else NotEmpty) else NotAttached) (le-ltb 3 u low)
-      ∙ ap (λ (o : Option UnitLook). if is_some o then (if length slot.held == 0 then Done else NotEmpty)
+      ∙ ap (λ (o : Option UnitInfo). if is_some o then (if length slot.held == 0 then Done else NotEmpty)
       else NotAttached) e
       ∙ ap (λ b. if b then Done else NotEmpty) (ne_eqb (length slot.held) 0 some));
   detached = λ no. absurd (cc);
@@ -84,10 +84,10 @@ not_put old u look slot after lent low e some were put = record {
   refused = λ _. ap (λ (s : Slot). (old, s)) (put_back slot after lent put were);
 }
 
--- the drive that is handed back has the unit's blocks
-pub given_back : (units : List (Option UnitState)) (u : ℕ) (look : UnitLook) (drive : DriveState) (bytes :
+-- the drive that is returned has the unit's blocks
+pub given_back : (units : List (Option UnitState)) (u : ℕ) (look : UnitInfo) (drive : DriveState) (bytes :
     List ℕ)
-    → look_at (slice_get units u) ≡ Some look → Some drive ≡ handed_back units u None
+    → info_at (slice_get units u) ≡ Some look → Some drive ≡ returned_drive units u None
     → bytes ≡ concat drive.store.blocks
     → option_map (λ (image : Lending). image.bytes) (image_in (slice_get units u)) ≡ Some bytes
 given_back units u look drive bytes e back are =
@@ -104,18 +104,18 @@ pub controller_stays : (old new : Option ControllerState) {b : Bool} (profile : 
 controller_stays (Some c) new profile is has stays = (refl, stays)
 controller_stays None new profile is has stays = let no : false ≡ true = sym is ∙ has in absurd (cc)
 
--- the calls that give a unit's image back
-pub detaches : (old : ControllerState) (u : ℕ) (look : UnitLook) (slot after : Slot) (lent : Lent)
+-- the calls that return a unit's image
+pub detaches : (old : ControllerState) (u : ℕ) (look : UnitInfo) (slot after : Slot) (lent : BorrowedBytes)
     (drive : DriveState) (new : PortState)
-    → u ≤ 3 → look_at (slice_get old.port.exec.units u) ≡ Some look → slot.held ≡ []
-    → Some drive ≡ handed_back old.port.exec.units u None → lent.held ≡ concat drive.store.blocks
+    → u ≤ 3 → info_at (slice_get old.port.exec.units u) ≡ Some look → slot.held ≡ []
+    → Some drive ≡ returned_drive old.port.exec.units u None → lent.held ≡ concat drive.store.blocks
     → after ≡ slot_of lent → new ≡ port_with_drive old.port u None
     → Detaches (old, slot) u Done (record old { port = new }, after)
 detaches old u look slot after lent drive new low e empty back are put is =
     let units = old.port.exec.units in record {
       answer_is = sym (ap (λ b. if b then NoSuchUnit else if has_image old u then
           (if length slot.held == 0 then Done else NotEmpty) else NotAttached) (le-ltb 3 u low)
-          ∙ ap (λ (o : Option UnitLook).
+          ∙ ap (λ (o : Option UnitInfo).
           if is_some o then (if length slot.held == 0 then Done else NotEmpty) else NotAttached) e
           ∙ ap (λ (bytes : List ℕ). if length bytes == 0 then Done else NotEmpty) empty);
       detached = λ _. ap (λ (p : PortState). record old { port = p }) is;

@@ -1,7 +1,7 @@
 -- Steps for the walks of a slot's methods. Assumes `Logic`.
--- lent_out what bytes that are lent own is taken apart: where they lie, and the words of the struct
---     slot_in                        bytes are what a slot of that length owns
--- slot_opens, slot_closes a `&mut` to a slot is opened, which gives what it holds and its one cell, and
+-- lent_out: what lent bytes own is taken apart into their address and the words of the struct
+-- slot_in: bytes are what a slot of that length owns
+-- slot_opens, slot_closes: a `&mut` to a slot is opened, which gives its content and its one cell, and is
 -- closed at another value
 use Rattle.std.proofs.Common.{◌≡◌, ℕ, zero, suc, ◌<◌, ◌^◌, List, [], ◌∷◌, ◌++◌, length, refl, ap, ◌∙◌, arith}
 use seplogic.Ra.Ura.{Ura}
@@ -25,9 +25,9 @@ use denote.Struct.Struct.{within}
 use denote.Struct.Owning.{shape}
 use Rattle.uda_c.specs.Lies.{lies}
 use Rattle.uda_c.specs.SlotOwns.{slot_owns}
-use Rattle.uda_c.specs.declared.lent.Lent.{Lent}
+use Rattle.uda_c.specs.declared.lent.BorrowedBytes.{BorrowedBytes}
 use Rattle.uda_c.specs.declared.slot.Slot.{Slot}
-use Rattle.uda_c.specs.contracts.lent.Lent.{the_row as L, the_type as lent_type}
+use Rattle.uda_c.specs.contracts.lent.BorrowedBytes.{the_row as L, the_type as lent_type}
 use Rattle.uda_c.specs.contracts.slot.Slot.{the_row as R, the_type}
 
 abbrev pub slot : Ptr → ℕ → List ℕ → Slot
@@ -54,7 +54,7 @@ module _ {M : Type 1} {𝓤 : Ura M} {𝓛 : Logic 𝓤} {K : Type 0} {Γ : List
       feq_l t (λ e₁. flt_l t (λ fn. drop t $
       k (all ∙ (λ i. vstruct (of_list (e₀ i ++ (e₁ i ++ []))) ∷ [])) fn)))))
 
-  pub lent_out : K → (d : Lent) (vs : List Val)
+  pub lent_out : K → (d : BorrowedBytes) (vs : List Val)
       → ((pb po : ℕ) → d.at ≡ block_ptr pb po → vs ≡ word (block_ptr pb po) d.len ∷ [] → d.len < 2 ^ 64
       → Seq K 𝓛 (‵ (lies (block_ptr pb po) d.len d.held) ∷ Γ) G)
       → Seq K 𝓛 (‵ (L.own_val d vs) ∷ Γ) G
@@ -76,7 +76,7 @@ module _ {M : Type 1} {𝓤 : Ura M} {𝓛 : Logic 𝓤} {K : Type 0} {Γ : List
       fsplit t $ feq_l t (λ none. drop t $ feq_i t (List ℕ) xs [] (nil_of xs none) $ s))
   slot_in t pb po (suc n) xs = step (λ s. s)
 
-  -- the two cases of what a slot owns
+  -- the two cases of a slot: without and with bytes
   pub holds : K → (p : Ptr) (n : ℕ) (xs : List ℕ) → (n ≡ 0 → xs ≡ [] → Seq K 𝓛 Γ G)
       → ((m pb po : ℕ) → n ≡ suc m → length xs ≡ suc m → p ≡ block_ptr pb po
       → Seq K 𝓛 (‵ (lies (block_ptr pb po) (suc m) xs) ∷ Γ) G)

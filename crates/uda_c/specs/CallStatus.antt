@@ -1,9 +1,9 @@
--- The numbers by which C knows what it is answered.
+-- The status numbers that C gets.
 use Rattle.std.specs.Prelude.{ℕ}
 use Rattle.uda_port.specs.declared.turn.Turn.{Turn}
 use Rattle.uda_port.specs.declared.turn.Turn.TheVariants as turn
 use Rattle.uda_c.specs.declared.call_status.CallStatus.{CallStatus}
-use Rattle.uda_c.specs.declared.call_status.CallStatus.TheVariants.{Done, Took, NoController, NoMemory, NoSuchUnit}
+use Rattle.uda_c.specs.declared.call_status.CallStatus.TheVariants.{Done, RanTurn, NoController, NoMemory, NoSuchUnit}
 use Rattle.uda_c.specs.declared.call_status.CallStatus.TheVariants.{AlreadyAttached, NotAttached, BadLength, TooLarge}
 use Rattle.uda_c.specs.declared.call_status.CallStatus.TheVariants.{NotEmpty, HasController, NoSuchBus, NoSuchType}
 
@@ -17,7 +17,7 @@ turn_code turn.Dead = 5
 
 abbrev pub status_code : CallStatus → ℕ
 status_code Done = 0
-status_code (Took turn) = turn_code turn
+status_code (RanTurn turn) = turn_code turn
 status_code NoController = 64
 status_code NoMemory = 65
 status_code NoSuchUnit = 66

@@ -1,4 +1,4 @@
--- The numbers by which C names a bus and a drive type.
+-- The numbers of buses and drive types in C.
 use Rattle.std.specs.Prelude.{ℕ, ◌==◌, Option, Some, None, if◌then◌else◌}
 use Rattle.uda_packet.specs.declared.drive_type.DriveType.{DriveType}
 use Rattle.uda_packet.specs.declared.drive_type.DriveType.TheVariants as drive

@@ -1,23 +1,23 @@
--- What the calls of C do to a controller, and to what a handle holds.
+-- The effects of C's calls on a controller and on a handle.
 use Rattle.std.specs.Prelude.{◌≡◌, ◌≢◌, ℕ, ◌/◌, ◌%◌, ◌==◌, ◌||◌, Bool, true}
 use Rattle.std.specs.Prelude.{false, List, [], ◌∷◌, Option, Some, None, slice_get}
 use Rattle.std.specs.Prelude.{nat_lt, length, is_some, option_map, set, unwrap_or, if◌then◌else◌}
 use Rattle.std.specs.List.{concat}
 use Rattle.uda_mem.specs.Slices.{IsMemory}
 use Rattle.uda_image.specs.Limits.{store_limit}
-use Rattle.uda_disk.specs.Units.{UnitState, AllFaithful, AreImages}
-use Rattle.uda_exec.specs.Drives.{DriveState, look_at}
+use Rattle.uda_disk.specs.Units.{UnitState, AllFaithful, AreWellFormed}
+use Rattle.uda_exec.specs.Drives.{DriveState, info_at}
 use Rattle.uda_port.specs.declared.profile.Profile.{Profile}
-use Rattle.uda_port.specs.declared.profile.Profile.TheVariants.{Strict, ForGuests}
+use Rattle.uda_port.specs.declared.profile.Profile.TheVariants.{Strict, Compatible}
 use Rattle.uda_port.specs.declared.trace.Trace.{Trace}
 use Rattle.uda_port.specs.Guest.{usual_identity}
 use Rattle.uda_port.specs.Port.{PortState, CreditsAgree, port_at_start, port_with_drive, read_only_at, with_type}
 use Rattle.uda_port.specs.Interrupt.{vector_of, served}
-use Rattle.uda_port.specs.Startup.{by_word}
-use Rattle.uda_port.specs.Turn.{TurnGoes}
+use Rattle.uda_port.specs.Startup.{after_sa_write}
+use Rattle.uda_port.specs.Turn.{TurnEffect}
 use Rattle.uda_port.specs.Trace.{turn_of, Traces}
 use Rattle.uda_c.specs.declared.call_status.CallStatus.{CallStatus}
-use Rattle.uda_c.specs.declared.call_status.CallStatus.TheVariants.{Done, Took, NoSuchUnit, AlreadyAttached, NotAttached}
+use Rattle.uda_c.specs.declared.call_status.CallStatus.TheVariants.{Done, RanTurn, NoSuchUnit, AlreadyAttached, NotAttached}
 use Rattle.uda_c.specs.declared.call_status.CallStatus.TheVariants.{NoController, HasController, NoMemory, NotEmpty}
 use Rattle.uda_c.specs.declared.call_status.CallStatus.TheVariants.{NoSuchBus, NoSuchType}
 use Rattle.uda_packet.specs.declared.drive_type.DriveType.{DriveType}
@@ -27,36 +27,36 @@ use Rattle.uda_c.specs.ControllerState.{ControllerState}
 use Rattle.uda_c.specs.declared.slot.Slot.{Slot}
 use Rattle.uda_c.specs.declared.unit_images.UnitImages.{UnitImages}
 use Rattle.uda_c.specs.Slots.{empty_slot, are_empty}
-use Rattle.uda_c.specs.LentImage.{lent_state, failing_from_now}
+use Rattle.uda_c.specs.BorrowedImage.{borrowed_state, failing_from_now}
 
--- what is true of the port of every controller: it has four units; they read back what was written to them,
--- and have exactly the blocks of their size; and its credits agree
-pub record IsSound (port : PortState) : Type 0 where
-  pub four : length port.exec.units ≡ 4
+-- The invariant of the port of every controller. It has four units, they return the blocks that were written,
+-- and each has exactly as many blocks as its size. Its credits agree.
+pub record IsSoundPort (port : PortState) : Type 0 where
+  pub four_units : length port.exec.units ≡ 4
   pub faithful : AllFaithful port.exec.units
-  pub images : AreImages port.exec.units
+  pub images : AreWellFormed port.exec.units
   pub credits : CreditsAgree port
 
--- a call on a handle that holds no controller does this, and the handle holds none afterwards; one on a
--- handle that holds a controller does that to it
+-- The effect of a call on a handle. If the handle has no controller, the first proposition holds, and it has
+-- none afterwards. If it has one, the second relation holds.
 abbrev pub OnHandle : Option ControllerState → Option ControllerState → Type 0
     → (ControllerState → ControllerState → Type 0) → Type 0
 OnHandle None None without with = without
 OnHandle (Some old) (Some new) without with = with old new
 OnHandle _ _ without with = ⊥
 
--- what is true of the port of every controller that a handle holds, before a call and after it
+-- the invariant of the port of every controller that a handle has, before and after a call
 abbrev pub HoldsSound : Option ControllerState → Type 0
 HoldsSound None = Unit
-HoldsSound (Some c) = IsSound c.port
+HoldsSound (Some c) = IsSoundPort c.port
 
 abbrev pub AreSound : Option ControllerState → Option ControllerState → Type 0
 AreSound old new = HoldsSound old × HoldsSound new
 
 abbrev pub profile_of : Bool → Profile
-profile_of compatible = if compatible then ForGuests usual_identity else Strict
+profile_of compatible = if compatible then Compatible usual_identity else Strict
 
--- a controller at first: no unit has an image, and the port stands in step 1
+-- a new controller: no unit has an image, and the port is in step 1
 abbrev pub controller_at_start : Profile → ControllerState
 controller_at_start profile = record {
   port = port_at_start profile
@@ -66,7 +66,7 @@ controller_at_start profile = record {
 
 -- whether a unit has an image
 abbrev pub has_image : ControllerState → ℕ → Bool
-has_image c unit = is_some (look_at (slice_get c.port.exec.units unit))
+has_image c unit = is_some (info_at (slice_get c.port.exec.units unit))
 
 -- the status of an image of this many bytes
 abbrev pub image_answer : ℕ → CallStatus
@@ -82,26 +82,26 @@ attach_answer c unit bytes =
     else if has_image c unit then AlreadyAttached
     else image_answer bytes
 
--- what is answered of a unit that is to have an image
+-- the status of a call that needs a unit with an image
 abbrev pub unit_answer : ControllerState → ℕ → CallStatus
 unit_answer c unit =
     if nat_lt 3 unit then NoSuchUnit
     else if has_image c unit then Done
     else NotAttached
 
--- what is answered where the image is to go into a slot that has so many bytes
+-- the status of a call that puts the image into a slot with this many bytes
 abbrev pub detach_answer : ControllerState → ℕ → ℕ → CallStatus
 detach_answer c unit bytes =
     if nat_lt 3 unit then NoSuchUnit
     else if has_image c unit then (if bytes == 0 then Done else NotEmpty)
     else NotAttached
 
--- bytes that C lends as an image, and whether the drive's own switch protects them
+-- bytes that C lends as an image, and whether they are hardware write-protected
 pub record Lending : Type 0 where
   pub bytes : List ℕ
   pub hard : Bool
 
--- the image of a unit: the bytes of its blocks, one after another, and its protection
+-- the image of a unit: the bytes of its blocks in order, and its protection
 abbrev pub image_of : UnitState → Lending
 image_of unit = record { bytes = concat unit.store.blocks; hard = unit.mode.hard }
 
@@ -109,21 +109,21 @@ abbrev pub image_in : Option (Option UnitState) → Option Lending
 image_in (Some (Some unit)) = Some (image_of unit)
 image_in _ = None
 
--- the image that a unit has, if it has one
+-- the image of a unit, if it has one
 abbrev pub image_at : ControllerState → ℕ → Option Lending
 image_at c unit = image_in (slice_get c.port.exec.units unit)
 
--- they as a unit's drive
+-- the image as a unit's drive
 abbrev pub lent_drive : Lending → DriveState
 lent_drive lending =
-    record { store = lent_state (record { bytes = lending.bytes; left = None }); hard = lending.hard }
+    record { store = borrowed_state (record { bytes = lending.bytes; left = None }); hard = lending.hard }
 
--- the controller with this drive as that unit, or with none there
+-- the controller with this drive in that unit, or with none
 abbrev pub controller_with : ControllerState → ℕ → Option DriveState → ControllerState
 controller_with c unit drive =
     record c { port = port_with_drive c.port unit drive }
 
--- whether the drive of a handle's unit can't write, by its type
+-- whether the type of a handle's unit is read-only
 abbrev pub is_read_only : Option ControllerState → ℕ → Bool
 is_read_only None unit = false
 is_read_only (Some c) unit = read_only_at c.port unit
@@ -132,7 +132,7 @@ is_read_only (Some c) unit = read_only_at c.port unit
 abbrev pub Exchange : Type 0
 Exchange = ControllerState × Slot
 
--- the image in the slot, with this protection, becomes a unit's, and C has it no more; or nothing changes
+-- the image in the slot becomes a unit's, with this protection, and the slot is empty; or nothing changes
 pub record Attaches (old : Exchange) (unit : ℕ) (hard : Bool) (answer : CallStatus) (new : Exchange)
     : Type 0 where
   pub answer_is : answer ≡ attach_answer old.0 unit (length old.1.held)
@@ -144,50 +144,50 @@ pub record Attaches (old : Exchange) (unit : ℕ) (hard : Bool) (answer : CallSt
   pub taken : answer ≡ Done → new.1 ≡ empty_slot
   pub refused : answer ≢ Done → new ≡ old
 
--- a unit's image goes into the slot, and C has it again, as the commands left it; or nothing changes
+-- the slot gets a unit's image as the commands left it; or nothing changes
 pub record Detaches (old : Exchange) (unit : ℕ) (answer : CallStatus) (new : Exchange) : Type 0 where
   pub answer_is : answer ≡ detach_answer old.0 unit (length old.1.held)
   pub detached : answer ≡ Done → new.0 ≡ controller_with old.0 unit None
   pub given_back : answer ≡ Done → option_map (λ image. image.bytes) (image_at old.0 unit) ≡ Some new.1.held
   pub refused : answer ≢ Done → new ≡ old
 
--- the handle has a controller of which this unit has this image
+-- the handle has a controller whose unit has this image
 abbrev pub HasImage : Option ControllerState → ℕ → Lending → Type 0
 HasImage (Some c) unit image = image_at c unit ≡ Some image
 HasImage None unit image = ⊥
 
--- the handle had one of which this unit had an image of these bytes
+-- the handle had a controller whose unit had an image of these bytes
 abbrev pub HadBytes : Option ControllerState → ℕ → List ℕ → Type 0
 HadBytes (Some c) unit bytes = option_map (λ image. image.bytes) (image_at c unit) ≡ Some bytes
 HadBytes None unit bytes = ⊥
 
 -- the bytes of a unit's image, and none if it has no image
-abbrev pub bytes_of : Option Lending → List ℕ
-bytes_of (Some image) = image.bytes
-bytes_of None = []
+abbrev pub image_bytes_of : Option Lending → List ℕ
+image_bytes_of (Some image) = image.bytes
+image_bytes_of None = []
 
-abbrev pub bytes_at : ControllerState → ℕ → List ℕ
-bytes_at c unit = bytes_of (image_at c unit)
+abbrev pub image_bytes_at : ControllerState → ℕ → List ℕ
+image_bytes_at c unit = image_bytes_of (image_at c unit)
 
 -- each slot has the bytes of its unit's image
 pub record HasImagesOf (c : ControllerState) (images : UnitImages) : Type 0 where
-  pub unit_0 : images.unit_0.held ≡ bytes_at c 0
-  pub unit_1 : images.unit_1.held ≡ bytes_at c 1
-  pub unit_2 : images.unit_2.held ≡ bytes_at c 2
-  pub unit_3 : images.unit_3.held ≡ bytes_at c 3
+  pub unit_0 : images.unit_0.held ≡ image_bytes_at c 0
+  pub unit_1 : images.unit_1.held ≡ image_bytes_at c 1
+  pub unit_2 : images.unit_2.held ≡ image_bytes_at c 2
+  pub unit_3 : images.unit_3.held ≡ image_bytes_at c 3
 
--- what is answered if the images are to go into these slots
+-- the status of a call that puts the images into these slots
 abbrev pub free_answer : UnitImages → CallStatus
 free_answer images = if are_empty images then Done else NotEmpty
 
--- all images go into the slots, each as the commands left it; or nothing changes
+-- all slots get their images as the commands left them; or nothing changes
 pub record GivesBack (old : ControllerState × UnitImages) (answer : CallStatus)
     (new : ControllerState × UnitImages) : Type 0 where
   pub answer_is : answer ≡ free_answer old.1
   pub given_back : answer ≡ Done → HasImagesOf old.0 new.1
   pub refused : answer ≢ Done → new ≡ old
 
--- a controller goes, and C has the images of its units again; or nothing changes
+-- the controller is freed, and C gets the images of its units; or nothing changes
 pub record FreesOne (old : ControllerState) (images : UnitImages) (answer : CallStatus)
     (new : Option ControllerState) (images_after : UnitImages) : Type 0 where
   pub answer_is : answer ≡ free_answer images
@@ -201,7 +201,7 @@ Frees (Some c) images answer new images_after = FreesOne c images answer new ima
 Frees None images answer new images_after =
     (answer ≡ NoController) × (new ≡ None) × (images_after ≡ images)
 
--- a handle without a controller gets one, or none if an allocation fails; one that has a controller keeps it
+-- a handle without a controller gets one, or none if an allocation fails; one with a controller keeps it
 abbrev pub MakesNew : Option ControllerState → Profile → CallStatus → Option ControllerState → Type 0
 MakesNew (Some c) profile answer new = (answer ≡ HasController) × (new ≡ Some c)
 MakesNew None profile answer None = answer ≡ NoMemory
@@ -211,11 +211,11 @@ MakesNew None profile answer (Some c) = (answer ≡ Done) × (c ≡ controller_a
 abbrev pub drive_failing : ℕ → DriveState → DriveState
 drive_failing call drive = record drive { store = failing_from_now call drive.store }
 
--- so does a unit's, which stays as it is else
+-- a unit with such a drive, otherwise unchanged
 abbrev pub unit_failing : ℕ → UnitState → UnitState
 unit_failing call unit = record unit { store = failing_from_now call unit.store }
 
--- the controller with unit u so
+-- the controller with such a unit u
 abbrev pub controller_failing : ControllerState → ℕ → ℕ → ControllerState
 controller_failing c u call = record c {
   port = record c.port {
@@ -235,23 +235,23 @@ pub record FailsAt (old : ControllerState) (unit call : ℕ) (answer : CallStatu
 -- the guest writes SA
 pub record WritesSa (old : ControllerState) (memory : List ℕ) (word : ℕ) (new : ControllerState)
     (memory_after : List ℕ) : Type 0 where
-  pub steps : (new.port, memory_after) ≡ by_word old.port.phase old.port memory word
+  pub steps : (new.port, memory_after) ≡ after_sa_write old.port.phase old.port memory word
   pub last_stays : new.last ≡ old.last
 
--- a turn of the port, in memory that a port works in, is kept as the last
+-- a turn of the port in valid memory, which is stored as the last
 pub record TakesTurn (old : ControllerState) (memory : List ℕ) (answer : CallStatus) (new : ControllerState)
     (memory_after : List ℕ) : Type 0 where
   pub trace : Trace
-  pub answer_is : answer ≡ Took (turn_of trace)
+  pub answer_is : answer ≡ RanTurn (turn_of trace)
   pub last_is : new.last ≡ Some trace
-  pub goes : TurnGoes old.port.phase old.port memory (turn_of trace) new.port memory_after
+  pub goes : TurnEffect old.port.phase old.port memory (turn_of trace) new.port memory_after
   pub tells : Traces trace old.port new.port
 
--- what memory is answered that no port works in
+-- the status of a call with invalid memory
 abbrev pub memory_refusal : List ℕ → CallStatus
 memory_refusal memory = if length memory % 2 == 0 then TooLarge else BadLength
 
--- it is refused
+-- such a call changes nothing
 pub record RefusesMemory (old : ControllerState) (memory : List ℕ) (answer : CallStatus)
     (new : ControllerState) (memory_after : List ℕ) : Type 0 where
   pub answer_is : answer ≡ memory_refusal memory
@@ -263,7 +263,7 @@ pub record TurnsWhereMemory (old : ControllerState) (memory : List ℕ) (answer 
   pub turns : IsMemory memory → TakesTurn old memory answer new memory_after
   pub refuses : (IsMemory memory → ⊥) → RefusesMemory old memory answer new memory_after
 
--- the request that waits is taken, if one does, and the address of its vector told
+-- the pending request is taken, if there is one, and its vector address is returned
 abbrev pub TellsVector : Option ℕ → ℕ → Bool → ℕ → Type 0
 TellsVector (Some address) before told after = (told ≡ true) × (after ≡ address)
 TellsVector None before told after = (told ≡ false) × (after ≡ before)
@@ -273,20 +273,20 @@ pub record TakesInterrupt (old : ControllerState) (before : ℕ) (told : Bool) (
   pub vector : TellsVector (vector_of old.port.interrupts) before told after
   pub gone : new ≡ record old { port = record old.port { interrupts = served old.port.interrupts } }
 
--- ---- the compatible profile's controller
+-- ---- a controller of the compatible profile
 
--- a controller on the bus that C names, whose units have the numbers from this one on; or there is no such
--- bus
+-- a controller on the bus that C names, whose units have the numbers from this one on; or the bus doesn't
+-- exist
 abbrev pub MakesAs : Option ControllerState → Option Bus → ℕ → CallStatus → Option ControllerState → Type 0
 MakesAs old None first answer new = (answer ≡ NoSuchBus) × (new ≡ old)
 MakesAs old (Some bus) first answer new =
-    MakesNew old (ForGuests (record { bus = bus; first_unit = first })) answer new
+    MakesNew old (Compatible (record { bus = bus; first_unit = first })) answer new
 
 abbrev pub refusal_of_new : Option Bus → CallStatus
 refusal_of_new None = NoSuchBus
 refusal_of_new (Some bus) = HasController
 
--- what is answered if a unit is to be of a type
+-- the status of a call that sets a unit's type
 abbrev pub type_answer : ControllerState → ℕ → Option DriveType → CallStatus
 type_answer c unit kind =
     if nat_lt 3 unit then NoSuchUnit

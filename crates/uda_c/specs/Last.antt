@@ -1,4 +1,4 @@
--- What C is told of a turn, and its line as a text of C.
+-- The record of a turn for C, and its line as a string of C.
 use Rattle.std.specs.Prelude.{◌≡◌, ℕ, List, [], ◌∷◌, ◌++◌, length, take, drop, Option, Some, None}
 use Rattle.uda_packet.specs.declared.guest_command.GuestCommand.{GuestCommand}
 use Rattle.uda_packet.specs.declared.end.EndBody.TheVariants.{Moved}
@@ -10,7 +10,7 @@ use Rattle.uda_packet.specs.GuestCommands.{opcode_meant}
 use Rattle.uda_packet.specs.Reply.{reply_code}
 use Rattle.uda_packet.specs.Transfer.{transfer_of}
 use Rattle.uda_port.specs.declared.trace.Trace.{Trace}
-use Rattle.uda_port.specs.declared.trace.Trace.TheVariants.{Fetched, Refused, Answered, Aborted, Executed}
+use Rattle.uda_port.specs.declared.trace.Trace.TheVariants.{Fetched, InvalidCommand, Answered, Aborted, Executed}
 use Rattle.uda_port.specs.declared.trace.Trace.TheVariants.{Delivered, Notified, Idle, Dead}
 use Rattle.uda_port.specs.Startup.{code_of}
 use Rattle.uda_port.specs.Trace.{trace_display}
@@ -18,12 +18,12 @@ use Rattle.uda_c.specs.declared.last.TurnRecord.{TurnRecord}
 use Rattle.uda_c.specs.declared.call_status.CallStatus.{CallStatus}
 use Rattle.uda_c.specs.declared.call_status.CallStatus.TheVariants.{Done, NoMemory}
 
--- a turn that was about no command: its number, and the code of what the port died of
+-- a turn without a command: its number, and the code of the fatal error
 abbrev pub told_number : ℕ → ℕ → TurnRecord
 told_number kind code =
     record { kind = kind; reference = 0; lbn = 0; bytes = 0; unit = 0; code = code; status = 0 }
 
--- the blocks that a transfer speaks of, and its bytes
+-- the first block of a transfer, and its bytes
 abbrev pub told_lbn : Option Transfer → ℕ
 told_lbn (Some t) = t.lbn
 told_lbn None = 0
@@ -32,7 +32,7 @@ abbrev pub told_count : Option Transfer → ℕ
 told_count (Some t) = t.bytes
 told_count None = 0
 
--- a command that was fetched
+-- a fetched command
 abbrev pub told_command : GuestCommand → TurnRecord
 told_command g = record {
   kind = 1;
@@ -44,13 +44,13 @@ told_command g = record {
   status = 0;
 }
 
--- the bytes that an end tells
+-- the byte count that an end message reports
 abbrev pub told_bytes : ReplyBody → ℕ
 told_bytes (Basic (Moved kind bytes)) = bytes
 told_bytes (Compare bytes) = bytes
 told_bytes _ = 0
 
--- a turn that was about an end
+-- a turn with an end message
 abbrev pub told_end : ℕ → Reply → TurnRecord
 told_end kind e = record {
   kind = kind;
@@ -62,32 +62,32 @@ told_end kind e = record {
   status = e.status;
 }
 
--- a turn, by what it did: 0 to 5 as a turn is answered, 6 for a packet that is no command, 7 for no turn
--- yet, 8 for a command that was answered at once, 9 for an Abort that took a pending command out
+-- The record of a turn, by its kind. Kinds 0 to 5 are the statuses of a turn. Kind 6 is an invalid command,
+-- and 7 no turn yet. Kind 8 is a command that was answered at once, and 9 an Abort that removed a pending
+-- command.
 abbrev pub turn_record : Option Trace → TurnRecord
 turn_record (Some Idle) = told_number 0 0
 turn_record (Some (Fetched command)) = told_command command
 turn_record (Some (Executed end)) = told_end 2 end
 turn_record (Some (Delivered end)) = told_end 3 end
 turn_record (Some (Dead cause)) = told_number 5 (code_of cause)
-turn_record (Some (Refused end)) = told_end 6 end
+turn_record (Some (InvalidCommand end)) = told_end 6 end
 turn_record (Some (Answered end)) = told_end 8 end
 turn_record (Some (Aborted end)) = told_end 9 end
 turn_record (Some Notified) = told_number 4 0
 turn_record None = told_number 7 0
 
--- its line, and none where there was no turn yet
+-- its line, which is empty if there was no turn yet
 abbrev pub last_line : Option Trace → List ℕ
 last_line (Some trace) = trace_display trace
 last_line None = []
 
--- a text in a buffer as C has it: as much of it as leaves room for a 0, which stands behind it; what is left
--- of the buffer stays
+-- A string in a buffer of C: as much of it as fits, followed by a 0. The rest of the buffer is unchanged.
 abbrev pub text_in : List ℕ → List ℕ → List ℕ
 text_in text [] = []
 text_in text (b ∷ rest) = take (length rest) text ++ 0 ∷ drop (length (take (length rest) text)) rest
 
--- the line is in the buffer; or no memory was to be had for it, and the buffer is as it was
+-- the line is in the buffer; or its allocation failed, and the buffer is unchanged
 abbrev pub TellsLine : Option Trace → List ℕ → CallStatus → List ℕ → Type 0
 TellsLine last buffer Done after = after ≡ text_in (last_line last) buffer
 TellsLine last buffer NoMemory after = after ≡ buffer

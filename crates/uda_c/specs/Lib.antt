@@ -5,7 +5,7 @@ pub mod Lies
 pub mod LendsBytes
 pub mod SlotOwns
 pub mod Slots
-pub mod LentImage
+pub mod BorrowedImage
 pub mod CallStatus
 pub mod ControllerState
 pub mod Controllers

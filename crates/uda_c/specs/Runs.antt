@@ -1,10 +1,10 @@
--- Turns one after another.
+-- Several turns.
 use Rattle.std.specs.Prelude.{◌≡◌, ℕ, zero, suc, Bool, true, false, List}
 use Rattle.uda_mem.specs.Slices.{IsMemory}
 use Rattle.uda_port.specs.declared.turn.Turn.{Turn}
 use Rattle.uda_port.specs.declared.turn.Turn.TheVariants as turn
 use Rattle.uda_c.specs.declared.call_status.CallStatus.{CallStatus}
-use Rattle.uda_c.specs.declared.call_status.CallStatus.TheVariants.{Done, Took}
+use Rattle.uda_c.specs.declared.call_status.CallStatus.TheVariants.{Done, RanTurn}
 use Rattle.uda_c.specs.ControllerState.{ControllerState}
 use Rattle.uda_c.specs.Controllers.{TakesTurn, RefusesMemory}
 
@@ -23,16 +23,16 @@ abbrev pub AfterTurn : Bool → Type 0 → Type 0 → Type 0
 AfterTurn true over rest = over
 AfterTurn false over rest = rest
 
--- no more than so many turns, one after another; the last is answered, and where there is none what was
--- answered before
+-- At most `limit` turns, one after another. The status is that of the last turn, or the status before if
+-- there is none.
 abbrev pub TakesTurns : ℕ → CallStatus → Machine → CallStatus → Machine → Type 0
 TakesTurns zero before old answer new = (answer ≡ before) × (new ≡ old)
 TakesTurns (suc limit) before old answer new =
-    (turn : Turn) × (next : Machine) × TakesTurn old.0 old.1 (Took turn) next.0 next.1
-    × AfterTurn (does_nothing turn) ((answer ≡ Took turn) × (new ≡ next))
-    (TakesTurns limit (Took turn) next answer new)
+    (turn : Turn) × (next : Machine) × TakesTurn old.0 old.1 (RanTurn turn) next.0 next.1
+    × AfterTurn (does_nothing turn) ((answer ≡ RanTurn turn) × (new ≡ next))
+    (TakesTurns limit (RanTurn turn) next answer new)
 
--- in memory that a port works in, and other memory is refused
+-- the run happens in valid memory; invalid memory is rejected
 pub record RunsWhereMemory (limit : ℕ) (old : Machine) (answer : CallStatus) (new : Machine) : Type 0 where
   pub runs : IsMemory old.1 → TakesTurns limit Done old answer new
   pub refuses : (IsMemory old.1 → ⊥) → RefusesMemory old.0 old.1 answer new.0 new.1

@@ -4,7 +4,7 @@ use base.Fml.{feq}
 use denote.RawPtr.{Ptr}
 use Rattle.uda_c.specs.Lies.{lies}
 
--- what a slot owns: nothing where its length is 0, and else that many bytes
+-- the memory of a slot: none if its length is 0, and otherwise that many bytes
 abbrev pub slot_owns : Ptr → ℕ → List ℕ → Fml
 slot_owns p zero xs = feq (List ℕ) xs []
 slot_owns p (suc n) xs = lies p (suc n) xs

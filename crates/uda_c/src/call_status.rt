@@ -1,33 +1,33 @@
-//! What C is answered.
+//! The status of a call from C.
 ghost use Rattle.std.specs.Prelude.{◌≡◌};
 ghost use Rattle.uda_c.specs.CallStatus.{status_code};
 
 use uda_port::Turn;
 
-/// What an export answers; C sees its code.
+/// The status that an export returns. C gets its code.
 #[derive(Clone, Copy, Debug, PartialEq, Eq)]
 pub enum CallStatus {
-    /// It was done.
+    /// The call succeeded.
     Done,
-    /// A turn, and what it did.
-    Took(Turn),
+    /// The call ran a turn, with this result.
+    RanTurn(Turn),
     /// The handle has no controller.
     NoController,
-    /// No memory was to be had.
+    /// An allocation failed.
     NoMemory,
-    /// There is no such unit: they are 0 to 3.
+    /// There is no such unit: units are 0 to 3.
     NoSuchUnit,
     /// The unit has an image already.
     AlreadyAttached,
     /// The unit has no image.
     NotAttached,
-    /// The length isn't one that is allowed: an image's is a multiple of 512, guest memory's is even.
+    /// The length is invalid: an image's is a multiple of 512 and not 0, guest memory's is even.
     BadLength,
-    /// So many bytes are more than an image, or a guest's memory, may have.
+    /// An image or a guest's memory may not have this many bytes.
     TooLarge,
-    /// A slot that an image is to go into has one.
+    /// A slot for an image isn't empty.
     NotEmpty,
-    /// The handle has a controller.
+    /// The handle has a controller already.
     HasController,
     /// There is no such bus.
     NoSuchBus,
@@ -36,13 +36,13 @@ pub enum CallStatus {
 }
 
 impl CallStatus {
-    /// The number by which C knows the answer.
+    /// Returns the number of the status in C.
     pub fn code(self) -> u32
         ensures { result ≡ status_code self }
     {
         match self {
             CallStatus::Done => 0,
-            CallStatus::Took(turn) => match turn {
+            CallStatus::RanTurn(turn) => match turn {
                 Turn::Idle => 0,
                 Turn::Fetched => 1,
                 Turn::Executed => 2,

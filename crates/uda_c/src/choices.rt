@@ -1,10 +1,10 @@
-//! The numbers by which C names a bus and a drive type.
+//! The numbers of buses and drive types in C.
 ghost use Rattle.std.specs.Prelude.{◌≡◌};
 ghost use Rattle.uda_c.specs.Choices.{bus_of, type_of};
 
 use uda_packet::{Bus, DriveType};
 
-/// Returns the bus of a number, None if there is none.
+/// Returns the bus of a number, or None if there is none.
 pub fn bus_of(code: u32) -> Option<Bus>
     ensures { result ≡ bus_of code }
 {
@@ -15,7 +15,7 @@ pub fn bus_of(code: u32) -> Option<Bus>
     }
 }
 
-/// Returns the drive type of a number, None if there is none.
+/// Returns the drive type of a number, or None if there is none.
 pub fn type_of(code: u32) -> Option<DriveType>
     ensures { result ≡ type_of code }
 {

@@ -1,21 +1,21 @@
-//! What a handle of C points to.
+//! The controller of a handle.
 ghost use Rattle.std.specs.Prelude.{◌≡◌, ◌≢◌, ◌≤◌, ◌/◌, ◌%◌, ℕ, length, IfSome, IfNone, IfOk, IfErr, IsTrue};
 ghost use Rattle.uda_image.specs.Limits.{store_limit};
 ghost use Rattle.uda_mem.specs.Slices.{IsMemory};
-ghost use Rattle.uda_c.specs.declared.call_status.CallStatus.TheVariants.{Took, Done};
+ghost use Rattle.uda_c.specs.declared.call_status.CallStatus.TheVariants.{RanTurn, Done};
 ghost use Rattle.uda_c.specs.Controllers.{controller_at_start, SetsType, Attaches, Detaches, TurnsWhereMemory};
-ghost use Rattle.uda_c.specs.Controllers.{FailsAt, drive_failing, TakesTurn, memory_refusal, IsSound};
-ghost use Rattle.uda_port.specs.Port.{port_restarted, port_asked};
+ghost use Rattle.uda_c.specs.Controllers.{FailsAt, drive_failing, TakesTurn, memory_refusal, IsSoundPort};
+ghost use Rattle.uda_port.specs.Port.{port_restarted, port_after_ip_read};
 ghost use Rattle.uda_port.specs.Interrupt.{vector_of, served};
-ghost use Rattle.uda_c.specs.Controllers.{WritesSa, GivesBack, image_answer, image_at, bytes_at};
-ghost use Rattle.uda_c.specs.LentImage.{lent_state, IsWhole};
+ghost use Rattle.uda_c.specs.Controllers.{WritesSa, GivesBack, image_answer, image_at, image_bytes_at};
+ghost use Rattle.uda_c.specs.BorrowedImage.{borrowed_state, IsWhole};
 ghost use Rattle.uda_c.specs.Slots.{empty_slot, is_empty};
 ghost use Rattle.uda_exec.specs.Drives.{drive_state};
 ghost use Rattle.uda_c.specs.Runs.{TakesTurns, RunsWhereMemory, does_nothing};
 
 use crate::call_status::CallStatus;
-use crate::lent::Lent;
-use crate::lent_image::LentImage;
+use crate::lent::BorrowedBytes;
+use crate::lent_image::BorrowedImage;
 use crate::slot::Slot;
 use crate::unit_images::UnitImages;
 use std::alloc::Global;
@@ -25,10 +25,10 @@ use uda_image::{Drive, STORE_LIMIT};
 use uda_packet::DriveType;
 use uda_port::{Port, Profile, Trace, Turn};
 
-/// A port over the images that C has lent, and what its last turn did.
+/// A port over the images that C has lent, and the record of its last turn.
 #[derive(Drop)]
 pub struct Controller {
-    pub port: Port<LentImage>,
+    pub port: Port<BorrowedImage>,
     pub last: Option<Trace>,
 }
 
@@ -44,14 +44,14 @@ impl Model for Controller {
 }
 
 impl Controller {
-    /// Makes a controller without drives, whose port is in step 1. Returns None if an allocation fails.
+    /// Returns a controller without drives, whose port is in step 1. Returns None if an allocation fails.
     pub fn new(alloc: Global, profile: Profile) -> Option<Controller>
         ensures start { IfSome result (λ c. c ≡ controller_at_start profile) }
     {
         let exec = Exec::new([None, None, None, None]);
         let port = match profile {
             Profile::Strict => Port::new(alloc, exec),
-            Profile::ForGuests(identity) => Port::for_guests_as(alloc, identity, exec),
+            Profile::Compatible(identity) => Port::compatible_as(alloc, identity, exec),
         };
         match port {
             Ok(port) => Some(Controller { port, last: None }),
@@ -59,9 +59,9 @@ impl Controller {
         }
     }
 
-    /// States what is true of every controller. It does nothing.
+    /// States the invariant of every controller. It does nothing.
     pub fn keep(&self)
-        ensures sound { IsSound self.now.port }
+        ensures sound { IsSoundPort self.now.port }
     {
         self.port.keep();
     }
@@ -69,7 +69,7 @@ impl Controller {
     /// Writes IP for the guest.
     #[tactic(auto, using(crate::proofs::FaithfulUnits::start_faithful))]
     pub fn write_ip(&mut self, word: u16)
-        ensures starts { self.new ≡ record self.old { port = port_restarted self.old.port } }
+        ensures restarts { self.new ≡ record self.old { port = port_restarted self.old.port } }
     {
         self.port.write_ip(word);
     }
@@ -77,8 +77,8 @@ impl Controller {
     /// Reads IP for the guest.
     #[tactic(auto, using(crate::proofs::FaithfulUnits::asked_faithful))]
     pub fn read_ip(&mut self) -> u16
-        ensures zero { result ≡ 0 }
-        ensures looks { self.new ≡ record self.old { port = port_asked self.old.port.phase self.old.port } }
+        ensures reads_zero { result ≡ 0 }
+        ensures starts_polling { self.new ≡ record self.old { port = port_after_ip_read self.old.port.phase self.old.port } }
     {
         self.port.read_ip()
     }
@@ -86,23 +86,23 @@ impl Controller {
     /// Writes SA for the guest.
     #[tactic(auto, using(crate::proofs::FaithfulUnits::word_faithful))]
     pub fn write_sa(&mut self, word: u16, memory: &mut [u8])
-        ensures steps { WritesSa self.old memory.old word self.new memory.new }
+        ensures effect { WritesSa self.old memory.old word self.new memory.new }
     {
         self.port.write_sa_in(word, memory);
     }
 
-    /// Takes the pending interrupt request, if there is one.
+    /// Takes the pending interrupt request, if there is one, and returns its vector address.
     #[tactic(auto, using(crate::proofs::FaithfulUnits::same_faithful))]
     pub fn take_interrupt(&mut self) -> Option<u16>
         ensures vector { result ≡ vector_of self.old.port.interrupts }
-        ensures gone { self.new ≡ record self.old {
+        ensures request_cleared { self.new ≡ record self.old {
           port = record self.old.port { interrupts = served self.old.port.interrupts };
         } }
     {
         self.port.take_interrupt()
     }
 
-    /// Takes the bytes of C's slot as the image of a unit, or leaves them there.
+    /// Takes the bytes of C's slot as the image of a unit. If it fails, the bytes remain in the slot.
     pub fn attach(&mut self, unit: u32, image: &mut Slot, hard: bool) -> CallStatus
         ensures attaches { Attaches (self.old, image.old) unit hard result (self.new, image.new) }
     {
@@ -115,7 +115,7 @@ impl Controller {
         }
         match take_image(image) {
             Ok(lent) => {
-                let store = LentImage::new(lent);
+                let store = BorrowedImage::new(lent);
                 self.port.set_drive(unit, Some(Drive { store, hard }));
                 CallStatus::Done
             }
@@ -163,7 +163,7 @@ impl Controller {
     fn give_back_one(&mut self, unit: u32, image: &mut Slot)
         requires low { unit ≤ 3 }
         requires empty { IsTrue (is_empty image.old) }
-        ensures given_back { image.new.held ≡ bytes_at self.old unit }
+        ensures given_back { image.new.held ≡ image_bytes_at self.old unit }
         ensures others { (k : ℕ) → k ≢ unit → image_at self.new k ≡ image_at self.old k }
     {
         self.detach(unit, image);
@@ -207,11 +207,11 @@ impl Controller {
 
     /// Runs one turn of the port in the guest's memory.
     pub fn turn(&mut self, memory: &mut [u8]) -> CallStatus
-        ensures goes { TurnsWhereMemory self.old memory.old result self.new memory.new }
+        ensures effect { TurnsWhereMemory self.old memory.old result self.new memory.new }
     {
         match refusal_of(memory) {
             Some(refusal) => refusal,
-            None => CallStatus::Took(self.take_turn(memory)),
+            None => CallStatus::RanTurn(self.take_turn(memory)),
         }
     }
 
@@ -225,7 +225,7 @@ impl Controller {
         }
     }
 
-    // The same in memory that a port works in.
+    // Does the same in valid memory.
     fn run_in(&mut self, limit: u32, memory: &mut [u8]) -> CallStatus
         requires memory { IsMemory memory.old }
         ensures { TakesTurns limit Done (self.old, memory.old) result (self.new, memory.new) }
@@ -233,7 +233,7 @@ impl Controller {
         let mut answer = CallStatus::Done;
         for _ in 0..limit {
             let turn = self.take_turn(memory);
-            answer = CallStatus::Took(turn);
+            answer = CallStatus::RanTurn(turn);
             if does_nothing(turn) {
                 return answer;
             }
@@ -241,10 +241,10 @@ impl Controller {
         answer
     }
 
-    // A turn, which is kept as the last.
+    // Runs a turn, and stores its record as the last.
     fn take_turn(&mut self, memory: &mut [u8]) -> Turn
         requires memory { IsMemory memory.old }
-        ensures { TakesTurn self.old memory.old (Took result) self.new memory.new }
+        ensures { TakesTurn self.old memory.old (RanTurn result) self.new memory.new }
     {
         let trace = self.port.turn_traced_in(memory);
         self.last = Some(trace);
@@ -252,9 +252,10 @@ impl Controller {
     }
 }
 
-// Takes an image out of a slot, where there is one that a unit may have; else all stays there.
+// Takes an image out of a slot. Fails and leaves the slot unchanged if the slot is empty or the image is
+// invalid.
 #[tactic(auto, using(crate::proofs::Lending::put_back))]
-fn take_image(slot: &mut Slot) -> Result<Lent, CallStatus>
+fn take_image(slot: &mut Slot) -> Result<BorrowedBytes, CallStatus>
     ensures ok { IfOk result (λ lent. (lent.held ≡ slot.old.held) × IsWhole lent.held
         × (slot.new ≡ empty_slot) × (image_answer (length slot.old.held) ≡ Done)) }
     ensures err { IfErr result (λ r. (r ≡ image_answer (length slot.old.held)) × (r ≢ Done)
@@ -273,8 +274,8 @@ fn take_image(slot: &mut Slot) -> Result<Lent, CallStatus>
     }
 }
 
-// How many bytes these are.
-fn length_of(lent: &mut Lent) -> usize
+// Returns the number of bytes.
+fn length_of(lent: &mut BorrowedBytes) -> usize
     ensures length { result ≡ length lent.old.held }
     ensures same { lent.new ≡ lent.old }
 {
@@ -295,9 +296,9 @@ fn image_answer(bytes: usize) -> CallStatus
     }
 }
 
-// A drive whose store fails at a call, counted from now on.
-fn failing(drive: Drive<LentImage>, call: u32) -> Drive<LentImage>
-    ensures store { drive_state lent_state result ≡ drive_failing call (drive_state lent_state drive) }
+// Returns a drive whose store fails at a call, counted from now on.
+fn failing(drive: Drive<BorrowedImage>, call: u32) -> Drive<BorrowedImage>
+    ensures store { drive_state borrowed_state result ≡ drive_failing call (drive_state borrowed_state drive) }
 {
     let Drive { store, hard } = drive;
     let mut store = store;
@@ -305,14 +306,14 @@ fn failing(drive: Drive<LentImage>, call: u32) -> Drive<LentImage>
     Drive { store, hard }
 }
 
-// Whether a turn is one of a port that is idle or dead.
+// Returns whether a turn is one of an idle or dead port.
 fn does_nothing(turn: Turn) -> bool
     ensures { result ≡ does_nothing turn }
 {
     matches!(turn, Turn::Idle | Turn::Dead)
 }
 
-// What memory is answered that no port works in.
+// Returns the status of invalid memory, or None if a port can use the memory.
 fn refusal_of(memory: &[u8]) -> Option<CallStatus>
     ensures works { IfNone result (IsMemory memory.now) }
     ensures refused { IfSome result (λ r. (IsMemory memory.now → ⊥) × (r ≡ memory_refusal memory.now)) }

@@ -1,7 +1,7 @@
-//! The functions that C calls, as `include/uda50.h` declares them. Each accepts every handle, also one without a
-//! controller, which was never made or was freed.
+//! The functions that C calls, as `include/uda50.h` declares them. Each accepts every handle, including one
+//! that was never made or was freed.
 ghost use Rattle.std.specs.Prelude.{None, false, is_some, ◌≡◌, ◌||◌};
-ghost use Rattle.uda_port.specs.Port.{port_restarted, port_asked};
+ghost use Rattle.uda_port.specs.Port.{port_restarted, port_after_ip_read};
 ghost use Rattle.uda_port.specs.Startup.{sa_shown};
 ghost use Rattle.uda_c.specs.CallStatus.{status_code};
 ghost use Rattle.uda_c.specs.Choices.{bus_of, type_of};
@@ -35,8 +35,8 @@ pub extern "C" fn uda50_version() -> u32
     100
 }
 
-/// Makes a controller without images, of the compatible profile or of the strict one. A handle that has a
-/// controller keeps it. If an allocation fails the handle has none.
+/// Makes a controller without images, of the compatible or the strict profile. A handle that has a controller
+/// keeps it. If an allocation fails, the handle has none.
 #[unsafe(no_mangle)]
 pub extern "C" fn uda50_new(alloc: Global, handle: &mut Handle, compatible: bool) -> u32
     ensures made { (answer : CallStatus) × (result ≡ status_code answer)
@@ -49,8 +49,8 @@ pub extern "C" fn uda50_new(alloc: Global, handle: &mut Handle, compatible: bool
     make(alloc, handle, profile_of(compatible)).code()
 }
 
-/// Makes a controller of the compatible profile, on a bus, whose units have the numbers from `first_unit` on. A
-/// handle that has a controller keeps it. If an allocation fails the handle has none.
+/// Makes a controller of the compatible profile on a bus, whose units have the numbers from `first_unit` on.
+/// A handle that has a controller keeps it. If an allocation fails, the handle has none.
 #[unsafe(no_mangle)]
 pub extern "C" fn uda50_new_as(alloc: Global, handle: &mut Handle, bus: u32, first_unit: u16) -> u32
     ensures made { (answer : CallStatus) × (result ≡ status_code answer)
@@ -64,7 +64,7 @@ pub extern "C" fn uda50_new_as(alloc: Global, handle: &mut Handle, bus: u32, fir
         Some(bus) => make(
             alloc,
             handle,
-            Profile::ForGuests(Identity { bus, first_unit }),
+            Profile::Compatible(Identity { bus, first_unit }),
         )
         .code(),
         None => CallStatus::NoSuchBus.code(),
@@ -90,7 +90,7 @@ pub extern "C" fn uda50_set_type(handle: &mut Handle, unit: u32, drive_type: u32
     }
 }
 
-/// Frees the controller and gives C the images of its units. If a slot for them has one, nothing changes.
+/// Frees the controller and gives C the images of its units. If a slot for them isn't empty, nothing changes.
 #[unsafe(no_mangle)]
 pub extern "C" fn uda50_free(alloc: Global, handle: &mut Handle, images: &mut UnitImages) -> u32
     ensures frees { (answer : CallStatus) × (result ≡ status_code answer)
@@ -100,13 +100,12 @@ pub extern "C" fn uda50_free(alloc: Global, handle: &mut Handle, images: &mut Un
 {
     let answer = give_back(handle, images);
     if answer == CallStatus::Done {
-        release(alloc, handle);
+        free_controller(alloc, handle);
     }
     answer.code()
 }
 
-/// Attaches an image to a unit, and leaves C's struct empty. If the image is refused, C has its bytes as they
-/// were.
+/// Attaches an image to a unit, and empties C's struct. If it fails, the struct keeps its bytes.
 #[unsafe(no_mangle)]
 pub extern "C" fn uda50_attach(
     handle: &mut Handle,
@@ -179,7 +178,7 @@ pub extern "C" fn uda50_inject_failure(handle: &mut Handle, unit: u32, call: u32
 /// Writes IP for the guest.
 #[unsafe(no_mangle)]
 pub extern "C" fn uda50_write_ip(handle: &mut Handle, word: u16)
-    ensures starts { OnHandle handle.old.value handle.new.value Unit
+    ensures restarts { OnHandle handle.old.value handle.new.value Unit
         (λ old new. new ≡ record old { port = port_restarted old.port }) }
     ensures sound { AreSound handle.old.value handle.new.value }
 {
@@ -193,9 +192,9 @@ pub extern "C" fn uda50_write_ip(handle: &mut Handle, word: u16)
 /// Reads IP for the guest, which starts the polling of a running port.
 #[unsafe(no_mangle)]
 pub extern "C" fn uda50_read_ip(handle: &mut Handle) -> u16
-    ensures zero { result ≡ 0 }
-    ensures looks { OnHandle handle.old.value handle.new.value Unit
-        (λ old new. new ≡ record old { port = port_asked old.port.phase old.port }) }
+    ensures reads_zero { result ≡ 0 }
+    ensures starts_polling { OnHandle handle.old.value handle.new.value Unit
+        (λ old new. new ≡ record old { port = port_after_ip_read old.port.phase old.port }) }
     ensures sound { AreSound handle.old.value handle.new.value }
 {
     match handle.get() {
@@ -212,7 +211,7 @@ pub extern "C" fn uda50_read_ip(handle: &mut Handle) -> u16
 /// Writes SA for the guest.
 #[unsafe(no_mangle)]
 pub extern "C" fn uda50_write_sa(handle: &mut Handle, word: u16, memory: &mut [u8])
-    ensures steps { OnHandle handle.old.value handle.new.value (memory.new ≡ memory.old)
+    ensures effect { OnHandle handle.old.value handle.new.value (memory.new ≡ memory.old)
         (λ old new. WritesSa old memory.old word new memory.new) }
     ensures sound { AreSound handle.old.value handle.new.value }
 {
@@ -244,7 +243,7 @@ pub extern "C" fn uda50_read_sa(handle: &mut Handle) -> u16
 /// Runs one turn of the port in the guest's memory.
 #[unsafe(no_mangle)]
 pub extern "C" fn uda50_turn(handle: &mut Handle, memory: &mut [u8]) -> u32
-    ensures goes { OnHandle handle.old.value handle.new.value
+    ensures effect { OnHandle handle.old.value handle.new.value
         ((result ≡ status_code NoController) × (memory.new ≡ memory.old))
         (λ old new. (answer : CallStatus) × (result ≡ status_code answer)
         × TurnsWhereMemory old memory.old answer new memory.new) }
@@ -322,10 +321,10 @@ pub extern "C" fn uda50_get_state(handle: &mut Handle, state: &mut PortSnapshot)
     }
 }
 
-/// Copies what the last turn did into C's struct.
+/// Copies the record of the last turn into C's struct.
 #[unsafe(no_mangle)]
 pub extern "C" fn uda50_get_last_turn(handle: &mut Handle, turn: &mut TurnRecord) -> u32
-    ensures tells { OnHandle handle.old.value handle.new.value
+    ensures accurate { OnHandle handle.old.value handle.new.value
         ((result ≡ status_code NoController) × (turn.new ≡ turn.old))
         (λ old new. (result ≡ status_code Done) × (new ≡ old) × (turn.new ≡ turn_record old.last)) }
     ensures sound { AreSound handle.old.value handle.new.value }
@@ -340,14 +339,14 @@ pub extern "C" fn uda50_get_last_turn(handle: &mut Handle, turn: &mut TurnRecord
     }
 }
 
-/// Writes the line of the last turn into C's buffer, as much of it as leaves room for the 0 that ends it.
+/// Writes the line of the last turn into C's buffer, as much of it as fits, followed by a 0.
 #[unsafe(no_mangle)]
 pub extern "C" fn uda50_format_last_turn(
     alloc: Global,
     handle: &mut Handle,
     buffer: &mut [u8],
 ) -> u32
-    ensures tells { OnHandle handle.old.value handle.new.value
+    ensures accurate { OnHandle handle.old.value handle.new.value
         ((result ≡ status_code NoController) × (buffer.new ≡ buffer.old))
         (λ old new. (answer : CallStatus) × (result ≡ status_code answer) × (new ≡ old)
         × TellsLine old.last buffer.old answer buffer.new) }
@@ -364,7 +363,7 @@ pub extern "C" fn uda50_format_last_turn(
     }
 }
 
-// Returns what C is answered if its handle has a controller already.
+// Returns the status of a call that makes a controller in a handle that has one.
 fn refuse_new(bus: u32) -> CallStatus
     ensures { result ≡ refusal_of_new (bus_of bus) }
 {
@@ -389,7 +388,7 @@ fn has_controller(handle: &mut Handle) -> bool
     }
 }
 
-// Gives C the images of the controller's units, unless a slot for them has one.
+// Gives C the images of the controller's units, if all slots for them are empty.
 fn give_back(handle: &mut Handle, images: &mut UnitImages) -> CallStatus
     ensures gives_back { OnHandle handle.old.value handle.new.value
         ((result ≡ NoController) × (images.new ≡ images.old))
@@ -406,7 +405,7 @@ fn give_back(handle: &mut Handle, images: &mut UnitImages) -> CallStatus
 }
 
 // Frees the controller, if the handle has one.
-fn release(alloc: Global, handle: &mut Handle)
+fn free_controller(alloc: Global, handle: &mut Handle)
     ensures gone { handle.new.value ≡ None }
 {
     if let Some(controller) = handle.take(alloc) {
@@ -414,12 +413,12 @@ fn release(alloc: Global, handle: &mut Handle)
     }
 }
 
-// Returns the profile that C asks for. The compatible one is of a controller on a UNIBUS, with units from 0 on.
+// Returns the profile that C asks for. The compatible one has a controller on a UNIBUS, with units from 0 on.
 fn profile_of(compatible: bool) -> Profile
     ensures { result ≡ profile_of compatible }
 {
     if compatible {
-        Profile::ForGuests(USUAL_IDENTITY)
+        Profile::Compatible(USUAL_IDENTITY)
     } else {
         Profile::Strict
     }

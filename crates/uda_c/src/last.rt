@@ -1,4 +1,4 @@
-//! What C is told of a controller's last turn.
+//! The record of a controller's last turn for C.
 ghost use Rattle.std.specs.Prelude.{◌≡◌};
 ghost use Rattle.uda_c.specs.Last.{told_number, told_command, told_end, turn_record, TellsLine};
 
@@ -8,28 +8,28 @@ use std::alloc::Global;
 use uda_packet::{EndBody, GuestCommand, Reply, ReplyBody};
 use uda_port::Trace;
 
-/// What a turn did, in the form of C. What it has no word of is 0.
+/// The record of a turn, in the form of C. Fields that don't apply are 0.
 #[repr(C)]
 #[derive(Clone, Copy, Debug, PartialEq, Eq)]
 pub struct TurnRecord {
-    /// The number of what it did.
+    /// The number of the turn's kind.
     pub kind: u32,
     /// The command's reference number.
     pub reference: u32,
     /// The first block of a transfer that was fetched.
     pub lbn: u32,
-    /// The byte count of a transfer: as it was asked for, or as it is told by its end.
+    /// The byte count of a transfer: the requested one, or the one that its end message reports.
     pub bytes: u32,
     /// The command's unit number.
     pub unit: u16,
-    /// The opcode of a command, the end code of an end, or the code of the fatal error.
+    /// The opcode of a command, the end code of an end message, or the code of the fatal error.
     pub code: u16,
-    /// The status word of an end.
+    /// The status word of an end message.
     pub status: u16,
 }
 
 impl TurnRecord {
-    /// What a trace tells, if there was a turn at all.
+    /// Returns the record of a trace, or of no turn yet.
     pub fn of(trace: Option<Trace>) -> TurnRecord
         ensures told { result ≡ turn_record trace }
     {
@@ -39,7 +39,7 @@ impl TurnRecord {
             Some(Trace::Executed(end)) => TurnRecord::of_end(2, end),
             Some(Trace::Delivered(end)) => TurnRecord::of_end(3, end),
             Some(Trace::Dead(cause)) => TurnRecord::plain(5, cause.code()),
-            Some(Trace::Refused(end)) => TurnRecord::of_end(6, end),
+            Some(Trace::InvalidCommand(end)) => TurnRecord::of_end(6, end),
             Some(Trace::Answered(end)) => TurnRecord::of_end(8, end),
             Some(Trace::Aborted(end)) => TurnRecord::of_end(9, end),
             Some(Trace::Notified) => TurnRecord::plain(4, 0),
@@ -47,7 +47,7 @@ impl TurnRecord {
         }
     }
 
-    // A turn that was about no command.
+    // Returns the record of a turn without a command.
     fn plain(kind: u32, code: u16) -> TurnRecord
         ensures { result ≡ told_number kind code }
     {
@@ -62,7 +62,7 @@ impl TurnRecord {
         }
     }
 
-    // A fetch.
+    // Returns the record of a fetch.
     fn of_command(asked: GuestCommand) -> TurnRecord
         ensures { result ≡ told_command asked }
     {
@@ -82,7 +82,7 @@ impl TurnRecord {
         }
     }
 
-    // A turn that was about an end.
+    // Returns the record of a turn with an end message.
     fn of_end(kind: u32, end: Reply) -> TurnRecord
         ensures { result ≡ told_end kind end }
     {
@@ -102,9 +102,10 @@ impl TurnRecord {
     }
 }
 
-/// Puts the line of a turn into a buffer, as a text of C.
+/// Writes the line of a turn into a buffer, as a string of C. If the allocation of the line fails, the buffer
+/// is unchanged.
 pub fn put_last_line(alloc: Global, last: Option<Trace>, buffer: &mut [u8]) -> CallStatus
-    ensures tells { TellsLine last buffer.old result buffer.new }
+    ensures accurate { TellsLine last buffer.old result buffer.new }
 {
     let Some(trace) = last else {
         put_c_string(buffer, "");

@@ -6,16 +6,16 @@ use std::marker::Model;
 
 mod methods;
 
-/// `len` bytes at `at`, below 2^63, that nobody else reads or writes while the library has the struct.
+/// `len` bytes at `at`, below 2^63. While the library has the struct, nothing else reads or writes them.
 #[derive(Drop)]
-pub struct Lent {
+pub struct BorrowedBytes {
     pub at: *mut u8,
     pub len: usize,
     pub ghost held: { List ℕ },
 }
 
-impl Model for Lent {
+impl Model for BorrowedBytes {
     ghost also_owns = { λ m. lies m.at m.len m.held };
 }
 
-unsafe impl Send for Lent {}
+unsafe impl Send for BorrowedBytes {}

@@ -1,89 +1,89 @@
-//! Images in memory that a C program lends, as a file that it has mapped.
+//! Images in memory that a C program lends, for example of a mapped file.
 ghost use Rattle.std.specs.Prelude.{length, ◌≡◌, ◌+◌, ◌*◌, ◌-◌, ◌<◌, ◌≤◌, ◌↔◌, true, false, None, Some};
 ghost use Rattle.std.specs.Prelude.{is_ok, is_none, option_map, IsErr, IsOk, IfErr, if◌then◌else◌};
 ghost use Rattle.uda_mem.specs.Put.{part, put};
-ghost use Rattle.uda_image.specs.AtOnce.{ReadsAtOnce, WritesAtOnce};
+ghost use Rattle.uda_image.specs.AtOnce.{TriesToRead, TriesToWrite};
 ghost use Rattle.uda_image.specs.Image.{block_count_of, block_of, with_block, half_written};
-ghost use Rattle.uda_image.specs.Store.{Reads, Writes, KeepsNature};
-ghost use Rattle.uda_image.specs.StoreLaws.{block_count-le, IsImage-blocks_of};
-ghost use Rattle.uda_c.specs.LentImage.{lent_state, failing_from_now, IsWhole};
+ghost use Rattle.uda_image.specs.Store.{Reads, Writes, KeepsAttributes};
+ghost use Rattle.uda_image.specs.StoreLaws.{block_count-le, HasWholeBlocks-blocks_of};
+ghost use Rattle.uda_c.specs.BorrowedImage.{borrowed_state, failing_from_now, IsWhole};
 ghost use Rattle.std.specs.List.{concat};
 
-use crate::lent::Lent;
+use crate::lent::BorrowedBytes;
 use std::marker::Model;
 use uda_image::{BlockStore, StoreError, blocks};
 
 /// An image in memory that C has lent: block after block.
 ///
-/// It is faithful, and none of its calls fails until it is told which is to.
+/// It is faithful. None of its calls fails until [`fail_at`](BorrowedImage::fail_at) sets one to fail.
 #[derive(Drop)]
-pub struct LentImage {
-    bytes: Lent,
+pub struct BorrowedImage {
+    bytes: BorrowedBytes,
     size: u32,
-    // How many calls are left up to the one that fails, that one counted, 0 after it; None where it was never
-    // told of one.
+    // The number of calls up to and including the failing one, 0 after that call. None if no call was set to
+    // fail.
     left: Option<u32>,
 }
 
-impl Model for LentImage {
+impl Model for BorrowedImage {
     ghost use Rattle.std.specs.Prelude.{◌≡◌};
     ghost use Rattle.uda_image.specs.Image.{block_count_of};
-    ghost use Rattle.uda_c.specs.LentImage.{LentBlocks, IsWhole};
+    ghost use Rattle.uda_c.specs.BorrowedImage.{BorrowedBlocks, IsWhole};
 
-    ghost Value = { LentBlocks };
+    ghost Value = { BorrowedBlocks };
 
     ghost view = { λ image. record { bytes = image.bytes.held; left = image.left } };
 
     ghost invariant = { λ image. (image.size ≡ block_count_of image.bytes.held) × IsWhole image.bytes.held };
 }
 
-impl LentImage {
-    /// An image of the bytes that are lent, of which no call fails.
-    pub fn new(lent: Lent) -> LentImage
+impl BorrowedImage {
+    /// Returns an image of the lent bytes, of which no call fails.
+    pub fn new(lent: BorrowedBytes) -> BorrowedImage
         requires whole { IsWhole lent.held }
         ensures image { result ≡ record { bytes = lent.held; left = None } }
     {
         let mut bytes = lent;
         let size = blocks::count(bytes.bytes_mut());
-        LentImage {
+        BorrowedImage {
             bytes,
             size,
             left: None,
         }
     }
 
-    /// The bytes, given back: its blocks, one after another.
+    /// Returns the lent bytes: the blocks in order.
     #[tactic(auto, using(crate::proofs::Images::image_laws))]
-    pub fn into_lent(self) -> Lent
+    pub fn into_lent(self) -> BorrowedBytes
         ensures bytes { result.held ≡ self.bytes }
-        ensures blocks { result.held ≡ concat (lent_state self).blocks }
+        ensures blocks { result.held ≡ concat (borrowed_state self).blocks }
     {
-        let LentImage { bytes, .. } = self;
+        let BorrowedImage { bytes, .. } = self;
         bytes
     }
 
-    /// Has the image's call number `call` from now on fail, and no other: reads and writes of blocks are
-    /// counted together, from 1; where `call` is 0 none fails.
+    /// Makes the image's call number `call` from now on fail, and no other. Reads and writes of blocks are
+    /// counted together, from 1. If `call` is 0, none fails.
     pub fn fail_at(&mut self, call: u32)
         ensures left { self.new ≡ record self.old { left = Some call } }
-        ensures state { lent_state self.new ≡ failing_from_now call (lent_state self.old) }
+        ensures state { borrowed_state self.new ≡ failing_from_now call (borrowed_state self.old) }
     {
         self.left = Some(call);
     }
 
-    // Counts one call, and says whether it is the one that fails.
+    // Counts one call, and returns whether it is the failing one.
     #[tactic(auto, using(crate::proofs::Images::failures_stay))]
     fn fails_now(&mut self) -> bool
         ensures value { (result ≡ true) ↔ (self.old.left ≡ Some 1) }
         ensures left { self.new ≡ record self.old { left = option_map (λ l. l - 1) self.old.left } }
-        ensures passes { result ≡ false → lent_state self.new
-            ≡ record (lent_state self.old) { fails_in = self.new.left } }
-        ensures fails { result ≡ true → lent_state self.new
-            ≡ record (lent_state self.old) {
-              failures = (lent_state self.old).failures + 1;
-              fails_in = self.new.left;
+        ensures passes { result ≡ false → borrowed_state self.new
+            ≡ record (borrowed_state self.old) { failing_call = self.new.left } }
+        ensures fails { result ≡ true → borrowed_state self.new
+            ≡ record (borrowed_state self.old) {
+              failures = (borrowed_state self.old).failures + 1;
+              failing_call = self.new.left;
             } }
-        ensures sure { is_none self.old.left ≡ true → result ≡ false }
+        ensures infallible { is_none self.old.left ≡ true → result ≡ false }
     {
         match self.left {
             None => false,
@@ -94,7 +94,7 @@ impl LentImage {
         }
     }
 
-    // Writes the first half of block `n` alone.
+    // Writes only the first half of block `n`.
     #[tactic(auto, using(crate::proofs::Images::image_laws, crate::proofs::Images::length_with_block))]
     fn write_half(&mut self, n: u32, from: &[u8; 512])
         requires { n < block_count_of self.old.bytes }
@@ -117,12 +117,12 @@ fn put_first_half(block: &mut [u8; 512], from: &[u8; 512])
     block[..256].copy_from_slice(&from[..256]);
 }
 
-impl BlockStore for LentImage {
-    ghost state = { lent_state };
+impl BlockStore for BorrowedImage {
+    ghost state = { borrowed_state };
 
     ghost within_limit = { λ image. block_count-le image.bytes };
 
-    ghost is_image = { λ image _. IsImage-blocks_of image.bytes };
+    ghost is_image = { λ image _. HasWholeBlocks-blocks_of image.bytes };
 
     #[tactic(auto, using(crate::proofs::Images::within_limit))]
     fn size(&self) -> u32 {
@@ -135,10 +135,10 @@ impl BlockStore for LentImage {
         ensures fails { IsErr result ↔ (self.old.left ≡ Some 1) }
         ensures left { self.new ≡ record self.old { left = option_map (λ l. l - 1) self.old.left } }
         ensures to { to.new ≡ (if is_ok result then block_of self.old.bytes n else to.old) }
-        ensures nature { KeepsNature (lent_state self.old) (lent_state self.new) }
+        ensures attributes { KeepsAttributes (borrowed_state self.old) (borrowed_state self.new) }
         ensures error { IfErr result (λ e. e ≡ StoreError.Read) }
-        ensures sure { (lent_state self.old).never_fails ≡ true → IsOk result }
-        ensures reads { Reads (lent_state self.old) n (lent_state self.new) to.new result }
+        ensures infallible { (borrowed_state self.old).never_fails ≡ true → IsOk result }
+        ensures reads { Reads (borrowed_state self.old) n (borrowed_state self.new) to.new result }
         ensures long { length to.new ≡ 512 }
     {
         if self.fails_now() {
@@ -157,10 +157,10 @@ impl BlockStore for LentImage {
               (if is_ok result then from.now else half_written (block_of self.old.bytes n) from.now);
           left = option_map (λ l. l - 1) self.old.left;
         } }
-        ensures nature { KeepsNature (lent_state self.old) (lent_state self.new) }
+        ensures attributes { KeepsAttributes (borrowed_state self.old) (borrowed_state self.new) }
         ensures error { IfErr result (λ e. e ≡ StoreError.Write) }
-        ensures sure { (lent_state self.old).never_fails ≡ true → IsOk result }
-        ensures writes { Writes (lent_state self.old) n (lent_state self.new) from.now result }
+        ensures infallible { (borrowed_state self.old).never_fails ≡ true → IsOk result }
+        ensures writes { Writes (borrowed_state self.old) n (borrowed_state self.new) from.now result }
     {
         if self.fails_now() {
             self.write_half(n, from);
@@ -171,13 +171,13 @@ impl BlockStore for LentImage {
     }
 
     #[tactic(auto, using(crate::proofs::Images::at_once_laws))]
-    fn read_at_once(&mut self, n: u32, count: u32, to: &mut [u8]) -> bool
+    fn try_read_blocks(&mut self, n: u32, count: u32, to: &mut [u8]) -> bool
         requires on_unit { n + count ≤ block_count_of self.old.bytes }
         requires long { length to.old ≡ 512 * count }
         ensures done { result ≡ is_none self.old.left }
-        ensures nature { KeepsNature (lent_state self.old) (lent_state self.new) }
+        ensures attributes { KeepsAttributes (borrowed_state self.old) (borrowed_state self.new) }
         ensures long { length to.new ≡ length to.old }
-        ensures reads { ReadsAtOnce (lent_state self.old) n count (lent_state self.new) to.old to.new result }
+        ensures reads { TriesToRead (borrowed_state self.old) n count (borrowed_state self.new) to.old to.new result }
     {
         if self.left.is_some() {
             return false;
@@ -187,12 +187,12 @@ impl BlockStore for LentImage {
     }
 
     #[tactic(auto, using(crate::proofs::Images::at_once_laws, crate::proofs::Images::length_put))]
-    fn write_at_once(&mut self, n: u32, count: u32, from: &[u8]) -> bool
+    fn try_write_blocks(&mut self, n: u32, count: u32, from: &[u8]) -> bool
         requires on_unit { n + count ≤ block_count_of self.old.bytes }
         requires long { length from.now ≡ 512 * count }
         ensures done { result ≡ is_none self.old.left }
-        ensures nature { KeepsNature (lent_state self.old) (lent_state self.new) }
-        ensures writes { WritesAtOnce (lent_state self.old) n count (lent_state self.new) from.now result }
+        ensures attributes { KeepsAttributes (borrowed_state self.old) (borrowed_state self.new) }
+        ensures writes { TriesToWrite (borrowed_state self.old) n count (borrowed_state self.new) from.now result }
     {
         if self.left.is_some() {
             return false;
@@ -202,7 +202,7 @@ impl BlockStore for LentImage {
     }
 }
 
-// The bytes of blocks from block `n` on, as many as `to` has.
+// Copies the bytes of blocks from block `n` on, as many as `to` has.
 #[tactic(auto, unfolding(uda_image::specs::Image::block_count_of, uda_mem::specs::Put::part))]
 fn read_blocks(bytes: &[u8], n: u32, count: u32, to: &mut [u8])
     requires on_unit { n + count ≤ block_count_of bytes.now }

@@ -1,4 +1,4 @@
-//! The controller as a static library for C: `uda50.h` declares what is exported here.
+//! The controller as a static library for C: `uda50.h` declares the exports.
 #![tactic(auto)]
 
 mod call_status;

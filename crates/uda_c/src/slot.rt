@@ -1,4 +1,4 @@
-//! The struct in which C hands over an image and gets it back.
+//! The struct with which C passes an image and gets it back.
 ghost use Rattle.uda_c.specs.SlotOwns.{slot_owns};
 ghost use Rattle.std.specs.Prelude.{List, ℕ};
 
@@ -6,9 +6,9 @@ use std::marker::Model;
 
 mod methods;
 
-/// The bytes of an image that C has, or none: where `len` is 0 there are none, whatever `at` is.
+/// The bytes of an image that C has, or none. If `len` is 0 there are none, whatever `at` is.
 ///
-/// Nobody else reads or writes them while a call has the struct, and none of them once a unit has them.
+/// While a call has the struct, or a unit has the bytes, nothing else reads or writes them.
 #[repr(C)]
 #[derive(Drop)]
 pub struct Slot {

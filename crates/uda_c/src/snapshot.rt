@@ -1,47 +1,49 @@
-//! What C is shown of a controller.
-ghost use Rattle.std.specs.Prelude.{◌≡◌};
-ghost use Rattle.uda_c.specs.Snapshot.{phase_number, ring_snapshot, port_snapshot};
+//! The state of a controller for C.
+ghost use Rattle.std.specs.Prelude.{◌≡◌, ◌≤◌, if◌then◌else◌};
+ghost use Rattle.uda_c.specs.Snapshot.{phase_number, ring_snapshot, port_snapshot, attention_bits};
 
 use uda_image::BlockStore;
 use uda_port::{Phase, Port, Ring};
 
-/// A ring, in the form of C.
+/// The state of a ring, in the form of C.
 #[repr(C)]
 #[derive(Clone, Copy, Debug, PartialEq, Eq)]
 pub struct RingSnapshot {
     /// The address of the first descriptor.
     pub base: u32,
-    /// How many descriptors it has.
+    /// The number of descriptors.
     pub count: u16,
-    /// The next of the next one.
+    /// The index of the next descriptor.
     pub next: u16,
 }
 
-/// A port, in the form of C.
+/// The state of a port, in the form of C.
 #[repr(C)]
 #[derive(Clone, Copy, Debug, PartialEq, Eq)]
 pub struct PortSnapshot {
     /// The number of its phase.
     pub phase: u32,
-    /// The ring that ends are put into.
+    /// The response ring.
     pub responses: RingSnapshot,
-    /// The ring that commands are fetched from.
+    /// The command ring.
     pub commands: RingSnapshot,
-    /// How many commands were fetched and not yet executed.
+    /// The number of commands that were fetched and not executed yet.
     pub pending: u32,
-    /// How many ends wait for delivery.
+    /// The number of queued end messages.
     pub queued: u32,
     /// What SA shows.
     pub sa: u16,
-    /// How many commands the host may still post.
+    /// The number of commands that the host may still post.
     pub credits: u16,
-    /// Whether the port looks at its command ring: 1, or 0.
+    /// Whether the port polls its command ring: 1, or 0.
     pub polling: u16,
-    /// The address of the interrupts' vector, 0 before the host has told it.
+    /// The address of the interrupt vector, 0 until the host has set it.
     pub vector: u16,
+    /// The units for which an attention message is due: bit u for unit u.
+    pub attentions: u32,
 }
 
-// The number by which C knows a phase.
+// Returns the number of a phase in C.
 fn phase_number(phase: Phase) -> u32
     ensures { result ≡ phase_number phase }
 {
@@ -49,8 +51,8 @@ fn phase_number(phase: Phase) -> u32
         Phase::Step1 => 1,
         Phase::Step2 { .. } => 2,
         Phase::Step3 { .. } => 3,
-        Phase::Purge => 4,
-        Phase::Poll => 5,
+        Phase::PurgeTest => 4,
+        Phase::PollTest => 5,
         Phase::Step4 => 6,
         Phase::Running => 7,
         Phase::Dead { .. } => 8,
@@ -71,7 +73,7 @@ impl RingSnapshot {
 }
 
 impl PortSnapshot {
-    /// What there is to be seen of a port.
+    /// Returns the state of a port.
     pub fn of<S: BlockStore>(port: &Port<S>) -> PortSnapshot
         ensures shown { result ≡ port_snapshot port.now }
     {
@@ -83,8 +85,27 @@ impl PortSnapshot {
             queued: port.waiting() as u32,
             sa: port.read_sa(),
             credits: u16::from(port.credits()),
-            polling: u16::from(port.is_looking()),
+            polling: u16::from(port.is_polling()),
             vector: port.interrupts().vector,
+            attentions: attention_bits(port),
         }
     }
+}
+
+// Returns the units for which an attention message is due: bit u for unit u.
+fn attention_bits<S: BlockStore>(port: &Port<S>) -> u32
+    ensures { result ≡ attention_bits port.now.guest.attentions }
+{
+    bit(port.is_attention_due(0), 1)
+        + bit(port.is_attention_due(1), 2)
+        + bit(port.is_attention_due(2), 4)
+        + bit(port.is_attention_due(3), 8)
+}
+
+// Returns a bit that is set.
+fn bit(set: bool, bit: u32) -> u32
+    ensures bit { result ≡ if set then bit else 0 }
+    ensures within { result ≤ bit }
+{
+    if set { bit } else { 0 }
 }

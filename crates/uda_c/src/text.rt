@@ -1,8 +1,8 @@
-//! Texts in a buffer of C's.
+//! Strings in a buffer of C.
 ghost use Rattle.std.specs.Prelude.{◌≡◌};
 ghost use Rattle.uda_c.specs.Last.{text_in};
 
-/// Puts a text into a buffer, as much of it as leaves room for the 0 that ends it.
+/// Writes a text into a buffer, as much of it as fits, followed by a 0.
 pub fn put_c_string(buffer: &mut [u8], text: &str)
     ensures text { buffer.new ≡ text_in text.now buffer.old }
 {

@@ -1,4 +1,4 @@
-//! The structs in which C gets its images back when it frees a controller.
+//! The structs in which C gets its images when it frees a controller.
 ghost use Rattle.std.specs.Prelude.{◌≡◌};
 ghost use Rattle.uda_c.specs.Slots.{are_empty};
 

@@ -2,11 +2,11 @@
 use Rattle.std.proofs.Common.{◌≡◌, ℕ, Bool, true, false, List, [], ◌∷◌, ◌++◌, replicate, map, Some, None, refl}
 use Rattle.uda_mem.specs.Put.{part, put}
 use Rattle.uda_disk.specs.Disk.{Disks}
-use Rattle.uda_disk.specs.Plain.{Done, Lost}
+use Rattle.uda_disk.specs.RequestEffect.{Done, Lost}
 use Rattle.uda_disk.specs.Request as ask
 use Rattle.uda_disk.specs.Request.{Act, Request}
 use Rattle.uda_disk.specs.Answer.{Answer, TooLong, Plain, Online, Status, Moved, Data}
-use Rattle.uda_disk.specs.PlainRun.{plain, plain_as}
+use Rattle.uda_disk.specs.InOrderRun.{run_in_order, run_in_order_as}
 use Rattle.uda_disk.specs.Order.{lead}
 
 -- a request of this unit
@@ -37,9 +37,9 @@ abbrev numbered : List (List ℕ)
 numbered = of 0 ∷ of 1 ∷ of 2 ∷ of 3 ∷ of 4 ∷ of 5 ∷ of 6 ∷ of 7 ∷ of 8 ∷ of 9 ∷ []
 
 abbrev answers : Disks → List Request → List Answer
-answers disks requests = (plain disks requests).0
+answers disks requests = (run_in_order disks requests).0
 
-empty_run : plain eight [] ≡ ([], eight)
+empty_run : run_in_order eight [] ≡ ([], eight)
 empty_run = refl
 
 read_while_available : answers eight (on 0 (ask.Read 0 512) ∷ []) ≡ Data 0x0004 [] ∷ []
@@ -78,7 +78,7 @@ more_than_eight : answers (alone false (zeros 10) 10)
 unfolding put part
 more_than_eight = refl
 
-overlapping_writes : plain eight (on 0 (ask.Online false) ∷ on 0 (ask.Write 3 (replicate 1536 0x11)) ∷ on 0
+overlapping_writes : run_in_order eight (on 0 (ask.Online false) ∷ on 0 (ask.Write 3 (replicate 1536 0x11)) ∷ on 0
     (ask.Read 5 512) ∷ on 0 (ask.Write 5 (of 0x22)) ∷ on 0 (ask.Read 5 512) ∷ [])
     ≡ (
       Online 0 0 8 ∷ Moved 0 1536 ∷ Data 0 (of 0x11) ∷ Moved 0 512 ∷ Data 0 (of 0x22) ∷ [],
@@ -127,7 +127,7 @@ part_block : answers eight (on 0 (ask.Online false) ∷ on 0 (ask.Write 2 (repli
 unfolding put part
 part_block = refl
 
--- what a part block held before is gone
+-- the previous content of a partial block is gone
 part_block_again : answers eight (on 0 (ask.Online false) ∷ on 0 (ask.Write 2 (of 0x66)) ∷ on 0
     (ask.Write 2 (0x77 ∷ 0x77 ∷ [])) ∷ on 0 (ask.Read 2 4) ∷ on 0 (ask.Erase 2 2) ∷ on 0 (ask.Read 2 4) ∷ [])
     ≡ Online 0 0 8 ∷ Moved 0 512 ∷ Moved 0 2 ∷ Data 0 (0x77 ∷ 0x77 ∷ 0 ∷ 0 ∷ []) ∷ Moved 0 2 ∷ Data 0
@@ -143,12 +143,12 @@ odd_counts_and_limits : answers eight (on 0 (ask.Online false) ∷ on 0 (ask.Rea
 unfolding put part
 odd_counts_and_limits = refl
 
--- a Write of three blocks is lost at its second, which is half written then; what stands before it is there,
--- and what comes behind it is not
+-- a Write of three blocks fails at its second, which is half written then; the block before it is written,
+-- and the one after it is not
 abbrev half : List ℕ
 half = replicate 256 0x44 ++ replicate 256 0
 
-failing_store : plain_as eight (
+failing_store : run_in_order_as eight (
     record { request = on 0 (ask.Online false); outcome = Done }
     ∷ record { request = on 0 (ask.Write 0 (replicate 1536 0x44)); outcome = Lost 1 half }
     ∷ record { request = on 0 (ask.Read 0 512); outcome = Done } ∷ [])
@@ -163,8 +163,8 @@ failing_store : plain_as eight (
 unfolding put part
 failing_store = refl
 
--- the first fifteen of more are out together; a Read waits for a Write that it meets, and what is too long is
--- passed over
+-- the first fifteen of more are outstanding together; a Read waits for a Write that it conflicts with, and
+-- a request that is too long is skipped
 lead_of_seventeen : lead (map (λ k. on 0 (ask.Read k 512))
     (16 ∷ 15 ∷ 14 ∷ 13 ∷ 12 ∷ 11 ∷ 10 ∷ 9 ∷ 8 ∷ 7 ∷ 6 ∷ 5 ∷ 4 ∷ 3 ∷ 2 ∷ 1 ∷ 0 ∷ [])) ≡ 15
 lead_of_seventeen = refl
@@ -173,6 +173,6 @@ lead_to_a_clash : lead (on 0 (ask.Online false) ∷ on 0 (ask.Read 0 16896) ∷ 
     (ask.Write 3 (replicate 514 0)) ∷ on 0 (ask.Read 4 512) ∷ on 0 (ask.Read 0 512) ∷ []) ≡ 2
 lead_to_a_clash = refl
 
--- a part block is of the range
+-- a partial block belongs to the range
 lead_to_a_part_block : lead (on 0 (ask.Write 3 (replicate 514 0)) ∷ on 0 (ask.Read 4 2) ∷ []) ≡ 1
 lead_to_a_part_block = refl

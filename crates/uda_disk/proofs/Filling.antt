@@ -4,7 +4,7 @@ use Rattle.std.proofs.lemmas.Bool.{cases_lt}
 use Rattle.std.proofs.lemmas.List.{same_lists, length-replicate, length-take-le, get_or-take, get_or-drop, get_or-replicate, get_or_append_left, get_or-append_right}
 use Rattle.uda_disk.specs.Request.{first_block}
 
--- the front of the bytes, and zeros as far as a block goes
+-- the first bytes, and zeros up to the end of a block
 pub front_filled : (bytes front : List ℕ) (n : ℕ) → n ≡ min (length bytes) 512 → front ≡ take n bytes
     → front ++ drop n (replicate 512 0) ≡ first_block bytes
 front_filled bytes front n count is =

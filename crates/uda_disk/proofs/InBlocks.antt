@@ -13,7 +13,7 @@ unfolding part
 get_or-first_chunks n bytes k h = get_or_from_slice_get (first_chunks 512 n bytes) k
     (take 512 (drop (512 * k) bytes)) [] (slice_get-first_chunks 512 n bytes k h)
 
--- block k of these bytes, of which no more than m are behind the blocks before it
+-- block k of these bytes, of which at most m follow the blocks before it
 pub get_or-in_blocks : (k m : ℕ) (bytes : List ℕ) → k < blocks_for (length bytes) → 512 * k ≤ length bytes
     → length bytes ≤ 512 * k + m → get_or (in_blocks bytes) k [] ≡ first_block (part bytes (512 * k) m)
 unfolding part

@@ -8,4 +8,5 @@ pub mod InBlocks
 pub mod Errors
 pub mod Outcomes
 pub mod Callers
+pub mod Protected
 pub mod Examples

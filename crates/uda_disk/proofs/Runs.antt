@@ -1,4 +1,4 @@
--- Steps that change places with those before them may be done first.
+-- Steps that commute with those before them may be executed first.
 use Rattle.std.proofs.Common.{◌≡◌, ℕ, zero, suc, ◌<◌, List, [], ◌∷◌, ◌++◌, length, Some, refl, sym, ap, ◌∙◌, arith}
 use Rattle.std.specs.Prelude.{slice_get, insert, remove}
 use Rattle.uda_disk.specs.Runs.{runs, runs_first}
@@ -9,7 +9,7 @@ pub record Swaps {X E W : Type 0} (step : X → W → E × W) (a b : X) (w : W) 
   pub end_second : (step b (step a w).1).0 ≡ (step b w).0
   pub worlds : (step b (step a w).1).1 ≡ (step a (step b w).1).1
 
--- one that changes nothing, whenever it is done, changes places with any
+-- one that changes nothing, whenever it is executed, commutes with any
 pub swaps_idle : {X E W : Type 0} (step : X → W → E × W) (a b : X) (e : E) → ((v : W) → step b v ≡ (e, v))
     → (w : W) → Swaps step a b w
 swaps_idle {E = E} {W} step a b e idle w =
@@ -29,7 +29,7 @@ swaps_sym step a b w s = record {
   worlds = sym s.worlds;
 }
 
--- and so do two that do what two do that change places
+-- and so do two that act as two commuting ones
 pub swaps_same : {X E W : Type 0} (step other : X → W → E × W) (a b : X) → ((v : W) → other a v ≡ step a v)
     → ((v : W) → other b v ≡ step b v) → (w : W) → Swaps step a b w → Swaps other a b w
 swaps_same {E = E} {W} step other a b is_a is_b w s =
@@ -43,7 +43,7 @@ swaps_same {E = E} {W} step other a b is_a is_b w s =
       worlds = ap (λ (r : E × W). r.1) behind_b ∙ s.worlds ∙ sym (ap (λ (r : E × W). r.1) behind_a);
     }
 
--- one that changes places with each before it may be done first
+-- one that commutes with each before it may be executed first
 pub first_is_free : {X E W : Type 0} (step : X → W → E × W) (xs : List X) (j : ℕ) (x : X) (w : W)
     → slice_get xs j ≡ Some x
     → ((i : ℕ) (y : X) (v : W) → i < j → slice_get xs i ≡ Some y → Swaps step x y v)
@@ -56,8 +56,8 @@ first_is_free {X} {E} {W} step (first ∷ rest) (suc j) x w at swaps =
     let swap = swaps 0 first w (omega arith) refl in
     let induction = first_is_free step rest j x (step first w).1 at
     (λ i y v below there. swaps (suc i) y v (omega arith) there) in
-    -- the end of the first, the end of the one that goes, and those of the others in the world that the two
-    -- leave
+    -- the result of the first, the result of the one that moves, and those of the others in the world that
+    -- the two leave
     let joined : E → E → W → List E × W = λ e f v. let later = runs step (remove rest j) v in
     (e ∷ insert later.0 j f, later.1) in
     let behind : List E × W → List E × W = λ r. ((step first w).0 ∷ r.0, r.1) in
@@ -66,7 +66,7 @@ first_is_free {X} {E} {W} step (first ∷ rest) (suc j) x w at swaps =
     ∙ ap (λ (v : W). joined (step first w).0 (step x (step first w).1).0 v) swap.worlds
     ∙ ap behind induction
 
--- one more behind a list
+-- one more at the end of a list
 pub runs-push : {X E W : Type 0} (step : X → W → E × W) (xs : List X) (x : X) (w : W)
     → runs step (xs ++ x ∷ []) w ≡ (
       (runs step xs w).0 ++ (step x (runs step xs w).1).0 ∷ [],

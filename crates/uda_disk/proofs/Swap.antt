@@ -1,6 +1,5 @@
--- Two requests that may pass and don't clash: done in either order, each is told the same and brings the same
--- bytes, and
--- the disks are the same.
+-- Two requests that may overtake each other and don't conflict: executed in either order, each has the same
+-- answer and the same bytes, and the disks are the same.
 use Rattle.std.proofs.Common.{◌≡◌, ◌≢◌, ℕ, suc, ◌+◌, ◌≤◌, min, max, Bool, true, false, List, [], ◌++◌, length, set, take, replicate, Option, Some, None, refl, sym, ap, ap₂, ◌∙◌, arith, length-set, length-take, zero-le}
 use Rattle.std.specs.Prelude.{slice_get, nat_eq, nat_lt, ◌&&◌, ◌||◌, not}
 use Rattle.std.proofs.lemmas.List.{set_comm, set-set, length-replicate}
@@ -8,7 +7,7 @@ use Rattle.std.proofs.Math.Bool.{or-true}
 use Rattle.std.proofs.lemmas.Bool.{eq-eqb, eqb-true, both_ways, false≢true, and_from}
 use Rattle.std.proofs.lemmas.Bool.Decides.{nat_tests}
 use Rattle.std.proofs.lemmas.Option.{slice_get_within}
-use Rattle.uda_mem.specs.Put.{put, part, Meet}
+use Rattle.uda_mem.specs.Put.{put, part, Overlap}
 use Rattle.uda_mem.proofs.PutLaws.{part-put_apart, put-put_comm}
 use Rattle.uda_image.specs.StoreLaws.{length-first_chunks}
 use Rattle.uda_disk.specs.declared.mode.Mode.{Mode}
@@ -17,61 +16,61 @@ use Rattle.uda_disk.specs.declared.refusal.Refusal.TheVariants.{UnitUnknown, NoV
 use Rattle.uda_disk.specs.Disk.{Disk, Disks}
 use Rattle.uda_disk.specs.Request.{Act, Online, Available, Status, Read, Access, Write, Erase, Request, extent_of, blocks_for, is_moving, is_writing, lbn_of, blocks_named}
 use Rattle.uda_disk.specs.Answer.{Answer}
-use Rattle.uda_disk.specs.Plain.{Bar, Barred, Free, bar_by, refusal_on, Outcome, Done, Lost, blocks_moved, due, stored, brought, mode_after, disk_after, bytes_on, answer_on, answer_by, disks_by}
-use Rattle.uda_disk.specs.Order.{passes, clash}
+use Rattle.uda_disk.specs.RequestEffect.{CheckResult, Rejected, Accepted, check_by, refusal_on, TransferOutcome, Done, Lost, blocks_moved, due, blocks_written, data_read, mode_after, disk_after, bytes_on, answer_on, answer_by, disks_by}
+use Rattle.uda_disk.specs.Order.{may_overtake, clash}
 use Rattle.uda_disk.proofs.Runs.{Swaps}
 use Rattle.uda_disk.proofs.Slots.{slice_get-set_same, slice_get-set_other, set-itself}
 
--- a request, its outcome fixed, and what else may refuse it: a host's buffer, say, by what the request's own
--- checks find
+-- a request with a given outcome, and what else may reject it, such as a host's buffer, by the result of
+-- the request's own checks
 pub record Item : Type 0 where
   pub request : Request
-  pub outcome : Outcome
+  pub outcome : TransferOutcome
   pub check : Option Refusal → Option Refusal
 
 -- what the checks find of it on a disk
 abbrev pub found : Item → Disk → Option Refusal
 found x disk = x.check (refusal_on (extent_of x.request.act) disk.size disk.mode)
 
-abbrev pub judge : Item → Option (Option Disk) → Bar
-judge x None = Barred UnitUnknown
-judge x (Some None) = Barred NoVolume
-judge x (Some (Some disk)) = bar_by (found x disk) disk
+abbrev pub judge : Item → Option (Option Disk) → CheckResult
+judge x None = Rejected UnitUnknown
+judge x (Some None) = Rejected NoVolume
+judge x (Some (Some disk)) = check_by (found x disk) disk
 
--- what is told of it, and the bytes that it brings
+-- its answer, and the bytes that it returns
 abbrev pub Told : Type 0
 Told = Answer × List ℕ
 
-abbrev pub told : Item → Bar → Told
-told x (Barred refusal) = (answer_by x.outcome x.request.act (Barred refusal), [])
-told x (Free disk) = (answer_on x.outcome x.request.act disk, bytes_on x.outcome x.request.act disk)
+abbrev pub told : Item → CheckResult → Told
+told x (Rejected refusal) = (answer_by x.outcome x.request.act (Rejected refusal), [])
+told x (Accepted disk) = (answer_on x.outcome x.request.act disk, bytes_on x.outcome x.request.act disk)
 
-abbrev pub does_by : Item → Bar → Disks → Told × Disks
+abbrev pub does_by : Item → CheckResult → Disks → Told × Disks
 does_by x b disks = (told x b, disks_by x.outcome x.request b disks)
 
 abbrev pub does : Item → Disks → Told × Disks
 does x disks = does_by x (judge x (slice_get disks x.request.unit)) disks
 
--- ---- how many blocks an act puts where
+-- ---- how many blocks an act writes, and from which block
 
-length-blocks_moved : (o : Outcome) (blocks : List (List ℕ)) → length (blocks_moved o blocks) ≤ length blocks
+length-blocks_moved : (o : TransferOutcome) (blocks : List (List ℕ)) → length (blocks_moved o blocks) ≤ length blocks
 length-blocks_moved Done blocks = omega arith
 length-blocks_moved (Lost k left) blocks =
     omega (arith, length-set (take (suc k) blocks) k left, length-take (suc k) blocks)
 
 abbrev stores : Item → Disk → List (List ℕ)
-stores x disk = stored x.request.act (blocks_moved x.outcome (due x.request.act disk.blocks))
+stores x disk = blocks_written x.request.act (blocks_moved x.outcome (due x.request.act disk.blocks))
 
-length-stored : (o : Outcome) (act : Act) (blocks : List (List ℕ))
-    → length (stored act (blocks_moved o (due act blocks))) ≤ blocks_named act
-length-stored o (Write first payload) blocks =
+length-blocks_written : (o : TransferOutcome) (act : Act) (blocks : List (List ℕ))
+    → length (blocks_written act (blocks_moved o (due act blocks))) ≤ blocks_named act
+length-blocks_written o (Write first payload) blocks =
     omega (
       arith,
       length-blocks_moved o (due (Write first payload) blocks),
       length-first_chunks
           (blocks_for (length payload)) (payload ++ replicate 512 0),
     )
-length-stored o (Erase first bytes) blocks =
+length-blocks_written o (Erase first bytes) blocks =
     let zeros : List ℕ = replicate 512 0 in
     omega (
       arith,
@@ -79,22 +78,22 @@ length-stored o (Erase first bytes) blocks =
       length-replicate
           (blocks_for bytes) zeros,
     )
-length-stored o _ blocks = zero-le
+length-blocks_written o _ blocks = zero-le
 
-stored-none : (act : Act) (blocks : List (List ℕ)) → is_writing act ≡ false → stored act blocks ≡ []
-stored-none (Write first payload) blocks h = absurd (cc)
-stored-none (Erase first bytes) blocks h = absurd (cc)
-stored-none _ blocks h = refl
+blocks_written-none : (act : Act) (blocks : List (List ℕ)) → is_writing act ≡ false → blocks_written act blocks ≡ []
+blocks_written-none (Write first payload) blocks h = absurd (cc)
+blocks_written-none (Erase first bytes) blocks h = absurd (cc)
+blocks_written-none _ blocks h = refl
 
--- what is due depends on the blocks of the act's range alone
+-- the blocks that an act has to move depend only on the blocks of its range
 due-same : (act : Act) (blocks others : List (List ℕ)) → part blocks (lbn_of act) (blocks_named act)
     ≡ part others (lbn_of act) (blocks_named act) → due act blocks ≡ due act others
 due-same (Read first bytes) blocks others h = h
 due-same (Access first bytes) blocks others h = h
 due-same _ blocks others h = refl
 
--- and so does what a transfer is told
-answer-due : (o : Outcome) (act : Act) (d d' : Disk) → is_moving act ≡ true → due act d'.blocks
+-- and so does the answer of a transfer
+answer-due : (o : TransferOutcome) (act : Act) (d d' : Disk) → is_moving act ≡ true → due act d'.blocks
     ≡ due act d.blocks → answer_on o act d' ≡ answer_on o act d
 answer-due o (Online protect) d d' moves h = absurd (cc)
 answer-due o Available d d' moves h = absurd (cc)
@@ -110,8 +109,8 @@ mode_after-moving _ mode moves = refl
 -- ---- on one disk
 
 abbrev by_found : Item → Option Refusal → Disk → Told × Disk
-by_found x None disk = (told x (Free disk), disk_after x.outcome x.request.act disk)
-by_found x (Some refusal) disk = (told x (Barred refusal), disk)
+by_found x None disk = (told x (Accepted disk), disk_after x.outcome x.request.act disk)
+by_found x (Some refusal) disk = (told x (Rejected refusal), disk)
 
 abbrev on_disk : Item → Disk → Told × Disk
 on_disk x disk = by_found x (found x disk) disk
@@ -125,7 +124,7 @@ mode-by_found : (x : Item) (f : Option Refusal) (disk : Disk) → is_moving x.re
 mode-by_found x None disk moves = mode_after-moving x.request.act disk.mode moves
 mode-by_found x (Some refusal) disk moves = refl
 
--- behind a transfer the checks find the same
+-- after a transfer the checks find the same
 found-later : (x y : Item) (disk : Disk) → is_moving y.request.act ≡ true → found x (on_disk y disk).1
     ≡ found x disk
 found-later x y disk moves = ap₂ (λ (size : ℕ) (mode : Mode).
@@ -140,7 +139,7 @@ module _ (a b : Item) (apart : clash b.request a.request ≡ false) (same : b.re
   abbrev B : Act
   B = b.request.act
 
-  ranges_apart : is_writing B || is_writing A ≡ true → Meet (lbn_of B) (blocks_named B) (lbn_of A)
+  ranges_apart : is_writing B || is_writing A ≡ true → Overlap (lbn_of B) (blocks_named B) (lbn_of A)
       (blocks_named A) → ⊥
   ranges_apart writes meet =
       let meets : nat_lt (max (lbn_of B) (lbn_of A))
@@ -151,20 +150,20 @@ module _ (a b : Item) (apart : clash b.request a.request ≡ false) (same : b.re
       (eq-eqb b.request.unit a.request.unit same)) writes) meets in
       both_ways (clash b.request a.request) apart clashes
 
-  b_apart : (d : Disk) (writes : Bool) → is_writing B ≡ writes → Meet (lbn_of B) (length (stores b d))
+  b_apart : (d : Disk) (writes : Bool) → is_writing B ≡ writes → Overlap (lbn_of B) (length (stores b d))
       (lbn_of A) (blocks_named A) → ⊥
   b_apart d true h meet =
-      let less = length-stored b.outcome B d.blocks in ranges_apart (rw h refl) (omega arith)
+      let less = length-blocks_written b.outcome B d.blocks in ranges_apart (rw h refl) (omega arith)
   b_apart d false h meet =
-      let none = ap length (stored-none B (blocks_moved b.outcome (due B d.blocks)) h) in omega arith
+      let none = ap length (blocks_written-none B (blocks_moved b.outcome (due B d.blocks)) h) in omega arith
 
-  a_apart : (d : Disk) (writes : Bool) → is_writing A ≡ writes → Meet (lbn_of A) (length (stores a d))
+  a_apart : (d : Disk) (writes : Bool) → is_writing A ≡ writes → Overlap (lbn_of A) (length (stores a d))
       (lbn_of B) (blocks_named B) → ⊥
   a_apart d true h meet =
-      let less = length-stored a.outcome A d.blocks in
+      let less = length-blocks_written a.outcome A d.blocks in
       ranges_apart (rw h (or-true (is_writing B))) (omega arith)
   a_apart d false h meet =
-      let none = ap length (stored-none A (blocks_moved a.outcome (due A d.blocks)) h) in omega arith
+      let none = ap length (blocks_written-none A (blocks_moved a.outcome (due A d.blocks)) h) in omega arith
 
   module _ (d : Disk) where
     abbrev after_a : Disk
@@ -184,23 +183,23 @@ module _ (a b : Item) (apart : clash b.request a.request ≡ false) (same : b.re
         (a_apart d (is_writing A) refl))
 
     told_same : (x : Item) (d' : Disk) → is_moving x.request.act ≡ true → due x.request.act d'.blocks
-        ≡ due x.request.act d.blocks → told x (Free d') ≡ told x (Free d)
+        ≡ due x.request.act d.blocks → told x (Accepted d') ≡ told x (Accepted d)
     told_same x d' moves h =
         let pair : Answer → List ℕ → Told = λ answer bytes. (answer, bytes) in
         ap₂ pair (answer-due x.outcome x.request.act d d' moves h)
-        (ap (λ (blocks : List (List ℕ)). brought x.request.act (blocks_moved x.outcome blocks)) h)
+        (ap (λ (blocks : List (List ℕ)). data_read x.request.act (blocks_moved x.outcome blocks)) h)
 
     both : disk_after b.outcome B after_a ≡ disk_after a.outcome A after_b
     both =
         let make : List (List ℕ) → Mode → Disk = λ blocks mode.
         record { blocks = blocks; size = d.size; mode = mode } in
-        let less = length-stored b.outcome B d.blocks in
+        let less = length-blocks_written b.outcome B d.blocks in
         let crossed = put-put_comm d.blocks (lbn_of A) (stores a d) (lbn_of B) (stores b d)
         (λ meet. a_apart d (is_writing A) refl (omega arith)) in
         let store_b = ap (λ (blocks : List (List ℕ)). put after_a.blocks (lbn_of B)
-        (stored B (blocks_moved b.outcome blocks))) due_b in
+        (blocks_written B (blocks_moved b.outcome blocks))) due_b in
         let store_a = ap (λ (blocks : List (List ℕ)). put after_b.blocks (lbn_of A)
-        (stored A (blocks_moved a.outcome blocks))) due_a in
+        (blocks_written A (blocks_moved a.outcome blocks))) due_a in
         let modes : mode_after B (mode_after A d.mode) ≡ mode_after A (mode_after B d.mode) =
         mode_after-moving B _ moves_b ∙ mode_after-moving A d.mode moves_a
         ∙ sym (mode_after-moving A _ moves_a ∙ mode_after-moving B d.mode moves_b) in
@@ -235,13 +234,13 @@ module _ (a b : Item) (apart : clash b.request a.request ≡ false) (same : b.re
 
 -- ---- on all units
 
--- a request done on the disk of its unit
+-- a request executed on the disk of its unit
 does-found : (x : Item) (disks : Disks) (disk : Disk) (f : Option Refusal) → slice_get disks x.request.unit
     ≡ Some (Some disk)
-    → does_by x (bar_by f disk) disks
+    → does_by x (check_by f disk) disks
     ≡ ((by_found x f disk).0, set disks x.request.unit (Some (by_found x f disk).1))
 does-found x disks disk None here = refl
-does-found x disks disk (Some refusal) here = ap (λ (d : Disks). (told x (Barred refusal), d))
+does-found x disks disk (Some refusal) here = ap (λ (d : Disks). (told x (Rejected refusal), d))
     (sym (set-itself disks x.request.unit (Some disk) here))
 
 does-on : (x : Item) (disks : Disks) (disk : Disk) → slice_get disks x.request.unit ≡ Some (Some disk)
@@ -250,18 +249,18 @@ does-on x disks disk here = ap (λ (slot : Option (Option Disk)). does_by x (jud
     ∙ does-found x disks disk (found x disk) here
 
 -- the other units stay as they were
-slice_get-does : (x : Item) (b : Bar) (disks : Disks) (u : ℕ) → u ≢ x.request.unit
+slice_get-does : (x : Item) (b : CheckResult) (disks : Disks) (u : ℕ) → u ≢ x.request.unit
     → slice_get (does_by x b disks).1 u ≡ slice_get disks u
-slice_get-does x (Barred refusal) disks u h = refl
-slice_get-does x (Free disk) disks u h = slice_get-set_other disks x.request.unit u
+slice_get-does x (Rejected refusal) disks u h = refl
+slice_get-does x (Accepted disk) disks u h = slice_get-set_other disks x.request.unit u
     (Some (disk_after x.outcome x.request.act disk)) h
 
 module _ (a b : Item) (disks : Disks) where
   module _ (differ : b.request.unit ≢ a.request.unit) where
-    -- what two bars on two units leave
-    crossed : (ba bb : Bar) → (does_by b bb (does_by a ba disks).1).1
+    -- the disks after two results of checks on two units
+    crossed : (ba bb : CheckResult) → (does_by b bb (does_by a ba disks).1).1
         ≡ (does_by a ba (does_by b bb disks).1).1
-    crossed (Free da) (Free db) = set_comm disks a.request.unit b.request.unit _ _ (λ e. differ (sym e))
+    crossed (Accepted da) (Accepted db) = set_comm disks a.request.unit b.request.unit _ _ (λ e. differ (sym e))
     crossed _ _ = refl
 
     swaps_other : Swaps does a b disks
@@ -283,15 +282,15 @@ module _ (a b : Item) (disks : Disks) where
 
   module _ (apart : clash b.request a.request ≡ false) (same : b.request.unit ≡ a.request.unit)
       (moves_a : is_moving a.request.act ≡ true) (moves_b : is_moving b.request.act ≡ true) where
-    -- where there is no disk, both are refused whenever they are done
-    swaps_none : (slot : Option (Option Disk)) (r : Refusal) → ((x : Item) → judge x slot ≡ Barred r)
+    -- if there is no disk, both are rejected whenever they are executed
+    swaps_none : (slot : Option (Option Disk)) (r : Refusal) → ((x : Item) → judge x slot ≡ Rejected r)
         → slice_get disks a.request.unit ≡ slot → Swaps does a b disks
     swaps_none slot r judged here =
         let there : slice_get disks b.request.unit ≡ slot = ap (slice_get disks) same ∙ here in
         let is : (x : Item) → slice_get disks x.request.unit ≡ slot
-        → does x disks ≡ (told x (Barred r), disks) = λ x here.
+        → does x disks ≡ (told x (Rejected r), disks) = λ x here.
         ap (λ (s : Option (Option Disk)). does_by x (judge x s) disks) here
-        ∙ ap (λ (b : Bar). does_by x b disks) (judged x) in
+        ∙ ap (λ (b : CheckResult). does_by x b disks) (judged x) in
         let behind_a : does a (does b disks).1 ≡ does a disks = ap (λ (r : Told × Disks). does a r.1)
         (is b there) in
         let behind_b : does b (does a disks).1 ≡ does b disks = ap (λ (r : Told × Disks). does b r.1)
@@ -342,7 +341,7 @@ module _ (a b : Item) (disks : Disks) where
     swaps_transfers (Some None) here = swaps_none (Some None) NoVolume (λ x. refl) here
     swaps_transfers (Some (Some disk)) here = swaps_on disk here
 
-  -- by how the two stand to one another; b is the older
+  -- by how the two requests are related; b is the older
   swaps_by : clash b.request a.request ≡ false → (same moves_b moves_a : Bool)
       → nat_eq b.request.unit a.request.unit ≡ same → is_moving b.request.act ≡ moves_b
       → is_moving a.request.act ≡ moves_a
@@ -354,5 +353,5 @@ module _ (a b : Item) (disks : Disks) where
       (eqb-true b.request.unit a.request.unit hs) ha hb _ refl
   swaps_by apart true _ _ hs hb ha may = absurd (false≢true may)
 
-  pub swaps : passes b.request a.request ≡ true → clash b.request a.request ≡ false → Swaps does a b disks
+  pub swaps : may_overtake b.request a.request ≡ true → clash b.request a.request ≡ false → Swaps does a b disks
   swaps may apart = swaps_by apart _ _ _ refl refl refl may

@@ -1,9 +1,9 @@
--- What a request is answered. MSCP Basic Disk Functions Manual: end messages.
+-- The answer to a request. MSCP Basic Disk Functions Manual: end messages.
 use Rattle.std.specs.Prelude.{ℕ, List, []}
 use Rattle.uda_disk.specs.Request as ask
 use Rattle.uda_disk.specs.Request.{Act}
 
--- what a driver never posts is answered TooLong
+-- a request that a driver never posts has the answer TooLong
 pub data Answer : Type 0 where
   TooLong : Answer
   Plain : (status : ℕ) → Answer
@@ -20,7 +20,7 @@ blank_answer ask.Status status = Status status 0
 blank_answer (ask.Read first bytes) status = Data status []
 blank_answer _ status = Moved status 0
 
--- the status of an answer; TooLong tells none
+-- the status of an answer; TooLong has none
 abbrev pub status_of : Answer → ℕ
 status_of TooLong = 0
 status_of (Plain status) = status

@@ -1,4 +1,4 @@
--- An answer as a report tells it.
+-- The printed text of an answer.
 use Rattle.std.specs.Prelude.{ℕ, ◌-◌, ◌^◌, false, List, [], ◌++◌, length, codes}
 use Rattle.std.specs.Fmt.{decimal, digits, padded_integral, format_spec}
 use Rattle.uda_disk.specs.Answer.{Answer, TooLong, Plain, Online, Status, Moved, Data}
@@ -7,7 +7,7 @@ use Rattle.uda_disk.specs.Answer.{Answer, TooLong, Plain, Online, Status, Moved,
 abbrev pub word_digits : ℕ → List ℕ
 word_digits n = padded_integral (format_spec 32 0 4 4 (2 ^ 64 - 1)) false [] (digits 16 false n)
 
--- the status in four hexadecimal digits, then flags in four and numbers in decimal, a space between two
+-- the status in four hexadecimal digits, then flags in four and numbers in decimal, separated by spaces
 abbrev pub answer_display : Answer → List ℕ
 answer_display TooLong = codes "long"
 answer_display (Plain status) = word_digits status

@@ -2,9 +2,9 @@ pub mod Status
 pub mod Disk
 pub mod Request
 pub mod Answer
-pub mod Plain
+pub mod RequestEffect
 pub mod Runs
-pub mod PlainRun
+pub mod InOrderRun
 pub mod Order
 pub mod Form
 pub mod Units

@@ -1,10 +1,10 @@
--- What a unit is asked to do. MSCP Basic Disk Functions Manual: the commands, logical blocks.
+-- The requests to a unit. MSCP Basic Disk Functions Manual: the commands, logical blocks.
 use Rattle.std.specs.Prelude.{ℕ, ◌+◌, ◌/◌, ◌%◌, min, Bool, true, false, List, ◌++◌, length, take, replicate}
 use Rattle.std.specs.Prelude.{Option, Some, None, is_some}
 use Rattle.std.specs.Option.{option_map_or}
 use Rattle.std.specs.Simd.{first_chunks}
 
--- the last four are transfers: of so many bytes from the start of block lbn on, or of these bytes
+-- the last four are transfers: of a number of bytes from the start of block lbn, or of these bytes
 pub data Act : Type 0 where
   Online : (protect : Bool) → Act
   Available : Act
@@ -18,19 +18,19 @@ pub record Request : Type 0 where
   pub unit : ℕ
   pub act : Act
 
--- how many blocks so many bytes take: the last of them may be a part block
+-- the number of blocks that this many bytes take: the last may be a partial block
 abbrev pub blocks_for : ℕ → ℕ
 blocks_for bytes = bytes / 512 + min 1 (bytes % 512)
 
--- these bytes in blocks; behind them the last is zeros
+-- these bytes divided into blocks; the last one is filled with zeros
 abbrev pub in_blocks : List ℕ → List (List ℕ)
 in_blocks bytes = first_chunks 512 (blocks_for (length bytes)) (bytes ++ replicate 512 0)
 
--- the first block of these bytes; where they end before it does, the rest is zeros
+-- the first block of these bytes, filled with zeros if there are fewer than 512
 abbrev pub first_block : List ℕ → List ℕ
 first_block bytes = take 512 (bytes ++ replicate 512 0)
 
--- what a transfer names: from where, how much, and whether its blocks change
+-- the range of a transfer: its first block, its number of bytes, and whether it changes its blocks
 pub record Extent : Type 0 where
   pub lbn : ℕ
   pub bytes : ℕ
@@ -43,7 +43,7 @@ extent_of (Write lbn payload) = Some (record { lbn = lbn; bytes = length payload
 extent_of (Erase lbn bytes) = Some (record { lbn = lbn; bytes = bytes; writes = true })
 extent_of _ = None
 
--- the same of any act: one that is no transfer names no blocks
+-- the same for any act: one that isn't a transfer has no blocks
 abbrev pub is_moving : Act → Bool
 is_moving act = is_some (extent_of act)
 

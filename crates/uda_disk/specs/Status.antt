@@ -2,11 +2,11 @@
 -- MSCP Basic Disk Functions Manual: status and event codes.
 use Rattle.std.specs.Prelude.{ℕ, ◌==◌, List, codes, if◌then◌else◌}
 
--- the command was carried out
+-- the command succeeded
 abbrev pub SUCCESS : ℕ
 SUCCESS = 0x0000
 
--- an Online of a unit that was online
+-- the unit of an Online was already online
 abbrev pub ALREADY_ONLINE : ℕ
 ALREADY_ONLINE = 0x0100
 
@@ -34,7 +34,7 @@ INVALID_COUNT = 0x0C01
 abbrev pub INVALID_BLOCK : ℕ
 INVALID_BLOCK = 0x1C01
 
--- unit offline: there is none of this number, or no volume is in it
+-- unit offline: there is no unit of this number, or it has no volume
 abbrev pub UNIT_UNKNOWN : ℕ
 UNIT_UNKNOWN = 0x0003
 
@@ -56,7 +56,7 @@ SOFTWARE_PROTECTED = 0x1006
 abbrev pub COMPARE_ERROR : ℕ
 COMPARE_ERROR = 0x0007
 
--- host buffer access: an odd address, an odd byte count, memory that isn't there
+-- host buffer access: an odd address, an odd byte count, nonexistent memory
 abbrev pub ODD_ADDRESS : ℕ
 ODD_ADDRESS = 0x0029
 
@@ -70,7 +70,7 @@ NO_SUCH_MEMORY = 0x0069
 abbrev pub DRIVE_ERROR : ℕ
 DRIVE_ERROR = 0x000B
 
--- what a status word is called
+-- the name of a status word
 unfoldable pub status_name : ℕ → List ℕ
 status_name word =
     if word == SUCCESS then codes "success"

@@ -1,7 +1,7 @@
--- The units of a controller: a store of blocks each, and a mode; and the disks that requests see of them.
--- MSCP Basic Disk Functions Manual: unit states, write protection.
+-- The units of a controller: each has a store of blocks and a mode. Requests see their disks. MSCP Basic
+-- Disk Functions Manual: unit states, write protection.
 use Rattle.std.specs.Prelude.{◌≡◌, ℕ, Bool, true, List, Option, Some, None, map, option_map, slice_get, All}
-use Rattle.uda_image.specs.Store.{StoreState, IsImage}
+use Rattle.uda_image.specs.Store.{StoreState, HasWholeBlocks}
 use Rattle.uda_disk.specs.declared.mode.Mode.{Mode}
 use Rattle.uda_disk.specs.Disk.{Disk, Disks}
 
@@ -10,7 +10,7 @@ pub record UnitState : Type 0 where
   pub store : StoreState
   pub mode : Mode
 
--- the units that there are; None is one without a drive
+-- the existing units; None is a unit without a drive
 abbrev pub Units : Type 0
 Units = List (Option UnitState)
 
@@ -20,7 +20,7 @@ disk_of unit = record { blocks = unit.store.blocks; size = unit.store.size; mode
 abbrev pub disks_of : Units → Disks
 disks_of units = map (option_map disk_of) units
 
--- the store of this unit is faithful, or there is none: it gives back what was written to it
+-- the store of this unit is faithful: it returns the data that was written last; true if there is no store
 abbrev pub is_faithful : Option (Option UnitState) → Bool
 is_faithful (Some (Some unit)) = unit.store.faithful
 is_faithful _ = true
@@ -28,47 +28,47 @@ is_faithful _ = true
 abbrev pub AllFaithful : Units → Type 0
 AllFaithful units = (u : ℕ) → is_faithful (slice_get units u) ≡ true
 
--- the store of this unit never fails, or there is none
-abbrev pub is_sure : Option (Option UnitState) → Bool
-is_sure (Some (Some unit)) = unit.store.never_fails
-is_sure _ = true
+-- the store of this unit never fails; true if there is no store
+abbrev pub is_infallible : Option (Option UnitState) → Bool
+is_infallible (Some (Some unit)) = unit.store.never_fails
+is_infallible _ = true
 
--- how often the store of this unit has failed
+-- the number of failed calls of this unit's store
 abbrev pub failures_at : Option (Option UnitState) → ℕ
 failures_at (Some (Some unit)) = unit.store.failures
 failures_at _ = 0
 
--- in how many calls the store of this unit is to fail, where that is known
-abbrev pub fails_in_at : Option (Option UnitState) → Option ℕ
-fails_in_at (Some (Some unit)) = unit.store.fails_in
-fails_in_at _ = None
+-- the number of calls until the store of this unit fails, if it is known
+abbrev pub failing_call_at : Option (Option UnitState) → Option ℕ
+failing_call_at (Some (Some unit)) = unit.store.failing_call
+failing_call_at _ = None
 
--- a unit whose store is faithful has as many blocks as its size says, each of 512 bytes
-abbrev pub HoldsImage : Option UnitState → Type 0
-HoldsImage None = Unit {0}
-HoldsImage (Some unit) = unit.store.faithful ≡ true → IsImage unit.store.size unit.store.blocks
+-- a unit with a faithful store is well formed: it has as many blocks as its size says, each of 512 bytes
+abbrev pub IsWellFormed : Option UnitState → Type 0
+IsWellFormed None = Unit {0}
+IsWellFormed (Some unit) = unit.store.faithful ≡ true → HasWholeBlocks unit.store.size unit.store.blocks
 
-abbrev pub AreImages : Units → Type 0
-AreImages units = All HoldsImage units
+abbrev pub AreWellFormed : Units → Type 0
+AreWellFormed units = All IsWellFormed units
 
--- what nothing that is asked of a unit changes, whatever its store: its size, its hardware protection,
--- whether its store is faithful, and whether that never fails
-pub record Nature : Type 0 where
+-- the attributes that no request changes, whatever the store: the size, the hardware protection, whether
+-- the store is faithful, and whether it never fails
+pub record FixedAttributes : Type 0 where
   pub size : ℕ
   pub hard : Bool
   pub faithful : Bool
   pub never_fails : Bool
 
-abbrev pub nature_of : UnitState → Nature
-nature_of unit = record {
+abbrev pub attributes_of : UnitState → FixedAttributes
+attributes_of unit = record {
   size = unit.store.size;
   hard = unit.mode.hard;
   faithful = unit.store.faithful;
   never_fails = unit.store.never_fails;
 }
 
-abbrev pub natures_of : Units → List (Option Nature)
-natures_of units = map (option_map nature_of) units
+abbrev pub unit_attributes : Units → List (Option FixedAttributes)
+unit_attributes units = map (option_map attributes_of) units
 
 abbrev pub modes_of : Units → List (Option Mode)
 modes_of units = map (option_map (λ unit. unit.mode)) units

@@ -1,23 +1,24 @@
-//! What a driver answers.
+//! The answers of a driver to requests.
 ghost use Rattle.std.specs.Prelude.{Some};
 ghost use Rattle.uda_disk.specs.Display.{answer_display};
 ghost use Rattle.uda_disk.specs.Values.{answer_value};
 
 use std::fmt;
 
-/// What a driver answers a request. Each kind of request has one form of answer, refused or not.
+/// The answer of a driver to a request. A request that isn't too long has the answer of its own kind,
+/// whether it is executed or rejected.
 ///
 /// MSCP Basic Disk Functions Manual: end messages, status and event codes.
 #[derive(Debug, Drop, PartialEq, Eq)]
 pub enum Answer {
-    /// The request names more bytes than one command of the driver may have. It was never posted.
+    /// The answer to a request of more bytes than one command of the driver can move. It was never posted.
     TooLong,
-    /// Of an Available.
+    /// The answer to an Available.
     Plain {
         /// The status word.
         status: u16,
     },
-    /// Of an Online.
+    /// The answer to an Online.
     Online {
         /// The status word.
         status: u16,
@@ -26,31 +27,31 @@ pub enum Answer {
         /// The unit's size in blocks.
         size: u32,
     },
-    /// Of a Status.
+    /// The answer to a Status.
     Status {
         /// The status word.
         status: u16,
         /// The unit flags.
         flags: u16,
     },
-    /// Of an Access, a Write or an Erase.
+    /// The answer to an Access, a Write or an Erase.
     Moved {
         /// The status word.
         status: u16,
-        /// How many bytes were moved: all, or those of the blocks before the one that was lost.
+        /// The number of bytes moved: all, or those of the blocks before the one that failed.
         bytes: u32,
     },
-    /// Of a Read.
+    /// The answer to a Read.
     Data {
         /// The status word.
         status: u16,
-        /// The bytes that were read: all, or those of the blocks before the one that was lost.
+        /// The bytes that were read: all, or those of the blocks before the one that failed.
         bytes: Vec<u8>,
     },
 }
 
-/// As `0000 1000 891072`: the status, and then flags, a size or the number of bytes; `long` of an answer
-/// that is `TooLong`.
+/// Writes a line such as `0000 1000 891072`: the status, and then flags, a size, or a number of bytes.
+/// Writes `long` for [`Answer::TooLong`].
 impl fmt::Display for Answer {
     ghost output = { λ answer. Some (answer_display (answer_value answer)) };
 

@@ -1,9 +1,9 @@
-//! Bytes cut into blocks.
+//! Division of bytes into blocks.
 ghost use Rattle.std.specs.Prelude.{◌≡◌};
 ghost use Rattle.uda_disk.specs.Request.{first_block};
 
-/// The first block of these bytes; where they end before it does, the rest is zeros. So the last block of a
-/// Write is made, whose byte count needn't be a multiple of 512.
+/// Returns the first block of these bytes, filled with zeros if there are fewer than 512. The last block of
+/// a Write is made so, since its byte count needn't be a multiple of 512.
 ///
 /// MSCP Basic Disk Functions Manual: transfer commands, logical blocks.
 pub fn first_block(bytes: &[u8]) -> [u8; 512]

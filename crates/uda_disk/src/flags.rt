@@ -6,8 +6,8 @@ ghost use Rattle.std.specs.Prelude.{⊤, [], ◌∷◌, codes};
 
 use bitflags::{Flag, Flags, bitflag_items};
 
-/// The unit flags: how a unit is protected against writing. Their methods are those of [`Flags`],
-/// which this crate hands on.
+/// The unit flags: how a unit is protected against writing. Their methods are those of the trait [`Flags`],
+/// which this crate re-exports.
 #[derive(Clone, Copy, PartialEq, Eq, Debug)]
 pub struct UnitFlags(u16);
 
@@ -15,7 +15,7 @@ bitflag_items! {
     impl UnitFlags: u16 {
         /// Software protection, which an Online sets.
         const SOFT = 0x1000;
-        /// Hardware protection, the switch of the drive.
+        /// Hardware protection: the switch of the drive.
         const HARD = 0x2000;
     }
 }

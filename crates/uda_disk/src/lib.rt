@@ -1,12 +1,15 @@
-//! One plain array of blocks for each unit, what requests do to it, and what they are answered.
+//! One array of blocks for each unit, the effect of requests on it, and their answers.
 //!
-//! Nothing here knows a host, its memory, a command or a message: this is what all that stands above
-//! promises. What one request answers and leaves is a definition (`specs/Plain.antt`), with each transfer's
-//! outcome fixed: done, or lost at some block; a list of them served in order is another
-//! (`specs/PlainRun.antt`). Which requests may be done in another order is in `order`, and that each loss is
-//! told in `losses`.
+//! Nothing here knows a host, its memory, a command or a message. This crate has the definitions that the
+//! contracts of the layers above use:
 //!
-//! Its tests are computed lemmas (`proofs/Examples.antt`), and `uda_plain` runs the definitions.
+//! - the answer and the effect of one request (`specs/RequestEffect.antt`), given the outcome of its transfer: it
+//!   succeeds, or it fails at some block;
+//! - those of a list of requests executed in order (`specs/InOrderRun.antt`);
+//! - the requests that may be executed in another order (`order`);
+//! - the law that an answer reports each failure (`losses`).
+//!
+//! Its tests are computed lemmas (`proofs/Examples.antt`), and `uda_plain` executes the definitions.
 //!
 //! MSCP Basic Disk Functions Manual: the commands, unit states, status and event codes, command ordering.
 #![tactic(auto)]

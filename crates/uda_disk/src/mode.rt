@@ -12,9 +12,9 @@ use bitflags::Flags;
 pub struct Mode {
     /// Whether the unit is online; otherwise it is available.
     pub online: bool,
-    /// The drive's own write protection, which no request changes.
+    /// The hardware write protection: the drive's own switch, which no request changes.
     pub hard: bool,
-    /// The write protection that the unit's last Online asked for, which an Available drops.
+    /// The software write protection, which the unit's last Online set and an Available clears.
     pub soft: bool,
 }
 
@@ -22,10 +22,9 @@ impl Mode {
     ghost use Rattle.std.specs.Prelude.{◌≡◌};
     ghost use Rattle.uda_disk.specs.Disk.{flags_of};
     ghost use Rattle.uda_disk.specs.Request.{Available as AvailableAct, Online as OnlineAct};
-    ghost use Rattle.uda_disk.specs.Plain.{mode_after};
+    ghost use Rattle.uda_disk.specs.RequestEffect.{mode_after};
 
-    /// The unit flags that are told: 0x1000 where software protection is on, and 0x2000 where hardware
-    /// protection is.
+    /// Returns the unit flags: 0x1000 for software protection, and 0x2000 for hardware protection.
     ///
     /// MSCP Basic Disk Functions Manual: unit flags.
     pub fn flags(self) -> u16
@@ -41,7 +40,8 @@ impl Mode {
         flags.bits()
     }
 
-    /// The mode that an Available leaves: available, without software protection. So does a start-up.
+    /// Returns the mode after an Available: available, without software protection. Initialization has the
+    /// same effect.
     ///
     /// MSCP Basic Disk Functions Manual: Available command.
     pub fn available(self) -> Mode
@@ -54,8 +54,8 @@ impl Mode {
         }
     }
 
-    /// The mode that an Online leaves: a unit that is online stays as it is, and any other is online, with
-    /// software protection where `protect` asks for it.
+    /// Returns the mode after an Online. A unit that is online keeps its mode. Any other is then online,
+    /// and `protect` is its software protection.
     ///
     /// MSCP Basic Disk Functions Manual: Online command.
     pub fn online(self, protect: bool) -> Mode

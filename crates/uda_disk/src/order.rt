@@ -1,16 +1,17 @@
-//! The law of doing requests in another order, as the contract of a function that does nothing.
+//! The law of executing requests in another order, as the contract of a function that does nothing.
 //!
 //! MSCP Basic Disk Functions Manual: command ordering.
-ghost use Rattle.uda_disk.specs.Order.{RequestOrderIsFree};
+ghost use Rattle.uda_disk.specs.Order.{RequestOrderIsIrrelevant};
 
-/// Whichever request that may go is done first, and the others after it in order, nothing is different from
-/// doing them all in order: each answer, every block and every mode.
+/// States that the order of execution changes nothing. Any request that may overtake all older ones may be
+/// executed first, and the others after it in order. Each answer, every block and every mode are then those
+/// of the in-order run.
 ///
-/// No two of the requests may clash, which two transfers of one unit do that have a block in common and of
-/// which one is a Write or an Erase.
+/// The law requires that no two of the requests conflict. Two transfers of one unit conflict if they share
+/// a block and one of them is a Write or an Erase.
 ///
 /// MSCP Basic Disk Functions Manual: command ordering.
-#[tactic(auto, using(crate::proofs::OrderLaw::request_order_is_free))]
-pub fn request_order_is_free()
-    ensures law { RequestOrderIsFree }
+#[tactic(auto, using(crate::proofs::OrderLaw::request_order_is_irrelevant))]
+pub fn request_order_is_irrelevant()
+    ensures law { RequestOrderIsIrrelevant }
 {}

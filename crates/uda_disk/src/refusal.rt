@@ -1,13 +1,13 @@
-//! Why a request is refused.
+//! The reasons why a request is rejected.
 //!
 //! MSCP Basic Disk Functions Manual: transfer commands, status and event codes.
 ghost use Rattle.std.specs.Prelude.{◌≡◌};
-ghost use Rattle.uda_disk.specs.Plain.{refusal_status};
+ghost use Rattle.uda_disk.specs.RequestEffect.{refusal_status};
 
 use crate::status;
 
-/// Why a request is refused. A refused request changes nothing. An odd address and memory that isn't there
-/// are of a host's buffer, and no fault of a request by itself.
+/// The reason why a request is rejected. A rejected request changes nothing. `OddAddress` and
+/// `NoSuchMemory` concern the host's buffer, so they never arise from a request itself.
 ///
 /// MSCP Basic Disk Functions Manual: status and event codes.
 #[derive(Clone, Copy, Debug, PartialEq, Eq)]
@@ -16,26 +16,26 @@ pub enum Refusal {
     UnitUnknown,
     /// The unit has no drive.
     NoVolume,
-    /// A transfer's unit is available and not online.
+    /// The unit of a transfer is available and not online.
     NotOnline,
     /// The host buffer begins at an odd address.
     OddAddress,
     /// The byte count is odd.
     OddCount,
-    /// The first block isn't below the unit's size.
+    /// The first block isn't less than the unit's size.
     BlockPastEnd,
-    /// The range ends behind the unit's last block.
+    /// The range ends past the unit's last block.
     RangePastEnd,
-    /// A Write or an Erase of a unit that its drive protects.
+    /// A Write or an Erase on a unit with hardware write protection.
     HardwareProtected,
-    /// A Write or an Erase of a unit that its host protected.
+    /// A Write or an Erase on a unit with software write protection.
     SoftwareProtected,
-    /// The host buffer isn't wholly in memory.
+    /// The host buffer doesn't lie wholly in memory.
     NoSuchMemory,
 }
 
 impl Refusal {
-    /// The status word that tells it.
+    /// Returns the status word that reports it.
     pub fn status(self) -> u16
         ensures status { result ≡ refusal_status self }
     {

@@ -1,30 +1,32 @@
-//! What a unit is asked to do.
+//! The requests to a unit.
 ghost use Rattle.std.specs.Prelude.{◌≡◌, option_map};
 ghost use Rattle.uda_disk.specs.Request.{extent_of};
 ghost use Rattle.uda_disk.specs.Order.{clash};
-ghost use Rattle.uda_disk.specs.PlainRun.{too_long};
+ghost use Rattle.uda_disk.specs.InOrderRun.{too_long};
 ghost use Rattle.uda_disk.specs.Values.{request_value, extent_value};
 
 use crate::extent::{Extent, TRANSFER_LIMIT};
 
-/// What a driver is asked to do with one unit.
+/// A request to a driver concerning one unit.
 ///
-/// The last four are transfers: from the start of a first block on so many bytes, or these. A count that is
-/// no multiple of 512 ends in a part block: a Read brings its first bytes, a Write puts zeros behind its own,
-/// an Access and an Erase take it whole. An odd count is refused.
+/// The last four are transfers. Each has a range: a number of bytes from the start of a first block, or the
+/// bytes to write there. An odd count is rejected.
+///
+/// A count that isn't a multiple of 512 ends in a partial block. A Read returns its first bytes, and a
+/// Write fills its rest with zeros. An Access reads the whole block, and an Erase clears it.
 ///
 /// MSCP Basic Disk Functions Manual: Access, Available, Erase, Get Unit Status, Online, Read and Write
 /// commands.
 #[derive(Debug, Drop)]
 pub enum Request {
-    /// Begins the unit's use.
+    /// Brings the unit online.
     Online {
         /// The unit's number.
         unit: u16,
-        /// Whether the unit is to be protected by software.
+        /// Whether the unit is to have software write protection.
         protect: bool,
     },
-    /// Ends the unit's use.
+    /// Makes the unit available, so that its use ends.
     Available {
         /// The unit's number.
         unit: u16,
@@ -40,16 +42,16 @@ pub enum Request {
         unit: u16,
         /// The first logical block.
         lbn: u32,
-        /// How many bytes.
+        /// The number of bytes.
         bytes: u64,
     },
-    /// Reads blocks and brings nothing of them.
+    /// Reads blocks without returning their data.
     Access {
         /// The unit's number.
         unit: u16,
         /// The first logical block.
         lbn: u32,
-        /// How many bytes.
+        /// The number of bytes.
         bytes: u64,
     },
     /// Writes bytes.
@@ -67,13 +69,13 @@ pub enum Request {
         unit: u16,
         /// The first logical block.
         lbn: u32,
-        /// How many bytes.
+        /// The number of bytes.
         bytes: u64,
     },
 }
 
 impl Request {
-    /// The unit's number.
+    /// Returns the unit's number.
     pub fn unit(&self) -> u16
         ensures unit { result ≡ (request_value self.now).unit }
     {
@@ -88,7 +90,7 @@ impl Request {
         }
     }
 
-    /// What a transfer names; `None` of any other request.
+    /// Returns the range of a transfer, or `None` for any other request.
     pub fn extent(&self) -> Option<Extent>
         ensures extent { option_map extent_value result ≡ extent_of (request_value self.now).act }
     {
@@ -102,7 +104,7 @@ impl Request {
         Some(Extent { lbn, bytes, writes })
     }
 
-    /// Whether the request names more bytes than one command of a driver may have.
+    /// Returns whether the request has more bytes than one command of a driver can move.
     pub fn is_too_long(&self) -> bool
         ensures long { result ≡ too_long (request_value self.now) }
     {
@@ -115,8 +117,8 @@ impl Request {
         }
     }
 
-    /// Whether the two may not be out together: transfers of one unit that have a block in common, of which
-    /// one is a Write or an Erase.
+    /// Returns whether the two requests conflict, so that they must not be outstanding together. Both are
+    /// transfers of one unit, their ranges share a block, and one of them is a Write or an Erase.
     ///
     /// MSCP Basic Disk Functions Manual: command ordering.
     pub fn clashes(&self, other: &Request) -> bool
@@ -124,7 +126,7 @@ impl Request {
     {
         match (self.extent(), other.extent()) {
             (Some(a), Some(b)) => {
-                self.unit() == other.unit() && (a.writes || b.writes) && a.meets(b)
+                self.unit() == other.unit() && (a.writes || b.writes) && a.overlaps(b)
             }
             _ => false,
         }

@@ -5,25 +5,25 @@
 ghost use Rattle.std.specs.Prelude.{◌≡◌};
 ghost use Rattle.uda_disk.specs.Status.{status_name};
 
-/// The command was carried out.
+/// The command succeeded.
 pub const SUCCESS: u16 = 0x0000;
 
-/// Online of a unit that was online already.
+/// The unit of an Online was already online.
 pub const ALREADY_ONLINE: u16 = 0x0100;
 
-/// An Abort ended the command before it was executed.
+/// An Abort removed the command before it was executed.
 pub const ABORTED: u16 = 0x0002;
 
-/// The packet's length was none of a command.
+/// The length of the packet is not valid for a command.
 pub const INVALID_LENGTH: u16 = 0x0001;
 
-/// No command has the opcode.
+/// No command has this opcode.
 pub const INVALID_OPCODE: u16 = 0x0801;
 
-/// A modifier bit is set that the command doesn't have.
+/// The command has a modifier bit that is not defined for it.
 pub const INVALID_MODIFIERS: u16 = 0x0A01;
 
-/// The host asks for another version of MSCP: the field stands where a transfer has its count.
+/// The host asks for another version of MSCP. The field has the offset of a transfer's byte count.
 pub const INVALID_VERSION: u16 = 0x0C01;
 
 /// There is no unit of this number.
@@ -44,7 +44,7 @@ pub const ODD_ADDRESS: u16 = 0x0029;
 /// The byte count is odd.
 pub const ODD_COUNT: u16 = 0x0049;
 
-/// The range passes the unit's end.
+/// The range ends past the unit's end.
 pub const INVALID_COUNT: u16 = 0x0C01;
 
 /// The first block isn't on the unit.
@@ -56,14 +56,14 @@ pub const HARDWARE_PROTECTED: u16 = 0x2006;
 /// The unit's software write protection is on.
 pub const SOFTWARE_PROTECTED: u16 = 0x1006;
 
-/// The host buffer isn't wholly in memory.
+/// The host buffer doesn't lie wholly in memory.
 pub const NO_SUCH_MEMORY: u16 = 0x0069;
 
 /// The store failed.
 pub const DRIVE_ERROR: u16 = 0x000B;
 
-/// What a status word is called; `unknown status` where it is none of this module's. The same word
-/// stands for an invalid byte count and an invalid version, whose fields lie at one place.
+/// Returns the name of a status word, or `unknown status` if this module doesn't define it. An invalid byte
+/// count and an invalid version have the same status word, since both fields have the same offset.
 #[tactic(auto, unfolding(crate::specs::Status::status_name))]
 pub fn name(status: u16) -> &'static str
     ensures name { result.now ≡ status_name status }

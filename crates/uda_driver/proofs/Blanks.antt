@@ -7,10 +7,10 @@ use Rattle.std.proofs.lemmas.Bool.Decides.{nat_tests}
 use Rattle.std.proofs.lemmas.Option.{slice_get_within, slice_get-map, slice_get-get_or}
 use Rattle.uda_mem.specs.Put.{part}
 use Rattle.uda_packet.specs.declared.end.End.{End}
-use Rattle.uda_exec.specs.Commands.{buffer_start, room_of}
+use Rattle.uda_exec.specs.Commands.{buffer_start, buffer_length}
 use Rattle.uda_exec.specs.Execution.{bytes_of}
 use Rattle.uda_disk.specs.Request.{Act, Request, Online, Available, Status, Read, Access, Write, Erase}
-use Rattle.uda_disk.specs.PlainRun.{too_long}
+use Rattle.uda_disk.specs.InOrderRun.{too_long}
 use Rattle.uda_disk.specs.Answer.{Data}
 use Rattle.uda_posting.specs.Posting.{op_of, answer_of}
 use Rattle.uda_disk.specs.Values.{request_value, answer_value, request_values}
@@ -46,7 +46,7 @@ blank_more requests i answers request a size lt is long room all k r b le at tol
           all k r b le at (sym (slice_get-before answers a k low) ∙ told)
     ]
 
--- ---- an answer by its end reads no more of a buffer than its command has
+-- ---- an answer made from an end message reads no more of a buffer than its command has
 
 small_read : (unit lbn bytes size : ℕ) → too_long (record { unit = unit; act = Read lbn bytes }) ≡ false
     → size ≡ 16384 → bytes ≤ size
@@ -54,8 +54,8 @@ small_read unit lbn bytes size short is = grind (arith, nat_tests)
 
 answer-in_buffer : (unit : ℕ) (act : Act) (e : End) (memory : List ℕ) (address size : ℕ)
     → too_long (record { unit = unit; act = act }) ≡ false → size ≡ 16384
-    → answer_of act e (take (room_of (op_of act 0)) (part memory address size)) ≡ answer_of act e
-    (part memory (buffer_start (op_of act address)) (room_of (op_of act address)))
+    → answer_of act e (take (buffer_length (op_of act 0)) (part memory address size)) ≡ answer_of act e
+    (part memory (buffer_start (op_of act address)) (buffer_length (op_of act address)))
 unfolding part
 answer-in_buffer unit (Read lbn bytes) e memory address size short is =
     ap (λ (b : List ℕ). Data e.status (take (bytes_of e.body) b))
@@ -67,11 +67,11 @@ answer-in_buffer unit (Access lbn bytes) e memory address size short is = refl
 answer-in_buffer unit (Write lbn payload) e memory address size short is = refl
 answer-in_buffer unit (Erase lbn bytes) e memory address size short is = refl
 
--- the answer that is told is by the request's end and its buffer
+-- the answer depends on the request's end message and its buffer
 pub answer_told : (r : Request) (e : End) (memory : List ℕ) (address : ℕ) (told : CodeAnswer)
     → too_long r ≡ false
-    → answer_value told ≡ answer_of r.act e (take (room_of (op_of r.act 0)) (part memory address 16384))
+    → answer_value told ≡ answer_of r.act e (take (buffer_length (op_of r.act 0)) (part memory address 16384))
     → answer_value told ≡ answer_of r.act e
-    (part memory (buffer_start (op_of r.act address)) (room_of (op_of r.act address)))
+    (part memory (buffer_start (op_of r.act address)) (buffer_length (op_of r.act address)))
 answer_told r e memory address told short tells = tells
     ∙ answer-in_buffer r.unit r.act e memory address 16384 short refl

@@ -1,4 +1,4 @@
--- Drives that are handed in and back.
+-- Drives that are passed in and returned.
 use Rattle.std.proofs.Common.{◌≡◌, List, [], ◌∷◌, Option, Some, None, map, refl, ap}
 use Rattle.uda_exec.specs.Drives.{DriveState, fresh_unit, fresh_units, reset_unit, drives_in}
 

@@ -1,7 +1,7 @@
 pub mod Drives
 pub mod Blanks
 pub mod Slots
-pub mod Outs
+pub mod BufferTableInvariant
 pub mod Drivings
 pub mod Loads
 pub mod Underways

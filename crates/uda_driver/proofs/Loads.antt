@@ -10,15 +10,15 @@ use Rattle.std.proofs.lemmas.Option.{slice_get_within, get_or_from_slice_get}
 use Rattle.uda_exec.specs.Disks.{PENDING_LIMIT}
 use Rattle.uda_packet.specs.declared.end.End.{End}
 use Rattle.uda_disk.specs.Request.{Request}
-use Rattle.uda_disk.specs.PlainRun.{too_long, is_short, posted_count}
+use Rattle.uda_disk.specs.InOrderRun.{too_long, is_short, posted_count}
 use Rattle.uda_disk.specs.Order.{clash, lead_from, lead}
 use Rattle.uda_posting.specs.Posting.{posted_command}
 use Rattle.uda_disk.specs.Values.{request_value}
-use Rattle.uda_host.specs.Host.{HostState, Works, OneFetched, OneDone, TakesEnd}
-use Rattle.uda_driver.specs.Out.{posted_with, clashes_with_any}
-use Rattle.uda_driver.specs.Steps.{PutsOut}
+use Rattle.uda_host.specs.Host.{HostState, TurnWithoutEnd, OneFetched, OneDone, TakesEnd}
+use Rattle.uda_driver.specs.Outstanding.{posted_with, clashes_with_any}
+use Rattle.uda_driver.specs.DriverStep.{PostsRequest}
 use Rattle.uda_driver.specs.Load.{triangle, InLead, LeadOver, LoadAt, GoesOn, IsOver}
-use Rattle.uda_driver.specs.declared.buffers.Out.{Out}
+use Rattle.uda_driver.specs.declared.buffers.Outstanding.{Outstanding}
 use Rattle.uda_driver.proofs.Slots.{clashes-taken}
 
 triangle-more : (n : ℕ) → triangle (n + 1) ≡ n + 1 + triangle n
@@ -31,7 +31,7 @@ double (suc n) = let h = double n in grind (arith, h)
 pub triangle-is : (n : ℕ) → triangle n ≡ n * (n + 1) / 2
 triangle-is n = let h = double n in omega arith
 
--- ---- the lead goes on, or ends
+-- ---- the lead continues, or ends
 
 lead-post : (room : ℕ) (seen : List Request) (r : Request) (rest : List Request) → 0 < room
     → too_long r ≡ false → list_any (clash r) seen ≡ false
@@ -60,7 +60,7 @@ pub lead-none : (room : ℕ) (seen : List Request) → lead_from room seen [] �
 lead-none zero seen = refl
 lead-none (suc room) seen = refl
 
--- ---- the request at a place
+-- ---- the request at an index
 
 pub record Next (requests : List Request) (n : ℕ) (r : Request) : Type 0 where
   pub rest : drop n requests ≡ r ∷ drop (n + 1) requests
@@ -79,7 +79,7 @@ next requests n r stands =
 
 -- ---- the steps
 
-pub load_start : {start : HostState} {out : List (Option Out)} (requests : List Request)
+pub load_start : {start : HostState} {out : List (Option Outstanding)} (requests : List Request)
     → out ≡ replicate PENDING_LIMIT None → start.due ≡ [] → start.credits ≡ PENDING_LIMIT
     → LoadAt start requests 0 out start
 load_start requests none idle all = GoesOn (record {
@@ -90,8 +90,8 @@ load_start requests none idle all = GoesOn (record {
   load_is = refl;
 })
 
--- where no more come in the lead, it is over
-pub over_from : {start host : HostState} {requests : List Request} {n : ℕ} {out : List (Option Out)}
+-- if no more join the lead, it is over
+pub over_from : {start host : HostState} {requests : List Request} {n : ℕ} {out : List (Option Outstanding)}
     → ((l : InLead start requests n out host) → lead_from host.credits l.seen (drop n requests) ≡ 0)
     → LoadAt start requests n out host → LeadOver start requests n host
 over_from {host = host} {requests} {n} none (GoesOn l) =
@@ -104,7 +104,7 @@ over_from none (IsOver over) = over
 
 module _ {start host new : HostState} {requests : List Request} {n : ℕ}
     (over : LeadOver start requests n host) where
-  pub over_works : Works host new → LeadOver start requests n new
+  pub over_works : TurnWithoutEnd host new → LeadOver start requests n new
   over_works (OneFetched f) = rw f.is (record { within = over.within; load = over.load })
   over_works (OneDone x) =
       let taken = x.executes.taken in
@@ -123,7 +123,7 @@ module _ {start host new : HostState} {requests : List Request} {n : ℕ}
   pub over_takes : {e : End} → TakesEnd host e new → LeadOver start requests n new
   over_takes t = rw t.is (record { within = over.within; load = over.load })
 
-module _ {start host : HostState} {requests : List Request} {n : ℕ} {out : List (Option Out)} {r : Request}
+module _ {start host : HostState} {requests : List Request} {n : ℕ} {out : List (Option Outstanding)} {r : Request}
     (it : Next requests n r) where
   pub load_skip : too_long r ≡ true → LoadAt start requests n out host
       → LoadAt start requests (n + 1) out host
@@ -140,10 +140,10 @@ module _ {start host : HostState} {requests : List Request} {n : ℕ} {out : Lis
       let same = it.skipped long in
       IsOver (record { within = omega (arith, over.within, same); load = omega (arith, over.load, same) })
 
-  pub load_post : {one : Out} {new : HostState} {after : List (Option Out)}
+  pub load_post : {one : Outstanding} {new : HostState} {after : List (Option Outstanding)}
       → request_value one.request.now ≡ r → too_long r ≡ false → 0 < host.credits
       → clashes_with_any r out ≡ false
-      → (puts : PutsOut one host out new after) → LoadAt start requests n out host
+      → (puts : PostsRequest one host out new after) → LoadAt start requests n out host
       → LoadAt start requests (n + 1) (set out puts.number (Some one)) new
   load_post {one} {new} is short some clear puts load = by load
     where

@@ -1,4 +1,4 @@
--- The errors as a person reads them.
+-- The printed texts of the errors.
 use Rattle.std.specs.Prelude.{ℕ, List, codes}
 use Rattle.uda_driver.specs.declared.driver.RunError.{RunError}
 use Rattle.uda_driver.specs.declared.driver.RunError.TheVariants.{NoMemory, TooMany}

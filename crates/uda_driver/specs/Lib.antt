@@ -1,9 +1,9 @@
 pub mod Run
 pub mod Blank
-pub mod Out
-pub mod Steps
+pub mod Outstanding
+pub mod DriverStep
 pub mod Load
-pub mod Underway
+pub mod RunInvariant
 pub mod Driver
 pub mod Drive
 pub mod Display

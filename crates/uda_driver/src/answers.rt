@@ -1,7 +1,7 @@
-//! The answers, as they are prepared before the first command, and as ends fill them.
+//! The answers: their preparation before the first command, and their content from end messages.
 ghost use Rattle.std.specs.Prelude.{◌≡◌, ◌≤◌, true, false, length, take, vec_capacity, IfOk};
-ghost use Rattle.uda_exec.specs.Commands.{room_of};
-ghost use Rattle.uda_disk.specs.PlainRun.{too_long};
+ghost use Rattle.uda_exec.specs.Commands.{buffer_length};
+ghost use Rattle.uda_disk.specs.InOrderRun.{too_long};
 ghost use Rattle.uda_posting.specs.Posting.{op_of, answer_of};
 ghost use Rattle.uda_disk.specs.Values.{request_value, answer_value, request_values};
 ghost use Rattle.uda_host.specs.Layout.{buffer_size};
@@ -11,7 +11,7 @@ use std::alloc::{AllocError, Global};
 use uda_disk::{Answer, Request};
 use uda_packet::{End, EndBody};
 
-// Returns a vector with room for `count` bytes: an earlier answer's, if its capacity suffices.
+// Returns a vector with capacity for `count` bytes: an earlier answer's, if its capacity suffices.
 fn room_for(alloc: Global, count: usize, used: Option<Answer>) -> Result<Vec<u8>, AllocError>
     ensures room { IfOk result (λ bytes. count ≤ vec_capacity bytes) }
 {
@@ -40,8 +40,8 @@ fn blank(alloc: Global, request: &Request, used: Option<Answer>) -> Result<Answe
     }
 }
 
-/// Returns the answers before the first command: `TooLong` for a request that is too long, and room for the
-/// bytes of a Read. Memory of the earlier answers is reused if it suffices.
+/// Returns the answers before the first command: `TooLong` for a request that is too long, and capacity for
+/// the bytes of a Read. Memory of the earlier answers is reused if it suffices.
 pub(crate) fn blanks(
     alloc: Global,
     requests: &[Request],
@@ -58,14 +58,14 @@ pub(crate) fn blanks(
     Ok(answers)
 }
 
-/// The answer of a request by its end and its buffer, in place of the blank.
+/// Returns the answer of a request by its end message and its buffer. It replaces the blank answer.
 pub(crate) fn answer_for(blank: Answer, request: &Request, end: End, buffer: &[u8]) -> Answer
     requires short { too_long (request_value request.now) ≡ false }
     requires whole { length buffer.now ≡ buffer_size }
     ensures { Prepared (request_value request.now) blank
         → answer_value result
         ≡ answer_of (request_value request.now).act end
-        (take (room_of (op_of (request_value request.now).act 0)) buffer.now) }
+        (take (buffer_length (op_of (request_value request.now).act 0)) buffer.now) }
 {
     let (flags, size, moved) = match end.body {
         EndBody::Status { flags } => (flags, 0, 0),
@@ -87,7 +87,7 @@ pub(crate) fn answer_for(blank: Answer, request: &Request, end: End, buffer: &[u
             let told = buffer.len().min(moved as usize);
             match blank {
                 Answer::Data { mut bytes, .. } => {
-                    fill(&mut bytes, &buffer[..told]);
+                    copy_within_capacity(&mut bytes, &buffer[..told]);
                     Answer::Data { status, bytes }
                 }
                 other => other,
@@ -100,8 +100,8 @@ pub(crate) fn answer_for(blank: Answer, request: &Request, end: End, buffer: &[u
     }
 }
 
-// Makes the bytes these, where there is room for them: so none is taken from memory.
-fn fill(bytes: &mut Vec<u8>, from: &[u8])
+// Replaces the content of `bytes`, if the capacity suffices. So it allocates nothing.
+fn copy_within_capacity(bytes: &mut Vec<u8>, from: &[u8])
     ensures { length from.now ≤ vec_capacity bytes.old → bytes.new.items ≡ from.now }
 {
     if from.len() <= bytes.capacity() {

@@ -1,16 +1,16 @@
 //! The driver.
 ghost use Rattle.std.specs.Prelude.{◌≡◌, ◌<◌, ◌≤◌, ◌↔◌, false, length, Err, IfOk, IfErr};
 ghost use Rattle.uda_exec.specs.Drives.{drive_states, fresh_units, drives_in};
-ghost use Rattle.uda_disk.specs.Units.{natures_of, AllFaithful, AreImages};
+ghost use Rattle.uda_disk.specs.Units.{unit_attributes, AllFaithful, AreWellFormed};
 ghost use Rattle.uda_disk.specs.Values.{request_values, answer_values};
-ghost use Rattle.uda_driver.specs.Run.{request_limit, AreAnswersOf, NoneFailed, IsPlainRun, TellsLosses};
-ghost use Rattle.uda_driver.specs.Run.{CountsOn, units_of, tells_drive_error, SureNeverFail, SeemsPlain};
+ghost use Rattle.uda_driver.specs.Run.{request_limit, AreAnswersOf, NoStoreFailed, IsInOrderRun, ReportsEveryFailure};
+ghost use Rattle.uda_driver.specs.Run.{HasTurnCounts, units_of, any_drive_error, InfallibleDidNotFail, MatchesUpToData};
 ghost use Rattle.uda_driver.specs.Blank.{AreBlank};
 ghost use Rattle.uda_driver.specs.Driver.{IsAtRest};
 
 use crate::answers::blanks;
 use crate::errors::StartError;
-use crate::serve::drive;
+use crate::run_loop::drive;
 use crate::watch::{Unwatched, Watch};
 use std::alloc::Global;
 use std::marker::Model;
@@ -22,10 +22,10 @@ use uda_image::{BlockStore, Drive};
 /// The most requests of one run.
 pub const REQUEST_LIMIT: usize = 4096;
 
-/// Why nothing was done.
+/// The reason why a run executed nothing.
 #[derive(Clone, Copy, Debug, PartialEq, Eq)]
 pub enum RunError {
-    /// No memory was left for the answers.
+    /// Memory allocation for the answers failed.
     NoMemory,
     /// More than [`REQUEST_LIMIT`] requests.
     TooMany,
@@ -33,7 +33,7 @@ pub enum RunError {
 
 /// A class driver: a host over the units' executor.
 ///
-/// It reaches its units through the port alone, and keeps nothing of their blocks.
+/// It reaches its units only through the port, and keeps no copy of their blocks.
 #[derive(Drop)]
 pub struct Driver<S: BlockStore> {
     alloc: Global,
@@ -45,28 +45,30 @@ impl<S: BlockStore> Model for Driver<S> {
 
     ghost Value = { HostState };
 
-    ghost use Rattle.uda_driver.specs.Driver.{IsDriver};
+    ghost use Rattle.uda_driver.specs.Driver.{DriverInvariant};
 
     ghost view = { λ d. d.host };
 
-    ghost invariant = { λ d. IsDriver d.host };
+    ghost invariant = { λ d. DriverInvariant d.host };
 }
 
 impl<S: BlockStore> Driver<S> {
-    /// A driver over the drives of units 0 to 3: it makes memory and port, starts the port up, and has
-    /// one Set Controller Characteristics done.
+    /// Makes a driver over the drives of units 0 to 3. It allocates memory and port, initializes the port,
+    /// and executes one Set Controller Characteristics.
     ///
-    /// No store is called. Every unit with a drive is then available, without software protection, with
-    /// its blocks and hardware protection as given; nothing is out, and the driver holds fifteen credits.
-    /// Where `alloc` has no memory the answer is a [`StartError`] that has the drives as they were.
+    /// It calls no store. Every unit with a drive is then available, without software protection. Its
+    /// blocks and its hardware protection are as given. No command is outstanding, and the driver holds
+    /// fifteen credits.
+    ///
+    /// Fails with a [`StartError`] if `alloc` has no memory. The error returns the drives unchanged.
     ///
     /// UDA50 Programmer's Documentation Kit: initialisation, credits.
     pub fn start(alloc: Global, drives: [Option<Drive<S>>; 4]) -> Result<Driver<S>, StartError<S>>
-        ensures rest { IfOk result (λ driver. IsAtRest driver) }
+        ensures at_rest { IfOk result (λ driver. IsAtRest driver) }
         ensures units { IfOk result (λ driver.
             units_of driver ≡ fresh_units (drive_states S.state drives)) }
-        ensures four { IfOk result (λ driver. length (units_of driver) ≡ 4) }
-        ensures images { IfOk result (λ driver. AreImages (units_of driver)) }
+        ensures four_units { IfOk result (λ driver. length (units_of driver) ≡ 4) }
+        ensures well_formed { IfOk result (λ driver. AreWellFormed (units_of driver)) }
         ensures refused { IfErr result (λ refusal.
             drive_states S.state refusal.drives ≡ drive_states S.state drives) }
     {
@@ -78,56 +80,70 @@ impl<S: BlockStore> Driver<S> {
         }
     }
 
-    /// Has the requests done, and answers each.
+    /// Executes the requests, and returns an answer for each.
     ///
-    /// Up to fifteen commands are out at once, and the controller does them in any order it chooses. Yet
-    /// answers and disks are those of one plain array of blocks for each unit, served in order, where
-    /// every store is faithful and none fails (`headline`), or no answer tells a drive error
-    /// (`headline_untold`, which [`tells_drive_error`](crate::tells_drive_error) tests); where stores fail,
-    /// those of such a run with transfers lost, each loss told once (`losses`). A store that never fails has
-    /// not failed (`sure`). Whatever the stores, each request has an answer of its own form (`shape`), modes
-    /// and refusals are the plain run's, and a transfer that is done there is done here or told as lost, with
-    /// as many bytes as were moved (`seems`); and the port's turns are counted (`counts`).
+    /// Up to fifteen commands are outstanding at once, and the controller executes them in any order that
+    /// it chooses. The contract relates the result to the in-order run: the requests executed one at a
+    /// time, in order, on one array of blocks for each unit.
     ///
-    /// More than 4096 requests are `TooMany`, and where no memory is left for the answers the error is
-    /// `NoMemory`: then nothing was done. All memory is taken before the first command.
+    /// Over faithful stores:
+    ///
+    /// - If no store fails, answers and disks are those of the in-order run (`in_order_run`). The same holds if
+    ///   no answer has the status drive error (`in_order_run_if_no_error`), which
+    ///   [`any_drive_error`](crate::any_drive_error) tests.
+    /// - If stores fail, they are those of an in-order run in which transfers may fail part-way. Each
+    ///   failure of a store is reported by exactly one answer (`in_order_run_with_failures`).
+    /// - A store that never fails has not failed (`infallible`).
+    ///
+    /// Over any stores:
+    ///
+    /// - Each request has an answer of its own form (`answer_forms`).
+    /// - Sizes, modes and rejections are those of the in-order run. A transfer that succeeds there succeeds
+    ///   here, or fails with a drive error and the number of bytes moved before it. The bytes that a Read
+    ///   returns may differ (`in_order_run_up_to_data`).
+    /// - The turns of the port are counted (`turn_counts`).
+    ///
+    /// All memory is allocated before the first command. The run fails, and executes nothing, with:
+    ///
+    /// - `TooMany` if there are more than 4096 requests;
+    /// - `NoMemory` if the answers can't be allocated.
     pub fn run(&mut self, requests: &[Request]) -> Result<Vec<Answer>, RunError>
         ensures too_many { (result ≡ Err RunError.TooMany) ↔ (request_limit < length requests.now) }
         ensures unchanged { IfErr result (λ _. self.new ≡ self.old) }
-        ensures rest { IsAtRest self.new }
-        ensures natures { natures_of (units_of self.new) ≡ natures_of (units_of self.old) }
-        ensures four { (length (units_of self.old) ≡ 4) × (length (units_of self.new) ≡ 4) }
-        ensures images { AreImages (units_of self.old) × AreImages (units_of self.new) }
-        ensures shape { IfOk result (λ answers.
+        ensures at_rest { IsAtRest self.new }
+        ensures all_attributes { unit_attributes (units_of self.new) ≡ unit_attributes (units_of self.old) }
+        ensures four_units { (length (units_of self.old) ≡ 4) × (length (units_of self.new) ≡ 4) }
+        ensures well_formed { AreWellFormed (units_of self.old) × AreWellFormed (units_of self.new) }
+        ensures answer_forms { IfOk result (λ answers.
             AreAnswersOf (request_values requests.now) (answer_values answers.items)) }
-        ensures headline { IfOk result (λ answers.
-            AllFaithful (units_of self.old) → NoneFailed (units_of self.old) (units_of self.new)
-            → IsPlainRun (units_of self.old) (request_values requests.now)
+        ensures in_order_run { IfOk result (λ answers.
+            AllFaithful (units_of self.old) → NoStoreFailed (units_of self.old) (units_of self.new)
+            → IsInOrderRun (units_of self.old) (request_values requests.now)
             (answer_values answers.items) (units_of self.new)) }
-        ensures headline_untold { IfOk result (λ answers.
+        ensures in_order_run_if_no_error { IfOk result (λ answers.
             AllFaithful (units_of self.old)
-            → tells_drive_error (answer_values answers.items) ≡ false
-            → IsPlainRun (units_of self.old) (request_values requests.now)
+            → any_drive_error (answer_values answers.items) ≡ false
+            → IsInOrderRun (units_of self.old) (request_values requests.now)
             (answer_values answers.items) (units_of self.new)) }
-        ensures sure { AllFaithful (units_of self.old)
-            → SureNeverFail (units_of self.old) (units_of self.new) }
-        ensures losses { IfOk result (λ answers.
+        ensures infallible { AllFaithful (units_of self.old)
+            → InfallibleDidNotFail (units_of self.old) (units_of self.new) }
+        ensures in_order_run_with_failures { IfOk result (λ answers.
             AllFaithful (units_of self.old)
-            → TellsLosses (units_of self.old) (request_values requests.now)
+            → ReportsEveryFailure (units_of self.old) (request_values requests.now)
             (answer_values answers.items) (units_of self.new)) }
-        ensures seems { IfOk result (λ answers.
-            SeemsPlain (units_of self.old) (request_values requests.now)
+        ensures in_order_run_up_to_data { IfOk result (λ answers.
+            MatchesUpToData (units_of self.old) (request_values requests.now)
             (answer_values answers.items) (units_of self.new)) }
-        ensures counts { IfOk result (λ _.
-            CountsOn (request_values requests.now) self.old self.new) }
+        ensures turn_counts { IfOk result (λ _.
+            HasTurnCounts (request_values requests.now) self.old self.new) }
     {
         self.run_reusing(requests, Vec::new(self.alloc), &mut Unwatched)
     }
 
     /// Executes the requests as [`run`](Driver::run) does, and reuses the memory of earlier answers.
     ///
-    /// The bytes of a Read go into an earlier answer's memory if it has room for them. The contents of the
-    /// earlier answers are lost. Each turn of the port is shown to `watch`, which can't change the run.
+    /// The bytes of a Read are put in an earlier answer's memory if its capacity suffices. The contents of
+    /// the earlier answers are lost. `watch` receives each turn of the port, and can't change the run.
     pub fn run_reusing<W: Watch>(
         &mut self,
         requests: &[Request],
@@ -136,38 +152,38 @@ impl<S: BlockStore> Driver<S> {
     ) -> Result<Vec<Answer>, RunError>
         ensures too_many { (result ≡ Err RunError.TooMany) ↔ (request_limit < length requests.now) }
         ensures unchanged { IfErr result (λ _. self.new ≡ self.old) }
-        ensures rest { IsAtRest self.new }
-        ensures natures { natures_of (units_of self.new) ≡ natures_of (units_of self.old) }
-        ensures four { (length (units_of self.old) ≡ 4) × (length (units_of self.new) ≡ 4) }
-        ensures images { AreImages (units_of self.old) × AreImages (units_of self.new) }
-        ensures shape { IfOk result (λ answers.
+        ensures at_rest { IsAtRest self.new }
+        ensures all_attributes { unit_attributes (units_of self.new) ≡ unit_attributes (units_of self.old) }
+        ensures four_units { (length (units_of self.old) ≡ 4) × (length (units_of self.new) ≡ 4) }
+        ensures well_formed { AreWellFormed (units_of self.old) × AreWellFormed (units_of self.new) }
+        ensures answer_forms { IfOk result (λ answers.
             AreAnswersOf (request_values requests.now) (answer_values answers.items)) }
-        ensures headline { IfOk result (λ answers.
-            AllFaithful (units_of self.old) → NoneFailed (units_of self.old) (units_of self.new)
-            → IsPlainRun (units_of self.old) (request_values requests.now)
+        ensures in_order_run { IfOk result (λ answers.
+            AllFaithful (units_of self.old) → NoStoreFailed (units_of self.old) (units_of self.new)
+            → IsInOrderRun (units_of self.old) (request_values requests.now)
             (answer_values answers.items) (units_of self.new)) }
-        ensures headline_untold { IfOk result (λ answers.
+        ensures in_order_run_if_no_error { IfOk result (λ answers.
             AllFaithful (units_of self.old)
-            → tells_drive_error (answer_values answers.items) ≡ false
-            → IsPlainRun (units_of self.old) (request_values requests.now)
+            → any_drive_error (answer_values answers.items) ≡ false
+            → IsInOrderRun (units_of self.old) (request_values requests.now)
             (answer_values answers.items) (units_of self.new)) }
-        ensures sure { AllFaithful (units_of self.old)
-            → SureNeverFail (units_of self.old) (units_of self.new) }
-        ensures losses { IfOk result (λ answers.
+        ensures infallible { AllFaithful (units_of self.old)
+            → InfallibleDidNotFail (units_of self.old) (units_of self.new) }
+        ensures in_order_run_with_failures { IfOk result (λ answers.
             AllFaithful (units_of self.old)
-            → TellsLosses (units_of self.old) (request_values requests.now)
+            → ReportsEveryFailure (units_of self.old) (request_values requests.now)
             (answer_values answers.items) (units_of self.new)) }
-        ensures seems { IfOk result (λ answers.
-            SeemsPlain (units_of self.old) (request_values requests.now)
+        ensures in_order_run_up_to_data { IfOk result (λ answers.
+            MatchesUpToData (units_of self.old) (request_values requests.now)
             (answer_values answers.items) (units_of self.new)) }
-        ensures counts { IfOk result (λ _.
-            CountsOn (request_values requests.now) self.old self.new) }
+        ensures turn_counts { IfOk result (λ _.
+            HasTurnCounts (request_values requests.now) self.old self.new) }
     {
         let answers = prepare(self.alloc, requests, used)?;
         Ok(drive(&mut self.host, requests, answers, watch))
     }
 
-    /// The drives as the last run left them, hardware protection too. No store is called.
+    /// Returns the drives as the last run left them, with their hardware protection. It calls no store.
     pub fn into_stores(self) -> [Option<Drive<S>>; 4]
         ensures drives { drive_states S.state result ≡ drives_in (units_of self) }
     {
@@ -176,7 +192,7 @@ impl<S: BlockStore> Driver<S> {
     }
 }
 
-// Makes an answer for each request, with room for the bytes of a Read.
+// Makes an answer for each request, with capacity for the bytes of a Read.
 fn prepare(alloc: Global, requests: &[Request], used: Vec<Answer>) -> Result<Vec<Answer>, RunError>
     ensures too_many { (result ≡ Err RunError.TooMany) ↔ (request_limit < length requests.now) }
     ensures few { IfOk result (λ _. length requests.now ≤ request_limit) }

@@ -1,4 +1,4 @@
-//! Why a driver wasn't made, or a run wasn't done, as a person reads it.
+//! The errors of a driver, with their printed texts.
 ghost use Rattle.std.specs.Prelude.{Some};
 ghost use Rattle.uda_driver.specs.Display.{run_error_display, start_error_display};
 
@@ -7,7 +7,7 @@ use std::error::Error;
 use std::fmt;
 use uda_image::{BlockStore, Drive};
 
-/// No memory was left for a driver. It has the drives that were given, as they were.
+/// Memory allocation for a driver failed. The error has the drives, unchanged.
 #[derive(Drop)]
 pub struct StartError<S: BlockStore> {
     /// The drives.

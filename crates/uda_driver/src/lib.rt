@@ -1,6 +1,7 @@
-//! The class driver: a list of requests done by commands of which up to fifteen are out at once.
+//! The class driver. It executes a list of requests by commands, of which up to fifteen are outstanding at
+//! once.
 //!
-//! Its tests are in the crate `driver_tests`.
+//! The tests of this crate are in `driver_tests`.
 #![tactic(auto)]
 
 mod answers;
@@ -8,12 +9,12 @@ mod buffers;
 mod driver;
 mod errors;
 mod losses;
-mod serve;
+mod run_loop;
 mod watch;
 
 pub use driver::{Driver, REQUEST_LIMIT, RunError};
 pub use errors::StartError;
-pub use losses::tells_drive_error;
+pub use losses::any_drive_error;
 pub use uda_disk::{Answer, Mode, Refusal, Request, UnitFlags, laws};
 pub use uda_port::Trace;
 pub use watch::{Unwatched, Watch};

@@ -1,22 +1,23 @@
-//! Whether answers tell of a loss.
+//! The test for drive errors in answers.
 //!
 //! MSCP Basic Disk Functions Manual: status and event codes, drive error.
 ghost use Rattle.std.specs.Prelude.{◌≡◌};
 ghost use Rattle.std.specs.List.{list_any};
 ghost use Rattle.uda_disk.specs.Answer.{status_of};
 ghost use Rattle.uda_disk.specs.Values.{answer_value, answer_values};
-ghost use Rattle.uda_driver.specs.Run.{is_drive_error, tells_drive_error};
+ghost use Rattle.uda_driver.specs.Run.{is_drive_error, any_drive_error};
 
 use uda_disk::{Answer, status};
 
-/// Whether one of these answers tells a drive error, 0x000B: a store failed in that transfer.
-pub fn tells_drive_error(answers: &[Answer]) -> bool
-    ensures told { result ≡ tells_drive_error (answer_values answers.now) }
+/// Returns whether one of these answers has the status drive error, 0x000B: a store failed in that
+/// transfer.
+pub fn any_drive_error(answers: &[Answer]) -> bool
+    ensures found { result ≡ any_drive_error (answer_values answers.now) }
 {
     any_is_lost(answers)
 }
 
-// The same of the answers as they stand.
+// Returns the same for the answers of the code.
 fn any_is_lost(answers: &[Answer]) -> bool
     ensures { result ≡ list_any (λ answer. is_drive_error (answer_value answer)) answers.now }
 {
@@ -29,7 +30,7 @@ fn is_drive_error(answer: &Answer) -> bool
     status_of(answer) == status::DRIVE_ERROR
 }
 
-// The status of an answer; one that is too long tells none.
+// Returns the status of an answer, or 0 for one that is too long.
 fn status_of(answer: &Answer) -> u16
     ensures { result ≡ status_of (answer_value answer.now) }
 {

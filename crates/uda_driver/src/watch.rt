@@ -1,14 +1,14 @@
-//! Who watches a run, turn by turn.
+//! Observers of a run, turn by turn.
 
 use uda_port::Trace;
 
-/// Sees each turn that the port takes during a run.
+/// An observer that receives each turn of the port during a run.
 pub trait Watch {
-    /// Sees one turn: what the port did, and how many commands may be posted after it.
+    /// Receives one turn: its trace, and the number of commands that may be posted after it.
     fn see(&mut self, trace: &Trace, credits: u32);
 }
 
-/// Watches nothing.
+/// An observer that does nothing.
 #[derive(Clone, Copy, Debug, Default, PartialEq, Eq)]
 pub struct Unwatched;
 

@@ -1,4 +1,4 @@
--- Several blocks of a transfer moved at once, for each kind of transfer.
+-- Several blocks of a transfer moved in one call, for each kind of transfer.
 use Rattle.std.proofs.Common.{◌≡◌, ℕ, ◌+◌, ◌*◌, ◌<◌, ◌≤◌, List, ◌++◌, length, take, drop, replicate, refl, sym, ap, ◌∙◌, arith}
 use Rattle.std.specs.Prelude.{true}
 use Rattle.std.specs.List.{concat}
@@ -11,7 +11,7 @@ use Rattle.uda_image.specs.StoreLaws.{length-first_chunks}
 use Rattle.uda_image.proofs.AtOnceLaws.{take-chunks, get_or-chunks}
 use Rattle.uda_image.proofs.Chunk.{first_chunks-replicate}
 use Rattle.uda_exec.specs.Transfers.{Accessed, Erased}
-use Rattle.uda_exec.proofs.Words.{put, part, Transfer, StoreState, KeepsNature, IsImage, blocks_for, block_count, in_blocks, bytes_at, ChangesAt, Progress}
+use Rattle.uda_exec.proofs.Words.{put, part, Transfer, StoreState, KeepsAttributes, HasWholeBlocks, blocks_for, block_count, in_blocks, bytes_at, ChangesAt, Progress}
 use Rattle.uda_exec.proofs.Calls.{go_none, go_more}
 use Rattle.uda_exec.proofs.Changes.{changes_by_put}
 use Rattle.uda_exec.proofs.Steps.{progress_none}
@@ -22,7 +22,7 @@ take-part : {A : Type 0} (xs : List A) (at n m : ℕ) → m ≤ n → take m (pa
 unfolding part
 take-part xs at n m h = take-take m n (drop at xs) h
 
--- no byte behind the chunks counts
+-- no byte past the chunks counts
 chunks-front : (count : ℕ) (bytes : List ℕ) → first_chunks 512 count (take (512 * count) bytes)
     ≡ first_chunks 512 count bytes
 unfolding part
@@ -39,19 +39,19 @@ pub none_ahead : (t : Transfer) (old new : StoreState) (memory memory_after : Li
     → memory_after ≡ memory → Progress t 0 old memory new memory_after
 none_ahead t old new memory memory_after same kept = rw (same, kept) (progress_none t old memory)
 
--- bytes that came to a range's front changed no more than the range
+-- bytes at the front of a range changed no more than the range
 pub changes_front : (old : List ℕ) (at n : ℕ) (to new : List ℕ) → new ≡ put old at to → length to ≤ n
     → ChangesAt old at n new
 changes_front old at n to new landed size =
     rw landed (changes_by_put old at n at to (omega arith) (omega arith))
 
--- the bytes that stood there already change nothing
+-- bytes equal to those in memory change nothing
 pub same_put_back : (memory : List ℕ) (at n : ℕ) (to new : List ℕ) → new ≡ put memory at to
     → to ≡ part memory at n → new ≡ memory
 same_put_back memory at n to new landed same = landed ∙ ap (put memory at) same ∙ put-part memory at n
 
 module _ (t : Transfer) (count : ℕ) (old : StoreState) (memory : List ℕ) (whole : 512 * count ≤ t.bytes) where
-  pub reads_ahead : IsImage old.size old.blocks → t.lbn + block_count t ≤ old.size → t.kind ≡ Read
+  pub reads_ahead : HasWholeBlocks old.size old.blocks → t.lbn + block_count t ≤ old.size → t.kind ≡ Read
       → (new : StoreState) (to after : List ℕ) → ReadsBlocks old t.lbn count new to
       → after ≡ put memory t.buffer to → Progress t count old memory new after
   reads_ahead image on_unit is new to after r stands =
@@ -101,7 +101,7 @@ module _ (t : Transfer) (count : ℕ) (old : StoreState) (memory : List ℕ) (wh
 module _ (t : Transfer) (k count : ℕ) (old : StoreState) (memory : List ℕ) (now : StoreState)
     (memory_now : List ℕ)
     (h : Progress t k old memory now memory_now) (new : StoreState) where
-  -- the zeros of so many blocks come to those of the first k
+  -- the zeros of `count` blocks follow those of the first k
   erased_on : k + count ≤ block_count t
       → put (put old.blocks t.lbn (take k (replicate (block_count t) (replicate 512 0)))) (t.lbn + k)
       (replicate count (replicate 512 0))
@@ -131,39 +131,39 @@ module _ (t : Transfer) (k count : ℕ) (old : StoreState) (memory : List ℕ) (
               ∙ erased_on within);
         };
         failures_stay = ap (λ (s : StoreState). s.failures) e.written ∙ h.failures_stay;
-        calls = go_more k count old.fails_in now.fails_in new.fails_in h.calls e.calls;
+        calls = go_more k count old.failing_call now.failing_call new.failing_call h.calls e.calls;
       }
 
--- what holds while blocks are read in pieces, of which nothing is kept
+-- the invariant of blocks that are read in pieces and dropped
 pub record Accessing (count done : ℕ) (old now : StoreState) : Type 0 where
-  pub nature : KeepsNature old now
+  pub attributes : KeepsAttributes old now
   pub within : done ≤ count
   pub accessed : old.faithful ≡ true → Accessed old done now
 
--- and while they are erased
+-- the same of blocks that are erased
 pub record Erasing (n count done : ℕ) (old now : StoreState) : Type 0 where
-  pub nature : KeepsNature old now
+  pub attributes : KeepsAttributes old now
   pub within : done ≤ count
   pub erased : old.faithful ≡ true → Erased old n done now
 
 pub erased_none : (old : StoreState) (n : ℕ) → Erased old n 0 old
 erased_none old n = record {
   written = ap (λ (b : List (List ℕ)). record old { blocks = b }) (sym (put-nil old.blocks n));
-  calls = go_none old.fails_in;
+  calls = go_none old.failing_call;
 }
 
 pub accessed_none : (old : StoreState) → Accessed old 0 old
-accessed_none old = record { state_stays = refl; calls = go_none old.fails_in }
+accessed_none old = record { state_stays = refl; calls = go_none old.failing_call }
 
 pub accessed_more : (old now new : StoreState) (n done piece : ℕ) (to : List ℕ) → Accessed old done now
     → ReadsBlocks now n piece new to → Accessed old (done + piece) new
 accessed_more old now new n done piece to before r = record {
-  state_stays = r.state_stays ∙ ap (λ (s : StoreState). record s { fails_in = new.fails_in })
+  state_stays = r.state_stays ∙ ap (λ (s : StoreState). record s { failing_call = new.failing_call })
       before.state_stays;
-  calls = go_more done piece old.fails_in now.fails_in new.fails_in before.calls r.calls;
+  calls = go_more done piece old.failing_call now.failing_call new.failing_call before.calls r.calls;
 }
 
--- zeros in so many chunks
+-- zeros in `count` chunks
 chunks-zeros : (count : ℕ) (from : List ℕ) → from ≡ replicate (512 * count) 0 → first_chunks 512 count from
     ≡ replicate count (replicate 512 0)
 chunks-zeros count from e = ap (λ (b : List ℕ). first_chunks 512 count b) e
@@ -183,7 +183,7 @@ erased_more old now new n done piece from zeros before w =
     ∙ ap (λ (b : List (List ℕ)). put old.blocks n b) (replicate-append-replicate done piece block) in
     record {
       written = w.written ∙ ap (λ (s : StoreState).
-          record s { blocks = put s.blocks (n + done) more; fails_in = new.fails_in }) before.written
-          ∙ ap (λ (b : List (List ℕ)). record old { blocks = b; fails_in = new.fails_in }) both;
-      calls = go_more done piece old.fails_in now.fails_in new.fails_in before.calls w.calls;
+          record s { blocks = put s.blocks (n + done) more; failing_call = new.failing_call }) before.written
+          ∙ ap (λ (b : List (List ℕ)). record old { blocks = b; failing_call = new.failing_call }) both;
+      calls = go_more done piece old.failing_call now.failing_call new.failing_call before.calls w.calls;
     }

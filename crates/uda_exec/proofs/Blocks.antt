@@ -1,4 +1,4 @@
--- The blocks of a run of bytes, and the bytes of a run of blocks.
+-- The blocks of a range of bytes, and the bytes of a range of blocks.
 use Rattle.std.proofs.Common.{◌≡◌, ℕ, zero, suc, ◌+◌, ◌-◌, ◌*◌, ◌<◌, ◌≤◌, List, [], ◌∷◌, ◌++◌, length, get_or, take, drop, replicate, sym, ap, ◌∙◌, arith, append-nil, length-append, length-drop}
 use Rattle.std.specs.List.{concat}
 use Rattle.std.specs.Prelude.{All}
@@ -10,7 +10,7 @@ use Rattle.uda_image.specs.StoreLaws.{All-first_chunks}
 use Rattle.uda_disk.specs.Request.{blocks_for, in_blocks, first_block}
 use Rattle.uda_exec.specs.Commands.{bytes_at}
 
--- of a block's bytes or more the first block is the first 512
+-- the first block of 512 bytes or more is the first 512 bytes
 pub first_block-whole : (memory : List ℕ) (at n : ℕ) → 512 ≤ n → at + n ≤ length memory
     → first_block (part memory at n) ≡ part memory at 512
 unfolding part
@@ -20,7 +20,7 @@ first_block-whole memory at n h room =
     take-append-le 512 (take n (drop at memory)) (replicate 512 0) (omega (arith, size))
     ∙ take-take 512 n (drop at memory) h
 
--- what lies in memory is the front of some block
+-- what is in memory is the front of some block
 pub keeps_front : (memory : List ℕ) (at n : ℕ) → at + n ≤ length memory
     → memory ≡ put memory at (take n (part memory at n ++ replicate (512 - n) 0))
 keeps_front memory at n room =

@@ -1,18 +1,18 @@
--- The calls of a store of which it is known which one fails.
+-- The calls of a store whose failing call is known.
 use Rattle.std.proofs.Common.{ℕ, suc, ◌+◌, ◌-◌, Option, Some, None, refl, ap, subst, ◌∙◌, arith, add-one}
-use Rattle.uda_image.specs.Store.{GoWell, FailsAfter}
+use Rattle.uda_image.specs.Store.{CallsSucceed, FailsAtCall}
 
-pub go_none : (left : Option ℕ) → GoWell 0 left left
+pub go_none : (left : Option ℕ) → CallsSucceed 0 left left
 go_none None = record { before = tt; sooner = refl }
 go_none (Some left) = record { before = λ some. some; sooner = ap Some (omega arith) }
 
-pub go_more : (n m : ℕ) (old now new : Option ℕ) → GoWell n old now → GoWell m now new
-    → GoWell (n + m) old new
+pub go_more : (n m : ℕ) (old now new : Option ℕ) → CallsSucceed n old now → CallsSucceed m now new
+    → CallsSucceed (n + m) old new
 go_more n m None now new before more =
-    let last : GoWell m None new = subst (λ (left : Option ℕ). GoWell m left new) before.sooner more in
+    let last : CallsSucceed m None new = subst (λ (left : Option ℕ). CallsSucceed m left new) before.sooner more in
     record { before = tt; sooner = last.sooner }
 go_more n m (Some left) now new before more =
-    let last : GoWell m (Some (left - n)) new = subst (λ (left : Option ℕ). GoWell m left new) before.sooner
+    let last : CallsSucceed m (Some (left - n)) new = subst (λ (left : Option ℕ). CallsSucceed m left new) before.sooner
     more in
     record {
       before = λ some. let behind = before.before some in let further = last.before (omega arith) in
@@ -20,18 +20,18 @@ go_more n m (Some left) now new before more =
       sooner = last.sooner ∙ ap Some (omega arith);
     }
 
-pub go_next : (n : ℕ) (old now new : Option ℕ) → GoWell n old now → GoWell 1 now new → GoWell (suc n) old new
-go_next n old now new before next = subst (λ (calls : ℕ). GoWell calls old new) (add-one n)
+pub go_next : (n : ℕ) (old now new : Option ℕ) → CallsSucceed n old now → CallsSucceed 1 now new → CallsSucceed (suc n) old new
+go_next n old now new before next = subst (λ (calls : ℕ). CallsSucceed calls old new) (add-one n)
     (go_more n 1 old now new before next)
 
-pub fails_then : (n : ℕ) (old now new : Option ℕ) → GoWell n old now → FailsAfter 0 now new
-    → FailsAfter n old new
+pub fails_then : (n : ℕ) (old now new : Option ℕ) → CallsSucceed n old now → FailsAtCall 0 now new
+    → FailsAtCall n old new
 fails_then n None now new before fails =
-    let last : FailsAfter 0 None new = subst (λ (left : Option ℕ). FailsAfter 0 left new) before.sooner
+    let last : FailsAtCall 0 None new = subst (λ (left : Option ℕ). FailsAtCall 0 left new) before.sooner
     fails in
     record { now = tt; over = last.over }
 fails_then n (Some left) now new before fails =
-    let last : FailsAfter 0 (Some (left - n)) new =
-    subst (λ (left : Option ℕ). FailsAfter 0 left new) before.sooner fails in
+    let last : FailsAtCall 0 (Some (left - n)) new =
+    subst (λ (left : Option ℕ). FailsAtCall 0 left new) before.sooner fails in
     let here = last.now in
     record { now = omega arith; over = last.over }

@@ -4,7 +4,7 @@ use Rattle.std.proofs.lemmas.List.{same_lists}
 use Rattle.std.proofs.lemmas.Bool.{cases_lt}
 use Rattle.uda_mem.proofs.PutLaws.{length-put, length-part, get_or-part, get_or-put_before, get_or-put_at, get_or-put_behind, put-part, put-part_none, put-put_same, put-whole}
 use Rattle.uda_packet.specs.declared.command.Op.TheVariants.{Read}
-use Rattle.uda_exec.proofs.Words.{put, part, Op, landing_of, room_of, ChangesAt}
+use Rattle.uda_exec.proofs.Words.{put, part, Op, memory_write_length, buffer_length, ChangesAt}
 
 -- a write inside the range
 pub changes_by_put : (old : List ℕ) (at n place : ℕ) (bytes : List ℕ) → at ≤ place
@@ -44,9 +44,9 @@ changes_again a b c at n h g =
     g ∙ ap (λ (m : List ℕ). put m at (part c at n)) h ∙ over
 
 -- a command changes no more of its buffer than there is
-pub landing-le : (op : Op) → landing_of op ≤ room_of op
+pub landing-le : (op : Op) → memory_write_length op ≤ buffer_length op
 landing-le (Read bytes address lbn) = omega arith
 landing-le _ = omega arith
 
--- what a search needs of a memory that was handed on as a slice
+-- what a search needs of a memory that was passed on as a slice
 pub ruleset wholes = put-whole

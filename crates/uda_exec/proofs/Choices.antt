@@ -1,19 +1,19 @@
--- Which commands may go, one older command after the other.
+-- Eligibility, one older command after the other.
 use Rattle.std.proofs.Common.{◌≡◌, ℕ, ◌+◌, ◌<◌, ◌≤◌, true, List, Some, length, get_or, take, inl, inr, ap, ◌∙◌, arith, length-take}
 use Rattle.std.specs.Prelude.{slice_get}
 use Rattle.std.proofs.lemmas.Bool.{cases_lt}
 use Rattle.std.proofs.lemmas.List.{get_or-take}
 use Rattle.std.proofs.lemmas.Option.{get_or_from_slice_get}
-use Rattle.uda_exec.proofs.Words.{Command, may_pass, MayGo}
+use Rattle.uda_exec.proofs.Words.{Command, command_may_overtake, IsEligible}
 
--- a command may pass each of the first n
+-- a command may overtake each of the first n
 abbrev pub PassesFirst : List Command → ℕ → Command → Type 0
 PassesFirst pending n command = (i : ℕ) (older : Command) → i < n → slice_get pending i ≡ Some older
-    → may_pass older command ≡ true
+    → command_may_overtake older command ≡ true
 
--- and one more, which stands before this place
+-- and one more, which is before this index
 pub passes_next : (pending : List Command) (place n : ℕ) (command d : Command)
-    → n < length (take place pending) → may_pass (get_or (take place pending) n d) command ≡ true
+    → n < length (take place pending) → command_may_overtake (get_or (take place pending) n d) command ≡ true
     → PassesFirst pending n command → PassesFirst pending (n + 1) command
 passes_next pending place n command d inside may before i older below at = elim (cases_lt i n) [
   | inl low ↦ before i older low at
@@ -25,12 +25,12 @@ passes_next pending place n command d inside may before i older below at = elim 
       rw here at may
 ]
 
--- one that may pass all before its place may go
+-- a command that may overtake all before its index is eligible
 pub goes_if : (pending : List Command) (place n : ℕ) (d : Command) → place < length pending
-    → length (take place pending) ≤ n → PassesFirst pending n (get_or pending place d) → MayGo pending place
-goes_if pending place n d within whole passes = record {
+    → length (take place pending) ≤ n → PassesFirst pending n (get_or pending place d) → IsEligible pending place
+goes_if pending place n d within whole may_overtake = record {
   stands = within;
-  passes = λ i older younger below at_i at_place.
+  may_overtake = λ i older younger below at_i at_place.
       let one : get_or pending place d ≡ younger = get_or_from_slice_get pending place younger d at_place in
-      rw (← one) (passes i older (omega (arith, length-take place pending)) at_i);
+      rw (← one) (may_overtake i older (omega (arith, length-take place pending)) at_i);
 }

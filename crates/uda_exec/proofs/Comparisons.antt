@@ -1,22 +1,23 @@
--- How a comparison of blocks with memory goes from block to block; and the list of what is done with each
--- command.
-use Rattle.std.proofs.Common.{◌≡◌, ℕ, ◌+◌, ◌-◌, ◌*◌, ◌/◌, ◌%◌, ◌<◌, ◌≤◌, inl, inr, true, List, [], ◌∷◌, ◌++◌, length, get_or, replicate, Option, Some, None, refl, sym, ap, ◌∙◌, arith, append-nil, append_assoc}
+-- The comparison of blocks with memory from block to block; and the list of additional operations.
+use Rattle.std.proofs.Common.{◌≡◌, ℕ, ◌+◌, ◌-◌, ◌*◌, ◌/◌, ◌%◌, ◌<◌, ◌≤◌, inl, inr, true, List, [], ◌∷◌, ◌++◌, length, get_or, replicate, Option, Some, None, refl, sym, ap, ◌∙◌, arith, append-nil, append_assoc, length-append}
 use Rattle.std.specs.Prelude.{slice_index}
 use Rattle.std.proofs.lemmas.Bool.{cases_lt}
-use Rattle.std.proofs.lemmas.List.{replicate_more}
-use Rattle.std.proofs.lemmas.Option.{get_or_from_slice_get}
+use Rattle.std.specs.Prelude.{unwrap_or}
+use Rattle.std.proofs.lemmas.List.{replicate_more, get_or_push, length-replicate}
+use Rattle.std.proofs.lemmas.Option.{get_or_from_slice_get, unwrap_or-slice_get, slice_get_past}
 use Rattle.uda_mem.proofs.PutLaws.{get_or-part}
 use Rattle.uda_image.specs.Store.{ReadsBlock, FailsToRead}
 use Rattle.uda_packet.specs.declared.guest_command.GuestOp.{GuestOp}
 use Rattle.uda_packet.specs.declared.guest_command.GuestOp.TheVariants as guest
+use Rattle.uda_exec.specs.GuestOps.{op_at, with_op}
 use Rattle.uda_exec.specs.Compare.{byte_stored, byte_held, ComparesBlocks}
-use Rattle.uda_exec.specs.Comparing.{FindsIn, count_at, ComparesBlock, LosesRead}
+use Rattle.uda_exec.specs.Comparing.{FindsIn, count_at, ComparesBlock, FailsAtRead}
 use Rattle.uda_exec.specs.declared.compare.Verdict.TheVariants.{Equal, Differs, Lost}
-use Rattle.uda_exec.proofs.Words.{part, Transfer, StoreState, KeepsNature, block_count}
+use Rattle.uda_exec.proofs.Words.{part, Transfer, StoreState, KeepsAttributes, block_count}
 
 -- ---- one block
 
--- the same difference is found in numbers that are the same
+-- the same difference is found in equal numbers
 finds_same : (n : ℕ) (found : Option ℕ) (f g h k : ℕ → ℕ) → ((i : ℕ) → i < n → f i ≡ h i)
     → ((i : ℕ) → i < n → g i ≡ k i) → FindsIn n found f g → FindsIn n found h k
 finds_same n None f g h k left right all = λ i below. sym (left i below) ∙ all i below ∙ right i below
@@ -51,7 +52,7 @@ compares_block t k found old new memory block window reads is finds = record {
   failures_stay = ap (λ (s : StoreState). s.failures) reads.state_stays;
 }
 
-pub loses_read : (old new : StoreState) → FailsToRead old new → LosesRead old new
+pub loses_read : (old new : StoreState) → FailsToRead old new → FailsAtRead old new
 loses_read old new fails = record {
   blocks_stay = ap (λ (s : StoreState). s.blocks) fails.counted;
   counted = ap (λ (s : StoreState). s.failures) fails.counted;
@@ -59,7 +60,7 @@ loses_read old new fails = record {
 
 -- ---- a range of blocks
 
--- the blocks before this one are the same as the buffer
+-- the blocks before this one are equal to the buffer
 pub record SameSoFar (t : Transfer) (done : ℕ) (old : StoreState) (memory : List ℕ) (now : StoreState)
     : Type 0 where
   pub same : (i : ℕ) → i < 512 * done → i < t.bytes → byte_stored t old.blocks i ≡ byte_held t memory i
@@ -68,7 +69,7 @@ pub record SameSoFar (t : Transfer) (done : ℕ) (old : StoreState) (memory : Li
 
 pub record Comparing (t : Transfer) (done : ℕ) (old : StoreState) (memory : List ℕ) (now : StoreState)
     : Type 0 where
-  pub nature : KeepsNature old now
+  pub attributes : KeepsAttributes old now
   pub within : done ≤ block_count t
   pub so_far : old.faithful ≡ true → SameSoFar t done old memory now
 
@@ -122,7 +123,7 @@ module _ (t : Transfer) (done : ℕ) (old now new : StoreState) (memory : List �
     failures_are = omega (arith, c.failures_stay, so_far.failures_stay);
   }
 
-  pub lost_here : done < block_count t → LosesRead now new → ComparesBlocks t (Lost done) old memory new
+  pub lost_here : done < block_count t → FailsAtRead now new → ComparesBlocks t (Lost done) old memory new
   lost_here inside lost = record {
     verdict = λ i below. so_far.same i below (omega arith);
     blocks_stay = lost.blocks_stay ∙ so_far.blocks_stay;
@@ -137,9 +138,9 @@ all_same t done old now memory past so_far = record {
   failures_are = omega (arith, so_far.failures_stay);
 }
 
--- ---- what is done with each command
+-- ---- the additional operation of each command
 
--- the list, filled up so far
+-- the list, filled up to this length
 pub record Padded (old : List GuestOp) (place : ℕ) (now : List GuestOp) : Type 0 where
   pub within : length now ≤ place
   pub further : length old ≤ length now
@@ -171,3 +172,20 @@ padded_last old now new place op p full is =
     is ∙ ap (λ (xs : List GuestOp). xs ++ op ∷ []) (p.is ∙ ap (λ (n : ℕ). old
     ++ replicate (n - length old) guest.Basic) here)
     ∙ append_assoc old (replicate (place - length old) guest.Basic) (op ∷ [])
+
+-- the additional operation of the last command is found at its index
+op_last : (place : ℕ) (ops : List GuestOp) (op : GuestOp) → length ops ≤ place
+    → op_at (ops ++ (replicate (place - length ops) guest.Basic ++ op ∷ [])) place ≡ op
+op_last place ops op past =
+    let more = replicate (place - length ops) guest.Basic in
+    let front : length (ops ++ more) ≡ place =
+    omega (arith, length-append ops more, length-replicate (place - length ops) guest.Basic, past) in
+    unwrap_or-slice_get (ops ++ (more ++ op ∷ [])) place guest.Basic
+    ∙ ap (λ (l : List GuestOp). get_or l place guest.Basic) (sym (append_assoc ops more (op ∷ [])))
+    ∙ get_or_push (ops ++ more) op guest.Basic place front
+
+pub op_noted : (op : GuestOp) (place : ℕ) (ops : List GuestOp) → length ops ≤ place
+    → op_at (with_op op place ops) place ≡ op
+op_noted guest.Basic place ops past = ap (λ o. unwrap_or o guest.Basic) (slice_get_past ops place past)
+op_noted guest.SetUnit place ops past = op_last place ops guest.SetUnit past
+op_noted guest.Compare place ops past = op_last place ops guest.Compare past

@@ -14,3 +14,4 @@ pub mod OrderLaw
 pub mod OrderExamples
 pub mod NamedLaws
 pub mod Comparisons
+pub mod OnlyOne

@@ -4,16 +4,16 @@ use Rattle.std.specs.Prelude.{MatchResult, true, false, slice_set}
 use Rattle.std.proofs.lemmas.List.{take_all}
 use Rattle.std.proofs.lemmas.Option.{get_or_from_slice_get}
 use Rattle.uda_mem.proofs.PutLaws.{put-nil, length-part-le}
-use Rattle.uda_exec.proofs.Words.{put, part, changes_blocks, Transfer, StoreError, StoreState, Reads, Writes, block_count, changes_memory, in_blocks, bytes_at, first_block, blocks_due, bytes_landing_of, MovesBlock, LosesBlock}
+use Rattle.uda_exec.proofs.Words.{put, part, changes_blocks, Transfer, StoreError, StoreState, Reads, Writes, block_count, changes_memory, in_blocks, bytes_at, first_block, blocks_due, bytes_landing_of, MovesBlock, FailsAtBlock}
 use Rattle.uda_disk.proofs.InBlocks.{get_or-in_blocks}
 use Rattle.uda_exec.proofs.Blocks.{bytes_at-within, part-part}
 
--- what one block's move may end in
+-- the possible results of one block's move
 abbrev pub EndsBlock : Transfer → ℕ → StoreState → List ℕ → StoreState → List ℕ → Result Unit StoreError
     → Type 0
 EndsBlock t k old memory new memory_after result =
     MatchResult result (λ _. MovesBlock t k old memory new memory_after)
-    (λ _. LosesBlock t k old memory new memory_after)
+    (λ _. FailsAtBlock t k old memory new memory_after)
 
 set-put : (xs : List (List ℕ)) (n : ℕ) (x : List ℕ) → slice_set xs n x ≡ put xs n (x ∷ [])
 unfolding put
@@ -75,7 +75,7 @@ module _ (t : Transfer) (k : ℕ) (old : StoreState) (memory : List ℕ) (new : 
     calls = h.calls;
   }
 
--- the block that a Write's buffer fills at place k
+-- the block that a Write's buffer has at index k
 pub due-Write : (t : Transfer) (k : ℕ) (memory : List ℕ) → k < block_count t
     → t.buffer + t.bytes ≤ length memory
     → get_or (in_blocks (bytes_at memory t.buffer t.bytes)) k []

@@ -1,4 +1,4 @@
--- The first command that passes a test, by its place.
+-- The first command that passes a test, by its index.
 use Rattle.std.proofs.Common.{◌≡◌, ℕ, zero, suc, ◌+◌, ◌<◌, ◌≤◌, Bool, true, false, List, [], ◌∷◌, ◌++◌, length, take, drop, Option, Some, None, refl, sym, ap, ◌∙◌, arith, add-one, subst, length-take, length-drop, length-append}
 use Rattle.std.specs.Prelude.{find, position, slice_get, remove, nat_lt, cond, option_map, unwrap_or}
 use Rattle.std.specs.List.{before_first, after_first, position_or_len}
@@ -15,11 +15,11 @@ use Rattle.uda_exec.specs.Named.{aborted}
 use Rattle.uda_exec.proofs.Words.{Command}
 
 module _ (p : Command → Bool) (xs : List Command) where
-  -- what is left without the first that passes
+  -- the list without the first command that passes
   abbrev pub others : List Command
   others = before_first p xs ++ after_first p xs
 
-  -- it is at this place, or there is none
+  -- it is at this index, or there is none
   abbrev pub IsAt : Option ℕ → Type 0
   IsAt (Some i) = (find p xs ≡ slice_get xs i) × (others ≡ remove xs i)
   IsAt None = (find p xs ≡ None) × (others ≡ xs)
@@ -41,7 +41,7 @@ module _ (p : Command → Bool) (xs : List Command) where
       let n = position_or_len p xs in
       subst IsAt (sym is) (at_place n refl (nat_lt n (length xs)) refl)
 
--- the place is one of the list
+-- the index is in the list
 pub place_within : (p : Command → Bool) (xs : List Command) (i : ℕ) → Some i ≡ position p xs → i < length xs
 place_within p xs i is = (position-Some p xs i none_there (sym is)).0
   where
@@ -53,7 +53,7 @@ some_there [] i within none = absurd (omega arith)
 some_there (x ∷ xs) zero within none = absurd (cc)
 some_there (x ∷ xs) (suc i) within none = some_there xs i (omega (arith, within)) none
 
--- what is left without it: one command fewer, or all of them if there is none
+-- the list without it: one command fewer, or all of them if there is none
 abbrev pub Fewer : (Command → Bool) → List Command → Option Command → Type 0
 Fewer p xs (Some c) = length (others p xs) + 1 ≡ length xs
 Fewer p xs None = others p xs ≡ xs
@@ -74,7 +74,7 @@ pub fewer : (p : Command → Bool) (xs : List Command) (found : Option Command) 
     → Fewer p xs found
 fewer p xs found is = fewer_at p xs (position p xs) refl found is
 
--- the end message of the command at its place, by what is to be done with that
+-- the end message of the command at its index, by its additional operation
 pub aborted_at : (p : Command → Bool) (xs : List Command) (ops : List GuestOp) (place : ℕ) (c : Command)
     (r : Reply)
     → Some place ≡ position p xs → find p xs ≡ Some c → r ≡ aborted (op_at ops place) c

@@ -1,5 +1,5 @@
--- Whichever command that may go is done first, nothing is different; and what else a driver needs of a list
--- of commands.
+-- Whichever eligible command is executed first, the result is the same; and what else a driver needs of a
+-- list of commands.
 use Rattle.std.proofs.Common.{◌≡◌, ℕ, ◌+◌, ◌-◌, inl, inr, min, ◌<◌, List, [], ◌∷◌, ◌++◌, length, get_or, take, replicate, Option, Some, None, refl, sym, ap, ap₂, subst₂, ◌∙◌, arith}
 use Rattle.std.specs.Prelude.{slice_get, option_map}
 use Rattle.std.proofs.lemmas.List.{same_lists, take_at}
@@ -13,12 +13,12 @@ use Rattle.uda_disk.proofs.Runs.{first_is_free, runs-push}
 use Rattle.uda_disk.proofs.Swap as item
 use Rattle.uda_disk.proofs.Swap.{Told, judge}
 use Rattle.uda_exec.specs.Commands.{act_by}
-use Rattle.uda_exec.proofs.Words.{put, part, Meet, Command, Op, Kind, Transfer, transfer_of, End, Disks, Act, buffer_start, room_of, bytes_at, asks_by, act_of, World, Apart, FixedCommand, commands_of, effect_of, effects, OrderIsFree, OneMore, with_bytes, PassesThrough, SameData, DependsOnDataAlone}
+use Rattle.uda_exec.proofs.Words.{put, part, Overlap, Command, Op, Kind, Transfer, transfer_of, End, Disks, Act, buffer_start, buffer_length, bytes_at, asks_by, act_of, World, AreIndependent, FixedCommand, commands_of, effect_of, effects, OrderIsIrrelevant, OneMore, with_bytes, PassesThrough, SameData, DependsOnDataAlone}
 use Rattle.uda_exec.proofs.Requests.{asks, act_of-put}
 use Rattle.uda_exec.proofs.Swap.{swaps, item_of, lands, effect-lands, effect-none, behind, length-told}
 
-pub order_is_free : OrderIsFree
-order_is_free xs j x w apart goes at =
+pub order_is_irrelevant : OrderIsIrrelevant
+order_is_irrelevant xs j x w apart goes at =
     let command : FixedCommand → Command = λ y. y.command in
     let at_command : slice_get (commands_of xs) j ≡ Some x.command = slice_get-map command xs j
     ∙ ap (option_map command) at in
@@ -28,15 +28,15 @@ order_is_free xs j x w apart goes at =
     ∙ ap (option_map command) there in
     let is_y = get_or_from_slice_get (commands_of xs) i y.command x.command there_command in
     let is_x = get_or_from_slice_get (commands_of xs) j x.command x.command at_command in
-    swaps x y v (goes.passes i y.command x.command below there_command at_command)
-    (subst₂ Apart is_y is_x (apart i j x.command below place)))
+    swaps x y v (goes.may_overtake i y.command x.command below there_command at_command)
+    (subst₂ AreIndependent is_y is_x (apart i j x.command below place)))
 
 pub one_more : OneMore
 one_more xs x w = runs-push effect_of xs x w
 
--- bytes beside a command's buffer pass through doing it
+-- bytes outside a command's buffer don't affect it
 passes_one : (x : FixedCommand) (w : World) (at : ℕ) (bytes : List ℕ)
-    → (Meet at (length bytes) (buffer_start x.command.op) (room_of x.command.op) → ⊥)
+    → (Overlap at (length bytes) (buffer_start x.command.op) (buffer_length x.command.op) → ⊥)
     → (asked : Option Act) → act_of x.command.op w.memory ≡ asked → effect_of x (with_bytes w at bytes)
     ≡ ((effect_of x w).0, with_bytes (effect_of x w).1 at bytes)
 passes_one x w at bytes beside None is =
@@ -58,8 +58,8 @@ passes_one x w at bytes beside (Some act) is =
 pub passes_through : PassesThrough
 passes_through [] at bytes w beside = refl
 passes_through (x ∷ rest) at bytes w beside =
-    let P : FixedCommand → Type 0 = λ a. Meet at (length bytes) (buffer_start a.command.op)
-    (room_of a.command.op) → ⊥ in
+    let P : FixedCommand → Type 0 = λ a. Overlap at (length bytes) (buffer_start a.command.op)
+    (buffer_length a.command.op) → ⊥ in
     let now = passes_one x w at bytes (All-head P x rest beside) _ refl in
     let later = passes_through rest at bytes (effect_of x w).1 (All-tail P x rest beside) in
     let step : End × World → List End × World = λ r. let more = effects rest r.1 in (r.0 ∷ more.0, more.1) in
@@ -88,7 +88,7 @@ part-put_both xs ys at new a n same h =
       ]
     ] ∙ sym (get_or-part (put ys at new) a n k d inside))
 
--- what a Write asks of two memories of one length tells whether they share its buffer
+-- equal bytes of a Write in two memories of one length mean that they share its buffer
 part-shared : (memory other : List ℕ) (at n : ℕ) → length memory ≡ length other → bytes_at memory at n
     ≡ bytes_at other at n → part memory at n ≡ part other at n
 part-shared memory other at n same h =
@@ -123,8 +123,8 @@ act_of-put_both : (o : Op) (memory other : List ℕ) (at : ℕ) (bytes : List �
 act_of-put_both o memory other at bytes same h =
     act_by-put_both (transfer_of o) o memory other at bytes same h
 
--- one command in two memories of which it asks the same: one end, the same units, and memories that agree as
--- before
+-- one command with the same action in two memories: one end message, the same units, and memories that agree
+-- as before
 record Agrees (memory other : List ℕ) (now then : End × World) : Type 0 where
   ends : now.0 ≡ then.0
   units : now.1.disks ≡ then.1.disks

@@ -1,4 +1,4 @@
--- A transfer block by block: what the first k blocks leave, one block more, and the end.
+-- A transfer block by block: the effect of the first k blocks, one block more, and the end message.
 use Rattle.std.proofs.Common.{◌≡◌, ℕ, suc, ◌+◌, ◌-◌, ◌*◌, ◌<◌, ◌≤◌, Bool, true, false, List, [], ◌∷◌, ◌++◌, length, get_or, take, replicate, refl, sym, ap, subst, ◌∙◌, arith, add-one, append-nil}
 use Rattle.std.specs.Prelude.{if◌then◌else◌}
 use Rattle.std.specs.List.{concat}
@@ -9,13 +9,13 @@ use lib.Seq.{take-append-add}
 use Rattle.uda_mem.proofs.PutLaws.{put-nil, put-put_next, length-part, length-part-le}
 use Rattle.uda_packet.specs.declared.end.Kind.TheVariants.{Access, Erase, Read, Write}
 use Rattle.uda_image.specs.StoreLaws.{length-first_chunks}
-use Rattle.uda_exec.proofs.Words.{put, part, Kind, Transfer, changes_blocks, StoreState, KeepsNature, IsImage, blocks_for, bytes_at, block_count, room_in, changes_memory, ChangesAt, due_by, blocks_due, bytes_landing, bytes_landing_of, blocks_stored, Stands, MovesBlock, LosesBlock, Progress, StopsAt, MovesOn}
+use Rattle.uda_exec.proofs.Words.{put, part, Kind, Transfer, changes_blocks, StoreState, KeepsAttributes, HasWholeBlocks, blocks_for, bytes_at, block_count, transfer_buffer_length, changes_memory, ChangesAt, due_by, blocks_due, bytes_landing, bytes_landing_of, blocks_stored, Stands, MovesBlock, FailsAtBlock, Progress, StopsAt, MovesOn}
 use Rattle.uda_exec.proofs.Changes.{changes_again}
 use Rattle.uda_exec.proofs.Calls.{go_none, go_next, fails_then}
 use Rattle.uda_exec.proofs.Blocks.{AreBlocks, AreBlocks-part, AreBlocks-take, AreBlocks-in_blocks, length-bytes_at, length-concat_blocks}
 
 module _ (t : Transfer) (blocks : List (List ℕ)) (memory : List ℕ) where
-  -- a Write's blocks are as many as its count takes
+  -- a Write has as many blocks as its count needs
   length-due_Write : length (due_by Write t blocks memory) ≡ block_count t
   length-due_Write =
       let bytes = bytes_at memory t.buffer t.bytes in
@@ -38,7 +38,7 @@ module _ (t : Transfer) (blocks : List (List ℕ)) (memory : List ℕ) where
   length-due_le Read = omega (arith, length-part blocks t.lbn (block_count t))
   length-due_le Access = omega (arith, length-part blocks t.lbn (block_count t))
 
-  -- where the unit's blocks are whole, if there are any to move
+  -- if the unit's blocks are whole, or there are none to move
   pub AreBlocks-due_by : (0 < block_count t → AreBlocks blocks) → (kind : Kind)
       → AreBlocks (due_by kind t blocks memory)
   AreBlocks-due_by are Erase = All-replicate (λ b. length b ≡ 512) (block_count t) (replicate 512 0) refl
@@ -49,26 +49,26 @@ module _ (t : Transfer) (blocks : List (List ℕ)) (memory : List ℕ) where
   pub AreBlocks-due : (0 < block_count t → AreBlocks blocks) → AreBlocks (blocks_due t blocks memory)
   AreBlocks-due are = AreBlocks-due_by are t.kind
 
--- what is due does not change on the way: a Read leaves the blocks, a Write memory
+-- the blocks to move don't change during the transfer: a Read leaves the blocks unchanged, a Write memory
 due_by-stays : (kind : Kind) (t : Transfer) (blocks : List (List ℕ)) (memory bytes : List ℕ)
-    (stored : List (List ℕ)) (at place : ℕ)
-    → due_by kind t (put blocks place (if changes_blocks kind then stored else []))
+    (blocks_written : List (List ℕ)) (at place : ℕ)
+    → due_by kind t (put blocks place (if changes_blocks kind then blocks_written else []))
     (put memory at (if changes_memory kind then bytes else [])) ≡ due_by kind t blocks memory
-due_by-stays Erase t blocks memory bytes stored at place = refl
-due_by-stays Write t blocks memory bytes stored at place = rw put-nil refl
-due_by-stays Read t blocks memory bytes stored at place =
+due_by-stays Erase t blocks memory bytes blocks_written at place = refl
+due_by-stays Write t blocks memory bytes blocks_written at place = rw put-nil refl
+due_by-stays Read t blocks memory bytes blocks_written at place =
     ap (λ (b : List (List ℕ)). part b t.lbn (block_count t)) (put-nil blocks place)
-due_by-stays Access t blocks memory bytes stored at place =
+due_by-stays Access t blocks memory bytes blocks_written at place =
     ap (λ (b : List (List ℕ)). part b t.lbn (block_count t)) (put-nil blocks place)
 
--- more behind what is there, if there is to be any
+-- more after what is there, if there is any
 more_behind : {A : Type 0} (b : Bool) (xs : List A) (at n : ℕ) (front more : List A) → length front ≡ n
     → put (put xs at (if b then front else [])) (at + n) (if b then more else [])
     ≡ put xs at (if b then front ++ more else [])
 more_behind true xs at n front more size = put-put_next xs at front more (at + n) (omega arith)
 more_behind false xs at n front more size = put-nil _ _
 
--- and so with bytes of which no more than the count are put
+-- and the same with bytes of which no more than the count are written
 landing_behind : (b : Bool) (memory : List ℕ) (at count n : ℕ) (front more : List ℕ) → length front ≡ n
     → n ≤ count
     → put (put memory at (if b then take count front else [])) (at + n)
@@ -84,8 +84,8 @@ landing_behind true memory at count n front more size fits =
 landing_behind false memory at count n front more size fits = put-nil _ _
 
 module _ (t : Transfer) (k : ℕ) (old : StoreState) (memory : List ℕ) (now : StoreState) (memory_now : List ℕ)
-    (image : IsImage old.size old.blocks) (on_unit : t.lbn + block_count t ≤ old.size)
-    (in_memory : t.buffer + room_in t ≤ length memory) (inside : k < block_count t)
+    (image : HasWholeBlocks old.size old.blocks) (on_unit : t.lbn + block_count t ≤ old.size)
+    (in_memory : t.buffer + transfer_buffer_length t ≤ length memory) (inside : k < block_count t)
     (h : Progress t k old memory now memory_now) where
   abbrev front : List (List ℕ)
   front = take k (blocks_due t old.blocks memory)
@@ -93,7 +93,7 @@ module _ (t : Transfer) (k : ℕ) (old : StoreState) (memory : List ℕ) (now : 
   all_due : length (blocks_due t old.blocks memory) ≡ block_count t
   all_due = length-due_by t old.blocks memory (rw image.counted on_unit) t.kind
 
-  -- the next block of any content stands behind the first k
+  -- the next block of any content follows the first k
   joins : (x : List ℕ) (new : StoreState) (memory_after : List ℕ)
       → Stands t k x now memory_now new memory_after
       → (memory_after ≡ put memory t.buffer (bytes_landing t (front ++ x ∷ [])))
@@ -134,7 +134,7 @@ module _ (t : Transfer) (k : ℕ) (old : StoreState) (memory : List ℕ) (now : 
       }
 
   pub progress_stops : (new : StoreState) (memory_after : List ℕ)
-      → LosesBlock t k now memory_now new memory_after → StopsAt t k old memory new memory_after
+      → FailsAtBlock t k now memory_now new memory_after → StopsAt t k old memory new memory_after
   progress_stops new memory_after m =
       let both = joins m.left new memory_after m.stands in
       record {
@@ -163,24 +163,24 @@ progress_none t old memory = record {
     in_store = nothing_put (changes_blocks t.kind) old.blocks t.lbn;
   };
   failures_stay = refl;
-  calls = go_none old.fails_in;
+  calls = go_none old.failing_call;
 }
 
--- what is moved from the start on is all that is moved
+-- the blocks from the start on are all that is moved
 pub from_start : (t : Transfer) (count : ℕ) (old : StoreState) (memory : List ℕ) (new : StoreState)
     → MovesOn t 0 count old new → Progress t count old memory new memory
 from_start t count old memory new moves =
     subst (λ (k : ℕ). Progress t k old memory new memory) (omega arith)
     (moves old memory memory (progress_none t old memory))
 
--- what holds on the way, before block k
+-- the invariant before block k
 pub record OnTheWay (t : Transfer) (k : ℕ) (old now : StoreState) (memory memory_now : List ℕ) : Type 0 where
   pub within : k ≤ block_count t
-  pub nature : KeepsNature old now
+  pub attributes : KeepsAttributes old now
   pub changes : ChangesAt memory t.buffer (if changes_memory t.kind then t.bytes else 0) memory_now
   pub moves : (0 < block_count t → old.faithful ≡ true) → Progress t k old memory now memory_now
 
-both_natures : {old now new : StoreState} → KeepsNature old now → KeepsNature now new → KeepsNature old new
+both_natures : {old now new : StoreState} → KeepsAttributes old now → KeepsAttributes now new → KeepsAttributes old new
 both_natures was is = record {
   size_stays = is.size_stays ∙ was.size_stays;
   faithful_stays = is.faithful_stays ∙ was.faithful_stays;
@@ -188,31 +188,31 @@ both_natures was is = record {
 }
 
 module _ {t : Transfer} {k : ℕ} {old now : StoreState} {memory memory_now : List ℕ}
-    (way : OnTheWay t k old now memory memory_now) {new : StoreState} (is : KeepsNature now new) where
+    (way : OnTheWay t k old now memory memory_now) {new : StoreState} (is : KeepsAttributes now new) where
   -- one block more
-  pub way_next : (image : old.faithful ≡ true → IsImage old.size old.blocks)
-      → t.lbn + block_count t ≤ old.size → t.buffer + room_in t ≤ length memory → k < block_count t
+  pub way_next : (image : old.faithful ≡ true → HasWholeBlocks old.size old.blocks)
+      → t.lbn + block_count t ≤ old.size → t.buffer + transfer_buffer_length t ≤ length memory → k < block_count t
       → (memory_after : List ℕ) → ChangesAt memory_now t.buffer (if changes_memory t.kind then t.bytes else 0)
       memory_after
       → (now.faithful ≡ true → MovesBlock t k now memory_now new memory_after)
       → OnTheWay t (k + 1) old new memory memory_after
   way_next image on_unit in_memory inside memory_after changes moves = record {
     within = omega (arith, inside);
-    nature = both_natures way.nature is;
+    attributes = both_natures way.attributes is;
     changes = changes_again _ _ _ _ _ way.changes changes;
     moves = λ called.
         let faithful = called (omega (arith, inside)) in
         rw add-one (progress_next t k old memory now memory_now (image faithful) on_unit in_memory inside
-        (way.moves called) new memory_after (moves (way.nature.faithful_stays ∙ faithful)));
+        (way.moves called) new memory_after (moves (way.attributes.faithful_stays ∙ faithful)));
   }
 
-  -- so many blocks more, which leave memory as it is
+  -- `count` blocks more, which leave memory unchanged
   pub way_on : (count : ℕ) → k + count ≤ block_count t → 0 < block_count t
       → (now.faithful ≡ true → MovesOn t k count now new) → OnTheWay t (k + count) old new memory memory_now
   way_on count within some moves = record {
     within = within;
-    nature = both_natures way.nature is;
+    attributes = both_natures way.attributes is;
     changes = way.changes;
-    moves = λ called. moves (way.nature.faithful_stays ∙ called some) old memory memory_now
+    moves = λ called. moves (way.attributes.faithful_stays ∙ called some) old memory memory_now
         (way.moves called);
   }

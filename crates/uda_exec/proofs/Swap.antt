@@ -1,6 +1,5 @@
--- Two commands that may pass and are apart change places: their requests do on the disks, and what each puts
--- in memory lies
--- beside what the other does.
+-- Two independent commands change places if one may overtake the other. Their requests do so on the disks,
+-- and what each writes to memory is outside the buffer of the other.
 use Rattle.std.proofs.Common.{◌≡◌, ℕ, ◌≤◌, Bool, true, false, List, length, Option, Some, None, refl, sym, ap, ap₂, ◌∙◌, arith, zero-le}
 use Rattle.std.specs.Prelude.{slice_get, option_map}
 use Rattle.uda_mem.proofs.PutLaws.{length-put, put-put_comm, put-nil}
@@ -11,39 +10,39 @@ use Rattle.uda_disk.specs.Order.{clash}
 use Rattle.uda_disk.proofs.Runs.{Swaps, swaps_idle, swaps_sym}
 use Rattle.uda_disk.proofs.Swap as item
 use Rattle.uda_disk.proofs.Swap.{Item, Told, judge, told, does_by}
-use Rattle.uda_exec.proofs.Words.{put, Meet, Command, Op, End, Disk, Disks, Act, Request, Bar, Barred, Free, blocks_moved, due, with_buffer, is_odd, is_missing, is_controller, buffer_start, room_of, act_of, World, reply, end_for, bar_in, does, effect_by, may_pass, Apart, FixedCommand, effect_of}
-use Rattle.uda_exec.proofs.Transferred.{bar-with_buffer}
+use Rattle.uda_exec.proofs.Words.{put, Overlap, Command, Op, End, Disk, Disks, Act, Request, CheckResult, Rejected, Accepted, blocks_moved, due, with_buffer_checks, is_odd, is_missing, is_controller, buffer_start, buffer_length, act_of, World, reply, end_for, check_in, does, effect_by, command_may_overtake, AreIndependent, FixedCommand, effect_of}
+use Rattle.uda_exec.proofs.Transferred.{check_result-with_buffer_checks}
 use Rattle.uda_exec.proofs.Requests.{Asks, asks, asks_some, asks_nothing, act_of-put}
 
--- ---- what a command does, by its request
+-- ---- the effect of a command, by its request
 
--- the request of a command that asks this act of a memory of so many bytes
+-- the request of a command with this action, in a memory of this many bytes
 abbrev pub item_of : FixedCommand → Act → ℕ → Item
 item_of x act n =
     let o = x.command.op in
     record {
       request = record { unit = x.command.unit; act = act };
       outcome = x.outcome;
-      check = with_buffer (is_odd (buffer_start o)) (is_missing (buffer_start o) (room_of o) n);
+      check = with_buffer_checks (is_odd (buffer_start o)) (is_missing (buffer_start o) (buffer_length o) n);
     }
 
-judged : (x : FixedCommand) (act : Act) (n : ℕ) (slot : Option (Option Disk)) → bar_in x.command.op act n slot
+judged : (x : FixedCommand) (act : Act) (n : ℕ) (slot : Option (Option Disk)) → check_in x.command.op act n slot
     ≡ judge (item_of x act n) slot
 judged x act n None = refl
 judged x act n (Some None) = refl
-judged x act n (Some (Some d)) = bar-with_buffer _ _ _ d
+judged x act n (Some (Some d)) = check_result-with_buffer_checks _ _ _ d
 
--- what is told of the request is told by the end, and its bytes stand in the buffer
+-- the end message reports what the request reports, and its bytes are in the buffer
 abbrev pub lands : Command → List ℕ → Told × Disks → End × World
 lands c memory r = (end_for c r.0.0, record { memory = put memory (buffer_start c.op) r.0.1; disks = r.1 })
 
-lands-does : (x : FixedCommand) (act : Act) (b : Bar) (w : World) → does x.outcome x.command act b w
+lands-does : (x : FixedCommand) (act : Act) (b : CheckResult) (w : World) → does x.outcome x.command act b w
     ≡ lands x.command w.memory (does_by (item_of x act (length w.memory)) b w.disks)
-lands-does x act (Free d) w = refl
-lands-does x act (Barred refusal) w =
+lands-does x act (Accepted d) w = refl
+lands-does x act (Rejected refusal) w =
     let it = item_of x act (length w.memory) in
     ap (λ (m : List ℕ). (
-      end_for x.command (told it (Barred refusal)).0,
+      end_for x.command (told it (Rejected refusal)).0,
       record { memory = m; disks = w.disks },
     )) (sym (put-nil w.memory (buffer_start x.command.op)))
 
@@ -52,33 +51,33 @@ pub effect-lands : (x : FixedCommand) (act : Act) (w : World) → act_of x.comma
 effect-lands x act w is =
     let n = length w.memory in
     ap (λ (a : Option Act). effect_by x.outcome x.command a w) is
-    ∙ ap (λ (b : Bar). does x.outcome x.command act b w) (judged x act n (slice_get w.disks x.command.unit))
+    ∙ ap (λ (b : CheckResult). does x.outcome x.command act b w) (judged x act n (slice_get w.disks x.command.unit))
     ∙ lands-does x act (judge (item_of x act n) (slice_get w.disks x.command.unit)) w
 
--- one that asks nothing of a unit
+-- a command without an action on a unit
 pub effect-none : (x : FixedCommand) (w : World) → act_of x.command.op w.memory ≡ None
     → effect_of x w ≡ (reply x.command SUCCESS (blank_body x.command.op), w)
 effect-none x w is = ap (λ (a : Option Act). effect_by x.outcome x.command a w) is
 
 -- the bytes fit the buffer
-pub length-told : (x : FixedCommand) (act : Act) (n : ℕ) (b : Bar) → Asks x.command.op act
-    → length (told (item_of x act n) b).1 ≤ room_of x.command.op
-length-told x act n (Barred refusal) h = zero-le
-length-told x act n (Free d) h = h.brings (blocks_moved x.outcome (due act d.blocks))
+pub length-told : (x : FixedCommand) (act : Act) (n : ℕ) (b : CheckResult) → Asks x.command.op act
+    → length (told (item_of x act n) b).1 ≤ buffer_length x.command.op
+length-told x act n (Rejected refusal) h = zero-le
+length-told x act n (Accepted d) h = h.brings (blocks_moved x.outcome (due act d.blocks))
 
 -- ---- in either order
 
--- buffers beside one another stay so where less is written
-smaller : (a m b n x y : ℕ) → (Meet a m b n → ⊥) → x ≤ m → y ≤ n → Meet a x b y → ⊥
+-- buffers that don't overlap still don't if less is written
+smaller : (a m b n x y : ℕ) → (Overlap a m b n → ⊥) → x ≤ m → y ≤ n → Overlap a x b y → ⊥
 smaller a m b n x y h p q meet = h (omega arith)
 
-turned : (a m b n : ℕ) → (Meet a m b n → ⊥) → Meet b n a m → ⊥
+turned : (a m b n : ℕ) → (Overlap a m b n → ⊥) → Overlap b n a m → ⊥
 turned a m b n h meet = h (omega arith)
 
--- a command done on a world that another left
+-- a command executed on a world that another left
 pub behind : (x : FixedCommand) (act : Act) (w : World) (at : ℕ) (bytes : List ℕ) (disks : Disks)
     → act_of x.command.op w.memory ≡ Some act
-    → (Meet at (length bytes) (buffer_start x.command.op) (room_of x.command.op) → ⊥)
+    → (Overlap at (length bytes) (buffer_start x.command.op) (buffer_length x.command.op) → ⊥)
     → effect_of x (record { memory = put w.memory at bytes; disks = disks }) ≡ lands x.command
     (put w.memory at bytes) (item.does (item_of x act (length w.memory)) disks)
 behind x act w at bytes disks is beside =
@@ -92,8 +91,8 @@ module _ (a b : FixedCommand) (w : World) where
   m = w.memory
 
   module _ (A B : Act) (is_a : act_of a.command.op m ≡ Some A) (is_b : act_of b.command.op m ≡ Some B)
-      (beside : Meet (buffer_start b.command.op) (room_of b.command.op) (buffer_start a.command.op)
-      (room_of a.command.op) → ⊥)
+      (beside : Overlap (buffer_start b.command.op) (buffer_length b.command.op) (buffer_start a.command.op)
+      (buffer_length a.command.op) → ⊥)
       (s : Swaps item.does (item_of a A (length m)) (item_of b B (length m)) w.disks) where
     abbrev ia : Item
     ia = item_of a A (length m)
@@ -113,11 +112,11 @@ module _ (a b : FixedCommand) (w : World) where
     abbrev rb : Told × Disks
     rb = item.does ib w.disks
 
-    little_a : length ra.0.1 ≤ room_of a.command.op
+    little_a : length ra.0.1 ≤ buffer_length a.command.op
     little_a = length-told a A (length m) (judge ia (slice_get w.disks a.command.unit))
         (asks a.command.op m A is_a)
 
-    little_b : length rb.0.1 ≤ room_of b.command.op
+    little_b : length rb.0.1 ≤ buffer_length b.command.op
     little_b = length-told b B (length m) (judge ib (slice_get w.disks b.command.unit))
         (asks b.command.op m B is_b)
 
@@ -153,7 +152,7 @@ module _ (a b : FixedCommand) (w : World) where
               ∙ sym (ap (λ (r : End × World). r.1) then_a);
         }
 
--- one that asks nothing of one memory asks nothing of another
+-- a command that has no action in one memory has none in another
 never : (o : Op) (memory other : List ℕ) → act_of o memory ≡ None → act_of o other ≡ None
 never o memory other is = by (is_controller o) refl
   where
@@ -161,13 +160,13 @@ never o memory other is = by (is_controller o) refl
     by true h = asks_nothing o other h
     by false h = let some = asks_some o memory h in absurd (cc)
 
-may_pass-requests : (a b : FixedCommand) (A B : Act) → Asks a.command.op A → Asks b.command.op B
-    → may_pass b.command a.command ≡ true
-    → disk.passes (record { unit = b.command.unit; act = B }) (record { unit = a.command.unit; act = A })
+command_may_overtake-requests : (a b : FixedCommand) (A B : Act) → Asks a.command.op A → Asks b.command.op B
+    → command_may_overtake b.command a.command ≡ true
+    → disk.may_overtake (record { unit = b.command.unit; act = B }) (record { unit = a.command.unit; act = A })
     ≡ true
-may_pass-requests a b A B ha hb may = rw (hb.speaks, ha.speaks, hb.moving, ha.moving) at may
+command_may_overtake-requests a b A B ha hb may = rw (hb.speaks, ha.speaks, hb.moving, ha.moving) at may
 
-swaps_by : (a b : FixedCommand) (w : World) → may_pass b.command a.command ≡ true → Apart b.command a.command
+swaps_by : (a b : FixedCommand) (w : World) → command_may_overtake b.command a.command ≡ true → AreIndependent b.command a.command
     → (asked_a asked_b : Option Act) → act_of a.command.op w.memory ≡ asked_a → act_of b.command.op w.memory
     ≡ asked_b → Swaps effect_of a b w
 swaps_by a b w may apart asked_a None is_a is_b = swaps_idle effect_of a b _
@@ -180,12 +179,12 @@ swaps_by a b w may apart (Some A) (Some B) is_a is_b =
     option_map (λ act. record { unit = c.unit; act = act }) asked in
     let apart_there = apart.no_clash w.memory _ _ (ap (request b.command) is_b)
     (ap (request a.command) is_a) in
-    let passes = may_pass-requests a b A B (asks a.command.op w.memory A is_a)
+    let may_overtake = command_may_overtake-requests a b A B (asks a.command.op w.memory A is_a)
     (asks b.command.op w.memory B is_b) may in
     swaps_asked a b w A B is_a is_b apart.no_overlap
-    (item.swaps (item_of a A n) (item_of b B n) w.disks passes apart_there)
+    (item.swaps (item_of a A n) (item_of b B n) w.disks may_overtake apart_there)
 
 -- b is the older of the two
-pub swaps : (a b : FixedCommand) (w : World) → may_pass b.command a.command ≡ true → Apart b.command a.command
+pub swaps : (a b : FixedCommand) (w : World) → command_may_overtake b.command a.command ≡ true → AreIndependent b.command a.command
     → Swaps effect_of a b w
 swaps a b w may apart = swaps_by a b w may apart _ _ refl refl

@@ -1,4 +1,5 @@
--- A transfer takes effect, done, lost or refused; and so does a command that moves no blocks.
+-- The complete effect of a transfer that succeeds, fails or is rejected; and that of a command that moves no
+-- blocks.
 use Rattle.std.proofs.Common.{◌≡◌, ℕ, suc, ◌+◌, ◌*◌, ◌<◌, ◌≤◌, zero-le, inl, inr, Bool, true, false, List, [], ◌∷◌, ◌++◌, length, get_or, take, set, refl, sym, ap, ap₂, subst, ◌∙◌, arith, add-one, add-zero, Option, Some, None, length-take, length-set}
 use Rattle.std.specs.Prelude.{if◌then◌else◌, nat_lt, replicate, unwrap_or, ◌&&◌, IfSome}
 use Rattle.std.specs.List.{concat}
@@ -14,7 +15,7 @@ use Rattle.uda_packet.specs.Opcode.{answered_opcode, blank_body}
 use Rattle.uda_disk.specs.Request as ask
 use Rattle.uda_disk.specs.Status.{SUCCESS, DRIVE_ERROR}
 use Rattle.uda_disk.specs.Answer.{status_of}
-use Rattle.uda_exec.proofs.Words.{put, Command, Op, Kind, End, EndBody, Transfer, transfer_of, changes_blocks, StoreState, KeepsNature, IsImage, Mode, Refusal, Disk, Act, blocks_for, extent_of, lbn_of, UnitState, disk_of, blank_answer, block_count, room_in, room_of, blocks_asked, buffer_start, bytes_asked, changes_memory, refusal_status, extent_refusal, Bar, Barred, Free, bar_by, refusal_on, with_buffer, bar_with, extent_in, is_odd, is_missing, transfer_refusal, ChangesAt, asks_by, act_of, blocks_due, bytes_landing, blocks_stored, Progress, StopsAt, Outcome, Done, Lost, FitsCount, blocks_moved, due, stored, brought, mode_after, bytes_on, answer_on, reply, plain_body, with_bytes_moved, body_for, end_for, is_free, transfer_status, transfer_bytes, is_lost, bytes_of, IsBodyOf, Answers, bar_on, EndsTransfer, TakesEffectOn, ServesUnit}
+use Rattle.uda_exec.proofs.Words.{put, Command, Op, Kind, End, EndBody, Transfer, transfer_of, changes_blocks, StoreState, KeepsAttributes, HasWholeBlocks, Mode, Refusal, Disk, Act, blocks_for, extent_of, lbn_of, UnitState, disk_of, blank_answer, block_count, transfer_buffer_length, buffer_length, blocks_asked, buffer_start, bytes_asked, changes_memory, refusal_status, first_failed_check, CheckResult, Rejected, Accepted, check_by, refusal_on, with_buffer_checks, check_with, extent_in, is_odd, is_missing, transfer_refusal, ChangesAt, asks_by, act_of, blocks_due, bytes_landing, blocks_stored, Progress, StopsAt, TransferOutcome, Done, Lost, IsWithinRange, blocks_moved, due, blocks_written, data_read, mode_after, bytes_on, answer_on, reply, plain_body, with_bytes_moved, body_for, end_for, is_accepted, transfer_status, transfer_bytes, is_lost, bytes_of, IsBodyOf, Answers, check_on, EndsTransfer, TakesEffectOn, ServesUnit}
 use Rattle.uda_exec.specs.Execution.{CallsStore}
 use Rattle.uda_exec.proofs.Calls.{go_none}
 use Rattle.uda_exec.proofs.Changes.{changes_nothing}
@@ -22,7 +23,7 @@ use Rattle.uda_exec.proofs.Requests.{asks}
 use Rattle.uda_exec.proofs.Blocks.{AreBlocks, length-bytes_at, length-concat_blocks}
 use Rattle.uda_exec.proofs.Steps.{length-due_by, length-due_le, AreBlocks-due}
 
--- ---- the ends
+-- ---- the end messages
 
 opcode-with_bytes : (b : EndBody) (bytes : ℕ) → answered_opcode (with_bytes_moved b bytes) ≡ answered_opcode b
 opcode-with_bytes (body.Moved kind old) bytes = refl
@@ -43,7 +44,7 @@ pub Answers-plain : (c : Command) (status bytes : ℕ) → bytes ≤ bytes_asked
     → Answers c (reply c status (plain_body c.op bytes))
 Answers-plain c status bytes h = record { reference = refl; unit = refl; body = IsBodyOf-plain c.op bytes h }
 
--- one that is refused
+-- a rejected command
 status-blank : (act : Act) (status : ℕ) → status_of (blank_answer act status) ≡ status
 status-blank (ask.Online protect) status = refl
 status-blank ask.Available status = refl
@@ -58,12 +59,12 @@ end_of-blank c memory act status is = ap₂ (reply c) (status-blank act status)
 
 -- ---- a command that moves no blocks
 
--- an act of no extent answers by its mode, and puts nothing
+-- an action without a range returns by the mode, and writes nothing
 record Still (o : Op) (act : Act) : Type 0 where
   pub answers : (disk : Disk) → IsBodyOf o (body_for o (answer_on Done act disk))
   pub no_extent : extent_of act ≡ None
-  pub stores : (blocks : List (List ℕ)) → stored act (due act blocks) ≡ []
-  pub brings : (blocks : List (List ℕ)) → brought act (due act blocks) ≡ []
+  pub stores : (blocks : List (List ℕ)) → blocks_written act (due act blocks) ≡ []
+  pub brings : (blocks : List (List ℕ)) → data_read act (due act blocks) ≡ []
   pub hard_stays : (mode : Mode) → (mode_after act mode).hard ≡ mode.hard
 
 hard-online : (protect : Bool) (mode : Mode) → (mode_after (ask.Online protect) mode).hard ≡ mode.hard
@@ -97,37 +98,37 @@ still_if (op.Online soft) none = record {
 }
 still_if _ none = absurd (cc)
 
--- what it asks does not depend on memory
+-- its action doesn't depend on memory
 pub act_of-same : (o : Op) (memory : List ℕ) → transfer_of o ≡ None → act_of o memory ≡ act_of o []
 act_of-same o memory none = rw none refl
 
-pub bar-with_buffer : (odd missing : Bool) (found : Option Refusal) (disk : Disk)
-    → bar_with odd missing (bar_by found disk) ≡ bar_by (with_buffer odd missing found) disk
-bar-with_buffer odd missing None disk = refl
-bar-with_buffer odd missing (Some refusal) disk = refl
+pub check_result-with_buffer_checks : (odd missing : Bool) (found : Option Refusal) (disk : Disk)
+    → check_with odd missing (check_by found disk) ≡ check_by (with_buffer_checks odd missing found) disk
+check_result-with_buffer_checks odd missing None disk = refl
+check_result-with_buffer_checks odd missing (Some refusal) disk = refl
 
--- what bars a command is what its act's checks find, with what its buffer adds
-bar_on-by : (c : Command) (act : Act) (unit : UnitState) (memory : List ℕ) (address room : ℕ)
-    (found : Option Refusal) → buffer_start c.op ≡ address → room_of c.op ≡ room
+-- the checks of a command are those of its action, and those of its buffer
+check_on-by : (c : Command) (act : Act) (unit : UnitState) (memory : List ℕ) (address room : ℕ)
+    (found : Option Refusal) → buffer_start c.op ≡ address → buffer_length c.op ≡ room
     → refusal_on (extent_of act) unit.store.size unit.mode ≡ found
-    → bar_on c act unit memory ≡ bar_by
-    (with_buffer (is_odd address) (is_missing address room (length memory)) found) (disk_of unit)
-bar_on-by c act unit memory address room found at has is =
+    → check_on c act unit memory ≡ check_by
+    (with_buffer_checks (is_odd address) (is_missing address room (length memory)) found) (disk_of unit)
+check_on-by c act unit memory address room found at has is =
     let m = length memory in let disk = disk_of unit in
-    let b : Bar = bar_by (refusal_on (extent_of act) unit.store.size unit.mode) disk in
-    ap (λ (a : ℕ). bar_with (is_odd a) (is_missing a (room_of c.op) m) b) at
-    ∙ ap (λ (r : ℕ). bar_with (is_odd address) (is_missing address r m) b) has
-    ∙ ap (λ (f : Option Refusal). bar_with (is_odd address) (is_missing address room m) (bar_by f disk)) is
-    ∙ bar-with_buffer _ _ found disk
+    let b : CheckResult = check_by (refusal_on (extent_of act) unit.store.size unit.mode) disk in
+    ap (λ (a : ℕ). check_with (is_odd a) (is_missing a (buffer_length c.op) m) b) at
+    ∙ ap (λ (r : ℕ). check_with (is_odd address) (is_missing address r m) b) has
+    ∙ ap (λ (f : Option Refusal). check_with (is_odd address) (is_missing address room m) (check_by f disk)) is
+    ∙ check_result-with_buffer_checks _ _ found disk
 
 free-still : (c : Command) (act : Act) (unit : UnitState) (memory : List ℕ) → transfer_of c.op ≡ None
-    → extent_of act ≡ None → bar_on c act unit memory ≡ Free (disk_of unit)
+    → extent_of act ≡ None → check_on c act unit memory ≡ Accepted (disk_of unit)
 free-still c act unit memory none still =
     let present : is_missing 0 0 (length memory) ≡ false = le-ltb (length memory) 0 zero-le in
-    bar_on-by c act unit memory 0 0 None (rw none refl) (rw none refl) (rw still refl)
-    ∙ ap (λ (missing : Bool). bar_by (with_buffer false missing None) (disk_of unit)) present
+    check_on-by c act unit memory 0 0 None (rw none refl) (rw none refl) (rw still refl)
+    ∙ ap (λ (missing : Bool). check_by (with_buffer_checks false missing None) (disk_of unit)) present
 
--- the unit's mode is what the command leaves, and nothing else changed
+-- the unit's mode is that of the command, and nothing else changed
 pub serves_mode : (c : Command) (act : Act) (unit : UnitState) (memory : List ℕ) → transfer_of c.op ≡ None
     → act_of c.op memory ≡ Some act
     → ServesUnit c act unit memory (end_for c (answer_on Done act (disk_of unit)))
@@ -140,17 +141,17 @@ serves_mode c act unit memory none is =
     record {
       answers = record { reference = refl; unit = refl; body = s.answers (disk_of unit) };
       memory_stays = changes_nothing memory _ _;
-      nature_stays = ap (λ (hard : Bool). record {
+      attributes_stay = ap (λ (hard : Bool). record {
         size = unit.store.size;
         hard = hard;
         faithful = unit.store.faithful;
         never_fails = unit.store.never_fails;
       }) (s.hard_stays unit.mode);
       mode_stays = λ transfers. let not = rw none at transfers in absurd (cc);
-      unit_stays = λ idle. let not : is_free (Free (disk_of unit)) ≡ false = ap is_free (sym free) ∙ idle in
+      unit_stays = λ idle. let not : is_accepted (Accepted (disk_of unit)) ≡ false = ap is_accepted (sym free) ∙ idle in
           absurd (cc);
       ends = λ transfers acting. let not = rw none at transfers in absurd (cc);
-      takes_effect = λ trusted. subst (λ (b : Bar). TakesEffectOn c act b unit memory
+      takes_effect = λ trusted. subst (λ (b : CheckResult). TakesEffectOn c act b unit memory
           (end_for c (answer_on Done act (disk_of unit))) (record unit { mode = mode_after act unit.mode })
           memory) (sym free) (record {
             outcome = Done;
@@ -166,32 +167,32 @@ serves_mode c act unit memory none is =
                 (sym (ap (put unit.store.blocks (lbn_of act)) (s.stores unit.store.blocks)
                 ∙ put-nil unit.store.blocks (lbn_of act)));
             failures_are = sym (add-zero unit.store.failures);
-            calls = rw none (go_none unit.store.fails_in);
-            sure = λ never. refl;
+            calls = rw none (go_none unit.store.failing_call);
+            infallible = λ never. refl;
           });
     }
 
 -- ---- a transfer
 
--- where nothing is found, nothing is wrong
+-- if no check fails, nothing is wrong
 pub record NoneFound (odd missing : Bool) (found : Option Refusal) : Type 0 where
   pub even : odd ≡ false
   pub present : missing ≡ false
   pub nothing : found ≡ None
 
-pub none_found : (odd missing : Bool) (found : Option Refusal) → with_buffer odd missing found ≡ None
+pub none_found : (odd missing : Bool) (found : Option Refusal) → with_buffer_checks odd missing found ≡ None
     → NoneFound odd missing found
 none_found odd missing (Some refusal) h = absurd (cc)
 none_found true missing None h = absurd (cc)
 none_found false true None h = absurd (cc)
 none_found false false None h = record { even = refl; present = refl; nothing = refl }
 
--- what a transfer that passes its checks is known of
+-- the properties of a transfer that passes its checks
 pub record Passes (t : Transfer) (memory size : ℕ) : Type 0 where
   pub on_unit : t.lbn + block_count t ≤ size
-  pub in_memory : t.buffer + room_in t ≤ memory
+  pub in_memory : t.buffer + transfer_buffer_length t ≤ memory
 
-pub in_range : (e : ask.Extent) (size : ℕ) (mode : Mode) → extent_refusal e size mode ≡ None
+pub in_range : (e : ask.Extent) (size : ℕ) (mode : Mode) → first_failed_check e size mode ≡ None
     → e.lbn + blocks_for e.bytes ≤ size
 in_range e size mode h = grind (arith, nat_tests)
 
@@ -199,10 +200,10 @@ pub passes_if : (t : Transfer) (memory size : ℕ) (mode : Mode) → transfer_re
     → Passes t memory size
 passes_if t memory size mode h =
     let none = none_found _ _ _ h in
-    let present : nat_lt memory (t.buffer + room_in t) ≡ false = none.present in
+    let present : nat_lt memory (t.buffer + transfer_buffer_length t) ≡ false = none.present in
     record { on_unit = in_range (extent_in t) size mode none.nothing; in_memory = grind (arith, nat_tests) }
 
--- the first k blocks and what is left at block k
+-- the first k blocks and the content of block k
 moved-lost : (k : ℕ) (left : List ℕ) (blocks : List (List ℕ)) → k < length blocks
     → blocks_moved (Lost k left) blocks ≡ take k blocks ++ left ∷ []
 moved-lost k left blocks h =
@@ -212,14 +213,14 @@ moved-lost k left blocks h =
     (length-take-le k blocks (omega arith))
 
 -- blocks that were moved are whole
-AreBlocks-moved : (o : Outcome) (n : ℕ) (bs : List (List ℕ)) → AreBlocks bs → FitsCount n o
+AreBlocks-moved : (o : TransferOutcome) (n : ℕ) (bs : List (List ℕ)) → AreBlocks bs → IsWithinRange n o
     → AreBlocks (blocks_moved o bs)
 AreBlocks-moved Done n bs h f = h
 AreBlocks-moved (Lost k left) n bs h f = All-set (λ block. length block ≡ 512) (take (suc k) bs) k left f.1
     (All-take (λ block. length block ≡ 512) (suc k) bs h)
 
-pub told_there : (o : Outcome) (n : ℕ) (bs : List (List ℕ)) → AreBlocks bs → length bs ≡ blocks_for n
-    → FitsCount (blocks_for n) o → transfer_bytes o n ≤ length (take n (concat (blocks_moved o bs)))
+pub told_there : (o : TransferOutcome) (n : ℕ) (bs : List (List ℕ)) → AreBlocks bs → length bs ≡ blocks_for n
+    → IsWithinRange (blocks_for n) o → transfer_bytes o n ≤ length (take n (concat (blocks_moved o bs)))
 told_there Done n bs h e f = omega (arith, length-concat_blocks bs h, length-take n (concat bs))
 told_there (Lost k left) n bs h e f =
     let all = blocks_moved (Lost k left) bs in
@@ -233,7 +234,7 @@ told_there (Lost k left) n bs h e f =
       length-take n (concat all),
     )
 
--- what a transfer asks, by its kind
+-- the action of a transfer, by its kind
 asks-transfer : (o : Op) (t : Transfer) (memory : List ℕ) → transfer_of o ≡ Some t → act_of o memory
     ≡ Some (asks_by t.kind t memory)
 asks-transfer o t memory is = rw is refl
@@ -253,24 +254,24 @@ module _ (t : Transfer) (memory : List ℕ) where
   mode-asks kind.Read mode = refl
   mode-asks kind.Write mode = refl
 
-  stored-asks : (k : Kind) (blocks : List (List ℕ)) → stored (asks_by k t memory) blocks
+  blocks_written-asks : (k : Kind) (blocks : List (List ℕ)) → blocks_written (asks_by k t memory) blocks
       ≡ (if changes_blocks k then blocks else [])
-  stored-asks kind.Access blocks = refl
-  stored-asks kind.Erase blocks = refl
-  stored-asks kind.Read blocks = refl
-  stored-asks kind.Write blocks = refl
+  blocks_written-asks kind.Access blocks = refl
+  blocks_written-asks kind.Erase blocks = refl
+  blocks_written-asks kind.Read blocks = refl
+  blocks_written-asks kind.Write blocks = refl
 
-  brought-asks : (k : Kind) (blocks : List (List ℕ)) → brought (asks_by k t memory) blocks
+  data_read-asks : (k : Kind) (blocks : List (List ℕ)) → data_read (asks_by k t memory) blocks
       ≡ (if changes_memory k then take t.bytes (concat blocks) else [])
-  brought-asks kind.Access blocks = refl
-  brought-asks kind.Erase blocks = refl
-  brought-asks kind.Read blocks = refl
-  brought-asks kind.Write blocks = refl
+  data_read-asks kind.Access blocks = refl
+  data_read-asks kind.Erase blocks = refl
+  data_read-asks kind.Read blocks = refl
+  data_read-asks kind.Write blocks = refl
 
-  -- the end of one that acts, where its blocks are whole
-  end-asks : (c : Command) (o : Outcome) (disk : Disk) (k : Kind)
+  -- the end message of an accepted transfer whose blocks are whole
+  end-asks : (c : Command) (o : TransferOutcome) (disk : Disk) (k : Kind)
       → AreBlocks (due (asks_by k t memory) disk.blocks) → length (due (asks_by k t memory) disk.blocks)
-      ≡ block_count t → FitsCount (block_count t) o
+      ≡ block_count t → IsWithinRange (block_count t) o
       → reply c (transfer_status o) (plain_body c.op (transfer_bytes o t.bytes))
       ≡ end_for c (answer_on o (asks_by k t memory) disk)
   end-asks c o disk kind.Access are whole f = refl
@@ -288,7 +289,7 @@ module _ (c : Command) (t : Transfer) (unit : UnitState) (memory : List ℕ)
   abbrev act : Act
   act = asks_by t.kind t memory
 
-  -- whichever the act that it asks
+  -- for each action
   asked : (e : End) (unit_after : UnitState) (memory_left : List ℕ)
       → ServesUnit c act unit memory e unit_after memory_left
       → (a : Act) → act_of c.op memory ≡ Some a → ServesUnit c a unit memory e unit_after memory_left
@@ -300,30 +301,30 @@ module _ (c : Command) (t : Transfer) (unit : UnitState) (memory : List ℕ)
   extent : extent_of act ≡ Some (extent_in t)
   extent = extent-asks t memory t.kind
 
-  -- its checks say what bars it
-  barred : bar_on c act unit memory ≡ bar_by (transfer_refusal t (length memory) unit.store.size unit.mode)
+  -- the result of its checks
+  barred : check_on c act unit memory ≡ check_by (transfer_refusal t (length memory) unit.store.size unit.mode)
       (disk_of unit)
-  barred = bar_on-by c act unit memory t.buffer (room_in t)
-      (extent_refusal (extent_in t) unit.store.size unit.mode) (rw is refl) (rw is refl) (rw extent refl)
+  barred = check_on-by c act unit memory t.buffer (transfer_buffer_length t)
+      (first_failed_check (extent_in t) unit.store.size unit.mode) (rw is refl) (rw is refl) (rw extent refl)
 
-  -- a transfer that fails a check is refused, and changes nothing
+  -- a transfer that fails a check is rejected, and changes nothing
   pub serves_refused : (refusal : Refusal) → transfer_refusal t (length memory) unit.store.size unit.mode
       ≡ Some refusal
       → (a : Act) → act_of c.op memory ≡ Some a → ServesUnit c a unit memory
       (reply c (refusal_status refusal) (plain_body c.op 0)) unit memory
   serves_refused refusal h =
-      let b : bar_on c act unit memory ≡ Barred refusal = barred
-      ∙ ap (λ (f : Option Refusal). bar_by f (disk_of unit)) h in
+      let b : check_on c act unit memory ≡ Rejected refusal = barred
+      ∙ ap (λ (f : Option Refusal). check_by f (disk_of unit)) h in
       let e : End = reply c (refusal_status refusal) (plain_body c.op 0) in
       asked e unit memory (record {
         answers = Answers-plain c (refusal_status refusal) 0 zero-le;
         memory_stays = changes_nothing memory _ _;
-        nature_stays = refl;
+        attributes_stay = refl;
         mode_stays = λ transfers. refl;
         unit_stays = λ idle. refl;
-        ends = λ transfers acting. let not : is_free (Barred refusal) ≡ true = sym (ap is_free b) ∙ acting in
+        ends = λ transfers acting. let not : is_accepted (Rejected refusal) ≡ true = sym (ap is_accepted b) ∙ acting in
             absurd (cc);
-        takes_effect = λ trusted. subst (λ (b : Bar). TakesEffectOn c act b unit memory e unit memory) (sym b)
+        takes_effect = λ trusted. subst (λ (b : CheckResult). TakesEffectOn c act b unit memory e unit memory) (sym b)
             (record {
               outcome = Done;
               fits = record { acting = λ lost. absurd (cc); count = tt };
@@ -332,12 +333,12 @@ module _ (c : Command) (t : Transfer) (unit : UnitState) (memory : List ℕ)
               memory_is = refl;
               disk_is = refl;
               failures_are = sym (add-zero unit.store.failures);
-              calls = go_none unit.store.fails_in;
-              sure = λ never. refl;
+              calls = go_none unit.store.failing_call;
+              infallible = λ never. refl;
             });
       })
 
-  -- whatever its store, it is done, or lost at a block of its range
+  -- for every store, it succeeds, or fails at a block of its range
   pub ends_done : EndsTransfer c (reply c SUCCESS (plain_body c.op t.bytes))
   ends_done = record { outcome = Done; count = tt; end_is = rw is refl }
 
@@ -350,43 +351,43 @@ module _ (c : Command) (t : Transfer) (unit : UnitState) (memory : List ℕ)
   }
 
   module _ (passed : transfer_refusal t (length memory) unit.store.size unit.mode ≡ None) where
-    free : bar_on c act unit memory ≡ Free (disk_of unit)
-    free = barred ∙ ap (λ (f : Option Refusal). bar_by f (disk_of unit)) passed
+    free : check_on c act unit memory ≡ Accepted (disk_of unit)
+    free = barred ∙ ap (λ (f : Option Refusal). check_by f (disk_of unit)) passed
 
-    -- one of some blocks calls the store
-    is_called : 0 < block_count t → nat_lt 0 (blocks_asked c.op) && is_free (bar_on c act unit memory) ≡ true
+    -- a transfer of one block or more calls the store
+    is_called : 0 < block_count t → nat_lt 0 (blocks_asked c.op) && is_accepted (check_on c act unit memory) ≡ true
     is_called some = let calls : nat_lt 0 (block_count t) ≡ true = grind (arith, nat_tests) in
         let count : blocks_asked c.op ≡ block_count t = rw is refl in
-        ap (λ (b : Bool). nat_lt 0 (blocks_asked c.op) && b) (ap is_free free)
+        ap (λ (b : Bool). nat_lt 0 (blocks_asked c.op) && b) (ap is_accepted free)
         ∙ ap (λ (n : ℕ). nat_lt 0 n && true) count ∙ ap (λ (b : Bool). b && true) calls
 
     bounds : Passes t (length memory) unit.store.size
     bounds = passes_if t (length memory) unit.store.size unit.mode passed
 
-    -- whatever the store
-    pub serves_moved : (new : StoreState) (memory_left : List ℕ) → KeepsNature unit.store new
+    -- for every store
+    pub serves_moved : (new : StoreState) (memory_left : List ℕ) → KeepsAttributes unit.store new
         → ChangesAt memory t.buffer (if changes_memory t.kind then t.bytes else 0) memory_left
         → (status bytes : ℕ) → bytes ≤ t.bytes → EndsTransfer c (reply c status (plain_body c.op bytes))
         → ((0 < block_count t → unit.store.faithful ≡ true)
-        → TakesEffectOn c act (Free (disk_of unit)) unit memory (reply c status (plain_body c.op bytes))
+        → TakesEffectOn c act (Accepted (disk_of unit)) unit memory (reply c status (plain_body c.op bytes))
         (record { store = new; mode = unit.mode }) memory_left)
         → (a : Act) → act_of c.op memory ≡ Some a → ServesUnit c a unit memory
         (reply c status (plain_body c.op bytes)) (record { store = new; mode = unit.mode }) memory_left
-    serves_moved new memory_left nature changes status bytes few ends takes = asked _ _ _ (record {
+    serves_moved new memory_left attributes changes status bytes few ends takes = asked _ _ _ (record {
       answers = Answers-plain c status bytes (rw is few);
       memory_stays = rw is changes;
-      nature_stays = rw (nature.size_stays, nature.faithful_stays, nature.never_fails_stays) refl;
+      attributes_stay = rw (attributes.size_stays, attributes.faithful_stays, attributes.never_fails_stays) refl;
       mode_stays = λ transfers. refl;
-      unit_stays = λ idle. let none : is_free (Free (disk_of unit)) ≡ false = ap is_free (sym free) ∙ idle in
+      unit_stays = λ idle. let none : is_accepted (Accepted (disk_of unit)) ≡ false = ap is_accepted (sym free) ∙ idle in
           absurd (cc);
       ends = λ transfers acting. ends;
-      takes_effect = λ trusted. subst (λ (b : Bar). TakesEffectOn c act b unit memory
+      takes_effect = λ trusted. subst (λ (b : CheckResult). TakesEffectOn c act b unit memory
           (reply c status (plain_body c.op bytes)) (record { store = new; mode = unit.mode }) memory_left)
           (sym free) (takes (λ some. trusted (is_called some)));
     })
 
-    module _ (image : 0 < block_count t → IsImage unit.store.size unit.store.blocks) (new : StoreState)
-        (memory_left : List ℕ) (nature : KeepsNature unit.store new) where
+    module _ (image : 0 < block_count t → HasWholeBlocks unit.store.size unit.store.blocks) (new : StoreState)
+        (memory_left : List ℕ) (attributes : KeepsAttributes unit.store new) where
       abbrev due_now : List (List ℕ)
       due_now = blocks_due t unit.store.blocks memory
 
@@ -396,24 +397,24 @@ module _ (c : Command) (t : Transfer) (unit : UnitState) (memory : List ℕ)
         | inr none ↦ let short = length-due_le t unit.store.blocks memory t.kind in omega arith
       ]
 
-      -- whatever the outcome: where the blocks and bytes stand as it says, the transfer takes effect
-      takes : (o : Outcome) (front : List (List ℕ)) → blocks_moved o due_now ≡ front
-          → FitsCount (block_count t) o
+      -- for every outcome: if the blocks and bytes are as it says, the transfer has its complete effect
+      takes : (o : TransferOutcome) (front : List (List ℕ)) → blocks_moved o due_now ≡ front
+          → IsWithinRange (block_count t) o
           → memory_left ≡ put memory t.buffer (bytes_landing t front)
           → new.blocks ≡ put unit.store.blocks t.lbn (blocks_stored t front)
           → new.failures ≡ unit.store.failures + (if is_lost o then 1 else 0)
-          → CallsStore o (block_count t) unit.store.fails_in new.fails_in
+          → CallsStore o (block_count t) unit.store.failing_call new.failing_call
           → (unit.store.never_fails ≡ true → o ≡ Done)
-          → TakesEffectOn c act (Free (disk_of unit)) unit memory
+          → TakesEffectOn c act (Accepted (disk_of unit)) unit memory
           (reply c (transfer_status o) (plain_body c.op (transfer_bytes o t.bytes)))
           (record { store = new; mode = unit.mode }) memory_left
-      takes o front all fits in_memory in_store failed calls sure =
+      takes o front all fits in_memory in_store failed calls infallible =
           let make : List (List ℕ) → ℕ → Mode → Disk = λ b n m. record { blocks = b; size = n; mode = m } in
           let first : lbn_of act ≡ t.lbn = rw extent refl in
-          let bytes : bytes_on o act (disk_of unit) ≡ bytes_landing t front = brought-asks t memory t.kind
+          let bytes : bytes_on o act (disk_of unit) ≡ bytes_landing t front = data_read-asks t memory t.kind
           (blocks_moved o due_now) ∙ ap (bytes_landing t) all in
-          let blocks : stored act (blocks_moved o due_now) ≡ blocks_stored t front =
-          stored-asks t memory t.kind (blocks_moved o due_now) ∙ ap (blocks_stored t) all in
+          let blocks : blocks_written act (blocks_moved o due_now) ≡ blocks_stored t front =
+          blocks_written-asks t memory t.kind (blocks_moved o due_now) ∙ ap (blocks_stored t) all in
           record {
             outcome = o;
             fits = record { acting = λ lost. refl; count = rw is fits };
@@ -421,14 +422,14 @@ module _ (c : Command) (t : Transfer) (unit : UnitState) (memory : List ℕ)
                 (AreBlocks-due t unit.store.blocks memory (λ some. (image some).whole)) whole fits;
             memory_is = in_memory ∙ rw (is, bytes) refl;
             disk_is = rw (first, blocks, mode-asks t memory t.kind unit.mode)
-                (ap₂ (λ b n. make b n unit.mode) in_store nature.size_stays);
+                (ap₂ (λ b n. make b n unit.mode) in_store attributes.size_stays);
             failures_are = failed;
             calls = rw is calls;
-            sure = sure;
+            infallible = infallible;
           }
 
       pub takes_done : Progress t (block_count t) unit.store memory new memory_left
-          → TakesEffectOn c act (Free (disk_of unit)) unit memory (reply c SUCCESS (plain_body c.op t.bytes))
+          → TakesEffectOn c act (Accepted (disk_of unit)) unit memory (reply c SUCCESS (plain_body c.op t.bytes))
           (record { store = new; mode = unit.mode }) memory_left
       takes_done h =
           let all : take (block_count t) due_now ≡ due_now = take_all _ _ (omega (arith, whole)) in
@@ -438,7 +439,7 @@ module _ (c : Command) (t : Transfer) (unit : UnitState) (memory : List ℕ)
 
       pub takes_lost : (k : ℕ) → k < block_count t → (unit.store.never_fails ≡ true → ⊥)
           → StopsAt t k unit.store memory new memory_left
-          → TakesEffectOn c act (Free (disk_of unit)) unit memory
+          → TakesEffectOn c act (Accepted (disk_of unit)) unit memory
           (reply c DRIVE_ERROR (plain_body c.op (512 * k)))
           (record { store = new; mode = unit.mode }) memory_left
       takes_lost k inside unsure h =

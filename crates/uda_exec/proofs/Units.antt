@@ -10,14 +10,14 @@ use Rattle.std.proofs.lemmas.List.Elements.{All-map, All-weaker}
 use Rattle.uda_packet.specs.declared.command.Op.TheVariants.{Controller}
 use Rattle.uda_disk.specs.Status.{SUCCESS}
 use Rattle.uda_disk.proofs.Slots.{slice_get-set_same, slice_get-set_other, set-itself}
-use Rattle.uda_exec.proofs.Words.{Command, Op, End, Disk, Disks, Act, Refusal, refusal_status, Bar, Barred, Free, bar_at, bar_with, UnitState, disk_of, disks_of, HoldsImage, AreImages, reset_unit, is_controller, blocks_asked, act_of, World, Outcome, Done, Mode, disks_by, bar_in, bar_of, is_free, acts_by, acts, does, effect_by, effect, reply, plain_body, LossFits, Answers, Nature, nature_of, natures_of, is_faithful, is_sure, world_of, bar_on, ServesUnit, Executes, disk_by}
-use Rattle.uda_disk.specs.Units.{fails_in_at}
+use Rattle.uda_exec.proofs.Words.{Command, Op, End, Disk, Disks, Act, Refusal, refusal_status, CheckResult, Rejected, Accepted, check_at, check_with, UnitState, disk_of, disks_of, IsWellFormed, AreWellFormed, reset_unit, is_controller, blocks_asked, act_of, World, TransferOutcome, Done, Mode, disks_by, check_in, check_of, is_accepted, passes_checks_by, passes_checks, does, effect_by, effect, reply, plain_body, FailureFits, Answers, FixedAttributes, attributes_of, unit_attributes, is_faithful, is_infallible, world_of, check_on, ServesUnit, Executes, disk_by}
+use Rattle.uda_disk.specs.Units.{failing_call_at}
 use Rattle.uda_exec.specs.Execution.{CallsStore, blocks_called}
 use Rattle.uda_exec.proofs.Calls.{go_none}
 use Rattle.uda_exec.proofs.Changes.{changes_nothing, ChangesAt-none}
 use Rattle.uda_exec.proofs.Transferred.{end_of-blank}
 
--- what is known of each unit stays where it stays of the one that is set
+-- a property of each unit is unchanged if it is unchanged for the unit that is set
 pub map-set_same : {A B : Type 0} (f : A → B) (units : List (Option A)) (i : ℕ) (old new : A)
     → slice_get units i ≡ Some (Some old) → f new ≡ f old
     → map (option_map f) (set units i (Some new)) ≡ map (option_map f) units
@@ -26,42 +26,42 @@ map-set_same f units i old new here same =
     ∙ set-itself (map (option_map f) units) i (Some (f old))
     (slice_get-map (option_map f) units i ∙ ap (option_map (option_map f)) here)
 
--- what is asked of a unit's nature is as it was where the natures are
-abbrev asked : (Nature → Bool) → Option (Option Nature) → Bool
-asked f (Some (Some nature)) = f nature
+-- a question about a unit's fixed attributes has the same answer if the attributes are the same
+abbrev asked : (FixedAttributes → Bool) → Option (Option FixedAttributes) → Bool
+asked f (Some (Some attributes)) = f attributes
 asked f _ = true
 
 asked_faithful : (unit : Option (Option UnitState))
-    → asked (λ n. n.faithful) (option_map (option_map nature_of) unit) ≡ is_faithful unit
+    → asked (λ n. n.faithful) (option_map (option_map attributes_of) unit) ≡ is_faithful unit
 asked_faithful (Some (Some unit)) = refl
 asked_faithful _ = refl
 
 asked_sure : (unit : Option (Option UnitState))
-    → asked (λ n. n.never_fails) (option_map (option_map nature_of) unit) ≡ is_sure unit
+    → asked (λ n. n.never_fails) (option_map (option_map attributes_of) unit) ≡ is_infallible unit
 asked_sure (Some (Some unit)) = refl
 asked_sure _ = refl
 
-module _ (old new : List (Option UnitState)) (same : natures_of new ≡ natures_of old) (u : ℕ) where
-  nature_stays : option_map (option_map nature_of) (slice_get new u) ≡ option_map (option_map nature_of)
+module _ (old new : List (Option UnitState)) (same : unit_attributes new ≡ unit_attributes old) (u : ℕ) where
+  attributes_stay : option_map (option_map attributes_of) (slice_get new u) ≡ option_map (option_map attributes_of)
       (slice_get old u)
-  nature_stays = sym (slice_get-map (option_map nature_of) new u)
-      ∙ ap (λ (n : List (Option Nature)). slice_get n u) same ∙ slice_get-map (option_map nature_of) old u
+  attributes_stay = sym (slice_get-map (option_map attributes_of) new u)
+      ∙ ap (λ (n : List (Option FixedAttributes)). slice_get n u) same ∙ slice_get-map (option_map attributes_of) old u
 
   pub faithful_stays : is_faithful (slice_get new u) ≡ is_faithful (slice_get old u)
-  faithful_stays = sym (asked_faithful (slice_get new u)) ∙ ap (asked (λ n. n.faithful)) nature_stays
+  faithful_stays = sym (asked_faithful (slice_get new u)) ∙ ap (asked (λ n. n.faithful)) attributes_stay
       ∙ asked_faithful (slice_get old u)
 
-  pub sure_stays : is_sure (slice_get new u) ≡ is_sure (slice_get old u)
-  sure_stays = sym (asked_sure (slice_get new u)) ∙ ap (asked (λ n. n.never_fails)) nature_stays
+  pub sure_stays : is_infallible (slice_get new u) ≡ is_infallible (slice_get old u)
+  sure_stays = sym (asked_sure (slice_get new u)) ∙ ap (asked (λ n. n.never_fails)) attributes_stay
       ∙ asked_sure (slice_get old u)
 
--- a command that asks nothing of a unit, or is barred, changes nothing
+-- a command without an action on a unit, or a rejected one, changes nothing
 pub record Idle (c : Command) (w : World) (e : End) : Type 0 where
-  pub idle : acts c w ≡ false
+  pub idle : passes_checks c w ≡ false
   pub stays : effect Done c w ≡ (e, w)
 
 idle-by : (c : Command) (w : World) (e : End) (asked : Option Act) → act_of c.op w.memory ≡ asked
-    → acts_by c asked w ≡ false → effect_by Done c asked w ≡ (e, w) → Idle c w e
+    → passes_checks_by c asked w ≡ false → effect_by Done c asked w ≡ (e, w) → Idle c w e
 idle-by c w e asked is idle stays =
     record { idle = rw is idle; stays = ap (λ (a : Option Act). effect_by Done c a w) is ∙ stays }
 
@@ -73,20 +73,20 @@ idle-controller c w h = by c.op refl h
     by Controller is speaks = idle-by c w _ None (rw is refl) refl (rw is refl)
     by _ is speaks = absurd (cc)
 
--- what there is of a unit
+-- the state of a unit
 pub slot_in : (units : List (Option UnitState)) (u : ℕ) (slot : Option (Option UnitState)) → slice_get units u
     ≡ slot → slice_get (disks_of units) u ≡ option_map (option_map disk_of) slot
 slot_in units u slot here = slice_get-map _ units u ∙ ap (option_map (option_map disk_of)) here
 
--- where its unit is none, whatever its buffer
+-- if there is no such unit, whatever the buffer
 pub idle-barred : (c : Command) (w : World) (act : Act) (slot : Option (Option Disk)) (refusal : Refusal)
     → act_of c.op w.memory ≡ Some act → slice_get w.disks c.unit ≡ slot
-    → ((odd missing : Bool) → bar_with odd missing (bar_at act slot) ≡ Barred refusal)
+    → ((odd missing : Bool) → check_with odd missing (check_at act slot) ≡ Rejected refusal)
     → Idle c w (reply c (refusal_status refusal) (plain_body c.op 0))
 idle-barred c w act slot refusal asks here bars =
-    let is : bar_of c act w ≡ Barred refusal = ap (bar_in c.op act (length w.memory)) here ∙ bars _ _ in
-    idle-by c w _ (Some act) asks (ap is_free is)
-    (ap (λ (b : Bar). does Done c act b w) is ∙ ap (λ (e : End). (e, w))
+    let is : check_of c act w ≡ Rejected refusal = ap (check_in c.op act (length w.memory)) here ∙ bars _ _ in
+    idle-by c w _ (Some act) asks (ap is_accepted is)
+    (ap (λ (b : CheckResult). does Done c act b w) is ∙ ap (λ (e : End). (e, w))
     (end_of-blank c w.memory act (refusal_status refusal) asks))
 
 pub executes_idle : (c : Command) (units : List (Option UnitState)) (memory : List ℕ) (e : End)
@@ -96,10 +96,10 @@ executes_idle c units memory e h answers = record {
   memory_stays = changes_nothing memory _ _;
   memory_is_kept = λ unread. refl;
   others_stay = λ u apart. refl;
-  natures_stay = refl;
+  all_attributes_stay = refl;
   modes_stay = λ transfers. refl;
-  by_acting = record {
-    idle = λ acts. refl;
+  by_checks = record {
+    idle = λ passes_checks. refl;
     ends = λ transfers acting. let not : false ≡ true = sym h.idle
         ∙ acting in absurd (cc);
   };
@@ -109,16 +109,16 @@ executes_idle c units memory e h answers = record {
     effect_is = sym h.stays;
     failures_are = sym (add-zero _);
     calls = rw h.idle (go_none _);
-    sure = λ never. refl;
+    infallible = λ never. refl;
   };
 }
 
--- the units that a bar leaves, by the unit's disk
-disks_by-disk : (o : Outcome) (u : ℕ) (act : Act) (b : Bar) (disks : Disks) (disk : Disk) → slice_get disks u
+-- the units afterwards, by the unit's disk
+disks_by-disk : (o : TransferOutcome) (u : ℕ) (act : Act) (b : CheckResult) (disks : Disks) (disk : Disk) → slice_get disks u
     ≡ Some (Some disk)
     → disks_by o (record { unit = u; act = act }) b disks ≡ set disks u (Some (disk_by o act b disk))
-disks_by-disk o u act (Free d) disks disk here = refl
-disks_by-disk o u act (Barred refusal) disks disk here = sym (set-itself disks u (Some disk) here)
+disks_by-disk o u act (Accepted d) disks disk here = refl
+disks_by-disk o u act (Rejected refusal) disks disk here = sym (set-itself disks u (Some disk) here)
 
 module _ (c : Command) (act : Act) (units : List (Option UnitState)) (memory : List ℕ)
     (unit unit_after : UnitState) (e : End) (memory_left : List ℕ)
@@ -129,16 +129,16 @@ module _ (c : Command) (act : Act) (units : List (Option UnitState)) (memory : L
   disk_here : slice_get (disks_of units) c.unit ≡ Some (Some (disk_of unit))
   disk_here = slot_in units c.unit (Some (Some unit)) here
 
-  barred : bar_of c act (world_of units memory) ≡ bar_on c act unit memory
-  barred = ap (bar_in c.op act (length memory)) disk_here
+  barred : check_of c act (world_of units memory) ≡ check_on c act unit memory
+  barred = ap (check_in c.op act (length memory)) disk_here
 
-  acting : acts c (world_of units memory) ≡ is_free (bar_on c act unit memory)
-  acting = ap (λ (a : Option Act). acts_by c a (world_of units memory)) asks ∙ ap is_free barred
+  acting : passes_checks c (world_of units memory) ≡ is_accepted (check_on c act unit memory)
+  acting = ap (λ (a : Option Act). passes_checks_by c a (world_of units memory)) asks ∙ ap is_accepted barred
 
-  effected : (o : Outcome) → effect o c (world_of units memory) ≡ does o c act (bar_on c act unit memory)
+  effected : (o : TransferOutcome) → effect o c (world_of units memory) ≡ does o c act (check_on c act unit memory)
       (world_of units memory)
   effected o = ap (λ (a : Option Act). effect_by o c a (world_of units memory)) asks
-      ∙ ap (λ (b : Bar). does o c act b (world_of units memory)) barred
+      ∙ ap (λ (b : CheckResult). does o c act b (world_of units memory)) barred
 
   pub executes_on : ServesUnit c act unit memory e unit_after memory_left
       → Executes c units memory e (set units c.unit (Some unit_after)) memory_left
@@ -147,10 +147,10 @@ module _ (c : Command) (act : Act) (units : List (Option UnitState)) (memory : L
     memory_stays = s.memory_stays;
     memory_is_kept = λ unread. ChangesAt-none memory memory_left _ (rw unread at s.memory_stays);
     others_stay = λ u apart. slice_get-set_other units c.unit u (Some unit_after) apart;
-    natures_stay = map-set_same nature_of units c.unit unit unit_after here s.nature_stays;
+    all_attributes_stay = map-set_same attributes_of units c.unit unit unit_after here s.attributes_stay;
     modes_stay = λ transfers. map-set_same (λ (u : UnitState). u.mode) units c.unit unit unit_after here
         (s.mode_stays transfers);
-    by_acting = record {
+    by_checks = record {
       idle = λ idle. ap (λ (u : UnitState). set units c.unit (Some u)) (s.unit_stays (sym acting ∙ idle))
           ∙ set-itself units c.unit (Some unit) here;
       ends = λ transfers acts_too. s.ends transfers (sym acting ∙ acts_too);
@@ -159,7 +159,7 @@ module _ (c : Command) (act : Act) (units : List (Option UnitState)) (memory : L
         let t = s.takes_effect (λ calls. let faithful =
         trusted (ap (λ (a : Bool). nat_lt 0 (blocks_asked c.op) && a) acting ∙ calls) in
         rw here at faithful) in
-        let b = bar_on c act unit memory in
+        let b = check_on c act unit memory in
         let make_world : List ℕ → Disks → World = λ m d. record { memory = m; disks = d } in
         let make_pair : End → World → End × World = λ a b. (a, b) in
         let disks_are : disks_of (set units c.unit (Some unit_after)) ≡ disks_by t.outcome
@@ -168,30 +168,30 @@ module _ (c : Command) (act : Act) (units : List (Option UnitState)) (memory : L
         t.disk_is ∙ sym (disks_by-disk t.outcome c.unit act b (disks_of units) (disk_of unit) disk_here) in
         record {
           outcome = t.outcome;
-          fits = subst (LossFits t.outcome (blocks_asked c.op)) (sym acting) t.fits;
+          fits = subst (FailureFits t.outcome (blocks_asked c.op)) (sym acting) t.fits;
           effect_is = ap₂ make_pair t.end_is (ap₂ make_world t.memory_is disks_are)
               ∙ sym (effected t.outcome);
           failures_are = rw (there, here) t.failures_are;
           calls =
-              let asked : CallsStore t.outcome (blocks_called c (is_free b))
-              (fails_in_at (slice_get units c.unit))
-              (fails_in_at (slice_get (set units c.unit (Some unit_after)) c.unit)) =
+              let asked : CallsStore t.outcome (blocks_called c (is_accepted b))
+              (failing_call_at (slice_get units c.unit))
+              (failing_call_at (slice_get (set units c.unit (Some unit_after)) c.unit)) =
               rw (there, here) t.calls in
               subst (λ (a : Bool). CallsStore t.outcome (blocks_called c a)
-              (fails_in_at (slice_get units c.unit))
-              (fails_in_at (slice_get (set units c.unit (Some unit_after)) c.unit))) (sym acting) asked;
-          sure = λ never. let promised = rw here at never in t.sure promised;
+              (failing_call_at (slice_get units c.unit))
+              (failing_call_at (slice_get (set units c.unit (Some unit_after)) c.unit))) (sym acting) asked;
+          infallible = λ never. let promised = rw here at never in t.infallible promised;
         };
   }
 
--- Set Unit Characteristics leaves the natures of the units
+-- Set Unit Characteristics leaves the fixed attributes of the units unchanged
 hard-protection : (soft : Option Bool) (mode : Mode) → (with_protection soft mode).hard ≡ mode.hard
 hard-protection None mode = refl
 hard-protection (Some soft) mode = refl
 
-nature-unit_set : (o : Op) (unit : UnitState) → nature_of (unit_set o unit) ≡ nature_of unit
-nature-unit_set o unit =
-    let make : Bool → Nature = λ hard. record {
+attributes-unit_set : (o : Op) (unit : UnitState) → attributes_of (unit_set o unit) ≡ attributes_of unit
+attributes-unit_set o unit =
+    let make : Bool → FixedAttributes = λ hard. record {
       size = unit.store.size;
       hard = hard;
       faithful = unit.store.faithful;
@@ -201,28 +201,28 @@ nature-unit_set o unit =
 
 natures_set_at : (o : Op) (units : List (Option UnitState)) (u : ℕ) (slot : Option (Option UnitState))
     → slice_get units u ≡ slot
-    → natures_of (set units u (option_map (unit_set o) (unwrap_or slot None))) ≡ natures_of units
-natures_set_at o units u None past = ap natures_of (by_place (cases_lt u (length units)))
+    → unit_attributes (set units u (option_map (unit_set o) (unwrap_or slot None))) ≡ unit_attributes units
+natures_set_at o units u None past = ap unit_attributes (by_place (cases_lt u (length units)))
   where
     by_place : (u < length units) ⊎ (length units ≤ u) → set units u None ≡ units
     by_place (inl within) =
         let there : slice_get units u ≡ Some (get_or units u None) = slice_get-get_or units u None within in
         absurd (cc)
     by_place (inr past) = set_past units u None past
-natures_set_at o units u (Some None) here = ap natures_of (set-itself units u None here)
+natures_set_at o units u (Some None) here = ap unit_attributes (set-itself units u None here)
 natures_set_at o units u (Some (Some unit)) here =
-    map-set_same nature_of units u unit (unit_set o unit) here (nature-unit_set o unit)
+    map-set_same attributes_of units u unit (unit_set o unit) here (attributes-unit_set o unit)
 
 pub natures_set : (o : Op) (units : List (Option UnitState)) (u : ℕ)
-    → natures_of (set units u (option_map (unit_set o) (unwrap_or (slice_get units u) None)))
-    ≡ natures_of units
+    → unit_attributes (set units u (option_map (unit_set o) (unwrap_or (slice_get units u) None)))
+    ≡ unit_attributes units
 natures_set o units u = natures_set_at o units u (slice_get units u) refl
 
--- a unit that is reset has the blocks that it had
-image_reset : (unit : Option UnitState) → HoldsImage unit → HoldsImage (reset_unit unit)
+-- a unit that is reset has the same blocks
+image_reset : (unit : Option UnitState) → IsWellFormed unit → IsWellFormed (reset_unit unit)
 image_reset None holds = tt
 image_reset (Some unit) holds = holds
 
-pub images_reset : (units : List (Option UnitState)) → AreImages units → AreImages (map reset_unit units)
-images_reset units are = All-map HoldsImage reset_unit units
-    (All-weaker HoldsImage (λ unit. HoldsImage (reset_unit unit)) image_reset units are)
+pub images_reset : (units : List (Option UnitState)) → AreWellFormed units → AreWellFormed (map reset_unit units)
+images_reset units are = All-map IsWellFormed reset_unit units
+    (All-weaker IsWellFormed (λ unit. IsWellFormed (reset_unit unit)) image_reset units are)

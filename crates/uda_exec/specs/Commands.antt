@@ -1,5 +1,4 @@
--- What a command names: the blocks of its range and the bytes of its buffer; and the request that it stands
--- for.
+-- The range and the buffer of a command, and its request.
 -- MSCP Basic Disk Functions Manual: transfer commands.
 use Rattle.std.specs.Prelude.{ℕ, ◌-◌, Bool, true, false, List, ◌++◌, length, replicate, Option, Some, None}
 use Rattle.std.specs.Prelude.{option_map, unwrap_or, is_some, if◌then◌else◌}
@@ -15,24 +14,24 @@ use Rattle.uda_mem.specs.Put.{part}
 use Rattle.uda_disk.specs.Request as ask
 use Rattle.uda_disk.specs.Request.{Act, Request, blocks_for}
 
--- how many blocks a transfer's range has, and how many bytes its buffer
+-- the number of blocks of a transfer's range, and the length of its buffer in bytes
 abbrev pub block_count : Transfer → ℕ
 block_count t = blocks_for t.bytes
 
-abbrev pub room_in : Transfer → ℕ
-room_in t = if has_buffer t.kind then t.bytes else 0
+abbrev pub transfer_buffer_length : Transfer → ℕ
+transfer_buffer_length t = if has_buffer t.kind then t.bytes else 0
 
--- a Read alone changes memory
+-- only a Read changes memory
 abbrev pub changes_memory : Kind → Bool
 changes_memory Read = true
 changes_memory _ = false
 
--- Set Controller Characteristics speaks of no unit
+-- Set Controller Characteristics concerns no unit
 abbrev pub is_controller : Op → Bool
 is_controller op.Controller = true
 is_controller _ = false
 
--- the same of any command: an operation that is no transfer names nothing
+-- the same of any command: an operation that isn't a transfer has no range and no buffer
 abbrev pub is_transfer : Op → Bool
 is_transfer o = is_some (transfer_of o)
 
@@ -45,16 +44,16 @@ blocks_asked o = option_map_or block_count (transfer_of o) 0
 abbrev pub buffer_start : Op → ℕ
 buffer_start o = option_map_or (λ t. t.buffer) (transfer_of o) 0
 
-abbrev pub room_of : Op → ℕ
-room_of o = option_map_or room_in (transfer_of o) 0
+abbrev pub buffer_length : Op → ℕ
+buffer_length o = option_map_or transfer_buffer_length (transfer_of o) 0
 
--- how much of its buffer a command may change
-abbrev pub landing_of : Op → ℕ
-landing_of o = option_map_or (λ t. if changes_memory t.kind then t.bytes else 0) (transfer_of o) 0
+-- the number of bytes of its buffer that a command may change
+abbrev pub memory_write_length : Op → ℕ
+memory_write_length o = option_map_or (λ t. if changes_memory t.kind then t.bytes else 0) (transfer_of o) 0
 
--- ---- the request that a command stands for
+-- ---- the request of a command
 
--- the bytes of a buffer, and zeros where there is no memory
+-- the bytes of a buffer, with zeros past the end of memory
 abbrev pub bytes_at : List ℕ → ℕ → ℕ → List ℕ
 bytes_at memory at n = part memory at n ++ replicate (n - length (part memory at n)) 0
 
@@ -64,7 +63,7 @@ asks_by Erase t memory = ask.Erase t.lbn t.bytes
 asks_by Read t memory = ask.Read t.lbn t.bytes
 asks_by Write t memory = ask.Write t.lbn (bytes_at memory t.buffer t.bytes)
 
--- what a command that moves no blocks asks of its unit; Set Controller Characteristics asks nothing of one
+-- the action of a command that moves no blocks; Set Controller Characteristics has none
 abbrev pub still_act : Op → Option Act
 still_act op.Controller = None
 still_act op.Status = Some ask.Status
@@ -79,7 +78,7 @@ abbrev pub act_by : Option Transfer → Op → List ℕ → Option Act
 act_by None o memory = still_act o
 act_by (Some t) o memory = Some (asks_by t.kind t memory)
 
--- what a command asks of its unit: a Write brings its buffer's bytes
+-- the action of a command; that of a Write contains the bytes of its buffer
 abbrev pub act_of : Op → List ℕ → Option Act
 act_of o memory = act_by (transfer_of o) o memory
 

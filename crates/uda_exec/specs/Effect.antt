@@ -1,5 +1,5 @@
--- What a command does to memory and to the units, and what its end message says: what the request does that
--- it stands for.
+-- The effect of a command on memory and on the units, and its end message. Both follow from the command's
+-- request.
 -- MSCP Basic Disk Functions Manual: the commands, status and event codes.
 use Rattle.std.specs.Prelude.{◌≡◌, ℕ, Bool, true, false, List, length, Option, Some, None, slice_get}
 use Rattle.uda_mem.specs.Put.{put}
@@ -13,10 +13,10 @@ use Rattle.uda_disk.specs.Status.{SUCCESS}
 use Rattle.uda_disk.specs.Disk.{Disk, Disks}
 use Rattle.uda_disk.specs.Request.{Act}
 use Rattle.uda_disk.specs.Answer.{Answer, TooLong, Plain, Online, Status, Moved, Data, status_of}
-use Rattle.uda_disk.specs.Plain.{Bar, Barred, Free, bar_at, Outcome, is_lost, FitsCount, bytes_on, answer_by}
-use Rattle.uda_disk.specs.Plain.{disks_by, is_free}
-use Rattle.uda_exec.specs.Commands.{act_of, buffer_start, room_of}
-use Rattle.uda_exec.specs.Refusal.{is_odd, is_missing, bar_with}
+use Rattle.uda_disk.specs.RequestEffect.{CheckResult, Rejected, Accepted, check_at, TransferOutcome, is_lost, IsWithinRange, bytes_on, answer_by}
+use Rattle.uda_disk.specs.RequestEffect.{disks_by, is_accepted}
+use Rattle.uda_exec.specs.Commands.{act_of, buffer_start, buffer_length}
+use Rattle.uda_exec.specs.BufferChecks.{is_odd, is_missing, check_with}
 
 -- host memory, and the units
 pub record World : Type 0 where
@@ -25,12 +25,12 @@ pub record World : Type 0 where
 
 -- ---- the end message
 
--- a body with this byte count, where it has one
+-- a body with this byte count, if it has one
 abbrev pub with_bytes_moved : EndBody → ℕ → EndBody
 with_bytes_moved (body.Moved kind old) bytes = body.Moved kind bytes
 with_bytes_moved body bytes = body
 
--- the body of an opcode's end message with this byte count, where it has one, and all other numbers 0
+-- the body of an opcode's end message with this byte count, if it has one, and all other numbers 0
 abbrev pub plain_body : Op → ℕ → EndBody
 plain_body op bytes = with_bytes_moved (blank_body op) bytes
 
@@ -51,20 +51,20 @@ end_for c answer = reply c (status_of answer) (body_for c.op answer)
 
 -- ---- the effect
 
--- what bars a command of this act, by what there is of its unit
-abbrev pub bar_in : Op → Act → ℕ → Option (Option Disk) → Bar
-bar_in op act memory slot =
-    bar_with (is_odd (buffer_start op)) (is_missing (buffer_start op) (room_of op) memory) (bar_at act slot)
+-- the result of a command's checks, by the state of its unit
+abbrev pub check_in : Op → Act → ℕ → Option (Option Disk) → CheckResult
+check_in op act memory slot =
+    check_with (is_odd (buffer_start op)) (is_missing (buffer_start op) (buffer_length op) memory) (check_at act slot)
 
-abbrev pub bar_of : Command → Act → World → Bar
-bar_of c act w = bar_in c.op act (length w.memory) (slice_get w.disks c.unit)
+abbrev pub check_of : Command → Act → World → CheckResult
+check_of c act w = check_in c.op act (length w.memory) (slice_get w.disks c.unit)
 
--- what it leaves of memory: a Read's bytes stand in its buffer
-abbrev pub memory_by : Outcome → Op → Act → Bar → List ℕ → List ℕ
-memory_by outcome op act (Barred refusal) memory = memory
-memory_by outcome op act (Free disk) memory = put memory (buffer_start op) (bytes_on outcome act disk)
+-- memory afterwards: a Read's bytes are in its buffer
+abbrev pub memory_by : TransferOutcome → Op → Act → CheckResult → List ℕ → List ℕ
+memory_by outcome op act (Rejected refusal) memory = memory
+memory_by outcome op act (Accepted disk) memory = put memory (buffer_start op) (bytes_on outcome act disk)
 
-abbrev pub does : Outcome → Command → Act → Bar → World → End × World
+abbrev pub does : TransferOutcome → Command → Act → CheckResult → World → End × World
 does outcome c act b w = (
   end_for c (answer_by outcome act b),
   record {
@@ -73,25 +73,25 @@ does outcome c act b w = (
   },
 )
 
--- what a command does, its outcome fixed: its end message, and memory and units afterwards
-abbrev pub effect_by : Outcome → Command → Option Act → World → End × World
+-- the effect of a command with a fixed outcome: its end message, and memory and units afterwards
+abbrev pub effect_by : TransferOutcome → Command → Option Act → World → End × World
 effect_by outcome c None w = (reply c SUCCESS (blank_body c.op), w)
-effect_by outcome c (Some act) w = does outcome c act (bar_of c act w) w
+effect_by outcome c (Some act) w = does outcome c act (check_of c act w) w
 
-abbrev pub effect : Outcome → Command → World → End × World
+abbrev pub effect : TransferOutcome → Command → World → End × World
 effect outcome c w = effect_by outcome c (act_of c.op w.memory) w
 
--- ---- which outcomes fit
+-- ---- possible outcomes
 
--- a command acts on a disk: it asks something of one, and nothing bars it
-abbrev pub acts_by : Command → Option Act → World → Bool
-acts_by c None w = false
-acts_by c (Some act) w = is_free (bar_of c act w)
+-- a command is accepted: it has an action on a unit, and no check fails
+abbrev pub passes_checks_by : Command → Option Act → World → Bool
+passes_checks_by c None w = false
+passes_checks_by c (Some act) w = is_accepted (check_of c act w)
 
-abbrev pub acts : Command → World → Bool
-acts c w = acts_by c (act_of c.op w.memory) w
+abbrev pub passes_checks : Command → World → Bool
+passes_checks c w = passes_checks_by c (act_of c.op w.memory) w
 
--- a loss is of a command that acts, at a block of its range
-pub record LossFits (outcome : Outcome) (blocks : ℕ) (acts : Bool) : Type 0 where
-  pub acting : is_lost outcome ≡ true → acts ≡ true
-  pub count : FitsCount blocks outcome
+-- only an accepted command fails, at a block of its range
+pub record FailureFits (outcome : TransferOutcome) (blocks : ℕ) (passes_checks : Bool) : Type 0 where
+  pub acting : is_lost outcome ≡ true → passes_checks ≡ true
+  pub count : IsWithinRange blocks outcome

@@ -1,7 +1,7 @@
 pub mod Disks
 pub mod Drives
 pub mod Commands
-pub mod Refusal
+pub mod BufferChecks
 pub mod Transfers
 pub mod Effect
 pub mod Order
@@ -12,3 +12,4 @@ pub mod SetUnit
 pub mod Compare
 pub mod Comparing
 pub mod GuestExecution
+pub mod Laws

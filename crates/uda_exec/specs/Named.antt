@@ -1,4 +1,4 @@
--- Pending commands by their unit and reference.
+-- Search for pending commands by their unit and reference.
 -- MSCP Basic Disk Functions Manual: Abort, Get Command Status.
 use Rattle.std.specs.Prelude.{ℕ, Bool, ◌&&◌, nat_eq, List, ◌++◌, Option, Some, None, find, position, remove}
 use Rattle.std.specs.Prelude.{unwrap_or}
@@ -18,16 +18,16 @@ use Rattle.uda_exec.specs.SetUnit.{guest_reply}
 abbrev pub is_named : ℕ → ℕ → Command → Bool
 is_named drive number c = nat_eq c.unit drive && nat_eq c.reference number
 
--- the oldest such command of those that are pending
+-- the oldest such pending command
 abbrev pub oldest_named : ℕ → ℕ → List Command → Option Command
 oldest_named drive number pending = find (is_named drive number) pending
 
--- its place, and what is to be done with it
+-- its index, and its additional operation
 abbrev pub place_named : ℕ → ℕ → ExecState → Option ℕ
 place_named drive number exec = position (is_named drive number) exec.pending
 
-abbrev pub op_named : ℕ → ℕ → ExecState → GuestOp
-op_named drive number exec = op_at exec.guest_ops (unwrap_or (place_named drive number exec) 0)
+abbrev pub guest_op_named : ℕ → ℕ → ExecState → GuestOp
+guest_op_named drive number exec = op_at exec.guest_ops (unwrap_or (place_named drive number exec) 0)
 
 abbrev pub without_op : Option ℕ → List GuestOp → List GuestOp
 without_op None ops = ops
@@ -41,7 +41,7 @@ taken_out drive number exec = record exec {
   guest_ops = without_op (place_named drive number exec) exec.guest_ops;
 }
 
--- MSCP: Abort. The end message of a command that was taken out: all its numbers are 0
+-- MSCP: Abort. The end message of a removed command: all its numbers are 0.
 abbrev pub aborted : GuestOp → Command → Reply
 aborted op c = guest_reply c ABORTED (blank_reply op c.op)
 
@@ -49,7 +49,7 @@ aborted op c = guest_reply c ABORTED (blank_reply op c.op)
 abbrev pub is_named_transfer : ℕ → ℕ → Command → Bool
 is_named_transfer drive number c = is_named drive number c && is_transfer c.op
 
--- MSCP: Get Command Status. The byte count of the oldest such transfer, and 0 if there is none
+-- MSCP: Get Command Status. The byte count of the oldest such transfer, or 0 if there is none.
 abbrev pub progress_of : ℕ → ℕ → List Command → ℕ
 progress_of drive number pending =
     option_map_or (λ c. bytes_asked c.op) (find (is_named_transfer drive number) pending) 0

@@ -1,31 +1,31 @@
-//! Blocks of a store that are compared with host memory.
+//! Comparison of a store's blocks with host memory.
 //!
 //! MSCP Basic Disk Functions Manual: Compare Host Data.
 ghost use Rattle.std.specs.Prelude.{◌≡◌, ◌+◌, ◌*◌, ◌<◌, ◌≤◌, ◌^◌, true, length, MatchResult, slice_index};
-ghost use Rattle.uda_image.specs.Store.{KeepsNature};
+ghost use Rattle.uda_image.specs.Store.{KeepsAttributes};
 ghost use Rattle.uda_packet.specs.Transfer.{transfer_of};
 ghost use Rattle.uda_exec.specs.Commands.{block_count};
 ghost use Rattle.uda_exec.specs.Compare.{compared, verdict_status, bytes_equal, FitsTransfer, ComparesBlocks};
-ghost use Rattle.uda_exec.specs.Comparing.{FindsIn, FitsBlock, ComparesBlock, LosesRead};
+ghost use Rattle.uda_exec.specs.Comparing.{FindsIn, FitsBlock, ComparesBlock, FailsAtRead};
 
-use crate::movement::{BLOCK, block_count};
+use crate::block_transfer::{BLOCK, block_count};
 use uda_disk::status;
 use uda_image::{BlockStore, StoreError};
 use uda_packet::{Kind, Op, Transfer};
 
-/// How a comparison ended.
+/// The result of a comparison.
 #[derive(Clone, Copy, Debug, PartialEq, Eq)]
 pub enum Verdict {
     /// All bytes are equal.
     Equal,
-    /// This is the first byte that differs, counted from 0.
+    /// The first byte that differs, counted from 0.
     Differs(u32),
-    /// The store failed at this block of the range, counted from 0, and no byte before it differs.
+    /// The block of the range at which the store failed, counted from 0. All bytes before it are equal.
     Lost(u32),
 }
 
 impl Verdict {
-    /// Returns the status word that tells it.
+    /// Returns the status word of the result.
     pub fn status(self) -> u16
         ensures { result ≡ verdict_status self }
     {
@@ -36,7 +36,7 @@ impl Verdict {
         }
     }
 
-    /// Returns how many bytes of a transfer count as equal.
+    /// Returns the number of bytes of a transfer that count as equal.
     pub fn bytes(self, t: Transfer) -> u32
         requires { FitsTransfer t self }
         ensures { result ≡ bytes_equal t.bytes self }
@@ -49,7 +49,8 @@ impl Verdict {
     }
 }
 
-/// Returns the range and the buffer that a command compares: those of a transfer, and nothing of any other command.
+/// Returns the range and the buffer that a command compares: those of a transfer, and none for any other
+/// command.
 pub fn compared(op: Op) -> Transfer
     ensures { result ≡ compared op }
 {
@@ -67,13 +68,13 @@ pub fn compared(op: Op) -> Transfer
     }
 }
 
-/// Compares the blocks of a transfer's range with its buffer in rising order, up to the first difference or the
-/// first block at which the store fails. A transfer without blocks doesn't call the store.
+/// Compares the blocks of a transfer's range with its buffer in rising order. Stops at the first difference,
+/// or at the first block at which the store fails. A transfer without blocks doesn't call the store.
 pub fn compare_blocks<S: BlockStore>(t: Transfer, store: &mut S, memory: &[u8]) -> Verdict
     requires on_unit { t.lbn + block_count t ≤ (S.state store.old).size }
     requires in_memory { t.buffer + t.bytes ≤ length memory.now }
     requires addressable { t.buffer + t.bytes < 2 ^ 32 }
-    ensures nature { KeepsNature (S.state store.old) (S.state store.new) }
+    ensures attributes { KeepsAttributes (S.state store.old) (S.state store.new) }
     ensures fits { FitsTransfer t result }
     ensures compares { (S.state store.old).faithful ≡ true
         → ComparesBlocks t result (S.state store.old) memory.now (S.state store.new) }
@@ -89,8 +90,8 @@ pub fn compare_blocks<S: BlockStore>(t: Transfer, store: &mut S, memory: &[u8]) 
     Verdict::Equal
 }
 
-// Compares block k of a transfer's range with its part of the buffer. Returns the first byte of the block that
-// differs.
+// Compares block `k` of a transfer's range with its part of the buffer. Returns the first byte of the block
+// that differs.
 fn compare_block<S: BlockStore>(
     t: Transfer,
     k: u32,
@@ -101,11 +102,11 @@ fn compare_block<S: BlockStore>(
     requires on_unit { t.lbn + block_count t ≤ (S.state store.old).size }
     requires in_memory { t.buffer + t.bytes ≤ length memory.now }
     requires addressable { t.buffer + t.bytes < 2 ^ 32 }
-    ensures nature { KeepsNature (S.state store.old) (S.state store.new) }
+    ensures attributes { KeepsAttributes (S.state store.old) (S.state store.new) }
     ensures within { MatchResult result (λ found. FitsBlock t k found) (λ _. Unit) }
     ensures compares { (S.state store.old).faithful ≡ true → MatchResult result
         (λ found. ComparesBlock t k found (S.state store.old) memory.now (S.state store.new))
-        (λ _. LosesRead (S.state store.old) (S.state store.new)) }
+        (λ _. FailsAtRead (S.state store.old) (S.state store.new)) }
 {
     let before = BLOCK * k;
     let count = (t.bytes - before).min(BLOCK);
@@ -115,7 +116,7 @@ fn compare_block<S: BlockStore>(
     Ok(first_difference(&block, window))
 }
 
-// Returns the first place at which two runs of bytes differ, as far as the second goes.
+// Returns the first index at which two byte ranges differ, up to the length of the second.
 fn first_difference(block: &[u8; 512], window: &[u8]) -> Option<u32>
     requires { length window.now ≤ 512 }
     ensures { FindsIn (length window.now) result (λ i. slice_index block.now i)

@@ -1,4 +1,4 @@
-//! A unit with a drive, and what its commands do to it.
+//! A unit with a drive, and the execution of its commands.
 //!
 //! MSCP Basic Disk Functions Manual: Access, Available, Erase, Get Unit Status, Online, Read and Write
 //! commands.
@@ -6,18 +6,18 @@ ghost use Rattle.std.specs.Prelude.{◌≡◌, [], Some, None, IsSome, IfSome, l
 ghost use Rattle.uda_mem.specs.Slices.{IsMemory};
 ghost use Rattle.uda_packet.specs.Transfer.{transfer_of};
 ghost use Rattle.uda_disk.specs.Request.{Act};
-ghost use Rattle.uda_disk.specs.Plain.{Done, mode_after, answer_on};
-ghost use Rattle.uda_disk.specs.Units.{HoldsImage, disk_of, nature_of};
+ghost use Rattle.uda_disk.specs.RequestEffect.{Done, mode_after, answer_on};
+ghost use Rattle.uda_disk.specs.Units.{IsWellFormed, disk_of, attributes_of};
 ghost use Rattle.uda_exec.specs.Commands.{act_of};
 ghost use Rattle.uda_exec.specs.Effect.{end_for};
-ghost use Rattle.uda_exec.specs.Drives.{drive_state, drive_in, fresh_unit, look_of};
+ghost use Rattle.uda_exec.specs.Drives.{drive_state, drive_in, fresh_unit, info_of};
 ghost use Rattle.uda_exec.specs.Execution.{ServesUnit};
 ghost use Rattle.uda_exec.specs.SetUnit.{unit_set, set_unit_reply, protection_asked};
 ghost use Rattle.uda_exec.specs.Compare.{compared, ComparesUnit};
-ghost use Rattle.uda_exec.specs.Refusal.{transfer_refusal};
+ghost use Rattle.uda_exec.specs.BufferChecks.{transfer_refusal};
 
+use crate::block_transfer::{BLOCK, move_blocks};
 use crate::compare::{compare_blocks, compared};
-use crate::movement::{BLOCK, move_blocks};
 use crate::refusal::transfer_refusal;
 use crate::reply::{guest_reply, plain_body, refuse, reply};
 use std::marker::Model;
@@ -25,19 +25,19 @@ use uda_disk::Mode;
 use uda_image::{BlockStore, Drive};
 use uda_packet::{Command, End, EndBody, Op, Reply, ReplyBody, Transfer, status};
 
-/// The store of a unit's blocks, and the unit's mode.
+/// A unit with a drive: the store of its blocks, and its mode.
 #[derive(Drop)]
 pub struct DriveUnit<S: BlockStore> {
     store: S,
     mode: Mode,
 }
 
-/// What is to be seen of a unit with a drive.
+/// The mode and the size of a unit with a drive.
 #[derive(Clone, Copy, Debug, PartialEq, Eq)]
-pub struct UnitLook {
-    /// Whether it is online, and how it is protected.
+pub struct UnitInfo {
+    /// Whether the unit is online, and its write protection.
     pub mode: Mode,
-    /// Its size in blocks.
+    /// The size in blocks.
     pub size: u32,
 }
 
@@ -50,10 +50,10 @@ impl<S: BlockStore> Model for DriveUnit<S> {
 }
 
 impl<S: BlockStore> DriveUnit<S> {
-    /// A drive as a unit: available, without software protection.
+    /// Returns a unit with this drive: available, without software write protection.
     pub fn new(drive: Drive<S>) -> Self
         ensures unit { result ≡ fresh_unit (drive_state S.state drive) }
-        ensures image { HoldsImage (Some result) }
+        ensures image { IsWellFormed (Some result) }
     {
         let Drive { store, hard } = drive;
         let mode = Mode {
@@ -64,7 +64,7 @@ impl<S: BlockStore> DriveUnit<S> {
         DriveUnit { store, mode }
     }
 
-    /// The drive, taken out, with its hardware protection.
+    /// Returns the drive, with its hardware write protection.
     pub fn into_drive(self) -> Drive<S>
         ensures drive { drive_state S.state result ≡ drive_in self }
     {
@@ -75,37 +75,37 @@ impl<S: BlockStore> DriveUnit<S> {
         }
     }
 
-    /// Its mode and its size.
-    pub fn look(&self) -> UnitLook
-        ensures look { result ≡ look_of self.now }
+    /// Returns the unit's mode and size.
+    pub fn look(&self) -> UnitInfo
+        ensures info { result ≡ info_of self.now }
     {
-        UnitLook {
+        UnitInfo {
             mode: self.mode,
             size: self.store.size(),
         }
     }
 
-    /// Makes the unit available, without software protection.
+    /// Makes the unit available, without software write protection.
     pub fn reset(&mut self)
         ensures unit { self.new ≡ fresh_unit (drive_in self.old) }
     {
         self.mode = self.mode.available();
     }
 
-    /// Puts the unit into a mode.
+    /// Sets the mode of the unit.
     pub fn restore(&mut self, mode: Mode)
         ensures unit { self.new ≡ record self.old { mode = mode } }
     {
         self.mode = mode;
     }
 
-    // Access, Erase, Read or Write: all checks, and then the blocks.
+    // Executes an Access, Erase, Read or Write: all checks, and then the blocks.
     fn transfer(&mut self, command: Command, t: Transfer, memory: &mut [u8]) -> End
         requires memory { IsMemory memory.old }
         requires transfer { transfer_of command.op ≡ Some t }
         ensures serves { (act : Act) → act_of command.op memory.old ≡ Some act
             → ServesUnit command act self.old memory.old result self.new memory.new }
-        ensures image { HoldsImage (Some self.new) }
+        ensures image { IsWellFormed (Some self.new) }
     {
         if let Some(refusal) = transfer_refusal(
             t,
@@ -122,8 +122,9 @@ impl<S: BlockStore> DriveUnit<S> {
         reply(command, status, plain_body(command.op, bytes))
     }
 
-    // Get Unit Status, which tells an available unit from an online one by its status; Available, which
-    // succeeds on an available unit too; or Online, which changes nothing of a unit that is online.
+    // Executes a Get Unit Status, an Available or an Online. The status of a Get Unit Status reports whether
+    // the unit is available or online. An Available succeeds on an available unit too, and an Online changes
+    // nothing of an online unit.
     fn set_mode(&mut self, command: Command) -> End
         requires transfer { transfer_of command.op ≡ None }
         requires unit { IsSome (act_of command.op []) }
@@ -131,7 +132,7 @@ impl<S: BlockStore> DriveUnit<S> {
             result ≡ end_for command (answer_on Done act (disk_of self.old))) }
         ensures unit { IfSome (act_of command.op []) (λ act.
             self.new ≡ record self.old { mode = mode_after act self.old.mode }) }
-        ensures image { HoldsImage (Some self.new) }
+        ensures image { IsWellFormed (Some self.new) }
     {
         let was_online = self.mode.online;
         match command.op {
@@ -166,14 +167,14 @@ impl<S: BlockStore> DriveUnit<S> {
         }
     }
 
-    /// Does a command of this unit, any but Set Controller Characteristics, and answers its end
-    /// message.
+    /// Executes a command of this unit and returns its end message. Every command except Set Controller
+    /// Characteristics is allowed.
     pub fn execute(&mut self, command: Command, memory: &mut [u8]) -> End
         requires memory { IsMemory memory.old }
         requires unit { IsSome (act_of command.op []) }
         ensures serves { (act : Act) → act_of command.op memory.old ≡ Some act
             → ServesUnit command act self.old memory.old result self.new memory.new }
-        ensures image { HoldsImage (Some self.new) }
+        ensures image { IsWellFormed (Some self.new) }
     {
         match command.op.transfer() {
             Some(t) => self.transfer(command, t, memory),
@@ -181,13 +182,13 @@ impl<S: BlockStore> DriveUnit<S> {
         }
     }
 
-    /// Does a Set Unit Characteristics: sets software protection, if the command says something of it.
+    /// Executes a Set Unit Characteristics: sets the software write protection if the command asks for it.
     ///
     /// MSCP Basic Disk Functions Manual: Set Unit Characteristics.
     pub fn set_characteristics(&mut self, command: Command) -> Reply
         ensures reply { result ≡ set_unit_reply command (Some (Some self.old)) }
         ensures unit { self.new ≡ unit_set command.op self.old }
-        ensures image { HoldsImage (Some self.old) → HoldsImage (Some self.new) }
+        ensures image { IsWellFormed (Some self.old) → IsWellFormed (Some self.new) }
     {
         if let Some(soft) = protection_asked(command.op) {
             self.mode.soft = soft;
@@ -196,7 +197,7 @@ impl<S: BlockStore> DriveUnit<S> {
         guest_reply(command, status::SUCCESS, ReplyBody::SetUnit { flags, size })
     }
 
-    /// Does a Compare Host Data: the checks of a Read, and then the blocks, of which none changes.
+    /// Executes a Compare Host Data: the checks of a Read, and then the comparison. No block changes.
     ///
     /// MSCP Basic Disk Functions Manual: Compare Host Data.
     pub fn compare(&mut self, command: Command, memory: &[u8]) -> Reply
@@ -204,8 +205,8 @@ impl<S: BlockStore> DriveUnit<S> {
         ensures compares { ComparesUnit
             (transfer_refusal (compared command.op) (length memory.now) self.old.store.size self.old.mode)
             command self.old memory.now result self.new }
-        ensures image { HoldsImage (Some self.new) }
-        ensures nature { nature_of self.new ≡ nature_of self.old }
+        ensures image { IsWellFormed (Some self.new) }
+        ensures attributes { attributes_of self.new ≡ attributes_of self.old }
     {
         let t = compared(command.op);
         if let Some(refusal) = transfer_refusal(
@@ -222,7 +223,8 @@ impl<S: BlockStore> DriveUnit<S> {
     }
 }
 
-// Returns what a Set Unit Characteristics says of software protection; None if it says nothing.
+// Returns the software write protection that a Set Unit Characteristics asks for, or None if it asks for no
+// change.
 fn protection_asked(op: Op) -> Option<bool>
     ensures { result ≡ protection_asked op }
 {

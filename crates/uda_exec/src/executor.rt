@@ -1,26 +1,26 @@
-//! The executor: four units, and the commands that it has accepted.
+//! The executor: four units, and the pending commands.
 //!
 //! MSCP Basic Disk Functions Manual: unit states, command ordering.
 ghost use Rattle.std.specs.Prelude.{◌≡◌, ℕ, ◌+◌, ◌-◌, ◌<◌, ◌≤◌, [], ◌∷◌, ◌++◌, length, map, option_map};
-ghost use Rattle.std.specs.Prelude.{IsNone, IfNone, IfSome, Some, None, ◌↔◌, set, slice_get, unwrap_or};
+ghost use Rattle.std.specs.Prelude.{IsNone, IfNone, IfSome, Some, None, ◌↔◌, remove, set, slice_get, unwrap_or};
 ghost use Rattle.uda_mem.specs.Slices.{IsMemory};
-ghost use Rattle.uda_disk.specs.Units.{HoldsImage, AreImages, is_faithful, is_sure};
+ghost use Rattle.uda_disk.specs.Units.{IsWellFormed, AreWellFormed, is_faithful, is_infallible};
 ghost use Rattle.uda_exec.specs.Disks.{PENDING_LIMIT};
 ghost use Rattle.uda_exec.specs.Commands.{is_controller};
 ghost use Rattle.uda_exec.specs.Drives.{drive_state, drive_states, drive_in, fresh_unit, fresh_units};
-ghost use Rattle.uda_exec.specs.Drives.{drives_in, handed_back, reset_unit, with_drive, look_at};
+ghost use Rattle.uda_exec.specs.Drives.{drives_in, returned_drive, reset_unit, with_drive, info_at};
 ghost use Rattle.uda_exec.specs.Drives.{in_mode, with_mode};
 ghost use Rattle.uda_exec.specs.Execution.{Executes, ExecutesAt};
-ghost use Rattle.uda_exec.specs.Named.{oldest_named, op_named, taken_out, aborted, progress_of};
+ghost use Rattle.uda_exec.specs.Named.{oldest_named, guest_op_named, taken_out, aborted, progress_of};
 ghost use Rattle.uda_exec.specs.GuestOps.{op_at, with_accepted, newest_guest};
 ghost use Rattle.uda_exec.specs.GuestExecution.{ExecutesGuestAt};
 
-use crate::choice::{Position, next_place};
-use crate::drive_unit::{DriveUnit, UnitLook};
+use crate::drive_unit::{DriveUnit, UnitInfo};
 use crate::guest_commands::execute_as;
 use crate::guest_ops::{GuestOps, drop_op, note_op, op_at};
 use crate::named::{place_named, progress};
 use crate::reply::{guest_reply, plain_body, refuse, reply};
+use crate::scheduler::{Position, next_place};
 use arrayvec::ArrayVec;
 use std::fmt;
 use std::marker::Model;
@@ -29,15 +29,15 @@ use uda_image::{BlockStore, Drive};
 use uda_mem::HostMemory;
 use uda_packet::{Command, End, GuestCommand, Op, Reply, status};
 
-/// The most commands that may be pending at a time: as many as a host may have out.
+/// The maximum number of pending commands, which is also the most that a host may have outstanding.
 pub const PENDING: usize = 15;
 
-/// Four units, numbered from 0, and the commands that were accepted and are not yet done.
+/// Four units, numbered from 0, and the commands that were accepted and aren't executed yet.
 ///
-/// A unit has a drive or none. One with a drive is available or online, and has hardware protection,
-/// software protection, both or neither. Contracts see of each drive its store and its mode, and the
-/// pending commands with the oldest first, with what a guest asks to be done with each. Only the stores may
-/// take memory or touch a file: the executor itself does neither.
+/// A unit has a drive or none. A unit with a drive is available or online, and has hardware write protection,
+/// software write protection, both or neither. Contracts read the store and the mode of each drive, the
+/// pending commands with the oldest first, and the additional operation of each. The executor itself neither
+/// allocates nor uses a file; only its stores may.
 ///
 /// MSCP Basic Disk Functions Manual: unit states, write protection, command ordering.
 #[derive(Drop)]
@@ -48,10 +48,10 @@ pub struct Exec<S: BlockStore> {
     position: Position,
 }
 
-// The position that the last transfer reached decides which command goes next, and no contract tells it.
+// The position of the last transfer decides which command is next. It isn't part of the contracts' view.
 impl<S: BlockStore> Model for Exec<S> {
     ghost use Rattle.uda_exec.specs.Disks.{ExecState};
-    ghost use Rattle.uda_disk.specs.Units.{AreImages};
+    ghost use Rattle.uda_disk.specs.Units.{AreWellFormed};
     ghost use Rattle.arrayvec.specs.ArrayVec.{array_vec_len};
     ghost use Rattle.std.specs.Prelude.{◌≡◌, ◌≤◌, length};
 
@@ -63,13 +63,13 @@ impl<S: BlockStore> Model for Exec<S> {
       guest_ops = e.guest_ops.items;
     } };
 
-    ghost invariant = { λ e. (length e.units ≡ 4) × (AreImages e.units
+    ghost invariant = { λ e. (length e.units ≡ 4) × (AreWellFormed e.units
         × (length e.guest_ops.items ≤ length e.pending.items)) };
 }
 
 fn unit_from<S: BlockStore>(drive: Option<Drive<S>>) -> Option<DriveUnit<S>>
     ensures unit { result ≡ option_map fresh_unit (option_map (drive_state S.state) drive) }
-    ensures image { HoldsImage result }
+    ensures image { IsWellFormed result }
 {
     match drive {
         None => None,
@@ -79,26 +79,26 @@ fn unit_from<S: BlockStore>(drive: Option<Drive<S>>) -> Option<DriveUnit<S>>
 
 fn units_from<S: BlockStore>(drives: [Option<Drive<S>>; 4]) -> [Option<DriveUnit<S>>; 4]
     ensures units { result ≡ fresh_units (drive_states S.state drives) }
-    ensures four { length result ≡ 4 }
-    ensures images { AreImages result }
+    ensures four_units { length result ≡ 4 }
+    ensures well_formed { AreWellFormed result }
 {
     let [a, b, c, d] = drives;
     [unit_from(a), unit_from(b), unit_from(c), unit_from(d)]
 }
 
 impl<S: BlockStore> Exec<S> {
-    /// An executor with drive `drives[u]` as unit `u`; None is a unit without a drive.
+    /// Returns an executor with drive `drives[u]` as unit `u`; None is a unit without a drive.
     ///
-    /// Nothing is pending, and every unit with a drive is available, with its hardware protection as it
-    /// is given and no software protection. No store is called.
+    /// Nothing is pending. Every unit with a drive is available, with the drive's hardware write protection
+    /// and no software write protection. The call uses no store.
     ///
     /// MSCP Basic Disk Functions Manual: unit states.
     pub fn new(drives: [Option<Drive<S>>; 4]) -> Exec<S>
         ensures units { result.units ≡ fresh_units (drive_states S.state drives) }
         ensures pending { result.pending ≡ [] }
         ensures guest_ops { result.guest_ops ≡ [] }
-        ensures four { length result.units ≡ 4 }
-        ensures images { AreImages result.units }
+        ensures four_units { length result.units ≡ 4 }
+        ensures well_formed { AreWellFormed result.units }
     {
         Exec {
             units: units_from(drives),
@@ -108,9 +108,9 @@ impl<S: BlockStore> Exec<S> {
         }
     }
 
-    /// Takes in `command`, behind those that are pending. Nothing is done to units or memory yet, and no
-    /// field of the command is judged: whatever its unit number and parameters, it gets an end message
-    /// from [`execute_one`](Exec::execute_one).
+    /// Queues `command` after the pending ones. It changes neither units nor memory, and checks no field of
+    /// the command. Every command gets an end message from [`execute_one`](Exec::execute_one), whatever its
+    /// unit number and parameters.
     ///
     /// There must be room: fewer than [`PENDING`] commands are pending ([`pending`](Exec::pending)).
     pub fn accept(&mut self, command: Command)
@@ -120,18 +120,20 @@ impl<S: BlockStore> Exec<S> {
         self.pending.push(command);
     }
 
-    /// Takes in a guest's command, after those that are pending: [`accept`](Exec::accept), and what is to be done
-    /// with it. Its end message comes from [`execute_next_in`](Exec::execute_next_in).
+    /// Queues a command of the compatible profile after the pending ones, with its additional operation.
+    /// Otherwise it is as [`accept`](Exec::accept). The end message comes from
+    /// [`execute_next_in`](Exec::execute_next_in).
     pub fn accept_guest(&mut self, asked: GuestCommand)
         requires room { length self.old.pending < PENDING_LIMIT }
         ensures last { self.new ≡ with_accepted self.old asked }
+        ensures op { op_at self.new.guest_ops (length self.old.pending) ≡ asked.op }
     {
         note_op(&mut self.guest_ops, self.pending.len(), asked.op);
         self.pending.push(asked.command);
     }
 
-    /// How many commands are pending: those that were accepted and have no end message yet. At most
-    /// [`PENDING`].
+    /// Returns the number of pending commands: those that were accepted and have no end message yet. It is at
+    /// most [`PENDING`].
     pub fn pending(&self) -> usize
         ensures count { result ≡ length self.now.pending }
         ensures within { result ≤ PENDING_LIMIT }
@@ -139,22 +141,22 @@ impl<S: BlockStore> Exec<S> {
         self.pending.len()
     }
 
-    /// The mode and the size of a unit; None where it has no drive, or there is no such unit.
-    pub fn unit(&self, unit: usize) -> Option<UnitLook>
-        ensures look { result ≡ look_at (slice_get self.now.units unit) }
+    /// Returns the mode and the size of a unit, or None if it has no drive or doesn't exist.
+    pub fn unit(&self, unit: usize) -> Option<UnitInfo>
+        ensures info { result ≡ info_at (slice_get self.now.units unit) }
     {
         let unit = self.units.get(unit)?.as_ref()?;
         Some(unit.look())
     }
 
-    /// The command that was accepted last of those that are pending.
+    /// Returns the pending command that was accepted last, or None.
     pub fn newest(&self) -> Option<Command>
         ensures newest { result ≡ slice_get self.now.pending (length self.now.pending - 1) }
     {
         self.pending.last().copied()
     }
 
-    /// Returns the command that was accepted last of those that are pending, with what is to be done with it.
+    /// Returns the pending command that was accepted last, with its additional operation, or None.
     pub fn newest_guest(&self) -> Option<GuestCommand>
         ensures newest { result ≡ newest_guest self.now }
     {
@@ -163,12 +165,13 @@ impl<S: BlockStore> Exec<S> {
         Some(GuestCommand { command, op })
     }
 
-    /// Takes the oldest pending command of this unit and reference out without executing it, and returns its end
-    /// message: its own end code, status 0x0002, and all numbers 0. If there is none, nothing changes.
+    /// Removes the oldest pending command of this unit and reference without executing it, and returns its
+    /// end message. The end message has the command's own end code, status 0x0002, and all numbers 0. If
+    /// there is no such command, nothing changes and the result is None.
     ///
     /// MSCP Basic Disk Functions Manual: Abort.
     pub fn abort(&mut self, unit: u16, reference: u32) -> Option<Reply>
-        ensures end { result ≡ option_map (aborted (op_named unit reference self.old))
+        ensures end { result ≡ option_map (aborted (guest_op_named unit reference self.old))
             (oldest_named unit reference self.old.pending) }
         ensures taken { self.new ≡ taken_out unit reference self.old }
         ensures fewer { IfSome result (λ _. length self.new.pending + 1 ≡ length self.old.pending) }
@@ -181,7 +184,8 @@ impl<S: BlockStore> Exec<S> {
         Some(guest_reply(named, status::ABORTED, op.blank_reply(named.op)))
     }
 
-    /// Returns the byte count of the oldest pending transfer of this unit and reference, and 0 if there is none.
+    /// Returns the byte count of the oldest pending transfer of this unit and reference, or 0 if there is
+    /// none.
     ///
     /// MSCP Basic Disk Functions Manual: Get Command Status.
     pub fn progress(&self, unit: u16, reference: u32) -> u32
@@ -190,129 +194,141 @@ impl<S: BlockStore> Exec<S> {
         progress(self.pending.as_slice(), unit, reference)
     }
 
-    /// Executes one pending command that may go, takes it out and answers its end message. None where
+    /// Executes one eligible pending command, removes it, and returns its end message. Returns None if
     /// nothing is pending, and then nothing changes.
     ///
-    /// A command may go where each older one is of another unit, or both are transfers. Which of those
-    /// goes no contract says; it is the oldest that is no transfer, and else the transfer that comes next
-    /// by unit and block behind the last one, or the very first where none does.
+    /// A command is eligible if for each older one either the units differ or both are transfers. The
+    /// contract leaves open which eligible command is chosen. The code takes the oldest that isn't a
+    /// transfer. If there is none, it takes the next transfer in unit and block order, at or after the
+    /// position of the last one. If none follows, it takes the very first.
     ///
-    /// Of `memory` only the buffer of a Read changes, and of the units only the command's own. A command
-    /// that is refused changes nothing. Its status is
-    /// - 0x0003 for a unit of 4 or more and 0x0023 for one without a drive (but Set Controller
-    ///   Characteristics speaks of no unit and succeeds);
-    /// - for a transfer that of the first check that fails: 0x0004 unit not online, 0x0029 odd address,
-    ///   0x0049 odd byte count, 0x1C01 first block not below the unit's size, 0x0C01 range past its end,
-    ///   0x2006 hardware and 0x1006 software protection of what a Write or an Erase would change, 0x0069
-    ///   buffer not wholly in memory. Addresses, counts and blocks are judged as whole numbers, so no sum
-    ///   wraps.
+    /// In `memory` only the buffer of a Read changes, and of the units only the command's own. A command that
+    /// is rejected changes nothing. Its status is that of the first check that fails, in this order:
     ///
-    /// A byte count that is no multiple of 512 ends in a part block. A Read reads it whole and puts its
-    /// first bytes in the buffer, a Write writes its bytes with zeros behind them, an Erase and an Access
-    /// take it whole.
+    /// | Status | Requirement that isn't met | Commands |
+    /// |---|---|---|
+    /// | 0x0003 | the unit number is 3 or less | all but Set Controller Characteristics |
+    /// | 0x0023 | the unit has a drive | all but Set Controller Characteristics |
+    /// | 0x0004 | the unit is online | transfers |
+    /// | 0x0029 | the buffer's address is even | Read, Write |
+    /// | 0x0049 | the byte count is even | transfers |
+    /// | 0x1C01 | the first block is below the unit's size | transfers |
+    /// | 0x0C01 | the range is within the unit | transfers |
+    /// | 0x2006 | no hardware write protection | Erase, Write |
+    /// | 0x1006 | no software write protection | Erase, Write |
+    /// | 0x0069 | the buffer is wholly in memory | Read, Write |
     ///
-    /// A transfer that passes asks the store for its whole blocks at once, where they are two or more, an
-    /// Access and an Erase for 32 at most: `read_at_once` for Access and Read, `write_at_once` for Erase and
-    /// Write. From where the store declines, as one of single blocks does from the first, and for a part
-    /// block, it calls `read` or `write` once a block, in rising order. The first of these calls that errs
-    /// ends it with status 0x000B and the byte count of the blocks before. That block of a Write's or an
-    /// Erase's range, or the bytes of a Read's buffer that are its, may then hold anything, and what lies
-    /// behind them is as it was. No other command calls a store, but for its size.
+    /// Set Controller Characteristics concerns no unit and succeeds. The checks compute with unbounded
+    /// integers, so no sum wraps.
     ///
-    /// MSCP Basic Disk Functions Manual: commands and end messages, status and event codes, command
-    /// ordering.
+    /// A byte count that isn't a multiple of 512 has a partial block at its end. A Read reads that block
+    /// whole and puts its first bytes into the buffer. A Write writes its bytes followed by zeros. An Erase
+    /// and an Access use the block whole.
+    ///
+    /// An accepted transfer of two or more whole blocks first asks its store for several blocks at once.
+    /// Access and Read call `try_read_blocks`, Erase and Write `try_write_blocks`. An Access and an Erase ask for
+    /// at most 32 blocks a call. If the store declines, the transfer calls `read` or `write` for one block at
+    /// a time, in rising order. An Access and an Erase ask for several blocks again at each 32nd block of the
+    /// range. A Read and a Write always use a single call for a partial block.
+    ///
+    /// The first call that fails ends the transfer with status 0x000B, and with the byte count of the blocks
+    /// before. The failing block of a Write or an Erase, or its part of a Read's buffer, may then hold
+    /// anything. Later blocks and bytes are unchanged over a faithful store. Other commands call a store only for
+    /// its size.
+    ///
+    /// MSCP Basic Disk Functions Manual: commands and end messages, status and event codes, command ordering.
     #[tactic(auto, using(crate::proofs::Changes::wholes))]
     pub fn execute_one(&mut self, memory: &mut HostMemory) -> Option<End>
-        ensures idle { IsNone result ↔ (self.old.pending ≡ []) }
+        ensures none_iff_empty { IsNone result ↔ (self.old.pending ≡ []) }
         ensures unchanged { IfNone result ((self.new ≡ self.old) × (memory.new ≡ memory.old)) }
         ensures fewer { IfSome result (λ _. length self.new.pending + 1 ≡ length self.old.pending) }
-        ensures four { length self.new.units ≡ 4 }
-        ensures images { AreImages self.new.units }
+        ensures four_units { length self.new.units ≡ 4 }
+        ensures well_formed { AreWellFormed self.new.units }
         ensures length { length memory.new ≡ length memory.old }
         ensures faithful { (u : ℕ) → is_faithful (slice_get self.new.units u)
             ≡ is_faithful (slice_get self.old.units u) }
-        ensures sure { (u : ℕ) → is_sure (slice_get self.new.units u)
-            ≡ is_sure (slice_get self.old.units u) }
+        ensures infallible { (u : ℕ) → is_infallible (slice_get self.new.units u)
+            ≡ is_infallible (slice_get self.old.units u) }
         ensures executes { IfSome result (λ end.
             (j : ℕ) × ExecutesAt j self.old memory.old end self.new memory.new) }
     {
         self.execute_one_in(memory.as_mut_slice())
     }
 
-    /// The same over memory that is somebody else's: [`execute_one`](Exec::execute_one) on a slice of an even
-    /// length, at most [`SLICE_LIMIT`](uda_mem::SLICE_LIMIT) ([`is_memory`](uda_mem::is_memory)). It may be
-    /// another slice at each call.
+    /// Does the same over a slice: [`execute_one`](Exec::execute_one) with borrowed memory. The length of the
+    /// slice is even and at most [`SLICE_LIMIT`](uda_mem::SLICE_LIMIT) ([`is_memory`](uda_mem::is_memory)).
+    /// Each call may get another slice.
     pub fn execute_one_in(&mut self, memory: &mut [u8]) -> Option<End>
         requires memory { IsMemory memory.old }
-        ensures idle { IsNone result ↔ (self.old.pending ≡ []) }
+        ensures none_iff_empty { IsNone result ↔ (self.old.pending ≡ []) }
         ensures unchanged { IfNone result ((self.new ≡ self.old) × (memory.new ≡ memory.old)) }
         ensures fewer { IfSome result (λ _. length self.new.pending + 1 ≡ length self.old.pending) }
-        ensures four { length self.new.units ≡ 4 }
-        ensures images { AreImages self.new.units }
+        ensures four_units { length self.new.units ≡ 4 }
+        ensures well_formed { AreWellFormed self.new.units }
         ensures length { length memory.new ≡ length memory.old }
         ensures faithful { (u : ℕ) → is_faithful (slice_get self.new.units u)
             ≡ is_faithful (slice_get self.old.units u) }
-        ensures sure { (u : ℕ) → is_sure (slice_get self.new.units u)
-            ≡ is_sure (slice_get self.old.units u) }
+        ensures infallible { (u : ℕ) → is_infallible (slice_get self.new.units u)
+            ≡ is_infallible (slice_get self.old.units u) }
         ensures executes { IfSome result (λ end.
             (j : ℕ) × ExecutesAt j self.old memory.old end self.new memory.new) }
     {
         let place = next_place(self.pending.as_slice(), self.position)?;
-        let command = self.pending.remove(place);
+        let command = remove_pending(&mut self.pending, place);
         drop_op(&mut self.guest_ops, place);
         self.position = self.position.after(command);
         Some(execute(&mut self.units, command, memory))
     }
 
-    /// Executes one pending command that may go, takes it out and returns its end message: what
-    /// [`execute_one_in`](Exec::execute_one_in) does, with what a guest asks to be done with the command. Returns
-    /// None if nothing is pending, and then nothing changes.
+    /// Executes one eligible pending command with its additional operation, removes it, and returns its end
+    /// message. Otherwise it is as [`execute_one_in`](Exec::execute_one_in). Returns None if nothing is
+    /// pending, and then nothing changes.
     ///
-    /// A Set Unit Characteristics sets the software protection of a unit with a drive, if it says something of it.
-    /// The unit stays available or online.
+    /// A Set Unit Characteristics sets the software write protection of a unit with a drive, if the command
+    /// asks for it. The unit remains available or online.
     ///
-    /// A Compare Host Data passes the checks of a Read, and changes neither blocks nor memory. It calls `read` once
-    /// for each block, in rising order, up to the first byte that differs: then its status is 0x0007, and its byte
-    /// count is of the bytes before that. If a call fails, the status is 0x000B with the byte count of the blocks
-    /// before.
+    /// A Compare Host Data passes the checks of a Read, and changes neither blocks nor memory. It calls
+    /// `read` once for each block, in rising order, up to the first byte that differs. Its status is then
+    /// 0x0007, and its byte count is the number of bytes before the difference. If a call fails, the status
+    /// is 0x000B with the byte count of the blocks before.
     ///
     /// MSCP Basic Disk Functions Manual: Set Unit Characteristics, Compare Host Data.
     pub fn execute_next_in(&mut self, memory: &mut [u8]) -> Option<Reply>
         requires memory { IsMemory memory.old }
-        ensures idle { IsNone result ↔ (self.old.pending ≡ []) }
+        ensures none_iff_empty { IsNone result ↔ (self.old.pending ≡ []) }
         ensures unchanged { IfNone result ((self.new ≡ self.old) × (memory.new ≡ memory.old)) }
         ensures fewer { IfSome result (λ _. length self.new.pending + 1 ≡ length self.old.pending) }
-        ensures four { length self.new.units ≡ 4 }
-        ensures images { AreImages self.new.units }
+        ensures four_units { length self.new.units ≡ 4 }
+        ensures well_formed { AreWellFormed self.new.units }
         ensures length { length memory.new ≡ length memory.old }
         ensures faithful { (u : ℕ) → is_faithful (slice_get self.new.units u)
             ≡ is_faithful (slice_get self.old.units u) }
-        ensures sure { (u : ℕ) → is_sure (slice_get self.new.units u)
-            ≡ is_sure (slice_get self.old.units u) }
+        ensures infallible { (u : ℕ) → is_infallible (slice_get self.new.units u)
+            ≡ is_infallible (slice_get self.old.units u) }
         ensures executes { IfSome result (λ end.
             (j : ℕ) × ExecutesGuestAt j self.old memory.old end self.new memory.new) }
     {
         let pending = self.pending.as_slice();
         let place = next_place(pending, self.position)?;
         let op = op_at(self.guest_ops.as_slice(), place);
-        let taken = self.pending.remove(place);
+        let taken = remove_pending(&mut self.pending, place);
         drop_op(&mut self.guest_ops, place);
         self.position = self.position.after(taken);
         let asked = GuestCommand { command: taken, op };
         Some(execute_as(&mut self.units, asked, memory))
     }
 
-    /// Forgets the pending commands, which get no end message, and makes every unit with a drive
-    /// available, without software protection. Hardware protection and all blocks stay.
+    /// Drops the pending commands, which get no end message. Makes every unit with a drive available, without
+    /// software write protection. Hardware write protection and all blocks don't change.
     ///
-    /// UDA50 Programmer's Documentation Kit: initialisation.
+    /// UDA50 Programmer's Documentation Kit: initialization.
     #[tactic(auto, using(crate::proofs::Units::images_reset))]
     pub fn reset(&mut self)
         ensures units { self.new.units ≡ map reset_unit self.old.units }
         ensures pending { self.new.pending ≡ [] }
         ensures guest_ops { self.new.guest_ops ≡ [] }
-        ensures four { length self.new.units ≡ 4 }
-        ensures images { AreImages self.new.units }
+        ensures four_units { length self.new.units ≡ 4 }
+        ensures well_formed { AreWellFormed self.new.units }
     {
         self.pending.clear();
         self.guest_ops.clear();
@@ -320,40 +336,40 @@ impl<S: BlockStore> Exec<S> {
         reset(&mut self.units);
     }
 
-    /// Puts a drive in the place of a unit's, or None to leave the unit without one, and hands back the drive
-    /// that was there, with its blocks as the commands left them and its hardware protection.
+    /// Replaces the drive of a unit, or removes it (None), and returns the old drive. The old drive has its
+    /// blocks as the commands left them, and its hardware write protection.
     ///
-    /// The unit is then available, without software protection, as [`new`](Exec::new) would have made it. The
-    /// other units and the pending commands stay as they are: a command that waits for this unit meets the
-    /// drive that it has when it goes. No store is called. Where `unit` is above 3 nothing changes, and the
-    /// drive that is given is handed back.
+    /// The unit is then available, without software write protection, as after [`new`](Exec::new). The other
+    /// units and the pending commands don't change. A pending command for this unit uses the drive that is
+    /// present when the command executes. The call uses no store. If `unit` is above 3, nothing changes and
+    /// the call returns the given drive.
     ///
     /// MSCP Basic Disk Functions Manual: unit states.
     pub fn set_drive(&mut self, unit: usize, drive: Option<Drive<S>>) -> Option<Drive<S>>
-        ensures handed_back { option_map (drive_state S.state) result
-            ≡ handed_back self.old.units unit (option_map (drive_state S.state) drive) }
+        ensures returned_drive { option_map (drive_state S.state) result
+            ≡ returned_drive self.old.units unit (option_map (drive_state S.state) drive) }
         ensures set { self.new ≡ with_drive self.old unit (option_map (drive_state S.state) drive) }
-        ensures four { length self.new.units ≡ 4 }
-        ensures images { AreImages self.new.units }
+        ensures four_units { length self.new.units ≡ 4 }
+        ensures well_formed { AreWellFormed self.new.units }
     {
         exchange(&mut self.units, unit, drive)
     }
 
-    /// Puts a unit into a mode, for whoever has taken its drive out, has done something to its store and put
-    /// it back, and means the unit to be as it was. Its store, the other units and the pending commands stay
-    /// as they are. Where the unit has no drive, or `unit` is above 3, nothing changes.
+    /// Sets the mode of a unit. Its store, the other units and the pending commands don't change. It is for
+    /// callers that removed a drive, changed its store, put it back, and want the unit in its former state.
+    /// If the unit has no drive, or `unit` is above 3, nothing changes.
     ///
     /// MSCP Basic Disk Functions Manual: unit states.
     pub fn restore_mode(&mut self, unit: usize, mode: Mode)
         ensures mode { self.new ≡ with_mode self.old unit mode }
-        ensures four { length self.new.units ≡ 4 }
-        ensures images { AreImages self.new.units }
+        ensures four_units { length self.new.units ≡ 4 }
+        ensures well_formed { AreWellFormed self.new.units }
     {
         restore_at(&mut self.units, unit, mode);
     }
 
-    /// The drives, taken out: drive `u` is that of unit `u`, None where that has none. Each has its blocks
-    /// as the commands left them and its hardware protection. Pending commands are forgotten.
+    /// Returns the drives: drive `u` is that of unit `u`, or None if it has none. Each has its blocks as the
+    /// commands left them, and its hardware write protection. Drops the pending commands.
     pub fn into_stores(self) -> [Option<Drive<S>>; 4]
         ensures drives { drive_states S.state result ≡ drives_in self.units }
     {
@@ -387,18 +403,18 @@ fn drives_of<S: BlockStore>(units: [Option<DriveUnit<S>>; 4]) -> [Option<Drive<S
     [drive_of(a), drive_of(b), drive_of(c), drive_of(d)]
 }
 
-// Puts a drive in the place of a unit's, which is handed back.
+// Replaces the drive of a unit, and returns the old one.
 fn exchange<S: BlockStore>(
     units: &mut [Option<DriveUnit<S>>],
     unit: usize,
     drive: Option<Drive<S>>,
 ) -> Option<Drive<S>>
-    requires images { AreImages units.old }
-    ensures handed_back { option_map (drive_state S.state) result
-        ≡ handed_back units.old unit (option_map (drive_state S.state) drive) }
+    requires well_formed { AreWellFormed units.old }
+    ensures returned_drive { option_map (drive_state S.state) result
+        ≡ returned_drive units.old unit (option_map (drive_state S.state) drive) }
     ensures set { units.new
         ≡ set units.old unit (option_map fresh_unit (option_map (drive_state S.state) drive)) }
-    ensures images { AreImages units.new }
+    ensures well_formed { AreWellFormed units.new }
 {
     if unit >= units.len() {
         return drive;
@@ -407,12 +423,12 @@ fn exchange<S: BlockStore>(
     drive_of(old)
 }
 
-// Puts one of the units into a mode.
+// Sets the mode of one of the units.
 fn restore_at<S: BlockStore>(units: &mut [Option<DriveUnit<S>>], unit: usize, mode: Mode)
-    requires images { AreImages units.old }
+    requires well_formed { AreWellFormed units.old }
     ensures mode { units.new
         ≡ set units.old unit (in_mode mode (unwrap_or (slice_get units.old unit) None)) }
-    ensures images { AreImages units.new }
+    ensures well_formed { AreWellFormed units.new }
 {
     if unit < units.len() {
         restore_unit(&mut units[unit], mode);
@@ -421,7 +437,7 @@ fn restore_at<S: BlockStore>(units: &mut [Option<DriveUnit<S>>], unit: usize, mo
 
 fn restore_unit<S: BlockStore>(unit: &mut Option<DriveUnit<S>>, mode: Mode)
     ensures unit { unit.new ≡ in_mode mode unit.old }
-    ensures image { HoldsImage unit.old → HoldsImage unit.new }
+    ensures image { IsWellFormed unit.old → IsWellFormed unit.new }
 {
     if let Some(unit) = unit {
         unit.restore(mode);
@@ -444,14 +460,29 @@ fn reset<S: BlockStore>(units: &mut [Option<DriveUnit<S>>])
     }
 }
 
-// Whether a command is Set Controller Characteristics, which speaks of no unit.
+// Removes and returns the command at an index. The last one, which is often the only one, leaves the others where
+// they are.
+fn remove_pending(pending: &mut ArrayVec<Command, PENDING>, place: usize) -> Command
+    requires there { place < length pending.old.items }
+    ensures value { slice_get pending.old.items place ≡ Some result }
+    ensures left { pending.new.items ≡ remove pending.old.items place }
+    ensures fewer { length pending.new.items + 1 ≡ length pending.old.items }
+{
+    if pending.len() - place == 1 {
+        return pending.pop().unwrap();
+    }
+    pending.remove(place)
+}
+
+// Returns whether a command is Set Controller Characteristics, which concerns no unit.
 fn is_controller(op: Op) -> bool
     ensures { result ≡ is_controller op }
 {
     matches!(op, Op::Controller)
 }
 
-// Does one command on the units: on its own, or on none where there is no such unit.
+// Executes one command on its unit. If the unit doesn't exist or has no drive, returns the end message of a
+// rejected command.
 pub(crate) fn execute<S: BlockStore>(
     units: &mut [Option<DriveUnit<S>>],
     command: Command,
@@ -459,7 +490,7 @@ pub(crate) fn execute<S: BlockStore>(
 ) -> End
     requires memory { IsMemory memory.old }
     ensures executes { Executes command units.old memory.old result units.new memory.new }
-    ensures images { AreImages units.old → AreImages units.new }
+    ensures well_formed { AreWellFormed units.old → AreWellFormed units.new }
 {
     if is_controller(command.op) {
         return reply(command, status::SUCCESS, plain_body(command.op, 0));

@@ -1,7 +1,7 @@
-//! What a guest asks to be done with each pending command.
+//! The additional operation of each pending command.
 //!
-//! The list of it is as long as it must be: a command that it doesn't reach is done as it is. So a strict port
-//! keeps no such list.
+//! The list is only as long as necessary. A command past its end has no additional operation, so a strict
+//! port never fills the list.
 //!
 //! MSCP Basic Disk Functions Manual: Set Unit Characteristics, Compare Host Data.
 ghost use Rattle.std.specs.Prelude.{◌≡◌, ◌+◌, ◌<◌, ◌≤◌, length, remove};
@@ -11,17 +11,17 @@ use crate::executor::PENDING;
 use arrayvec::ArrayVec;
 use uda_packet::GuestOp;
 
-// What is to be done with each pending command, from the first on.
+// The additional operations of the pending commands, from the first on.
 pub(crate) type GuestOps = ArrayVec<GuestOp, PENDING>;
 
-// Returns what is to be done with the pending command at a place.
+// Returns the additional operation of the pending command at an index.
 pub(crate) fn op_at(ops: &[GuestOp], place: usize) -> GuestOp
     ensures { result ≡ op_at ops.now place }
 {
     ops.get(place).copied().unwrap_or(GuestOp::Basic)
 }
 
-// Notes what is to be done with a command that goes last, at this place.
+// Stores the additional operation of a command that is appended at this index.
 pub(crate) fn note_op(ops: &mut GuestOps, place: usize, op: GuestOp)
     requires past { length ops.old.items ≤ place }
     requires room { place < 15 }
@@ -37,7 +37,7 @@ pub(crate) fn note_op(ops: &mut GuestOps, place: usize, op: GuestOp)
     ops.push(op);
 }
 
-// Forgets what is to be done with the command at a place, which is taken out.
+// Removes the additional operation of the command at an index.
 pub(crate) fn drop_op(ops: &mut GuestOps, place: usize)
     ensures dropped { ops.new.items ≡ remove ops.old.items place }
     ensures fewer { place < length ops.old.items → length ops.new.items + 1 ≡ length ops.old.items }

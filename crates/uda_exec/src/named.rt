@@ -1,4 +1,4 @@
-//! Pending commands by their unit and reference.
+//! Search for pending commands by their unit and reference.
 //!
 //! MSCP Basic Disk Functions Manual: Abort, Get Command Status.
 ghost use Rattle.std.specs.Prelude.{◌≡◌, position, find};
@@ -7,21 +7,21 @@ ghost use Rattle.uda_exec.specs.Named.{is_named, is_named_transfer, progress_of}
 
 use uda_packet::{Command, Op};
 
-// Whether a command is for this unit and has this reference.
+// Returns whether a command is for this unit and has this reference.
 fn is_named(command: Command, unit: u16, reference: u32) -> bool
     ensures { result ≡ is_named unit reference command }
 {
     command.unit == unit && command.reference == reference
 }
 
-// Whether such a command is a transfer.
+// Returns whether such a command is a transfer.
 fn is_named_transfer(command: Command, unit: u16, reference: u32) -> bool
     ensures { result ≡ is_named_transfer unit reference command }
 {
     is_named(command, unit, reference) && command.op.transfer().is_some()
 }
 
-/// Returns the place of the oldest command of this unit and reference.
+/// Returns the index of the oldest command of this unit and reference.
 pub fn place_named(pending: &[Command], unit: u16, reference: u32) -> Option<usize>
     ensures { result ≡ position (is_named unit reference) pending.now }
 {

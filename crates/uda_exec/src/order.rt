@@ -1,42 +1,43 @@
-//! The laws of doing a list of commands, whatever their outcomes. Each is the contract of a
-//! function that does nothing, so that a driver's proof can cite it.
+//! The laws of executing a list of commands, whatever their outcomes. Each law is the contract of a function
+//! with an empty body, so that a driver's proof can use it.
 //!
-//! The laws speak of definitions alone (`specs/Order.antt`), with every command's outcome fixed, done or
-//! lost, and of any memory and any units: nothing is asked of the units' sizes or of what fits. They
-//! don't say which command goes next, nor that one goes at all.
+//! The laws are about definitions only (`specs/Order.antt`). The outcome of every command is fixed as success
+//! or failure, and memory and units are arbitrary: sizes and ranges need not fit. The laws don't say which
+//! command is next, or that one is executed at all.
 //!
 //! MSCP Basic Disk Functions Manual: command ordering.
-ghost use Rattle.uda_exec.specs.Order.{OrderIsFree, OneMore, PassesThrough, DependsOnDataAlone};
+ghost use Rattle.uda_exec.specs.Order.{OrderIsIrrelevant, OneMore, PassesThrough, DependsOnDataAlone};
 
-/// Whichever command that may go is done first, and the others after it in order, nothing is
-/// different from doing them all in order: each end, every block, mode and flag, and memory.
+/// States that any eligible command may be executed first, and the others after it in order. The result is
+/// that of executing all in order: each end message, every block, mode and flag, and memory are the same.
 ///
-/// Any two of the commands must be apart: they don't clash, which two transfers of one unit do that have
-/// a block in common and of which one is a Write or an Erase, and no byte lies in the buffers of both. A
-/// command may go where each older one is of another unit, or is a transfer as it is.
+/// Any two of the commands must be independent. They don't conflict: two transfers of one unit conflict if
+/// they share a block and one is a Write or an Erase. And no byte is in the buffers of both. A command is
+/// eligible if each older one is of another unit, or both are transfers.
 ///
 /// MSCP Basic Disk Functions Manual: command ordering.
-#[tactic(auto, using(crate::proofs::OrderLaw::order_is_free))]
-pub fn order_is_free()
-    ensures law { OrderIsFree }
+#[tactic(auto, using(crate::proofs::OrderLaw::order_is_irrelevant))]
+pub fn order_is_irrelevant()
+    ensures law { OrderIsIrrelevant }
 {}
 
-/// Doing a list of commands in order and then one more is doing the longer list: its ends are those
-/// of the list and then that of the last, and the last finds the units and memory as the list left them.
+/// States that executing a list of commands in order and then one more is executing the longer list. Its end
+/// messages are those of the list, followed by that of the last command. The last command uses the units and
+/// memory as the list left them.
 #[tactic(auto, using(crate::proofs::OrderLaw::one_more))]
 pub fn one_more()
     ensures law { OneMore }
 {}
 
-/// Bytes put into memory beside all buffers of a list of commands pass through doing it: put before
-/// or after, the ends, the units and memory are the same.
+/// States that bytes written to memory outside all buffers of a list of commands don't affect the list. The
+/// end messages, the units and memory are the same if the bytes are written before or after.
 #[tactic(auto, using(crate::proofs::OrderLaw::passes_through))]
 pub fn passes_through()
     ensures law { PassesThrough }
 {}
 
-/// The ends and the units of a list of commands depend on no byte of memory outside the buffers of
-/// its Writes: two memories of one length that agree there give the same.
+/// States that the end messages and the units of a list of commands depend on no byte of memory outside the
+/// buffers of its Writes. Two memories of one length that agree there give the same results.
 #[tactic(auto, using(crate::proofs::OrderLaw::depends_on_data_alone))]
 pub fn depends_on_data_alone()
     ensures law { DependsOnDataAlone }

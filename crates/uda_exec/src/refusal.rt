@@ -1,24 +1,24 @@
-//! The checks that a transfer has to pass.
+//! The checks of a transfer.
 //!
 //! MSCP Basic Disk Functions Manual: transfer commands, status and event codes.
 ghost use Rattle.std.specs.Prelude.{◌≡◌};
-ghost use Rattle.uda_exec.specs.Commands.{room_in};
-ghost use Rattle.uda_exec.specs.Refusal.{transfer_refusal};
+ghost use Rattle.uda_exec.specs.Commands.{transfer_buffer_length};
+ghost use Rattle.uda_exec.specs.BufferChecks.{transfer_refusal};
 
-use crate::movement::block_count;
+use crate::block_transfer::block_count;
 use uda_disk::{Mode, Refusal};
 use uda_packet::Transfer;
 
-// How many bytes of host memory a transfer's buffer has; an Access and an Erase have none.
-fn room_in(t: Transfer) -> u32
-    ensures { result ≡ room_in t }
+// Returns the length of a transfer's buffer in bytes. An Access and an Erase have no buffer.
+fn transfer_buffer_length(t: Transfer) -> u32
+    ensures { result ≡ transfer_buffer_length t }
 {
     if t.kind.has_buffer() { t.bytes } else { 0 }
 }
 
-// What the first check of a transfer finds that fails, on a unit with a drive; None where it passes them
-// all. `memory` is the length of host memory in bytes, `size` the unit's in blocks. Sums are taken as
-// whole numbers, so none wraps.
+// Returns the result of the first check that fails for a transfer on a unit with a drive, or None if all
+// succeed. `memory` is the length of host memory in bytes, and `size` the unit's in blocks. The sums have 64
+// bits, so none wraps.
 pub(crate) fn transfer_refusal(t: Transfer, memory: u32, size: u32, mode: Mode) -> Option<Refusal>
     ensures { result ≡ transfer_refusal t memory size mode }
 {
@@ -45,7 +45,7 @@ pub(crate) fn transfer_refusal(t: Transfer, memory: u32, size: u32, mode: Mode) 
     if changes && mode.soft {
         return Some(Refusal::SoftwareProtected);
     }
-    if u64::from(t.buffer) + u64::from(room_in(t)) > u64::from(memory) {
+    if u64::from(t.buffer) + u64::from(transfer_buffer_length(t)) > u64::from(memory) {
         return Some(Refusal::NoSuchMemory);
     }
     None

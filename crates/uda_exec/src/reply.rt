@@ -1,15 +1,15 @@
-//! The end messages of commands.
+//! End messages of commands.
 //!
 //! MSCP Basic Disk Functions Manual: end messages.
 ghost use Rattle.std.specs.Prelude.{◌≡◌};
 ghost use Rattle.uda_exec.specs.Effect.{plain_body, reply};
 ghost use Rattle.uda_exec.specs.SetUnit.{guest_reply};
-ghost use Rattle.uda_disk.specs.Plain.{refusal_status};
+ghost use Rattle.uda_disk.specs.RequestEffect.{refusal_status};
 
 use uda_disk::Refusal;
 use uda_packet::{Command, End, EndBody, Op, Reply, ReplyBody};
 
-// The body of an end message with this byte count, where its opcode has one, and all other numbers 0.
+// Returns the body of an end message with this byte count, if its opcode has one, and all other numbers 0.
 pub fn plain_body(op: Op, bytes: u32) -> EndBody
     ensures { result ≡ plain_body op bytes }
 {
@@ -19,7 +19,7 @@ pub fn plain_body(op: Op, bytes: u32) -> EndBody
     }
 }
 
-// The end message of a command, with this status and this body.
+// Returns the end message of a command, with this status and this body.
 pub fn reply(command: Command, status: u16, body: EndBody) -> End
     ensures { result ≡ reply command status body }
 {
@@ -31,14 +31,14 @@ pub fn reply(command: Command, status: u16, body: EndBody) -> End
     }
 }
 
-// The end message of a command that was refused: all its numbers are 0.
+// Returns the end message of a rejected command, with all numbers 0.
 pub fn refuse(command: Command, refusal: Refusal) -> End
     ensures { result ≡ reply command (refusal_status refusal) (plain_body command.op 0) }
 {
     reply(command, refusal.status(), plain_body(command.op, 0))
 }
 
-/// Returns the end message of a guest's command, with this status and this body.
+/// Returns the end message of a command of the compatible profile, with this status and this body.
 pub fn guest_reply(command: Command, status: u16, body: ReplyBody) -> Reply
     ensures { result ≡ guest_reply command status body }
 {

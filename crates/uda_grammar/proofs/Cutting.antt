@@ -36,7 +36,7 @@ slice_split_absent p xs e =
 pub parts_nonempty : (separator : ℕ) (text : List ℕ) → 0 < length (parts separator text)
 parts_nonempty separator text = omega (arith, length-slice_split (λ byte. byte == separator) text)
 
--- and at least two where a separator stands in it
+-- and at least two if a separator is in it
 pub behind_nonempty : (separator : ℕ) (behind : Option (List ℕ)) (rest : List ℕ) → behind ≡ Some rest
     → 0 < length (parts_behind separator behind)
 behind_nonempty separator behind rest e = rw e (parts_nonempty separator rest)

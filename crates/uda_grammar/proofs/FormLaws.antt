@@ -22,7 +22,7 @@ use Rattle.uda_grammar.specs.declared.statement.Measure.TheVariants.{Blocks, Byt
 use Rattle.uda_grammar.specs.declared.statement.Amount.TheVariants as amount
 use Rattle.uda_grammar.specs.Amounts.{most_written}
 use Rattle.uda_grammar.specs.Forms.{with_numbers, with_byte, only_unit, transfer_form, online_of, fill_of, statement_behind, statement_of}
-use Rattle.uda_grammar.specs.Texts.{two_digits, transfer_words, words_in, statement_text, IsTransfer, Fits, OneText}
+use Rattle.uda_grammar.specs.Texts.{two_digits, transfer_words, words_in, statement_text, IsTransfer, Fits, StatementTextIsUnique}
 use Rattle.uda_grammar.proofs.WordLaws.{own, Told-number_of, number_of-decimal, byte_of-two_digits, two_digits-byte_of}
 
 -- the word of a verb
@@ -67,7 +67,7 @@ name-verb_of word v =
     (step word (verb.Write Bytes) v _
     (step word verb.Fill v None (λ e. absurd (cc)))))))))))))
 
--- what stands in an option that was worked on
+-- the value of an option after a function was applied to it
 mapped : {T U : Type 0} (f : T → U) (o : Option T) (y : U) → option_map f o ≡ Some y
     → (x : T) × (o ≡ Some x) × (f x ≡ y)
 mapped f None y e = absurd (cc)
@@ -368,8 +368,8 @@ words_of-statement_text (form.Fill u l n byte) fits =
     let h = of_transfer (most_written Blocks) u l n (omega arith) fits.0 in
     words_of-joined _ _ refl (h.0, (h.1.0, (h.1.1.0, (two_digits_have_no_space byte, tt))))
 
-pub one_text : OneText
-one_text line s = (
+pub statement_text_is_unique : StatementTextIsUnique
+statement_text_is_unique line s = (
   λ e. let reads = told (words_of line) s e in
       (reads.0, sym (join_with_byte-slice_split 32 line) ∙ ap (join_with_byte 32) reads.1),
   λ reads.

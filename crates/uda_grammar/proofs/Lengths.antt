@@ -12,7 +12,7 @@ use Rattle.uda_grammar.specs.Words.{most_number}
 use Rattle.uda_grammar.specs.Parts.{words_of}
 use Rattle.uda_grammar.specs.Forms.{statement_of}
 use Rattle.uda_grammar.specs.Texts.{transfer_words, words_in, IsTransfer, Fits}
-use Rattle.uda_grammar.proofs.FormLaws.{one_text}
+use Rattle.uda_grammar.proofs.FormLaws.{statement_text_is_unique}
 
 -- the bytes of words, each with the space or line feed after it
 abbrev total : List (List ℕ) → ℕ
@@ -73,6 +73,6 @@ long_line line long = by (statement_of (words_of line)) refl
     by : (o : Option Statement) → statement_of (words_of line) ≡ o → statement_of (words_of line) ≡ None
     by None is = is
     by (Some s) is =
-        let read = (one_text line s).0 is in
+        let read = (statement_text_is_unique line s).0 is in
         let size = ap length read.1 in
         absurd (omega (arith, size, length-joined (words_in s), words_total s read.0, long))

@@ -1,4 +1,4 @@
--- What digits tell as a number.
+-- The number that digits mean.
 use Rattle.std.proofs.Common.{◌≡◌, ◌≢◌, ℕ, ◌+◌, ◌-◌, ◌*◌, ◌<◌, ◌≤◌, true, false, List, [], ◌∷◌, length, get_or, drop, suc, drop-cons, Some, None, refl, arith}
 use Rattle.std.specs.Char.{is_ascii_digit}
 use Rattle.std.specs.List.{list_all}
@@ -45,7 +45,7 @@ pub number_of-some : (most : ℕ) (word : List ℕ) → is_decimal word ≡ true
     → number_of most word ≡ Some (value_behind 0 word)
 number_of-some most word d h = grind (arith, common_steps)
 
--- where the digits up to one tell too much, so do all
+-- if the digits up to one mean too much, so do all
 pub number_of-spill : (most value : ℕ) (word : List ℕ) (i : ℕ) → i < length word
     → most < 10 * value + (get_or word i 0 - 48) → value_behind value (drop i word) ≡ value_behind 0 word
     → number_of most word ≡ None

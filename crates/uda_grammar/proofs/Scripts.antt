@@ -10,7 +10,7 @@ abbrev pub left_of : Option (List ℕ) → ℕ
 left_of None = 0
 left_of (Some rest) = suc (length rest)
 
--- so many lines were read, which make these requests, and this is the rest
+-- these lines were read, which make these requests, and this is the rest
 pub record HasRead (text : List ℕ) (number : ℕ) (made : List Line) (rest : Option (List ℕ)) : Type 0 where
   pub requests : made ++ requests_from (number + 1) (parts_behind 10 rest) ≡ requests_in text
   pub fault : fault_from (number + 1) (parts_behind 10 rest) ≡ fault_in text

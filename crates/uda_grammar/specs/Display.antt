@@ -1,4 +1,4 @@
--- The errors as a person reads them.
+-- The printed texts of the errors.
 use Rattle.std.specs.Prelude.{ℕ, List, ◌++◌, codes}
 use Rattle.std.specs.Fmt.{decimal}
 use Rattle.uda_grammar.specs.declared.error.ScriptError.{ScriptError}

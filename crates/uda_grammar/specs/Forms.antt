@@ -16,19 +16,19 @@ abbrev pub only_unit : List (List ℕ) → Option ℕ
 only_unit (u ∷ []) = unit_named u
 only_unit _ = None
 
--- a transfer, where its three numbers are there
+-- a transfer, if all three numbers are valid
 abbrev pub with_numbers : Option ℕ → Option ℕ → Option ℕ → Option TransferNumbers
 with_numbers (Some unit) (Some lbn) (Some count) =
     Some (record { unit = unit; lbn = lbn; count = count })
 with_numbers _ _ _ = None
 
--- three words: a unit, a first block, and how many, at most so many
+-- three words: a unit, a first block, and a count, at most `most`
 abbrev pub transfer_form : ℕ → List (List ℕ) → Option TransferNumbers
 transfer_form most (u ∷ l ∷ n ∷ []) =
     with_numbers (unit_named u) (number_of most_number l) (number_of most n)
 transfer_form most _ = None
 
--- a unit, and whether to protect it
+-- a unit, and whether it is to have software write protection
 abbrev pub online_of : List (List ℕ) → Option Statement
 online_of (u ∷ []) = option_map (λ unit. form.Online unit false) (unit_named u)
 online_of (u ∷ word ∷ []) =
@@ -36,7 +36,7 @@ online_of (u ∷ word ∷ []) =
     else None
 online_of _ = None
 
--- a transfer and the byte that fills its blocks, where both are there
+-- a transfer and the byte that fills its blocks, if both are valid
 abbrev pub with_byte : Option TransferNumbers → Option ℕ → Option Statement
 with_byte (Some t) (Some byte) = Some (form.Fill t.unit t.lbn t.count byte)
 with_byte _ _ = None
@@ -45,7 +45,7 @@ abbrev pub fill_of : List (List ℕ) → Option Statement
 fill_of (u ∷ l ∷ n ∷ x ∷ []) = with_byte (transfer_form (most_written Blocks) (u ∷ l ∷ n ∷ [])) (byte_of x)
 fill_of _ = None
 
--- what a line asks for by the words behind its first
+-- the request of a line by the words after its first
 abbrev pub statement_behind : Verb → List (List ℕ) → Option Statement
 statement_behind verb.Online words = online_of words
 statement_behind verb.Available words = option_map (λ unit. form.Available unit) (only_unit words)
@@ -61,7 +61,7 @@ statement_behind (verb.Write measure) words =
     (transfer_form (most_written measure) words)
 statement_behind verb.Fill words = fill_of words
 
--- what a line asks for by its words, where they are of one of the forms
+-- the request of a line by its words, if they have one of the forms
 abbrev pub statement_of : List (List ℕ) → Option Statement
 statement_of [] = None
 statement_of (word ∷ words) = option_and_then (λ v. statement_behind v words) (verb_of word)

@@ -1,4 +1,4 @@
--- How long a script may be.
+-- The largest script.
 use Rattle.std.specs.Prelude.{ℕ, ◌≤◌, length}
 use Rattle.uda_grammar.specs.declared.script.Script.TheInside.{Inside}
 
@@ -6,6 +6,6 @@ use Rattle.uda_grammar.specs.declared.script.Script.TheInside.{Inside}
 abbrev pub script_limit : ℕ
 script_limit = 4096
 
--- what is always true of a script's fields
+-- the invariant of a script's fields
 pub record IsScript (script : Inside) : Type 0 where
   pub short : length script.lines.items ≤ script_limit

@@ -1,22 +1,23 @@
--- A text cut at each place of one byte.
+-- Division of a text at each occurrence of one byte.
 use Rattle.std.specs.Prelude.{◌≡◌, ℕ, false, ◌==◌, List, [], Option, Some, None}
 use Rattle.std.specs.List.{All, slice_split}
 
--- the parts between the places of this byte: one more than there are places, and some may be empty
+-- the parts between the occurrences of this byte: one more than there are occurrences, and some may be
+-- empty
 abbrev pub parts : ℕ → List ℕ → List (List ℕ)
 parts separator text = slice_split (λ byte. byte == separator) text
 
--- the parts behind such a place, and none where there is no such place
+-- the parts after such an occurrence, or none if there is none
 abbrev pub parts_behind : ℕ → Option (List ℕ) → List (List ℕ)
 parts_behind separator None = []
 parts_behind separator (Some rest) = parts separator rest
 
--- a line's words, which single spaces part
+-- a line's words, separated by single spaces
 abbrev pub words_of : List ℕ → List (List ℕ)
 words_of line = parts 32 line
 
--- A text's lines, each ended by a line feed. What stands behind the last line feed is a line too,
--- and makes no request where it is empty.
+-- A text's lines, each ended by a line feed. The bytes after the last line feed are a line too. It makes no
+-- request if it is empty.
 abbrev pub lines_of : List ℕ → List (List ℕ)
 lines_of text = parts 10 text
 

@@ -1,4 +1,4 @@
--- What the lines of a script ask for.
+-- The requests of a script's lines.
 use Rattle.std.specs.Prelude.{◌≡◌, ℕ, ◌+◌, Bool, true, not, ◌&&◌, ◌==◌, if◌then◌else◌, List, [], ◌∷◌, ◌++◌, Option}
 use Rattle.std.specs.Prelude.{Some, None, is_none}
 use Rattle.uda_grammar.specs.declared.script.Line.{Line}
@@ -13,11 +13,11 @@ abbrev pub is_silent : List ℕ → Bool
 is_silent [] = true
 is_silent (first ∷ rest) = first == 35
 
--- a line that is of no form
+-- a line that has none of the forms
 abbrev pub is_fault : List ℕ → Bool
 is_fault line = not (is_silent line) && is_none (statement_of (words_of line))
 
--- the number of the first line of no form, where the lines are numbered from this on
+-- the number of the first line without a form; the first of these lines has the number `number`
 abbrev pub fault_from : ℕ → List (List ℕ) → Option ℕ
 fault_from number [] = None
 fault_from number (line ∷ rest) =
@@ -32,13 +32,14 @@ abbrev pub request_in : ℕ → List ℕ → List Line
 request_in number line =
     if is_silent line then [] else request_of number (statement_of (words_of line))
 
--- the requests of lines that are numbered from this on, before the first line of no form
+-- the requests of the lines before the first line without a form; the first of these lines has the number
+-- `number`
 abbrev pub requests_from : ℕ → List (List ℕ) → List Line
 requests_from number [] = []
 requests_from number (line ∷ rest) =
     if is_fault line then [] else request_in number line ++ requests_from (number + 1) rest
 
--- the number of a text's first line of no form, from 1
+-- the number of a text's first line without a form, from 1
 abbrev pub fault_in : List ℕ → Option ℕ
 fault_in text = fault_from 1 (lines_of text)
 
@@ -46,8 +47,8 @@ fault_in text = fault_from 1 (lines_of text)
 abbrev pub requests_in : List ℕ → List Line
 requests_in text = requests_from 1 (lines_of text)
 
--- After these bytes, whatever follows: these requests were made and no line was a fault. Their first line has
--- the number `number`, and the next line has the number `next`.
+-- After these bytes, whatever follows, these requests were made and no line was a fault. Their first line
+-- has the number `number`, and the next line has the number `next`.
 pub record LeadsTo (number : ℕ) (bytes : List ℕ) (next : ℕ) (made : List Line) : Type 0 where
   pub requests : (rest : List ℕ)
       → requests_from number (lines_of (bytes ++ rest)) ≡ made ++ requests_from next (lines_of rest)

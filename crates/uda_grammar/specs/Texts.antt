@@ -1,4 +1,4 @@
--- The forms told the other way round: each statement has one text.
+-- The inverse of the forms: each statement has one text.
 use Rattle.std.specs.Prelude.{◌≡◌, ℕ, ◌/◌, ◌%◌, ◌≤◌, true, false, List, [], ◌∷◌, ◌++◌, codes, Some, ◌↔◌}
 use Rattle.std.specs.Fmt.{decimal, digit_glyph}
 use Rattle.std.specs.List.{join_with_byte}
@@ -17,7 +17,7 @@ use Rattle.uda_grammar.specs.Forms.{statement_of}
 abbrev pub two_digits : ℕ → List ℕ
 two_digits byte = digit_glyph false (byte / 16) ∷ digit_glyph false (byte % 16) ∷ []
 
--- the numbers of a transfer as they are printed
+-- the printed numbers of a transfer
 abbrev pub transfer_words : ℕ → ℕ → ℕ → List (List ℕ)
 transfer_words unit lbn count = decimal unit ∷ decimal lbn ∷ decimal count ∷ []
 
@@ -38,23 +38,23 @@ words_in (form.Write unit lbn (Bytes count)) = codes "writeb" ∷ transfer_words
 words_in (form.Fill unit lbn count byte) =
     codes "fill" ∷ transfer_words unit lbn count ++ two_digits byte ∷ []
 
--- the numbers of a transfer, of at most so many blocks or bytes
+-- the numbers of a transfer of at most `most` blocks or bytes
 pub record IsTransfer (most unit lbn count : ℕ) : Type 0 where
   pub unit_fits : unit ≤ 65535
   pub lbn_fits : lbn ≤ most_number
   pub count_fits : count ≤ most
 
--- how many, in whatever measure
+-- the number, in either measure
 abbrev pub how_many : Amount → ℕ
 how_many (Blocks count) = count
 how_many (Bytes count) = count
 
--- in what they are counted
+-- the measure of an amount
 abbrev pub measure_in : Amount → Measure
 measure_in (Blocks count) = measure.Blocks
 measure_in (Bytes count) = measure.Bytes
 
--- what the numbers of a statement may be
+-- the numbers of a statement are in range
 abbrev pub Fits : Statement → Type 0
 Fits (form.Online unit protect) = unit ≤ 65535
 Fits (form.Available unit) = unit ≤ 65535
@@ -65,11 +65,11 @@ Fits (form.Erase unit lbn amount) = IsTransfer most_number unit lbn (how_many am
 Fits (form.Write unit lbn amount) = IsTransfer (most_written (measure_in amount)) unit lbn (how_many amount)
 Fits (form.Fill unit lbn count byte) = IsTransfer (most_written measure.Blocks) unit lbn count × (byte ≤ 255)
 
--- the text of a statement: its words, with a space between two
+-- the text of a statement: its words, separated by single spaces
 abbrev pub statement_text : Statement → List ℕ
 statement_text statement = join_with_byte 32 (words_in statement)
 
--- a line asks for a statement exactly where it is the statement's text, and the numbers fit
-abbrev pub OneText : Type 0
-OneText = (line : List ℕ) (statement : Statement)
+-- a line is a statement exactly if it is the statement's text and the numbers are in range
+abbrev pub StatementTextIsUnique : Type 0
+StatementTextIsUnique = (line : List ℕ) (statement : Statement)
     → (statement_of (words_of line) ≡ Some statement) ↔ (Fits statement × (line ≡ statement_text statement))

@@ -1,17 +1,17 @@
-//! Texts cut at a byte.
+//! Division of texts at a byte.
 ghost use Rattle.std.specs.Prelude.{◌≡◌, ◌==◌, ◌<◌, ◌∷◌, length, IfSome};
 ghost use Rattle.std.specs.List.{position};
 ghost use Rattle.std.specs.Option.{option_copied};
 ghost use Rattle.uda_grammar.specs.Parts.{parts, parts_behind};
 
-// Where the byte stands first.
+// Returns the index of the first such byte.
 fn place(text: &[u8], separator: u8) -> Option<usize>
     ensures place { result ≡ position (λ byte. byte == separator) text.now }
 {
     text.iter().position(|byte| *byte == separator)
 }
 
-/// What stands before the first such byte, and what stands behind it, if there is one.
+/// Returns the bytes before the first separator, and those after it if there is one.
 pub(crate) fn cut(text: &[u8], separator: u8) -> (&[u8], Option<&[u8]>)
     ensures parts { parts separator text.now
         ≡ result.0.now ∷ parts_behind separator (option_copied result.1) }

@@ -1,28 +1,28 @@
-//! Why a script wasn't read, or wasn't run to its end.
+//! The errors of reading and running a script.
 
 use std::error::Error;
 use std::fmt;
 
-/// Why a script wasn't read, or wasn't run to its end.
+/// The reason why a script could not be read, or was not run to its end.
 #[derive(Clone, Copy, Debug, PartialEq, Eq)]
 pub enum ScriptError {
-    /// A growth was refused.
+    /// Memory allocation failed.
     NoMemory,
-    /// A line is none of the forms.
+    /// A line has none of the forms.
     Syntax {
         /// The line's number, from 1.
         line: u64,
     },
     /// More than [`SCRIPT_LIMIT`](crate::SCRIPT_LIMIT) requests.
     TooManyLines,
-    /// The data ended inside what a line takes.
+    /// The data ended before a line had all its bytes.
     ShortData {
         /// The line's number, from 1.
         line: u64,
     },
     /// A read of data failed.
     Read,
-    /// A write failed, or took no byte.
+    /// A write failed, or wrote no byte.
     Write,
 }
 

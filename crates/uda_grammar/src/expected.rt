@@ -1,4 +1,4 @@
-//! What a line that is no statement should have had.
+//! The part that is expected in a line that is not a statement.
 ghost use Rattle.std.specs.Prelude.{◌+◌, ◌≤◌, length};
 
 use crate::cut::cut;
@@ -17,9 +17,9 @@ pub enum Part {
     Unit,
     /// The number of a block.
     Block,
-    /// How many blocks or bytes.
+    /// The number of blocks or bytes.
     Count {
-        /// The most that there may be.
+        /// The largest valid number.
         most: u32,
     },
     /// A byte in two hexadecimal digits.
@@ -31,7 +31,7 @@ pub enum Part {
 }
 
 impl Part {
-    // Returns the part of a line after this many words.
+    // Returns the part of a line after `words` words.
     fn after(verb: Verb, words: usize) -> Part {
         match (words, verb) {
             (1, _) => Part::Unit,
@@ -64,18 +64,18 @@ impl Part {
     }
 }
 
-/// What a line should have at a column.
+/// The part that is expected at a column of a line.
 #[derive(Clone, Copy, Debug, PartialEq, Eq)]
 pub struct Expected {
     /// The column, from 1. It counts bytes.
     pub column: usize,
-    /// What should be there.
+    /// The expected part.
     pub part: Part,
 }
 
-/// Returns what a line that is no statement should have had, at the first word that does not fit.
+/// Returns the first column at which a line is not a statement, and the part that is expected there.
 ///
-/// For a line that is a statement it returns the end of the line.
+/// For a line that is a statement it returns the column past the line's end.
 pub fn explain(line: &[u8]) -> Expected
     ensures column { (1 ≤ result.column) × (result.column ≤ length line.now + 1) }
 {
@@ -117,7 +117,7 @@ impl fmt::Display for Part {
     }
 }
 
-/// As `column 8: expected a count, at most 32`.
+/// Writes a text such as `column 8: expected a count, at most 32`.
 impl fmt::Display for Expected {
     fn fmt<W: fmt::Write>(&self, f: &mut fmt::Formatter<W>) -> fmt::Result {
         write!(f, "column {}: expected {}", self.column, self.part)

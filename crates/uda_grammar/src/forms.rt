@@ -12,10 +12,10 @@ use crate::transfer::TransferNumbers;
 use crate::verb::Verb;
 use uda_disk::TRANSFER_LIMIT;
 
-// What parts the words of a line.
+// The separator between the words of a line.
 const SPACE: u8 = b' ';
 
-/// The most that a line can have written, in this measure: as much as one command.
+/// Returns the most that a line can write, in this measure: as much as one command.
 pub(crate) fn most_written(measure: Measure) -> u32
     ensures most { result ≡ most_written measure }
 {
@@ -25,7 +25,7 @@ pub(crate) fn most_written(measure: Measure) -> u32
     }
 }
 
-// The word, where there is only one.
+// Returns the word, if there is only one.
 fn only_word(words: &[u8]) -> Option<&[u8]>
     ensures only { IfSome result (λ word. words_of words.now ≡ word.now ∷ []) }
     ensures more { IfNone result (1 < length (words_of words.now)) }
@@ -42,12 +42,12 @@ struct Fields<'a> {
     unit: &'a [u8],
     lbn: &'a [u8],
     count: &'a [u8],
-    // what stands behind them
+    // the words after them
     rest: Option<&'a [u8]>,
 }
 
 impl<'a> Fields<'a> {
-    // The first three words, and what stands behind them.
+    // Returns the first three words and the rest.
     fn of_words(words: &'a [u8]) -> Option<Fields<'a>>
         ensures words { IfSome result (λ f. words_of words.now
             ≡ f.unit.now ∷ f.lbn.now ∷ f.count.now ∷ parts_behind 32 (option_copied f.rest)) }
@@ -64,7 +64,7 @@ impl<'a> Fields<'a> {
         })
     }
 
-    // The numbers that the three words are, of at most so many.
+    // Returns the numbers of the three words, if the count is at most `most`.
     fn transfer(&self, most: u32) -> Option<TransferNumbers>
         ensures transfer { result
             ≡ transfer_form most (self.now.unit.now ∷ self.now.lbn.now ∷ self.now.count.now ∷ []) }
@@ -77,14 +77,14 @@ impl<'a> Fields<'a> {
     }
 }
 
-// `U`
+// Reads `U`.
 fn unit_alone(words: &[u8]) -> Option<u16>
     ensures unit { result ≡ only_unit (words_of words.now) }
 {
     unit(only_word(words)?)
 }
 
-// `U L N`, of at most so many
+// Reads `U L N`, with a count of at most `most`.
 #[tactic(auto, using(crate::proofs::Fields::transfer_form_more, crate::proofs::Cutting::behind_nonempty))]
 fn transfer_alone(words: &[u8], most: u32) -> Option<TransferNumbers>
     ensures transfer { result ≡ transfer_form most (words_of words.now) }
@@ -96,7 +96,7 @@ fn transfer_alone(words: &[u8], most: u32) -> Option<TransferNumbers>
     }
 }
 
-// `U` and `U protect`
+// Reads `U` and `U protect`.
 fn online(words: &[u8]) -> Option<Statement>
     ensures online { result ≡ online_of (words_of words.now) }
 {
@@ -114,7 +114,7 @@ fn online(words: &[u8]) -> Option<Statement>
     })
 }
 
-// `U L N XX`
+// Reads `U L N XX`.
 fn fill(words: &[u8]) -> Option<Statement>
     ensures fill { result ≡ fill_of (words_of words.now) }
 {
@@ -129,7 +129,7 @@ fn fill(words: &[u8]) -> Option<Statement>
     })
 }
 
-/// What a line asks for, where it is of one of the forms.
+/// Returns the statement of a line, if it has one of the forms.
 pub(crate) fn statement_in(line: &[u8]) -> Option<Statement>
     ensures statement { result ≡ statement_of (words_of line.now) }
 {

@@ -1,8 +1,8 @@
 //! The law of the forms, as the contract of a function that does nothing.
-ghost use Rattle.uda_grammar.specs.Texts.{OneText};
+ghost use Rattle.uda_grammar.specs.Texts.{StatementTextIsUnique};
 
-/// A line asks for a statement exactly where it is the statement's text, and its numbers fit: the
-/// words of the form with a space between two, and the numbers in the digits that are printed of them.
-pub fn one_text()
-    ensures law { OneText }
+/// States that each statement has exactly one text, if its numbers are in range. The text has the words of
+/// the form, separated by single spaces, and the numbers in the digits in which they are printed.
+pub fn statement_text_is_unique()
+    ensures law { StatementTextIsUnique }
 {}

@@ -1,6 +1,6 @@
-//! Scripts of block requests: their lines, and what each asks for.
+//! Scripts of block requests: the parser of their lines.
 //!
-//! Its tests are in the crate `script_tests`.
+//! The tests of this crate are in `script_tests`.
 #![tactic(auto)]
 
 mod cut;
@@ -17,7 +17,7 @@ mod verb;
 
 pub use error::ScriptError;
 pub use expected::{Expected, Part, explain};
-pub use law::one_text;
+pub use law::statement_text_is_unique;
 pub use parsing::{parse, parse_line};
 pub use script::{Line, SCRIPT_LIMIT, Script};
 pub use statement::{Amount, Statement};

@@ -1,8 +1,8 @@
-//! Numbers in words.
+//! Parsing of numbers.
 ghost use Rattle.std.specs.Prelude.{◌≡◌};
 ghost use Rattle.uda_grammar.specs.Words.{number_of, unit_named, nibble_of, byte_of};
 
-/// The number that a word is in decimal without leading zeros, where it is at most this.
+/// Returns the decimal number of a word without leading zeros, if it is at most `most`.
 pub(crate) fn number(word: &[u8], most: u32) -> Option<u32>
     ensures number { result ≡ number_of most word.now }
 {
@@ -21,14 +21,14 @@ pub(crate) fn number(word: &[u8], most: u32) -> Option<u32>
     if value > most { None } else { Some(value) }
 }
 
-/// The number of a unit that a word is.
+/// Returns the unit number of a word.
 pub(crate) fn unit(word: &[u8]) -> Option<u16>
     ensures unit { result ≡ unit_named word.now }
 {
     u16::try_from(number(word, u32::from(u16::MAX))?).ok()
 }
 
-// The value of a hexadecimal digit in lower case.
+// Returns the value of a hexadecimal digit in lower case.
 fn nibble(digit: u8) -> Option<u8>
     ensures nibble { result ≡ nibble_of digit }
 {
@@ -39,7 +39,7 @@ fn nibble(digit: u8) -> Option<u8>
     }
 }
 
-/// The byte that two hexadecimal digits in lower case are.
+/// Returns the byte of two hexadecimal digits in lower case.
 pub(crate) fn byte(word: &[u8]) -> Option<u8>
     ensures byte { result ≡ byte_of word.now }
 {

@@ -1,4 +1,4 @@
-//! How a script is read.
+//! Parsing of scripts.
 ghost use Rattle.std.specs.Prelude.{◌≡◌, ℕ, true, false, ◌<◌, ◌≤◌, ◌++◌, length, OnOk, OnErr, IfOk, IfErr};
 ghost use Rattle.std.specs.Option.{option_to_list};
 ghost use Rattle.uda_grammar.specs.Limit.{script_limit};
@@ -11,21 +11,22 @@ use crate::forms::statement_in;
 use crate::script::{Line, SCRIPT_LIMIT, Script};
 use std::alloc::Global;
 
-// What ends a line.
+// The byte that ends a line.
 const LINE_FEED: u8 = b'\n';
 
-// Whether a line makes no request: it is empty, or begins with a number sign.
+// Returns whether a line makes no request: it is empty, or begins with a number sign.
 fn is_silent_line(line: &[u8]) -> bool
     ensures silent { result ≡ is_silent line.now }
 {
     matches!(line, [] | [b'#', ..])
 }
 
-/// Reads one line of a script, of this number: the request that it makes, if any.
+/// Reads one line of a script, and returns the request that it makes, if any. `number` is the number of the
+/// line.
 ///
 /// # Errors
 ///
-/// `Syntax` if the line is none of the forms that [`parse`] reads.
+/// `Syntax` if the line has none of the forms that [`parse`] reads.
 pub fn parse_line(number: u64, line: &[u8]) -> Result<Option<Line>, ScriptError>
     ensures request { IfOk result (λ made. option_to_list made ≡ request_in number line.now) }
     ensures formed { OnOk result (is_fault line.now ≡ false) }
@@ -41,8 +42,8 @@ pub fn parse_line(number: u64, line: &[u8]) -> Result<Option<Line>, ScriptError>
     }
 }
 
-// Reads one line, of this number: the request that it makes, if any, goes behind the others.
-fn read_line(lines: &mut Vec<Line>, number: u64, line: &[u8]) -> Result<(), ScriptError>
+// Reads one line and appends the request that it makes, if any. `number` is the number of the line.
+fn append_request(lines: &mut Vec<Line>, number: u64, line: &[u8]) -> Result<(), ScriptError>
     requires short { length lines.old.items ≤ script_limit }
     ensures read { OnOk result (lines.new.items ≡ lines.old.items ++ request_in number line.now) }
     ensures room { OnOk result (length lines.new.items ≤ script_limit) }
@@ -68,12 +69,12 @@ fn read_line(lines: &mut Vec<Line>, number: u64, line: &[u8]) -> Result<(), Scri
     }
 }
 
-/// Reads a script: its lines in order, up to the first that is of no form or makes one request too
-/// many.
+/// Reads a script: its lines in order, up to the first one that has none of the forms or makes one request
+/// too many.
 ///
-/// A line is ended by a line feed, or by the end of the text. An empty line, and one that begins
-/// with `#`, makes no request. Every other line is one of these, its words parted by exactly one
-/// space:
+/// A line ends with a line feed, or with the end of the text. An empty line makes no request, and neither
+/// does one that begins with `#`. Every other line has one of these forms, its words separated by exactly
+/// one space:
 ///
 /// ```text
 /// online U        online U protect        available U        status U
@@ -82,16 +83,19 @@ fn read_line(lines: &mut Vec<Line>, number: u64, line: &[u8]) -> Result<(), Scri
 /// write U L N     writeb U L B            fill U L N XX
 /// ```
 ///
-/// `U` is a unit's number, at most 65,535; `L` the first logical block, `N` how many and `B` how many
-/// bytes, at most 4,294,967,295; of `write` and `fill` `N` is at most 32, and of `writeb` `B` at most
-/// 16,384. They are in decimal without leading zeros. `XX` is a byte as two hexadecimal digits in lower
-/// case.
+/// - `U` is a unit's number, at most 65,535.
+/// - `L` is the first logical block, at most 4,294,967,295.
+/// - `N` is a number of blocks, at most 4,294,967,295; for `write` and `fill` at most 32.
+/// - `B` is a number of bytes, at most 4,294,967,295; for `writeb` at most 16,384.
+/// - `XX` is a byte as two hexadecimal digits in lower case.
+///
+/// The numbers are decimal, without leading zeros.
 ///
 /// # Errors
 ///
-/// `Syntax` with the number of the first line, from 1, that is none of these, and `TooManyLines`
-/// where a request stands before it that is one more than [`SCRIPT_LIMIT`]. `NoMemory` may come in
-/// place of either, since memory is taken on the way.
+/// - `Syntax` with the number, from 1, of the first line that has none of these forms.
+/// - `TooManyLines` if an earlier line makes one request more than [`SCRIPT_LIMIT`].
+/// - `NoMemory` if memory allocation fails, at any line.
 pub fn parse(alloc: Global, text: &[u8]) -> Result<Script, ScriptError>
     ensures script { IfOk result (λ script. script ≡ requests_in text.now) }
     ensures whole { OnOk result (fault_in text.now ≡ None) }
@@ -111,7 +115,7 @@ pub fn parse(alloc: Global, text: &[u8]) -> Result<Script, ScriptError>
     while let Some(text) = rest {
         let (line, later) = cut(text, LINE_FEED);
         number += 1;
-        read_line(&mut lines, number, line)?;
+        append_request(&mut lines, number, line)?;
         rest = later;
     }
     Ok(Script { lines })

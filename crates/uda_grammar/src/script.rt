@@ -1,4 +1,4 @@
-//! A script that was read.
+//! Scripts after parsing.
 ghost use Rattle.std.specs.Prelude.{◌≡◌, ◌≤◌, length};
 ghost use Rattle.uda_grammar.specs.Limit.{script_limit};
 
@@ -8,12 +8,12 @@ use std::marker::Model;
 /// The most requests of one script.
 pub const SCRIPT_LIMIT: usize = 4096;
 
-/// A line that makes a request: its number among the script's lines, from 1, and what it asks for.
+/// A line that makes a request: its number and its statement.
 #[derive(Clone, Copy, Debug, PartialEq, Eq)]
 pub struct Line {
     /// The line's number among all lines of the script, from 1.
     pub number: u64,
-    /// What it asks for.
+    /// The request of the line.
     pub statement: Statement,
 }
 
@@ -36,7 +36,7 @@ impl Model for Script {
 }
 
 impl Script {
-    /// The lines that make requests, in order; at most [`SCRIPT_LIMIT`].
+    /// Returns the lines that make requests, in order; at most [`SCRIPT_LIMIT`].
     pub fn lines(&self) -> &[Line]
         ensures lines { result.now ≡ self.now }
         ensures few { length self.now ≤ script_limit }

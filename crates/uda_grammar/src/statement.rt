@@ -1,18 +1,18 @@
-//! What one line of a script asks for.
+//! The request of one line of a script.
 ghost use Rattle.std.specs.Prelude.{◌≡◌};
 ghost use Rattle.uda_grammar.specs.Amounts.{amount_of, bytes_in};
 
-/// In what a line counts.
+/// The unit in which a line counts.
 #[derive(Clone, Copy, Debug, PartialEq, Eq)]
 pub(crate) enum Measure {
-    /// In blocks of 512 bytes.
+    /// Blocks of 512 bytes.
     Blocks,
-    /// In bytes.
+    /// Bytes.
     Bytes,
 }
 
 impl Measure {
-    /// So many, in this measure.
+    /// Returns this many blocks or bytes.
     pub(crate) fn amount(self, count: u32) -> Amount
         ensures amount { result ≡ amount_of self count }
     {
@@ -23,17 +23,17 @@ impl Measure {
     }
 }
 
-/// How much a transfer moves, as a line tells it.
+/// The amount of a transfer, as its line counts it.
 #[derive(Clone, Copy, Debug, PartialEq, Eq)]
 pub enum Amount {
-    /// So many blocks of 512 bytes.
+    /// A number of blocks of 512 bytes.
     Blocks(u32),
-    /// So many bytes.
+    /// A number of bytes.
     Bytes(u32),
 }
 
 impl Amount {
-    /// How many bytes it is.
+    /// Returns the number of bytes.
     pub fn bytes(self) -> u64
         ensures bytes { result ≡ bytes_in self }
     {
@@ -44,14 +44,14 @@ impl Amount {
     }
 }
 
-/// What one line of a script asks for: one request.
+/// The request of one line of a script.
 #[derive(Clone, Copy, Debug, PartialEq, Eq)]
 pub enum Statement {
     /// `online U` and `online U protect`.
     Online {
         /// The unit's number.
         unit: u16,
-        /// Whether the unit is to be protected by software.
+        /// Whether the unit is to have software write protection.
         protect: bool,
     },
     /// `available U`.
@@ -70,7 +70,7 @@ pub enum Statement {
         unit: u16,
         /// The first logical block.
         lbn: u32,
-        /// How much.
+        /// The amount to read.
         amount: Amount,
     },
     /// `access U L N` and `accessb U L B`.
@@ -79,7 +79,7 @@ pub enum Statement {
         unit: u16,
         /// The first logical block.
         lbn: u32,
-        /// How much.
+        /// The amount to access.
         amount: Amount,
     },
     /// `erase U L N` and `eraseb U L B`.
@@ -88,7 +88,7 @@ pub enum Statement {
         unit: u16,
         /// The first logical block.
         lbn: u32,
-        /// How much.
+        /// The amount to erase.
         amount: Amount,
     },
     /// `write U L N` and `writeb U L B`: the next bytes of the data.
@@ -97,16 +97,16 @@ pub enum Statement {
         unit: u16,
         /// The first logical block.
         lbn: u32,
-        /// How much, at most 16,384 bytes.
+        /// The amount to write, at most 16,384 bytes.
         amount: Amount,
     },
-    /// `fill U L N XX`: blocks of one byte.
+    /// `fill U L N XX`: blocks filled with one byte.
     Fill {
         /// The unit's number.
         unit: u16,
         /// The first logical block.
         lbn: u32,
-        /// How many blocks, at most 32.
+        /// The number of blocks, at most 32.
         count: u32,
         /// The byte that fills them.
         byte: u8,

@@ -3,7 +3,7 @@ ghost use Rattle.std.specs.Prelude.{◌≡◌};
 
 use crate::statement::Measure;
 
-/// What the first word of a line asks for.
+/// The request of the first word of a line.
 #[derive(Clone, Copy)]
 pub(crate) enum Verb {
     /// `online`
@@ -27,7 +27,7 @@ pub(crate) enum Verb {
 impl Verb {
     ghost use Rattle.uda_grammar.specs.Words.{verb_of};
 
-    /// The verb that a word is, if it is one.
+    /// Returns the verb of a word, if it is one.
     pub(crate) fn of_word(word: &[u8]) -> Option<Verb>
         ensures verb { result ≡ verb_of word.now }
     {

@@ -1,30 +1,30 @@
--- What is true of a host, and what a post and bytes for a buffer change of it.
+-- The invariant of a host, and the effect of a post and of bytes for a buffer.
 use Rattle.std.proofs.Common.{◌≡◌, ℕ, ◌+◌, ◌-◌, ◌%◌, ◌<◌, List, [], ◌∷◌, ◌++◌, length, refl, sym, ap, ◌∙◌, arith, length-append}
 use Rattle.std.specs.Prelude.{Ok, map}
 use Rattle.std.proofs.lemmas.List.{append_assoc, length_push, drop-append-le, length-map}
 use Rattle.std.proofs.lemmas.List.Elements.{All-push}
-use Rattle.uda_mem.specs.Put.{put, Meet}
+use Rattle.uda_mem.specs.Put.{put, Overlap}
 use Rattle.uda_packet.specs.declared.command.Command.{Command}
 use Rattle.uda_packet.specs.Reply.{strict_end}
 use Rattle.uda_packet.specs.Written.{written_command}
 use Rattle.uda_packet.specs.Reading.{read_command}
 use Rattle.uda_port.specs.declared.phase.Phase.{Phase}
-use Rattle.uda_port.specs.Port.{PortState, port_asked}
+use Rattle.uda_port.specs.Port.{PortState, port_after_ip_read}
 use Rattle.uda_host.specs.Layout.{slots, buffers_start}
-use Rattle.uda_host.specs.InStep.{IsAbove, IsSound, unfetched}
-use Rattle.uda_host.specs.Host.{HostState, Posts, AddsUp}
+use Rattle.uda_host.specs.HostPortAgreement.{IsAbove, IsSound, unfetched}
+use Rattle.uda_host.specs.Host.{HostState, Posts, IsConsistent}
 use Rattle.uda_host.specs.Slots.{with_command}
-use Rattle.uda_host.specs.IsHost.{host_view, IsHost}
+use Rattle.uda_host.specs.HostInvariant.{host_view, HostInvariant}
 use Rattle.uda_host.specs.declared.host.Host.TheInside.{Inside}
 use Rattle.uda_host.proofs.Slots.{rings-put, rings_posted, command_written}
 
--- a host by its fields, and of what it is a host
+-- a host by its fields, with a property of its state
 pub record HostThat (P : HostState → Type 0) {S : Type 0} (h : Inside S) : Type 0 where
-  pub host : IsHost h
+  pub host : HostInvariant h
   pub so : P (host_view h)
 
-pub adds_up : {S : Type 0} {h : Inside S} → IsHost h → AddsUp (host_view h)
-adds_up {h = h} host =
+pub consistent : {S : Type 0} {h : Inside S} → HostInvariant h → IsConsistent (host_view h)
+consistent {h = h} host =
     let due = length-append h.port.exec.pending (unfetched h) in
     let waits : length (map strict_end h.port.waiting) ≡ length h.port.waiting =
     length-map h.port.waiting strict_end in
@@ -38,9 +38,9 @@ adds_up {h = h} host =
       turns_are = omega (arith, counts.turned, waits);
     }
 
--- bytes are put into a buffer
-pub buffer_filled : {S : Type 0} {h : Inside S} → IsHost h → (at : ℕ) (bytes : List ℕ)
-    → (Meet at (length bytes) 0 buffers_start → ⊥) → IsHost (record h { memory = put h.memory at bytes })
+-- bytes are written to a buffer
+pub buffer_filled : {S : Type 0} {h : Inside S} → HostInvariant h → (at : ℕ) (bytes : List ℕ)
+    → (Overlap at (length bytes) 0 buffers_start → ⊥) → HostInvariant (record h { memory = put h.memory at bytes })
 buffer_filled host at bytes above = record {
   port = record { strict = host.port.strict; runs = host.port.runs };
   looks = host.looks;
@@ -60,11 +60,11 @@ buffer_filled host at bytes above = record {
   sound = host.sound;
 }
 
--- a command is posted, and the port begins to look
+-- a command is posted, and the port begins to poll
 pub host_posts : {S : Type 0} {h : Inside S} {value : HostState} {after : List ℕ} {new : PortState}
-    {more : List Command} (c : Command) → host_view h ≡ value → IsHost h → 0 < value.credits → IsAbove c
+    {more : List Command} (c : Command) → host_view h ≡ value → HostInvariant h → 0 < value.credits → IsAbove c
     → read_command (written_command c) ≡ Ok c
-    → after ≡ with_command h.memory h.command_place c → new ≡ port_asked h.port.phase h.port
+    → after ≡ with_command h.memory h.command_place c → new ≡ port_after_ip_read h.port.phase h.port
     → more ≡ h.posted ++ c ∷ []
     → HostThat (Posts c value) (record h {
       memory = after;
@@ -79,7 +79,7 @@ host_posts {h = h} c is host some above legible after_is asked more_is =
     let due = ap (λ (cs : List Command). h.port.exec.pending ++ cs) left
     ∙ sym (append_assoc h.port.exec.pending (unfetched h) (c ∷ [])) in
     let long = length_push (unfetched h) c in
-    let new_is = asked ∙ ap (λ (p : Phase). port_asked p h.port) host.port.runs in
+    let new_is = asked ∙ ap (λ (p : Phase). port_after_ip_read p h.port) host.port.runs in
     let w = command_written h.memory h.command_place c (omega arith) host.written.size in
     let held = ap (λ (v : HostState). v.credits) is in
     rw (after_is, new_is, more_is, ← is) (record {

@@ -1,8 +1,8 @@
--- Writes to one slot, and what is left of the rings.
+-- Writes to one slot, and the rest of the rings.
 use Rattle.std.proofs.Common.{◌≡◌, ◌≢◌, ℕ, suc, ◌^◌, ◌+◌, ◌-◌, ◌%◌, ◌<◌, ◌≤◌, inl, inr, List, [], ◌∷◌, ◌++◌, length, get_or, sym, ap, ◌∙◌, refl, arith, subst}
 use Rattle.std.proofs.lemmas.Bool.{cases_lt, cases_eq}
 use Rattle.std.proofs.lemmas.List.{get_or_append_left, get_or_push, length_push}
-use Rattle.uda_mem.specs.Put.{put, Meet}
+use Rattle.uda_mem.specs.Put.{put, Overlap}
 use Rattle.uda_mem.specs.Words.{word_bytes}
 use Rattle.uda_mem.proofs.PutLaws.{length-put, part-put_apart, part-put_at}
 use Rattle.uda_mem.proofs.WordLaws.{length-word_bytes, word_at-put_apart, word_at-put_at}
@@ -12,16 +12,16 @@ use Rattle.uda_packet.proofs.WrittenLaws.{length-written_command}
 use Rattle.uda_exec.proofs.Changes.{changes_by_put, changes_again, changes_nothing}
 use Rattle.uda_host.specs.Layout.{slots, response_descriptor, command_descriptor, response_packet, command_packet, buffers_start, memory_size, owner_word}
 use Rattle.uda_host.specs.Host.{BuffersStay}
-use Rattle.uda_host.specs.Slots.{Slot, slot_at, command_at, response_at, posted_slot, with_command, IsFree, IsOpen, RingsHold, InLayout, WritesSlot}
+use Rattle.uda_host.specs.Slots.{RingSlot, slot_at, command_at, response_at, posted_slot, with_command, IsFree, IsOpen, RingsHold, InLayout, WritesSlot}
 
 pub both_stay : {memory between after : List ℕ} → BuffersStay memory between → BuffersStay between after
     → BuffersStay memory after
 both_stay {memory} {between} {after} first then =
     record { below = changes_again memory between after 0 buffers_start first.below then.below }
 
--- a write apart from a slot
-pub slot-put : (memory : List ℕ) (at : ℕ) (bytes : List ℕ) (d p : ℕ) → (Meet at (length bytes) d 4 → ⊥)
-    → (Meet at (length bytes) p 52 → ⊥) → slot_at (put memory at bytes) d p ≡ slot_at memory d p
+-- a write outside a slot
+pub slot-put : (memory : List ℕ) (at : ℕ) (bytes : List ℕ) (d p : ℕ) → (Overlap at (length bytes) d 4 → ⊥)
+    → (Overlap at (length bytes) p 52 → ⊥) → slot_at (put memory at bytes) d p ≡ slot_at memory d p
 slot-put memory at bytes d p ring packet =
     let word = word_at-put_apart memory at bytes in
     let low = word d (λ meet. ring (omega arith)) in let high = word (d + 2) (λ meet. ring (omega arith)) in
@@ -50,9 +50,9 @@ unwritten memory stands size =
           refl;
     }
 
-module _ {memory m : List ℕ} {d p : ℕ} {s : Slot} (w : WritesSlot d p s memory m) where
+module _ {memory m : List ℕ} {d p : ℕ} {s : RingSlot} (w : WritesSlot d p s memory m) where
   -- some bytes of its descriptor or of its packet
-  written_more : (at : ℕ) (bytes : List ℕ) (change : Slot → Slot) → d ≤ at
+  written_more : (at : ℕ) (bytes : List ℕ) (change : RingSlot → RingSlot) → d ≤ at
       → (at < p → at + length bytes ≤ d + 4) → at + length bytes ≤ p + 52 → slot_at (put m at bytes) d p
       ≡ change (slot_at m d p)
       → WritesSlot d p (change s) memory (put m at bytes)
@@ -77,7 +77,7 @@ module _ {memory m : List ℕ} {d p : ℕ} {s : Slot} (w : WritesSlot d p s memo
         let size = same p (λ meet. omega arith) in let credits = same (p + 2) (λ meet. omega arith) in
         let text = part-put_apart m d (word_bytes word) (p + 4) 48 (λ meet. omega arith) in
         written_more d (word_bytes word)
-        (λ (x : Slot). record x { descriptor = record x.descriptor { low = word } }) (omega arith)
+        (λ (x : RingSlot). record x { descriptor = record x.descriptor { low = word } }) (omega arith)
         (λ less. omega arith) (omega arith)
         (λ i. record {
           descriptor = record { low = is i; high = high i };
@@ -96,7 +96,7 @@ module _ {memory m : List ℕ} {d p : ℕ} {s : Slot} (w : WritesSlot d p s memo
         let size = same p (λ meet. omega arith) in let credits = same (p + 2) (λ meet. omega arith) in
         let text = part-put_apart m (d + 2) (word_bytes word) (p + 4) 48 (λ meet. omega arith) in
         written_more (d + 2) (word_bytes word)
-        (λ (x : Slot). record x { descriptor = record x.descriptor { high = word } }) (omega arith)
+        (λ (x : RingSlot). record x { descriptor = record x.descriptor { high = word } }) (omega arith)
         (λ less. omega arith) (omega arith)
         (λ i. record {
           descriptor = record { low = low i; high = is i };
@@ -113,7 +113,7 @@ module _ {memory m : List ℕ} {d p : ℕ} {s : Slot} (w : WritesSlot d p s memo
         let low = same d (λ meet. omega arith) in
         let high = same (d + 2) (λ meet. omega arith) in let credits = same (p + 2) (λ meet. omega arith) in
         let text = part-put_apart m p (word_bytes word) (p + 4) 48 (λ meet. omega arith) in
-        written_more p (word_bytes word) (λ (x : Slot). record x { size = word }) (omega arith)
+        written_more p (word_bytes word) (λ (x : RingSlot). record x { size = word }) (omega arith)
         (λ less. absurd (omega arith)) (omega arith)
         (λ i. record {
           descriptor = record { low = low i; high = high i };
@@ -131,7 +131,7 @@ module _ {memory m : List ℕ} {d p : ℕ} {s : Slot} (w : WritesSlot d p s memo
         let low = same d (λ meet. omega arith) in
         let high = same (d + 2) (λ meet. omega arith) in let size = same p (λ meet. omega arith) in
         let text = part-put_apart m (p + 2) (word_bytes word) (p + 4) 48 (λ meet. omega arith) in
-        written_more (p + 2) (word_bytes word) (λ (x : Slot). record x { credits = word }) (omega arith)
+        written_more (p + 2) (word_bytes word) (λ (x : RingSlot). record x { credits = word }) (omega arith)
         (λ less. absurd (omega arith)) (omega arith)
         (λ i. record {
           descriptor = record { low = low i; high = high i };
@@ -149,7 +149,7 @@ module _ {memory m : List ℕ} {d p : ℕ} {s : Slot} (w : WritesSlot d p s memo
       let low = same d (λ meet. omega arith) in
       let high = same (d + 2) (λ meet. omega arith) in
       let size = same p (λ meet. omega arith) in let credits = same (p + 2) (λ meet. omega arith) in
-      written_more (p + 4) text (λ (x : Slot). record x { text = text }) (omega arith)
+      written_more (p + 4) text (λ (x : RingSlot). record x { text = text }) (omega arith)
       (λ less. absurd (omega arith)) (omega arith)
       (λ i. record {
         descriptor = record { low = low i; high = high i };
@@ -166,7 +166,7 @@ command_stands i low = record { ring = omega arith; packets = omega arith; below
 pub response_stands : (i : ℕ) → i < slots → InLayout (response_descriptor i) (response_packet i)
 response_stands i low = record { ring = omega arith; packets = omega arith; below = omega arith }
 
--- where the commands' slots stay and the others stay open
+-- the slots of commands are unchanged, and the others remain open
 rings_beside : {memory after : List ℕ} {place : ℕ} {queue : List Command} → RingsHold memory place queue
     → length after ≡ memory_size → ((i : ℕ) → i < slots → command_at after i ≡ command_at memory i)
     → ((i : ℕ) → i < slots → IsOpen (response_packet i) (response_at after i)) → RingsHold after place queue
@@ -179,9 +179,9 @@ rings_beside {place = place} rings size same opens = record {
   opens = opens;
 }
 
--- bytes are put into a buffer
+-- bytes are written to a buffer
 pub rings-put : {memory : List ℕ} {place : ℕ} {queue : List Command} (at : ℕ) (bytes : List ℕ)
-    → (Meet at (length bytes) 0 buffers_start → ⊥) → RingsHold memory place queue
+    → (Overlap at (length bytes) 0 buffers_start → ⊥) → RingsHold memory place queue
     → RingsHold (put memory at bytes) place queue
 rings-put {memory} at bytes above rings =
     let same = λ (d p : ℕ) (there : InLayout d p). slot-put memory at bytes d p (λ meet. above (omega arith))
@@ -192,7 +192,7 @@ rings-put {memory} at bytes above rings =
     (sym (same (response_descriptor i) (response_packet i) (response_stands i low))) (rings.opens i low))
 
 -- a response slot is written
-module _ {memory after : List ℕ} {s : Slot} (i : ℕ) (within : i < slots)
+module _ {memory after : List ℕ} {s : RingSlot} (i : ℕ) (within : i < slots)
     (w : WritesSlot (response_descriptor i) (response_packet i) s memory after) where
   pub commands_stay : (j : ℕ) → j < slots → command_at after j ≡ command_at memory j
   commands_stay j low = w.rest (command_descriptor j) (command_packet j) (command_stands j low)
@@ -216,7 +216,7 @@ module _ {memory after : List ℕ} {s : Slot} (i : ℕ) (within : i < slots)
       (λ j low. opens_too opened j low (λ other. rings.opens j low))
 
 -- a command slot is written
-module _ {memory after : List ℕ} {s : Slot} (i : ℕ) (within : i < slots)
+module _ {memory after : List ℕ} {s : RingSlot} (i : ℕ) (within : i < slots)
     (w : WritesSlot (command_descriptor i) (command_packet i) s memory after) where
   command_beside : (j : ℕ) → j < slots → j ≢ i → command_at after j ≡ command_at memory j
   command_beside j low other = w.rest (command_descriptor j) (command_packet j) (command_stands j low)
@@ -228,7 +228,7 @@ module _ {memory after : List ℕ} {s : Slot} (i : ℕ) (within : i < slots)
       (sym (w.rest (response_descriptor j) (response_packet j) (response_stands j low) (λ meet. omega arith)
       (λ meet. omega arith)))
 
--- a command is posted behind the others
+-- a command is posted after the others
 pub rings_posted : {memory after : List ℕ} {place : ℕ} {queue : List Command} (i : ℕ) (c : Command)
     → WritesSlot (command_descriptor i) (command_packet i) (posted_slot i c) memory after
     → length queue < slots
@@ -261,7 +261,7 @@ command_written memory i c within size =
     (omega arith)) (written_command c) (length-written_command c) in
     high_written (low_written text (command_packet i + 4) (omega arith)) owner_word (omega arith)
 
--- the command that is posted at the place, and with none that slot is free
+-- the command that is posted at the next index; if there is none, that slot is free
 pub first_posted : {memory : List ℕ} {place : ℕ} {c : Command} {queue : List Command}
     → RingsHold memory place (c ∷ queue) → command_at memory place ≡ posted_slot place c
 first_posted {memory} {c = c} rings =
@@ -274,7 +274,7 @@ first_free {memory} rings =
     subst (λ (j : ℕ). IsFree (command_at memory j)) (omega arith) (rings.free 0 (omega arith) (omega arith))
 
 -- it is fetched, and its slot is free
-pub rings_fetched : {memory after : List ℕ} {place : ℕ} {c : Command} {queue : List Command} {s : Slot}
+pub rings_fetched : {memory after : List ℕ} {place : ℕ} {c : Command} {queue : List Command} {s : RingSlot}
     → WritesSlot (command_descriptor place) (command_packet place) s memory after → IsFree s
     → RingsHold memory place (c ∷ queue) → RingsHold after ((place + 1) % slots) queue
 rings_fetched {after = after} {place} {queue = queue} w freed rings =

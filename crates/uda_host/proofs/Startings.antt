@@ -1,4 +1,4 @@
--- How a host comes to run.
+-- Initialization of a host.
 use Rattle.std.proofs.Common.{◌≡◌, ℕ, ◌+◌, ◌-◌, ◌%◌, ◌<◌, ◌≤◌, List, [], length, take, refl, sym, ap, ◌∙◌, arith, subst, replicate}
 use Rattle.std.proofs.lemmas.List.{drop-replicate, take-replicate}
 use Rattle.std.proofs.lemmas.List.Elements.{All-nil}
@@ -11,13 +11,13 @@ use Rattle.uda_exec.specs.Disks.{ExecState}
 use Rattle.uda_port.specs.declared.profile.Profile.TheVariants.{Strict}
 use Rattle.uda_port.specs.declared.phase.Phase.{Phase}
 use Rattle.uda_port.specs.declared.phase.Phase.TheVariants.{Step1}
-use Rattle.uda_port.specs.Startup.{by_word}
+use Rattle.uda_port.specs.Startup.{after_sa_write}
 use Rattle.uda_port.specs.Port.{PortState, port_at_start}
 use Rattle.uda_host.specs.Layout.{rings_word, area_size, slots, memory_size, response_descriptor, command_descriptor, response_packet}
-use Rattle.uda_host.specs.Slots.{Slot, command_at, response_at, IsFree, IsOpen, WritesSlot}
-use Rattle.uda_host.specs.InStep.{IsSound}
+use Rattle.uda_host.specs.Slots.{RingSlot, command_at, response_at, IsFree, IsOpen, WritesSlot}
+use Rattle.uda_host.specs.HostPortAgreement.{IsSound}
 use Rattle.uda_host.specs.Starting.{port_running}
-use Rattle.uda_host.specs.IsHost.{IsHost}
+use Rattle.uda_host.specs.HostInvariant.{HostInvariant}
 use Rattle.uda_host.proofs.Slots.{commands_stay, opens_too}
 
 -- ---- the four words
@@ -26,7 +26,7 @@ abbrev PortAndMemory : Type 0
 PortAndMemory = PortState × List ℕ
 
 abbrev after_word : ℕ → PortAndMemory → PortAndMemory
-after_word word x = by_word x.0.phase x.0 x.1 word
+after_word word x = after_sa_write x.0.phase x.0 x.1 word
 
 abbrev pub Goes : ℕ → PortAndMemory → PortAndMemory → Type 0
 Goes word old new = new ≡ after_word word old
@@ -46,9 +46,9 @@ pub four_words : (p p1 p2 p3 p4 : PortState) (m m1 m2 m3 m4 : List ℕ) → p.pr
 four_words p p1 p2 p3 p4 m m1 m2 m3 m4 strict is size first second third fourth =
     let same : p ≡ strictly p = λ i. record p { profile = strict i } in
     let one = first ∙ ap (after_word rings_word) (ap (λ (q : PortState). (q, m)) same)
-    ∙ ap (λ (phase : Phase). by_word phase (strictly p) m rings_word) is in
+    ∙ ap (λ (phase : Phase). after_sa_write phase (strictly p) m rings_word) is in
     let three = third ∙ ap (after_word 0) (second ∙ ap (after_word 8) one) in
-    let done : after_word 1 (after_word 0 (after_word 8 (by_word Step1 (strictly p) m rings_word)))
+    let done : after_word 1 (after_word 0 (after_word 8 (after_sa_write Step1 (strictly p) m rings_word)))
     ≡ started_up (strictly p) m = rw size in
     fourth ∙ ap (after_word 1) three ∙ done ∙ ap (λ (q : PortState). started_up q m) (sym same)
 
@@ -68,13 +68,13 @@ free-zeros memory i size low =
 
 -- ---- the responses are opened
 
--- the first so many
+-- the first i responses
 pub record Opening (start memory : List ℕ) (i : ℕ) : Type 0 where
   pub size : length memory ≡ memory_size
   pub opens : (j : ℕ) → j < i → IsOpen (response_packet j) (response_at memory j)
   pub free : (j : ℕ) → j < slots → IsFree (command_at start j) → IsFree (command_at memory j)
 
-pub opening_more : {start memory after : List ℕ} {s : Slot} (i : ℕ) → i < slots
+pub opening_more : {start memory after : List ℕ} {s : RingSlot} (i : ℕ) → i < slots
     → WritesSlot (response_descriptor i) (response_packet i) s memory after → IsOpen (response_packet i) s
     → Opening start memory i → Opening start after (i + 1)
 opening_more i within w opened o = record {
@@ -83,7 +83,7 @@ opening_more i within w opened o = record {
   free = λ j low was. subst IsFree (sym (commands_stay i within w j low)) (o.free j low was);
 }
 
--- ---- and a host stands, with nothing posted yet
+-- ---- the initialized host, with nothing posted yet
 
 pub opened : {S : Type 0} (exec : ExecState) (start zeroed memory : List ℕ) (port : PortState)
     (posted : List Command) → length start ≡ memory_size → zeroed ≡ put start 4 (replicate area_size 0)
@@ -91,7 +91,7 @@ pub opened : {S : Type 0} (exec : ExecState) (start zeroed memory : List ℕ) (p
     → ((i : ℕ) → i < slots → IsOpen (response_packet i) (response_at memory i))
     → ((i : ℕ) → i < slots → IsFree (command_at zeroed i) → IsFree (command_at memory i))
     → port ≡ port_running (port_at_start Strict exec) → posted ≡ []
-    → IsHost {S = S} (record {
+    → HostInvariant {S = S} (record {
       memory = memory;
       command_place = 0;
       response_place = 0;

@@ -1,4 +1,4 @@
--- What a turn of the port does to its host.
+-- The effect of a port's turn on its host.
 use Rattle.std.proofs.Common.{◌≡◌, ℕ, zero, suc, ◌^◌, ◌+◌, ◌-◌, ◌/◌, ◌%◌, ◌<◌, ◌≤◌, Bool, true, false, List, [], ◌∷◌, ◌++◌, length, drop, Option, Some, None, refl, sym, ap, ap₂, ◌∙◌, arith, subst, length-append}
 use Rattle.std.specs.Prelude.{Result, Ok, Err, slice_get, remove, nat_eq, ◌&&◌, ◌||◌, not, map, All, if◌then◌else◌}
 use Rattle.std.proofs.Math.Seq.{get_or-append_seam}
@@ -11,9 +11,9 @@ use Rattle.uda_packet.specs.declared.command.Command.{Command}
 use Rattle.uda_packet.specs.declared.end.End.{End}
 use Rattle.uda_packet.specs.Written.{written_command, written_end}
 use Rattle.uda_packet.specs.Reading.{read_command, read_end}
-use Rattle.uda_packet.specs.Bad.{other_length_end}
+use Rattle.uda_packet.specs.Bad.{invalid_length_end}
 use Rattle.uda_packet.proofs.WrittenLaws.{length-written_end}
-use Rattle.uda_exec.specs.Commands.{buffer_start as buffer_of, landing_of}
+use Rattle.uda_exec.specs.Commands.{buffer_start as buffer_of, memory_write_length}
 use Rattle.uda_exec.specs.Disks.{ExecState}
 use Rattle.uda_exec.proofs.Changes.{landing-le}
 use Rattle.uda_port.specs.declared.descriptor.Descriptor.{Descriptor}
@@ -24,8 +24,8 @@ use Rattle.uda_port.specs.declared.phase.Phase.{Phase}
 use Rattle.uda_port.specs.declared.turn.Turn.{Turn}
 use Rattle.uda_port.specs.declared.turn.Turn.TheVariants.{Fetched as TurnFetched, Executed, Delivered, Notified, Idle, Dead}
 use Rattle.uda_port.specs.declared.phase.Fatal.{Fatal}
-use Rattle.uda_port.specs.declared.phase.Fatal.TheVariants.{PacketRead, PacketWrite, RingRead, CreditsExceeded, WrongEnvelope}
-use Rattle.uda_port.specs.Ring.{is_owned, address_of, word_given_back, RingState, descriptor_address, next_descriptor, ring_advanced}
+use Rattle.uda_port.specs.declared.phase.Fatal.TheVariants.{PacketRead, PacketWrite, RingRead, CreditsExceeded, InvalidConnection}
+use Rattle.uda_port.specs.Ring.{is_owned, address_of, returned_word, RingState, descriptor_address, next_descriptor, ring_advanced}
 use Rattle.uda_port.specs.Packet.{HasRoom, text_address}
 use Rattle.uda_port.specs.Report.{end_text, text_by, attention_by, next_by}
 use Rattle.uda_port.specs.Fetch.{Takes}
@@ -40,23 +40,23 @@ use Rattle.uda_packet.specs.Guest.{reply_to_bad, asked_as}
 use Rattle.uda_packet.specs.Reply.{basic_reply, strict_end}
 use Rattle.uda_port.specs.Message.{IsSequential, message_in, flags_kept}
 use Rattle.uda_port.specs.declared.guest.Guest.{Guest}
-use Rattle.uda_port.specs.Interrupt.{told_at, word_below, memory_told}
-use Rattle.uda_port.specs.Port.{PortState, lacks_credit, CreditsAgree, next_grant, commands_told, responses_told, interrupts_told}
-use Rattle.uda_port.specs.Turn.{port_turn_on, port_with_message, ExecutesFor, ExecutesStrictly, delivery_of, FetchesOne, NothingToFetch, FetchLine, GoesOn, Fails, InFetch, InRest, RunningTurn, TurnGoes}
+use Rattle.uda_port.specs.Interrupt.{indicator_at, word_below, memory_with_indicator}
+use Rattle.uda_port.specs.Port.{PortState, lacks_credit, CreditsAgree, next_grant, command_indicator, response_indicator, interrupts_after}
+use Rattle.uda_port.specs.Turn.{port_turn_on, port_with_message, ExecutesFor, ExecutesStrictly, delivery_of, FetchesOne, NothingToFetch, FetchRule, GoesOn, Fails, InFetch, InRest, RunningTurn, TurnEffect}
 use Rattle.uda_port.specs.declared.trace.Trace.{Trace}
 use Rattle.uda_port.specs.declared.trace.Trace.TheVariants as trace
 use Rattle.uda_port.specs.Trace.{turn_of}
 use Rattle.uda_host.specs.Layout.{slots, memory_size, response_descriptor, command_descriptor, response_packet, command_packet, owner_word, flag_word}
-use Rattle.uda_host.specs.Slots.{Slot, slot_at, command_at, response_at, owned, memory_reopened, RingsHold, WritesSlot}
-use Rattle.uda_host.specs.InStep.{IsSound, unfetched}
-use Rattle.uda_host.specs.Host.{HostState, out_of, TakesEnd, Works, OneFetched, OneDone}
-use Rattle.uda_host.specs.IsHost.{host_view, IsHost}
+use Rattle.uda_host.specs.Slots.{RingSlot, slot_at, command_at, response_at, owned, memory_reopened, RingsHold, WritesSlot}
+use Rattle.uda_host.specs.HostPortAgreement.{IsSound, unfetched}
+use Rattle.uda_host.specs.Host.{HostState, outstanding_count, TakesEnd, TurnWithoutEnd, OneFetched, OneDone}
+use Rattle.uda_host.specs.HostInvariant.{host_view, HostInvariant}
 use Rattle.uda_host.specs.declared.host.Host.TheInside.{Inside}
 use Rattle.uda_disk.proofs.Lists.{All-remove, All-at}
 use Rattle.uda_host.proofs.Slots.{unwritten, high_written, size_written, credits_written, text_written, command_stands, response_stands, rings-put, rings_answered, rings_fetched, first_posted, first_free}
 use Rattle.uda_host.proofs.Hosts.{HostThat}
 
--- ---- what the port sees
+-- ---- what the port reads
 
 not_both : {seen : Option Descriptor} {d e : Descriptor} → seen ≡ Some d → seen ≡ Some e → is_owned d ≡ true
     → is_owned e ≡ false → ⊥
@@ -68,7 +68,7 @@ sees_next : (memory : List ℕ) (ring : RingState) (at packet : ℕ) → length 
     ≡ Some (slot_at memory at packet).descriptor
 sees_next memory ring at packet size room is = rw (is, le-leb (at + 4) (length memory) (omega arith))
 
-module _ {S : Type 0} {h : Inside S} (host : IsHost h) where
+module _ {S : Type 0} {h : Inside S} (host : HostInvariant h) where
   commands_seen : next_descriptor h.memory h.port.commands
       ≡ Some (command_at h.memory h.port.commands.place).descriptor
   commands_seen =
@@ -84,7 +84,7 @@ module _ {S : Type 0} {h : Inside S} (host : IsHost h) where
       (response_packet place) host.written.size (omega arith)
       (ap descriptor_address host.rings.responses_are) ∙ ap Some (host.written.opens place within).owned_is
 
-  -- with nothing posted the command descriptor is the host's
+  -- if nothing is posted, the host owns the command descriptor
   none_owned : unfetched h ≡ [] → (d : Descriptor) → next_descriptor h.memory h.port.commands ≡ Some d
       → is_owned d ≡ true → ⊥
   none_owned none d next owner =
@@ -92,14 +92,14 @@ module _ {S : Type 0} {h : Inside S} (host : IsHost h) where
       not_both next commands_seen owner
       (lt-leb owner_word (command_at h.memory h.port.commands.place).descriptor.high free)
 
--- the command that is posted first
-module _ {S : Type 0} {h : Inside S} {c : Command} {rest : List Command} (host : IsHost h)
+-- the first posted command
+module _ {S : Type 0} {h : Inside S} {c : Command} {rest : List Command} (host : HostInvariant h)
     (were : unfetched h ≡ c ∷ rest) where
   rings_were : RingsHold h.memory h.port.commands.place (c ∷ rest)
   rings_were = rw were at host.written
 
   posted_seen : next_descriptor h.memory h.port.commands ≡ Some (owned (command_packet h.port.commands.place))
-  posted_seen = commands_seen host ∙ ap (λ (s : Slot). Some s.descriptor) (first_posted rings_were)
+  posted_seen = commands_seen host ∙ ap (λ (s : RingSlot). Some s.descriptor) (first_posted rings_were)
 
   must_fetch : NothingToFetch (port_turn_on h.port) h.memory → ⊥
   must_fetch nothing =
@@ -107,8 +107,8 @@ module _ {S : Type 0} {h : Inside S} {c : Command} {rest : List Command} (host :
       (host.looks (omega (arith, ap length were))) host.port.strict in
       let free = nothing may in not_both posted_seen free.is_next refl free.not_owned
 
-  module _ {told : Option ℕ} {p : Fetched} {ring : RingState} {after : List ℕ}
-      (takes : Takes (record { profile = h.port.profile; told = told }) h.port.commands h.memory p ring after)
+  module _ {indicator : Option ℕ} {p : Fetched} {ring : RingState} {after : List ℕ}
+      (takes : Takes (record { profile = h.port.profile; indicator = indicator }) h.port.commands h.memory p ring after)
     where
       first_is : takes.first ≡ owned (command_packet h.port.commands.place)
       first_is = let next = takes.is_next in let seen = posted_seen in cc
@@ -117,27 +117,27 @@ module _ {S : Type 0} {h : Inside S} {c : Command} {rest : List Command} (host :
       size_read =
           let address = ap₂ text_address host.port.strict first_is in
           takes.is_packet.first_word ∙ ap (word_at h.memory) (omega (arith, address))
-          ∙ ap (λ (s : Slot). s.size)
+          ∙ ap (λ (s : RingSlot). s.size)
           (first_posted rings_were)
 
       envelope_read : p.words.1 ≡ 0
       envelope_read =
           let address = ap₂ text_address host.port.strict first_is in
           takes.is_packet.second_word ∙ ap (word_at h.memory) (omega (arith, address))
-          ∙ ap (λ (s : Slot). s.credits) (first_posted rings_were)
+          ∙ ap (λ (s : RingSlot). s.credits) (first_posted rings_were)
 
       text_read : p.text ≡ written_command c
       text_read =
           let address = ap₂ text_address host.port.strict first_is in
           takes.is_packet.text ∙ ap (λ (a : ℕ). part h.memory a 48) (omega (arith, address))
-          ∙ ap (λ (s : Slot). s.text) (first_posted rings_were)
+          ∙ ap (λ (s : RingSlot). s.text) (first_posted rings_were)
 
 -- ---- a fetch
 
 fetched : {S : Type 0} {h : Inside S} {c : Command} {rest : List Command} (new : PortState) (after : List ℕ)
-    → IsHost h → unfetched h ≡ c ∷ rest → CreditsAgree new
+    → HostInvariant h → unfetched h ≡ c ∷ rest → CreditsAgree new
     → FetchesOne (port_turn_on h.port) h.memory new after
-    → HostThat (Works (host_view h)) (record h { memory = after; port = new })
+    → HostThat (TurnWithoutEnd (host_view h)) (record h { memory = after; port = new })
 fetched {h = h} {c} {rest} new after host were agree goes =
     let port = h.port in
     let place = port.commands.place in let pending = port.exec.pending in let takes = goes.takes in
@@ -146,29 +146,29 @@ fetched {h = h} {c} {rest} new after host were agree goes =
     let asked : Result Command Reply → Result GuestCommand Reply = asked_as Basic in
     let read : ℕ → List ℕ → Result GuestCommand Reply = λ size text.
     if nat_eq size 48 then asked (reply_to_bad (read_command text))
-    else Err (basic_reply (other_length_end text)) in
+    else Err (basic_reply (invalid_length_end text)) in
     let message : message_in port.profile goes.packet ≡ Ok (basic_command c) =
     ap (λ (p : Profile). message_in p goes.packet) host.port.strict
     ∙ ap₂ read (size_read host were takes) (text_read host were takes)
     ∙ ap (λ (r : Result Command Bad). asked (reply_to_bad r)) sound.legible in
-    let untold : commands_told port h.memory ≡ None =
-    ap (λ (p : Profile). told_at p (word_below port.responses.base 4) h.memory port.commands)
+    let untold : command_indicator port h.memory ≡ None =
+    ap (λ (p : Profile). indicator_at p (word_below port.responses.base 4) h.memory port.commands)
     host.port.strict in
     let kept : flags_kept port.profile goes.packet (message_in port.profile goes.packet) port.guest
     ≡ port.guest =
     ap (λ (p : Profile). flags_kept p goes.packet (message_in p goes.packet) port.guest) host.port.strict in
-    let leaves = λ (m : Result GuestCommand Reply) (r : RingState) (told : Option ℕ) (g : Guest).
+    let leaves = λ (m : Result GuestCommand Reply) (r : RingState) (indicator : Option ℕ) (g : Guest).
     record (port_with_message (port_turn_on port) m) {
       commands = r;
       credits = port.credits - 1;
-      interrupts = interrupts_told port told;
+      interrupts = interrupts_after port indicator;
       fetches = port.fetches + 1;
       guest = g;
     } in
     let ring_is = takes.advanced ∙ ap ring_advanced host.rings.commands_are in
     let is = goes.others ∙ (λ i. leaves (message i) (ring_is i) (untold i) (kept i)) in
-    let given = λ (d : Descriptor) (r : RingState) (told : Option ℕ). put (memory_told h.memory told)
-    (descriptor_address r + 2) (word_bytes (word_given_back d.high)) in
+    let given = λ (d : Descriptor) (r : RingState) (indicator : Option ℕ). put (memory_with_indicator h.memory indicator)
+    (descriptor_address r + 2) (word_bytes (returned_word d.high)) in
     let first = first_is host were takes in
     let memory_is = takes.written ∙ (λ i. given (first i) (host.rings.commands_are i) (untold i)) in
     let w = high_written (unwritten h.memory (command_stands place host.written.within) host.written.size)
@@ -202,7 +202,7 @@ fetched {h = h} {c} {rest} new after host were agree goes =
       so = OneFetched (record { buffers = w.buffers; is = rw due });
     })
 
--- ---- a command is done
+-- ---- a command is executed
 
 -- a host's commands are all of the strict profile
 abbrev no_ops : List GuestOp
@@ -212,22 +212,22 @@ no_op_left : (place : ℕ) → remove no_ops place ≡ no_ops
 no_op_left zero = refl
 no_op_left (suc place) = refl
 
--- the port is strict, so it executes the command as it is
+-- the port is strict, so it executes the command without an additional operation
 executed_strictly : {profile : Profile} {j : ℕ} {old new : ExecState} {memory after : List ℕ} {r : Reply}
     → profile ≡ Strict → ExecutesFor profile j old memory r new after
     → ExecutesStrictly j old memory r new after
 executed_strictly {j = j} {old} {new} {memory} {after} {r} strict done =
     subst (λ (p : Profile). ExecutesFor p j old memory r new after) strict done
 
-executed : {S : Type 0} {h : Inside S} (new : PortState) (after : List ℕ) → IsHost h → unfetched h ≡ []
+executed : {S : Type 0} {h : Inside S} (new : PortState) (after : List ℕ) → HostInvariant h → unfetched h ≡ []
     → CreditsAgree new → GoesOn (port_turn_on h.port) h.memory (Ok Executed) new after
-    → HostThat (Works (host_view h)) (record h { memory = after; port = new })
+    → HostThat (TurnWithoutEnd (host_view h)) (record h { memory = after; port = new })
 executed {h = h} new after host none agree goes =
     let pending = h.port.exec.pending in let one = goes.rest.1 in
     let done = executed_strictly host.port.strict one.executes in
     let taken = done.executes.taken in let op = done.executes.command.op in
-    let at = buffer_of op in let bytes = part after at (landing_of op) in
-    let size = length-part after at (landing_of op) in let small = landing-le op in
+    let at = buffer_of op in let bytes = part after at (memory_write_length op) in
+    let size = length-part after at (memory_write_length op) in let small = landing-le op in
     let before : pending ++ unfetched h ≡ pending = ap (λ (cs : List Command). pending ++ cs) none
     ∙ append-nil pending in
     let behind : new.exec.pending ++ unfetched h ≡ new.exec.pending =
@@ -274,9 +274,9 @@ executed {h = h} new after host none agree goes =
       });
     })
 
--- ---- an end is delivered
+-- ---- an end message is delivered
 
-abbrev delivered_slot : List ℕ → ℕ → ℕ → End → Slot
+abbrev delivered_slot : List ℕ → ℕ → ℕ → End → RingSlot
 delivered_slot memory i credits e =
     record {
       descriptor = record (response_at memory i).descriptor { high = flag_word };
@@ -285,12 +285,12 @@ delivered_slot memory i credits e =
       text = written_end e;
     }
 
-responses_untold : {S : Type 0} {h : Inside S} → IsHost h → responses_told h.port h.memory ≡ None
+responses_untold : {S : Type 0} {h : Inside S} → HostInvariant h → response_indicator h.port h.memory ≡ None
 responses_untold {h = h} host =
-    ap (λ (p : Profile). told_at p (word_below h.port.responses.base 2) h.memory h.port.responses)
+    ap (λ (p : Profile). indicator_at p (word_below h.port.responses.base 2) h.memory h.port.responses)
     host.port.strict
 
-delivery_written : {S : Type 0} {h : Inside S} (r : Reply) (ring : RingState) (after : List ℕ) → IsHost h
+delivery_written : {S : Type 0} {h : Inside S} (r : Reply) (ring : RingState) (after : List ℕ) → HostInvariant h
     → next_grant h.port.deliveries < 2 ^ 16 → Puts (delivery_of h.port h.memory) h.port.responses h.memory
     (end_text h.port r) ring after
     → WritesSlot (response_descriptor h.response_place) (response_packet h.response_place)
@@ -300,7 +300,7 @@ delivery_written {h = h} r ring after host fits puts =
     let place = h.response_place in let next = puts.is_next in let seen = responses_seen host in
     let first : puts.first ≡ owned (response_packet place) = cc in
     let address = ap₂ text_address host.port.strict first in
-    let high = ap (λ (d : Descriptor). word_given_back d.high) first in
+    let high = ap (λ (d : Descriptor). returned_word d.high) first in
     let at : descriptor_address h.port.responses + 2 ≡ response_descriptor place + 2 =
     ap (λ (r : RingState). descriptor_address r + 2) host.rings.responses_are in
     let size : text_address h.port.profile puts.first - 4 ≡ response_packet place = omega arith in
@@ -312,7 +312,7 @@ delivery_written {h = h} r ring after host fits puts =
     let long = ap length text_is ∙ length-written_end e in
     let untold = responses_untold host in
     let is = puts.written
-    ∙ (λ i. put (memory_told (put (put (put h.memory (text i) (text_is i)) (size i) (word_bytes (long i)))
+    ∙ (λ i. put (memory_with_indicator (put (put (put h.memory (text i) (text_is i)) (size i) (word_bytes (long i)))
     (second i) (word_bytes credits)) (untold i)) (at i) (word_bytes (high i))) in
     let written = text_written (unwritten h.memory (response_stands place host.rings.looks_within)
     host.written.size) (written_end e) (length-written_end e) in
@@ -321,11 +321,11 @@ delivery_written {h = h} r ring after host fits puts =
     subst (WritesSlot (response_descriptor place) (response_packet place)
     (delivered_slot h.memory place credits e) h.memory) (sym is) all
 
--- the host reads it, and gives its slot back
-module _ {S : Type 0} {h : Inside S} (host : IsHost h) (new : PortState) (after : List ℕ)
-    (goes : TurnGoes h.port.phase h.port h.memory Delivered new after) where
+-- the host reads it, and returns its slot
+module _ {S : Type 0} {h : Inside S} (host : HostInvariant h) (new : PortState) (after : List ℕ)
+    (goes : TurnEffect h.port.phase h.port h.memory Delivered new after) where
   pub lines : GoesOn (port_turn_on h.port) h.memory (Ok Delivered) new after
-  lines = subst (λ (p : Phase). TurnGoes p h.port h.memory Delivered new after) host.port.runs goes
+  lines = subst (λ (p : Phase). TurnEffect p h.port h.memory Delivered new after) host.port.runs goes
 
   none_left : unfetched h ≡ []
   none_left = by (unfetched h) refl
@@ -342,7 +342,7 @@ module _ {S : Type 0} {h : Inside S} (host : IsHost h) (new : PortState) (after 
   pub end_read : (read : Option End)
       → (length after ≡ memory_size → read ≡ read_end (part after (response_packet h.response_place + 4) 48))
       → read ≡ Some (strict_end lines.rest.1.end)
-  end_read read by = by sent.size ∙ ap read_end (ap (λ (s : Slot). s.text) sent.holds)
+  end_read read by = by sent.size ∙ ap read_end (ap (λ (s : RingSlot). s.text) sent.holds)
       ∙ lines.rest.1.legible host.port.strict
 
   pub host_takes : {value : HostState} {left : List ℕ} {end : End} {credits : ℕ} → host_view h ≡ value
@@ -362,17 +362,17 @@ module _ {S : Type 0} {h : Inside S} (host : IsHost h) (new : PortState) (after 
       let read = end_read (Some end) end_by in
       let end_is : end ≡ strict_end one.end = cc in
       let grant : credits ≡ next_grant port.deliveries = credits_by sent.size
-      ∙ ap (λ (s : Slot). s.credits) sent.holds in
+      ∙ ap (λ (s : RingSlot). s.credits) sent.holds in
       let w = high_written sent owner_word (omega arith) in
       let open_then = (host.written.opens h.response_place host.rings.looks_within).owned_is in
-      let leaves = λ (r : RingState) (told : Option ℕ) (look : Bool).
+      let leaves = λ (r : RingState) (indicator : Option ℕ) (look : Bool).
       record port {
         turns = port.turns + 1;
-        looking = look;
+        polling = look;
         responses = r;
         waiting = new.waiting;
         credits = port.credits + next_grant port.deliveries;
-        interrupts = interrupts_told port told;
+        interrupts = interrupts_after port indicator;
         deliveries = port.deliveries + 1;
       } in
       let ring_is = one.puts.advanced ∙ ap ring_advanced host.rings.responses_are in
@@ -412,10 +412,10 @@ module _ {S : Type 0} {h : Inside S} (host : IsHost h) (new : PortState) (after 
         };
       })
 
--- ---- a turn is never idle, and never the port's last
+-- ---- a turn is never idle, and never fatal
 
-module _ {S : Type 0} {h : Inside S} (host : IsHost h) (before : PortState) (after : List ℕ) where
-  never_idle : 0 < out_of (host_view h) → unfetched h ≡ [] → GoesOn (port_turn_on h.port) h.memory
+module _ {S : Type 0} {h : Inside S} (host : HostInvariant h) (before : PortState) (after : List ℕ) where
+  never_idle : 0 < outstanding_count (host_view h) → unfetched h ≡ [] → GoesOn (port_turn_on h.port) h.memory
       (Ok Idle) before after → ⊥
   never_idle some none goes = none_waits h.port.waiting refl
     where
@@ -446,7 +446,7 @@ module _ {S : Type 0} {h : Inside S} (host : IsHost h) (before : PortState) (aft
       none_is same = absurd (cc)
 
   fetch_lives : (cause : Fatal) (cs : List Command) → unfetched h ≡ cs
-      → FetchLine (port_turn_on h.port) h.memory (Err cause) before after → ⊥
+      → FetchRule (port_turn_on h.port) h.memory (Err cause) before after → ⊥
   fetch_lives RingRead cs is line =
       let seen = commands_seen host in let lost = line.0.no_descriptor in absurd (cc)
   fetch_lives PacketRead [] none line =
@@ -461,9 +461,9 @@ module _ {S : Type 0} {h : Inside S} (host : IsHost h) (before : PortState) (aft
       let takes = line.taken.takes in none_owned host none takes.first takes.is_next takes.owned
   fetch_lives CreditsExceeded (c ∷ rest) were line =
       omega (arith, line.no_credit, host.counts.credits, ap length were)
-  fetch_lives WrongEnvelope [] none line =
+  fetch_lives InvalidConnection [] none line =
       let takes = line.taken.takes in none_owned host none takes.first takes.is_next takes.owned
-  fetch_lives WrongEnvelope (c ∷ rest) were line =
+  fetch_lives InvalidConnection (c ∷ rest) were line =
       let word = envelope_read host were line.taken.takes in
       subst (λ (p : Profile). IsSequential p line.packet → ⊥) host.port.strict line.not_sequential
       (record { kind = ap (λ (w : ℕ). w / 16 % 16) word; connection = ap (λ (w : ℕ). w / 256) word })
@@ -494,11 +494,11 @@ module _ {S : Type 0} {h : Inside S} (host : IsHost h) (before : PortState) (aft
 
 -- ---- a turn
 
--- a trace of another kind is of another turn
+-- a trace record of another kind belongs to another turn
 pub undelivered : (was : Trace) → ((end : Reply) → was ≡ trace.Delivered end → ⊥) → turn_of was ≡ Delivered
     → ⊥
 undelivered (trace.Fetched command) other is = absurd (cc)
-undelivered (trace.Refused end) other is = absurd (cc)
+undelivered (trace.InvalidCommand end) other is = absurd (cc)
 undelivered (trace.Answered end) other is = absurd (cc)
 undelivered (trace.Aborted end) other is = absurd (cc)
 undelivered (trace.Executed end) other is = absurd (cc)
@@ -507,18 +507,18 @@ undelivered trace.Notified other is = absurd (cc)
 undelivered trace.Idle other is = absurd (cc)
 undelivered (trace.Dead cause) other is = absurd (cc)
 
-module _ {S : Type 0} {h : Inside S} {value : HostState} (is : host_view h ≡ value) (host : IsHost h)
+module _ {S : Type 0} {h : Inside S} {value : HostState} (is : host_view h ≡ value) (host : HostInvariant h)
     (new : PortState) (after : List ℕ) (agree : CreditsAgree new) where
-  -- one that takes no end
-  pub host_works : (turn : Turn) → (turn ≡ Delivered → ⊥) → 0 < out_of value
-      → TurnGoes h.port.phase h.port h.memory turn new after
-      → HostThat (Works value) (record h { memory = after; port = new })
+  -- a turn without an end message
+  pub host_works : (turn : Turn) → (turn ≡ Delivered → ⊥) → 0 < outstanding_count value
+      → TurnEffect h.port.phase h.port h.memory turn new after
+      → HostThat (TurnWithoutEnd value) (record h { memory = after; port = new })
   host_works turn other some goes = rw (← is)
-      (by turn other (subst (λ (p : Phase). TurnGoes p h.port h.memory turn new after) host.port.runs goes)
+      (by turn other (subst (λ (p : Phase). TurnEffect p h.port h.memory turn new after) host.port.runs goes)
       (unfetched h) refl)
     where
       by : (turn : Turn) → (turn ≡ Delivered → ⊥) → RunningTurn h.port h.memory turn new after
-          → (cs : List Command) → unfetched h ≡ cs → HostThat (Works (host_view h))
+          → (cs : List Command) → unfetched h ≡ cs → HostThat (TurnWithoutEnd (host_view h))
           (record h { memory = after; port = new })
       by TurnFetched other goes [] none = absurd
           (none_owned host none goes.takes.first goes.takes.is_next goes.takes.owned)
@@ -528,6 +528,6 @@ module _ {S : Type 0} {h : Inside S} {value : HostState} (is : host_view h ≡ v
       by Delivered other goes cs are = absurd (other refl)
       by Notified other goes cs are = absurd (never_notified host new after goes)
       by Idle other goes [] none = absurd
-          (never_idle host new after (omega (arith, some, ap out_of is)) none goes)
+          (never_idle host new after (omega (arith, some, ap outstanding_count is)) none goes)
       by Idle other goes (c ∷ rest) were = absurd (must_fetch host were goes.nothing_to_fetch)
       by Dead other goes cs are = absurd (lives host goes.before after goes.cause goes.fails)

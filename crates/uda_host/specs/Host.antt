@@ -1,4 +1,4 @@
--- A host as its callers see it, and what a post and a turn change of it.
+-- The state of a host for its callers, and the effect of a post and of a turn.
 -- UDA50 Programmer's Documentation Kit: command and response rings, credits.
 use Rattle.std.specs.Prelude.{◌≡◌, ℕ, ◌+◌, ◌-◌, ◌*◌, ◌<◌, ◌≤◌, List, [], ◌∷◌, ◌++◌, length, Option, Some}
 use Rattle.std.specs.Prelude.{None}
@@ -13,10 +13,10 @@ use Rattle.uda_port.specs.declared.phase.Phase.TheVariants.{Running}
 use Rattle.uda_port.specs.Port.{next_grant}
 use Rattle.uda_host.specs.Layout.{buffers_start, memory_size}
 
--- its port's phase; its memory, of which callers know the buffers; the units; the commands that are posted
--- and not done yet, in the order of their posts; the ends of those that are done and that it has not taken
--- yet, the next one first; its credits; and since start-up the turns, the commands that the port fetched, the
--- ends that the host took, and the load
+-- The port's phase. The memory, of which callers know the buffers. The units. The posted commands that aren't
+-- executed yet, in the order of their posts. The end messages that the host hasn't received yet, the next one
+-- first. The credits. Then four counts since initialization: turns, fetched commands, received end messages,
+-- and the load.
 pub record HostState : Type 0 where
   pub phase : Phase
   pub memory : List ℕ
@@ -29,15 +29,15 @@ pub record HostState : Type 0 where
   pub taken : ℕ
   pub load : ℕ
 
--- how many commands are out: posted, and their ends not taken
-abbrev pub out_of : HostState → ℕ
-out_of host = length host.due + length host.waiting
+-- the number of outstanding commands: posted, and their end messages not received
+abbrev pub outstanding_count : HostState → ℕ
+outstanding_count host = length host.due + length host.waiting
 
--- the turns until every end is taken: three for each command that was posted, less those that were
+-- the turns until every end message is received: three for each posted command, less those that were run
 abbrev pub turns_left : HostState → ℕ
-turns_left host = 3 * (host.taken + out_of host) - host.turns
+turns_left host = 3 * (host.taken + outstanding_count host) - host.turns
 
--- every buffer is as it was: what was written lies below them
+-- every buffer is unchanged: all writes are below them
 pub record BuffersStay (memory after : List ℕ) : Type 0 where
   pub below : ChangesAt memory 0 buffers_start after
 
@@ -53,8 +53,8 @@ pub record Fetches (old new : HostState) : Type 0 where
   pub buffers : BuffersStay old.memory new.memory
   pub is : new ≡ record old { memory = new.memory; turns = old.turns + 1; fetches = old.fetches + 1 }
 
--- one of the commands that are due is done, and its end waits behind the others
-pub record Does (old new : HostState) : Type 0 where
+-- one of the posted commands is executed, and its end message is queued last
+pub record ExecutesPending (old new : HostState) : Type 0 where
   pub place : ℕ
   pub end : End
   pub executes :
@@ -71,7 +71,7 @@ pub record Does (old new : HostState) : Type 0 where
         load = old.load + length old.due;
       }
 
--- none is due, and the end that waits first is taken: it grants credits
+-- every posted command is executed, and the first queued end message is received: it grants credits
 pub record TakesEnd (old : HostState) (end : End) (new : HostState) : Type 0 where
   pub none_due : old.due ≡ []
   pub waited : old.waiting ≡ end ∷ new.waiting
@@ -86,42 +86,42 @@ pub record TakesEnd (old : HostState) (end : End) (new : HostState) : Type 0 whe
         taken = old.taken + 1;
       }
 
--- a turn that takes no end
-pub data Works (old new : HostState) : Type 0 where
-  OneFetched : Fetches old new → Works old new
-  OneDone : Does old new → Works old new
+-- a turn without an end message
+pub data TurnWithoutEnd (old new : HostState) : Type 0 where
+  OneFetched : Fetches old new → TurnWithoutEnd old new
+  OneDone : ExecutesPending old new → TurnWithoutEnd old new
 
--- a turn, by the end that was taken
-abbrev pub HostGoes : HostState → Option End → HostState → Type 0
-HostGoes old None new = Works old new
-HostGoes old (Some end) new = TakesEnd old end new
+-- the effect of a turn, by the received end message
+abbrev pub StepEffect : HostState → Option End → HostState → Type 0
+StepEffect old None new = TurnWithoutEnd old new
+StepEffect old (Some end) new = TakesEnd old end new
 
--- ---- the numbers
+-- ---- the counts
 
--- What is true of every host's numbers: each credit was spent on a command that is out; a command was fetched
--- before it was done; and each turn was a fetch, a command done or an end taken.
-pub record AddsUp (host : HostState) : Type 0 where
+-- The invariant of a host's counts. Each used credit belongs to an outstanding command. A command was fetched
+-- before it was executed. Each turn was a fetch, an execution or a received end message.
+pub record IsConsistent (host : HostState) : Type 0 where
   pub runs : host.phase ≡ Running
   pub size : length host.memory ≡ memory_size
-  pub credits_are : 0 < host.taken → host.credits + out_of host ≡ PENDING_LIMIT
+  pub credits_are : 0 < host.taken → host.credits + outstanding_count host ≡ PENDING_LIMIT
   pub done_were_fetched : host.taken + length host.waiting ≤ host.fetches
-  pub fetched_were_posted : host.fetches ≤ host.taken + out_of host
+  pub fetched_were_posted : host.fetches ≤ host.taken + outstanding_count host
   pub turns_are : host.turns ≡ host.fetches + (host.taken + length host.waiting) + host.taken
 
--- nothing is out
+-- no command is outstanding
 pub record IsIdle (host : HostState) : Type 0 where
   pub none_due : host.due ≡ []
   pub none_wait : host.waiting ≡ []
 
--- a host that has just started up over these units: its own command was answered, and it has all credits
+-- a host right after initialization with these units: its own command has ended, and it has all credits
 pub record IsStarted (units : List (Option UnitState)) (host : HostState) : Type 0 where
   pub idle : IsIdle host
   pub units_are : host.units ≡ units
   pub credits_are : host.credits ≡ PENDING_LIMIT
   pub one_taken : host.taken ≡ 1
 
--- one command was done, and nothing else
-pub record Asked (old : HostState) (c : Command) (end : End) (new : HostState) : Type 0 where
+-- one command was executed, and nothing else
+pub record ExecutedAlone (old : HostState) (c : Command) (end : End) (new : HostState) : Type 0 where
   pub before : List ℕ
   pub after : List ℕ
   pub buffers_before : BuffersStay old.memory before

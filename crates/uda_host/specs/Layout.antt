@@ -1,16 +1,16 @@
--- Where a host's rings, packets and buffers stand in its memory.
+-- The layout of a host's memory: rings, packets and buffers.
 -- UDA50 Programmer's Documentation Kit: communication area, ring descriptors, message envelopes.
 use Rattle.std.specs.Prelude.{ℕ, ◌+◌, ◌*◌}
 use Rattle.uda_port.specs.Ring.{RingState}
 
--- ---- the layout: the response ring at the ring base, the command ring behind it, then a packet for each
--- descriptor, and the buffers from 0x1000 on
+-- ---- the layout: the response ring is at the ring base, and the command ring follows it. A packet for each
+-- descriptor comes next. The buffers begin at 0x1000.
 
--- how many descriptors each ring has
+-- the number of descriptors of each ring
 abbrev pub slots : ℕ
 slots = 16
 
--- the first word of a start-up with such rings
+-- the first word of initialization for such rings
 abbrev pub rings_word : ℕ
 rings_word = 0xA400
 
@@ -20,7 +20,7 @@ response_descriptor i = 8 + 4 * i
 abbrev pub command_descriptor : ℕ → ℕ
 command_descriptor i = 72 + 4 * i
 
--- the envelope of a packet; its text stands four bytes above
+-- the address of a packet's envelope; its text is four bytes above
 abbrev pub response_packet : ℕ → ℕ
 response_packet i = 0x100 + 64 * i
 
@@ -44,7 +44,7 @@ area_size = 4 + 4 * slots + 4 * slots
 abbrev pub memory_size : ℕ
 memory_size = 249856
 
--- a second word with the owner bit alone, and with the flag bit alone
+-- a second word with only the owner bit, and one with only the flag bit
 abbrev pub owner_word : ℕ
 owner_word = 0x8000
 

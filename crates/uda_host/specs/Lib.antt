@@ -1,7 +1,7 @@
 pub mod Layout
-pub mod InStep
+pub mod HostPortAgreement
 pub mod Posted
 pub mod Host
 pub mod Slots
-pub mod IsHost
+pub mod HostInvariant
 pub mod Starting

@@ -1,4 +1,4 @@
--- The list that a record of posted commands stands for.
+-- The list of posted commands that a record represents.
 use Rattle.std.specs.Prelude.{List, [], ◌∷◌, ◌++◌}
 use Rattle.uda_packet.specs.declared.command.Command.{Command}
 use Rattle.uda_host.specs.declared.posted.Queue.{Queue, Empty, Then'}

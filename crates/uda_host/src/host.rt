@@ -1,12 +1,12 @@
-//! The host.
+//! The host of a port.
 ghost use Rattle.std.specs.Prelude.{◌≡◌, ◌<◌, ◌≤◌, length, map, IfOk, IfErr};
 ghost use Rattle.uda_mem.specs.Put.{put, part};
-ghost use Rattle.uda_disk.specs.Units.{AreImages};
+ghost use Rattle.uda_disk.specs.Units.{AreWellFormed};
 ghost use Rattle.uda_exec.specs.Disks.{PENDING_LIMIT};
 ghost use Rattle.uda_exec.specs.Drives.{reset_unit};
 ghost use Rattle.uda_host.specs.Layout.{buffer_address, buffer_size};
-ghost use Rattle.uda_host.specs.InStep.{IsAbove};
-ghost use Rattle.uda_host.specs.Host.{out_of, Posts, HostGoes, AddsUp, IsIdle, IsStarted, Asked};
+ghost use Rattle.uda_host.specs.HostPortAgreement.{IsAbove};
+ghost use Rattle.uda_host.specs.Host.{outstanding_count, Posts, StepEffect, IsConsistent, IsIdle, IsStarted, ExecutedAlone};
 
 use crate::posted::PostedSoFar;
 use crate::ring::{BUFFER_SIZE, SLOTS, buffer_address, credits_at, end_at, reopen, write_command};
@@ -17,21 +17,21 @@ use uda_exec::Exec;
 use uda_image::BlockStore;
 use uda_mem::HostMemory;
 use uda_packet::{Command, End, Op};
-use uda_port::{NoPort, Port, Trace};
+use uda_port::{Port, PortAllocError, Trace};
 
 /// One turn of a host's port.
 #[derive(Clone, Copy, Debug, PartialEq, Eq)]
 pub struct Step {
     /// What the port did.
     pub trace: Trace,
-    /// The end message that the host took, if the port delivered one.
+    /// The end message that the host received, if the port delivered one.
     pub end: Option<End>,
 }
 
-/// A host with its port: it posts commands, gives the port its turns, and takes the ends.
+/// A host with its port: it posts commands, runs turns of the port, and receives end messages.
 ///
-/// Contracts see its buffers, the units, the commands that are out, the ends that wait, its credits and
-/// some counts (`HostState`). The rings, and where it stands in them, are its own.
+/// Contracts read its buffers, the units, the outstanding commands, the queued end messages, its credits and
+/// some counts (`HostState`). The rings and their indexes are private.
 #[derive(Drop)]
 pub struct Host<S: BlockStore> {
     memory: HostMemory,
@@ -47,29 +47,29 @@ impl<S: BlockStore> Model for Host<S> {
 
     ghost Value = { HostState };
 
-    ghost use Rattle.uda_host.specs.IsHost.{host_view, IsHost};
+    ghost use Rattle.uda_host.specs.HostInvariant.{host_view, HostInvariant};
 
     ghost view = { host_view };
 
-    ghost invariant = { IsHost };
+    ghost invariant = { HostInvariant };
 }
 
 impl<S: BlockStore> Host<S> {
-    /// A host over the units of `exec`, which is reset: it makes memory and port, starts the port up,
-    /// and has one Set Controller Characteristics done, by whose end it gets all its credits.
+    /// Returns a host over the units of `exec`, which it resets. Allocates memory and port, initializes the
+    /// port, and executes one Set Controller Characteristics, whose end message grants all credits.
     ///
-    /// Where `alloc` has no memory the answer is a [`NoPort`] that has `exec` as it was.
+    /// If an allocation fails, returns a [`PortAllocError`] with the unchanged `exec`.
     ///
-    /// UDA50 Programmer's Documentation Kit: initialisation, credits.
+    /// UDA50 Programmer's Documentation Kit: initialization, credits.
     #[tactic(auto, using(uda_port::proofs::Length::lengths))]
-    pub fn start(alloc: Global, exec: Exec<S>) -> Result<Host<S>, NoPort<Exec<S>>>
+    pub fn start(alloc: Global, exec: Exec<S>) -> Result<Host<S>, PortAllocError<Exec<S>>>
         ensures started { IfOk result (λ host. IsStarted (map reset_unit exec.units) host) }
-        ensures images { IfOk result (λ host. AreImages host.units) }
-        ensures adds_up { IfOk result (λ host. AddsUp host) }
+        ensures well_formed { IfOk result (λ host. AreWellFormed host.units) }
+        ensures consistent { IfOk result (λ host. IsConsistent host) }
         ensures refused { IfErr result (λ refusal. refusal.exec ≡ exec) }
     {
         let Ok(mut memory) = host_memory(alloc) else {
-            return Err(NoPort { exec });
+            return Err(PortAllocError { exec });
         };
         match Port::new(alloc, exec) {
             Err(refusal) => Err(refusal),
@@ -84,7 +84,7 @@ impl<S: BlockStore> Host<S> {
                     posted: PostedSoFar::new(),
                     port,
                 };
-                host.ask(&Command {
+                host.execute(&Command {
                     reference: 1,
                     unit: 0,
                     op: Op::Controller,
@@ -94,16 +94,16 @@ impl<S: BlockStore> Host<S> {
         }
     }
 
-    /// Posts a command whose buffer, where it has one, is one of the host's: writes it at the next place
-    /// of the command ring, and reads IP, so that the port looks.
+    /// Posts a command at the next index of the command ring, and reads IP, so that the port polls. If the
+    /// command has a buffer, it must be one of the host's.
     ///
     /// UDA50 Programmer's Documentation Kit: command ring, polling.
     pub fn post(&mut self, command: &Command)
         requires credit { 0 < self.old.credits }
         requires above { IsAbove command.now }
         ensures posts { Posts command.now self.old self.new }
-        ensures before { AddsUp self.old }
-        ensures adds_up { AddsUp self.new }
+        ensures before { IsConsistent self.old }
+        ensures consistent { IsConsistent self.new }
     {
         write_command(&mut self.memory, self.command_place, command);
         self.port.read_ip();
@@ -112,26 +112,26 @@ impl<S: BlockStore> Host<S> {
         self.posted.push(*command);
     }
 
-    /// Gives the port one turn, and takes the end message that it delivers, as [`Host::step_traced`] does.
+    /// Runs one turn of the port, and returns the end message that it delivers, as [`Host::step_traced`]
+    /// does.
     pub fn step(&mut self) -> Option<End>
-        requires some { 0 < out_of self.old }
-        ensures goes { HostGoes self.old result self.new }
-        ensures adds_up { AddsUp self.new }
-        ensures images { AreImages self.new.units }
+        requires some { 0 < outstanding_count self.old }
+        ensures effect { StepEffect self.old result self.new }
+        ensures consistent { IsConsistent self.new }
+        ensures well_formed { AreWellFormed self.new.units }
     {
         self.step_traced().end
     }
 
-    /// Gives the port one turn, and takes the end message that it delivers: reads it at the next place of the
-    /// response ring, gives the descriptor back to the port, and notes the credits. Returns what the port did,
-    /// too.
+    /// Runs one turn of the port, and returns what the port did. If the port delivers an end message, the
+    /// host reads it at the next index of the response ring, returns the descriptor, and adds the credits.
     ///
     /// UDA50 Programmer's Documentation Kit: response ring, credits.
     pub fn step_traced(&mut self) -> Step
-        requires some { 0 < out_of self.old }
-        ensures goes { HostGoes self.old result.end self.new }
-        ensures adds_up { AddsUp self.new }
-        ensures images { AreImages self.new.units }
+        requires some { 0 < outstanding_count self.old }
+        ensures effect { StepEffect self.old result.end self.new }
+        ensures consistent { IsConsistent self.new }
+        ensures well_formed { AreWellFormed self.new.units }
     {
         let trace = self.port.turn_traced(&mut self.memory);
         let Trace::Delivered(_) = trace else {
@@ -150,14 +150,14 @@ impl<S: BlockStore> Host<S> {
         }
     }
 
-    /// Has one command done while no other is out, in three turns, and answers its end.
-    pub fn ask(&mut self, command: &Command) -> End
+    /// Executes one command, in three turns, while no other is outstanding, and returns its end message.
+    pub fn execute(&mut self, command: &Command) -> End
         requires idle { IsIdle self.old }
         requires credit { 0 < self.old.credits }
         requires above { IsAbove command.now }
-        ensures asked { Asked self.old command.now result self.new }
-        ensures adds_up { AddsUp self.new }
-        ensures images { AreImages self.new.units }
+        ensures executed_alone { ExecutedAlone self.old command.now result self.new }
+        ensures consistent { IsConsistent self.new }
+        ensures well_formed { AreWellFormed self.new.units }
     {
         self.post(command);
         self.step();
@@ -168,7 +168,7 @@ impl<S: BlockStore> Host<S> {
         end
     }
 
-    /// Puts bytes into a buffer, from its beginning on.
+    /// Writes bytes to a buffer, from its start on.
     pub fn fill(&mut self, number: u8, bytes: &[u8])
         requires number { number < PENDING_LIMIT }
         requires room { length bytes.now ≤ buffer_size }
@@ -181,7 +181,7 @@ impl<S: BlockStore> Host<S> {
             .copy_from_slice(bytes);
     }
 
-    /// What stands in a buffer.
+    /// Returns the bytes of a buffer.
     pub fn buffer(&self, number: u8) -> &[u8]
         requires number { number < PENDING_LIMIT }
         ensures bytes { result.now ≡ part self.now.memory (buffer_address number) buffer_size }
@@ -193,15 +193,15 @@ impl<S: BlockStore> Host<S> {
         bytes
     }
 
-    /// How many commands may be posted now.
+    /// Returns the number of commands that may be posted now.
     pub fn credits(&self) -> u32
         ensures credits { result ≡ self.now.credits }
-        ensures adds_up { AddsUp self.now }
+        ensures consistent { IsConsistent self.now }
     {
         self.held
     }
 
-    /// The executor, with its units as they are.
+    /// Returns the executor, with its units unchanged.
     pub fn into_exec(self) -> Exec<S>
         ensures units { result.units ≡ self.units }
     {

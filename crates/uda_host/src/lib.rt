@@ -1,8 +1,10 @@
-//! The host: its rings, texts and buffers in memory, the commands that it posts and the ends that it takes.
+//! The host: its rings, texts and buffers in memory, the commands that it posts and the end messages that it
+//! receives.
 //!
-//! Nothing here knows a request. What callers see of a host is `HostState` (`specs/Host.antt`), with what a
-//! post and a turn do to it. Where its rings, packets and buffers stand is said by `specs/Layout.antt`, what
-//! stands in the rings by `specs/Slots.antt`, and that host and port keep in step by `specs/InStep.antt`.
+//! This crate knows nothing of requests. `HostState` is the state for callers (`specs/Host.antt`), with the
+//! effect of a post and of a turn. `specs/Layout.antt` defines the addresses of rings, packets and buffers,
+//! and `specs/Slots.antt` the contents of the rings. `specs/HostPortAgreement.antt` is the invariant between host and
+//! port.
 //!
 //! UDA50 Programmer's Documentation Kit: communication area, ring descriptors, message envelopes, credits.
 #![tactic(auto)]

@@ -1,18 +1,18 @@
-//! The commands that were posted, for contracts alone.
+//! The posted commands, which only contracts use.
 ghost use Rattle.std.specs.Prelude.{◌≡◌, [], ◌∷◌, ◌++◌};
 
 use std::marker::Model;
 use std::snapshot::Snapshot;
 use uda_packet::Command;
 
-/// How a list of commands came to be, from the last back.
+/// The steps of a list of commands, the last first.
 #[derive(Drop)]
 enum Queue {
     Empty,
     Then(Snapshot<Queue>, Command),
 }
 
-/// Every command that was posted since start-up: it takes no byte, and nothing reads it.
+/// Every command that was posted since initialization. It occupies no byte, and only contracts read it.
 #[derive(Drop)]
 pub(crate) struct PostedSoFar {
     queue: Snapshot<Queue>,
@@ -29,7 +29,7 @@ impl Model for PostedSoFar {
 }
 
 impl PostedSoFar {
-    /// None.
+    /// Returns the empty list.
     pub(crate) fn new() -> PostedSoFar
         ensures { result ≡ [] }
     {
@@ -38,7 +38,7 @@ impl PostedSoFar {
         }
     }
 
-    /// One more.
+    /// Appends a command.
     pub(crate) fn push(&mut self, command: Command)
         ensures { self.new ≡ self.old ++ command ∷ [] }
     {

@@ -1,4 +1,4 @@
-//! What a host writes to its memory and reads there.
+//! A host's reads and writes of its memory.
 ghost use Rattle.std.specs.Prelude.{◌≡◌, ℕ, ◌+◌, ◌*◌, ◌%◌, ◌<◌, ◌≤◌, length, Ok};
 ghost use Rattle.uda_mem.specs.Put.{put, part};
 ghost use Rattle.uda_mem.specs.Words.{word_at, word_bytes};
@@ -10,19 +10,19 @@ ghost use Rattle.uda_host.specs.Slots.{with_command, memory_reopened};
 use uda_mem::HostMemory;
 use uda_packet::{Command, End, decode_end, encode_command};
 
-/// How many bytes the host's memory has.
+/// The size of the host's memory in bytes.
 pub(crate) const MEMORY_SIZE: u32 = 249_856;
 
-/// How many descriptors each ring has.
+/// The number of descriptors of each ring.
 pub(crate) const SLOTS: u32 = 16;
 
-/// The first word of a start-up with such rings: their exponent, 4, stands in it twice.
+/// The first word of initialization for such rings. It contains their exponent, 4, twice.
 pub(crate) const RINGS: u16 = 0xA400;
 
 /// The address of the response ring, which is the ring base.
 pub(crate) const RESPONSE_RING: u32 = 8;
 
-/// The address of the command ring, behind it.
+/// The address of the command ring, which follows the response ring.
 pub(crate) const COMMAND_RING: u32 = 72;
 
 /// The address of the packet of the first response descriptor.
@@ -31,25 +31,25 @@ pub(crate) const RESPONSE_PACKETS: u32 = 0x100;
 /// The address of the packet of the first command descriptor.
 pub(crate) const COMMAND_PACKETS: u32 = 0x500;
 
-/// How many bytes lie between two packets.
+/// The distance between two packets in bytes.
 pub(crate) const PACKET_STEP: u32 = 64;
 
 /// The second word of a descriptor that the port owns.
 pub(crate) const OWNER: u16 = 0x8000;
 
-/// The address of a buffer, by its number.
+/// Returns the address of a buffer, by its number.
 pub fn buffer_address(number: u8) -> u32
     ensures address { result ≡ buffer_address number }
 {
     BUFFERS + BUFFER_SIZE * u32::from(number)
 }
 
-/// How many bytes each buffer has: room for 32 blocks.
+/// The size of a buffer in bytes: 32 blocks.
 pub(crate) const BUFFER_SIZE: u32 = 0x4000;
 
 const BUFFERS: u32 = 0x1000;
 
-// Writes a text of 48 bytes where there is room for it.
+// Writes a text of 48 bytes. The caller checks that it fits.
 fn put_text(memory: &mut HostMemory, at: u32, text: &[u8; 48])
     requires { at + 48 ≤ length memory.old }
     ensures put { memory.new ≡ put memory.old at text.now }
@@ -57,8 +57,8 @@ fn put_text(memory: &mut HostMemory, at: u32, text: &[u8; 48])
     memory.within(at, 48).copy_from_slice(text);
 }
 
-/// Posts a command at a place of the command ring: its packet, and then its descriptor, which the port
-/// owns from then on.
+/// Posts a command at an index of the command ring: writes its packet, and then its descriptor, which the
+/// port owns from then on.
 #[tactic(auto, using(uda_port::proofs::Length::lengths))]
 pub(crate) fn write_command(memory: &mut HostMemory, place: u32, command: &Command)
     requires size { length memory.old ≡ memory_size }
@@ -75,7 +75,7 @@ pub(crate) fn write_command(memory: &mut HostMemory, place: u32, command: &Comma
     memory.put_word(descriptor + 2, OWNER);
 }
 
-/// The end message that lies at a place of the response ring.
+/// Returns the end message at an index of the response ring.
 pub(crate) fn end_at(memory: &HostMemory, place: u32) -> Option<End>
     requires within { place < slots }
     ensures end { length memory.now ≡ memory_size
@@ -88,7 +88,7 @@ pub(crate) fn end_at(memory: &HostMemory, place: u32) -> Option<End>
     decode_end(&text)
 }
 
-/// The credits that the end message there grants.
+/// Returns the credits that the end message there grants.
 pub(crate) fn credits_at(memory: &HostMemory, place: u32) -> u32
     requires within { place < slots }
     ensures few { result < 65536 }
@@ -100,7 +100,7 @@ pub(crate) fn credits_at(memory: &HostMemory, place: u32) -> u32
     }
 }
 
-/// Gives the response descriptor at a place to the port.
+/// Returns the response descriptor at an index to the port.
 pub(crate) fn reopen(memory: &mut HostMemory, place: u32)
     requires within { place < slots }
     ensures open { length memory.old ≡ memory_size → memory.new ≡ memory_reopened memory.old place }

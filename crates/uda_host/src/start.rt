@@ -1,4 +1,4 @@
-//! How a host starts its port up.
+//! Initialization of a host's port.
 ghost use Rattle.std.specs.Prelude.{◌≡◌, ℕ, ◌+◌, ◌-◌, ◌*◌, ◌<◌, ◌≤◌, length, replicate, IfOk};
 ghost use Rattle.uda_mem.specs.Put.{put};
 ghost use Rattle.uda_port.specs.declared.phase.Phase.TheVariants.{Step1};
@@ -13,13 +13,13 @@ use uda_image::BlockStore;
 use uda_mem::{HostMemory, NoMemory};
 use uda_port::Port;
 
-// The last word of the start-up: the port may run.
-const GO: u16 = 1;
+// The last word of initialization, with the go bit.
+const GO_WORD: u16 = 1;
 
-// How many bytes the text of a message has.
+// The number of bytes of a message text.
 const TEXT_SIZE: u16 = 48;
 
-/// The start-up's four words.
+/// Writes the four words of initialization.
 pub(crate) fn initialise<S: BlockStore>(port: &mut Port<S>, memory: &mut HostMemory)
     requires strict { port.old.profile ≡ Strict }
     requires step { port.old.phase ≡ Step1 }
@@ -30,10 +30,10 @@ pub(crate) fn initialise<S: BlockStore>(port: &mut Port<S>, memory: &mut HostMem
     port.write_sa(RINGS, memory);
     port.write_sa(RESPONSE_RING as u16, memory);
     port.write_sa(0, memory);
-    port.write_sa(GO, memory);
+    port.write_sa(GO_WORD, memory);
 }
 
-/// Gives the port every response descriptor.
+/// Gives every response descriptor to the port.
 #[tactic(auto, using(uda_port::proofs::Length::lengths))]
 pub(crate) fn open_all(memory: &mut HostMemory)
     requires size { length memory.old ≡ memory_size }
@@ -51,7 +51,8 @@ pub(crate) fn open_all(memory: &mut HostMemory)
     }
 }
 
-/// The memory, of which only the length is told: a list of so many zeros makes later searches long.
+/// Allocates the memory. The contract promises only its length, since a list of that many zeros makes later
+/// searches long.
 pub(crate) fn host_memory(alloc: Global) -> Result<HostMemory, NoMemory>
     ensures size { IfOk result (λ m. length m ≡ memory_size) }
 {

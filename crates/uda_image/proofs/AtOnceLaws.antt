@@ -39,7 +39,7 @@ drop-chunks (suc n) m (suc k) bytes e =
     drop-chunks n m k (drop 512 bytes) (omega arith) ∙ ap (λ (b : List ℕ). first_chunks 512 m b)
     (drop-drop (512 * n) 512 bytes ∙ ap (λ i. drop i bytes) size)
 
--- so many blocks from block n on
+-- count blocks from block n
 pub concat-part_blocks : (bytes : List ℕ) (n count : ℕ) → n + count ≤ block_count_of bytes
     → concat (part (blocks_of bytes) n count) ≡ part bytes (512 * n) (512 * count)
 unfolding part blocks_of

@@ -26,7 +26,7 @@ module _ {A : Type 0} where
       ap (λ c. c ∷ first_chunks n k (drop n (chunk ++ xs))) (take_at chunk xs n e)
       ∙ ap (λ rest. chunk ∷ first_chunks n k rest) (drop_at chunk xs n e)
 
-  -- items written over one chunk change that chunk alone
+  -- items written over one chunk change only that chunk
   pub first_chunks-splice : (n k : ℕ) (xs ys : List A) (i : ℕ) → i < k → k * n ≤ length xs → length ys ≡ n
       → first_chunks n k (splice xs (n * i) (n * i + n) ys) ≡ set (first_chunks n k xs) i ys
   first_chunks-splice n zero xs ys i h room e = absurd (omega arith)

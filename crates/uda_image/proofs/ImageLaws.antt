@@ -45,7 +45,7 @@ unfolding block_count_of
 block_count-with_block bytes n block h e =
     ap (λ m. min (m / 512) store_limit) (length-with_block bytes n block h e)
 
--- bytes written in the place of a block replace that block alone
+-- bytes that replace a block change only that block
 pub blocks_of-with_block : (bytes : List ℕ) (n : ℕ) (block : List ℕ) → n < block_count_of bytes
     → length block ≡ 512 → blocks_of (with_block bytes n block) ≡ slice_set (blocks_of bytes) n block
 unfolding blocks_of with_block

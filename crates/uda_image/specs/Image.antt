@@ -6,11 +6,11 @@ use Rattle.std.specs.Simd.{first_chunks}
 use Rattle.uda_image.specs.Limits.{store_limit}
 use Rattle.uda_image.specs.Store.{StoreState}
 
--- how many blocks the bytes of an image make: the whole ones, and no more than a store has
+-- the number of whole blocks in the bytes of an image, at most as many as a store has
 unfoldable pub block_count_of : List ℕ → ℕ
 block_count_of bytes = min (length bytes / 512) store_limit
 
--- the blocks that the bytes of an image make
+-- the blocks in the bytes of an image
 unfoldable pub blocks_of : List ℕ → List (List ℕ)
 blocks_of bytes = first_chunks 512 (block_count_of bytes) bytes
 
@@ -18,7 +18,7 @@ blocks_of bytes = first_chunks 512 (block_count_of bytes) bytes
 unfoldable pub block_of : List ℕ → ℕ → List ℕ
 block_of bytes n = take 512 (drop (512 * n) bytes)
 
--- an image's bytes with other bytes in the place of block n
+-- an image's bytes with block n replaced by other bytes
 unfoldable pub with_block : List ℕ → ℕ → List ℕ → List ℕ
 with_block bytes n block = splice bytes (512 * n) (512 * n + 512) block
 
@@ -30,26 +30,27 @@ image_state bytes = record {
   faithful = true;
   never_fails = true;
   failures = 0;
-  fails_in = None;
+  failing_call = None;
 }
 
--- a block whose writing stopped in the middle: its first 256 bytes are new, and its last 256 old
+-- a block of which a write stopped in the middle: its first 256 bytes are new, and its last 256 old
 unfoldable pub half_written : List ℕ → List ℕ → List ℕ
 half_written old new = take 256 new ++ drop 256 old
 
--- an image in memory that fails at one call: its bytes, and how many calls are left up to the one
--- that fails, that one counted; 0 after it, and where no call fails
+-- an image in memory of which one call fails: its bytes, and the number of calls up to and including the
+-- one that fails; the number is 0 after that call, and always 0 if no call fails
 pub record Failing : Type 0 where
   pub bytes : List ℕ
   pub left : ℕ
 
--- the count of failed calls while so many are left: it grows by one at the call that fails, the last
--- of those left, and stays at every other
+-- the count of failed calls by the number of calls left: it grows by one at the call that fails, the last
+-- of those left, and stays at every other. Only its growth counts: an image of which no call fails has 1
+-- throughout
 abbrev pub failures_by : ℕ → ℕ
 failures_by zero = 1
 failures_by (suc left) = 0
 
--- such an image as a store: it is faithful, and fails at that call and no other
+-- such an image as a store: it is faithful, and only that call fails
 abbrev pub failing_state : Failing → StoreState
 failing_state image = record {
   blocks = blocks_of image.bytes;
@@ -57,17 +58,17 @@ failing_state image = record {
   faithful = true;
   never_fails = false;
   failures = failures_by image.left;
-  fails_in = Some image.left;
+  failing_call = Some image.left;
 }
 
--- a file that is open as an image: how many blocks it had when it was opened, whether it was opened
--- to be written, and whether it was written since it was opened or last synced
+-- a file that is open as an image: its number of blocks when it was opened, whether it was opened for
+-- writing, and whether it was written since it was opened or last synced
 pub record OpenImage : Type 0 where
   pub size : ℕ
   pub writable : Bool
   pub written : Bool
 
--- a file as a store: nothing is known of it but how many blocks it had when it was opened
+-- a file as a store: nothing is known of it except its number of blocks when it was opened
 abbrev pub file_state : OpenImage → StoreState
 file_state image = record {
   blocks = [];
@@ -75,5 +76,5 @@ file_state image = record {
   faithful = false;
   never_fails = false;
   failures = 0;
-  fails_in = None;
+  failing_call = None;
 }

@@ -1,7 +1,7 @@
--- How large a unit can be, which the manuals leave open.
+-- The largest sizes of a unit, which the manuals leave open.
 use Rattle.std.specs.Prelude.{ℕ}
 
--- the most blocks of an image: those that an RA81 shows its host
+-- the most blocks of an image: the size that an RA81 reports to its host
 abbrev pub block_limit : ℕ
 block_limit = 891072
 

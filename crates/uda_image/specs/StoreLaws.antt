@@ -1,4 +1,4 @@
--- What an `impl` of the trait names as the proofs of its two laws.
+-- Proofs of the trait's two laws, for the `impl`s to name.
 use Rattle.std.proofs.Common.{◌≡◌, ◌*◌, ◌≤◌, ℕ, zero, suc, min, List, length, drop, take, true, false}
 use Rattle.std.proofs.Common.{refl, ap, arith, length-drop}
 use Rattle.std.specs.List.{All}
@@ -6,15 +6,15 @@ use Rattle.std.specs.Simd.{first_chunks}
 use Rattle.std.proofs.lemmas.List.{length-take-le}
 use Rattle.std.proofs.lemmas.List.Elements.{All-nil, All-cons}
 use Rattle.uda_image.specs.Limits.{store_limit}
-use Rattle.uda_image.specs.Store.{IsImage}
+use Rattle.uda_image.specs.Store.{HasWholeBlocks}
 use Rattle.uda_image.specs.Image.{block_count_of, blocks_of}
 
 -- a size that is cut off at the limit is within it
 pub min-le : (size : ℕ) → min size store_limit ≤ store_limit
 min-le size = omega arith
 
--- nothing is said of a store that isn't faithful
-pub no_image : {size : ℕ} {blocks : List (List ℕ)} → false ≡ true → IsImage size blocks
+-- the law says nothing of a store that isn't faithful
+pub no_image : {size : ℕ} {blocks : List (List ℕ)} → false ≡ true → HasWholeBlocks size blocks
 no_image h = absurd (cc)
 
 -- the blocks of bytes in memory are within the limit of stores
@@ -26,7 +26,7 @@ pub length-first_chunks : (k : ℕ) (bytes : List ℕ) → length (first_chunks 
 length-first_chunks zero bytes = refl
 length-first_chunks (suc k) bytes = ap suc (length-first_chunks k (drop 512 bytes))
 
--- where there are so many bytes, each block is whole
+-- if there are enough bytes, each block is whole
 pub All-first_chunks : (k : ℕ) (bytes : List ℕ) → k * 512 ≤ length bytes
     → All (λ block. length block ≡ 512) (first_chunks 512 k bytes)
 All-first_chunks zero bytes h = All-nil (λ block. length block ≡ 512)
@@ -36,10 +36,10 @@ All-first_chunks (suc k) bytes h =
     All-cons (λ block. length block ≡ 512) (take 512 bytes) (first_chunks 512 k (drop 512 bytes)) first
     (All-first_chunks k (drop 512 bytes) room)
 
--- the blocks of an image in memory make an image
-pub IsImage-blocks_of : (bytes : List ℕ) → IsImage (block_count_of bytes) (blocks_of bytes)
+-- the blocks of an image in memory are well formed
+pub HasWholeBlocks-blocks_of : (bytes : List ℕ) → HasWholeBlocks (block_count_of bytes) (blocks_of bytes)
 unfolding blocks_of block_count_of
-IsImage-blocks_of bytes = record {
+HasWholeBlocks-blocks_of bytes = record {
   counted = length-first_chunks (block_count_of bytes) bytes;
   whole = All-first_chunks (block_count_of bytes) bytes (omega arith);
 }

@@ -1,4 +1,4 @@
-//! The blocks of bytes that stand in memory, whoever keeps them: block after block.
+//! Access to the blocks of bytes in memory, whoever owns the bytes. The blocks lie one after another.
 //!
 //! MSCP Basic Disk Functions Manual: logical blocks.
 ghost use Rattle.std.specs.Prelude.{◌≡◌, ◌<◌, ◌≤◌, length};
@@ -7,7 +7,7 @@ ghost use Rattle.uda_image.specs.Limits.{store_limit};
 
 use crate::store::STORE_LIMIT;
 
-/// Returns how many whole blocks the bytes make, at most [`STORE_LIMIT`].
+/// Returns the number of whole blocks in the bytes, at most [`STORE_LIMIT`].
 #[tactic(auto, unfolding(crate::specs::Image::block_count_of))]
 pub fn count(bytes: &[u8]) -> u32
     ensures count { result ≡ block_count_of bytes.now }
@@ -16,7 +16,7 @@ pub fn count(bytes: &[u8]) -> u32
     (bytes.len() / 512).min(STORE_LIMIT as usize) as u32
 }
 
-/// Reads block `n`, which is below their number, into `to`.
+/// Reads block `n` into `to`. `n` is less than the number of blocks.
 #[tactic(auto, using(crate::proofs::ImageLaws::image_laws), unfolding(crate::specs::Image::block_count_of, crate::specs::Image::block_of))]
 pub fn read(bytes: &[u8], n: u32, to: &mut [u8; 512])
     requires there { n < block_count_of bytes.now }
@@ -27,7 +27,7 @@ pub fn read(bytes: &[u8], n: u32, to: &mut [u8; 512])
     to.copy_from_slice(&bytes[start..start + 512]);
 }
 
-/// Writes `from` to block `n`, which is below their number.
+/// Writes `from` to block `n`. `n` is less than the number of blocks.
 #[tactic(auto, unfolding(crate::specs::Image::block_count_of, crate::specs::Image::with_block))]
 pub fn write(bytes: &mut [u8], n: u32, from: &[u8; 512])
     requires there { n < block_count_of bytes.old }

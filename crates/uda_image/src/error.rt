@@ -1,18 +1,18 @@
-//! Why an image could not be made or opened.
+//! Errors from making or opening an image.
 use std::alloc::AllocError;
 use std::error::Error;
 use std::fmt;
 
-/// An image could not be made or opened; the numbers are in the order of this list.
+/// The reason why an image could not be made or opened. The numbers follow the order of this list.
 #[derive(Clone, Copy, Debug, PartialEq, Eq)]
 pub enum ImageError {
-    /// The allocator had no memory for the image's bytes.
+    /// Memory allocation for the image's bytes failed.
     NoMemory = 1,
-    /// The file could not be opened, is no plain file, or its length could not be learnt.
+    /// The file could not be opened or locked, is not a plain file, or its length could not be read.
     Open = 2,
-    /// The length is no multiple of 512.
+    /// The length is not a multiple of 512.
     Length = 3,
-    /// There are more blocks than an image has.
+    /// There are more blocks than an image can have.
     TooLarge = 4,
 }
 

@@ -1,19 +1,21 @@
-//! Images in memory that fail at one call.
+//! Images in memory of which one call fails.
 ghost use Rattle.std.specs.Prelude.{length, ◌≡◌, ◌-◌, ◌<◌, ◌↔◌, true, is_ok, IsErr, IfErr, if◌then◌else◌};
-ghost use Rattle.uda_image.specs.Store.{Reads, Writes, KeepsNature};
+ghost use Rattle.uda_image.specs.Store.{Reads, Writes, KeepsAttributes};
 ghost use Rattle.uda_image.specs.Image.{block_count_of, block_of, with_block, half_written, failing_state};
-ghost use Rattle.uda_image.specs.StoreLaws.{block_count-le, IsImage-blocks_of};
+ghost use Rattle.uda_image.specs.StoreLaws.{block_count-le, HasWholeBlocks-blocks_of};
 
 use crate::memory::MemImage;
 use crate::store::{BlockStore, StoreError};
 use std::marker::Model;
 
-/// An image in memory of which one call fails, as a drive's medium may (MSCP Basic Disk Functions
-/// Manual: status codes, drive error). It is faithful, and takes no memory.
+/// An image in memory of which one call fails, as a drive's medium may (MSCP Basic Disk Functions Manual:
+/// status codes, drive error). It is faithful and allocates no memory.
 ///
-/// A `read` that fails leaves `to` as it was. A `write` that fails changes the first 256 bytes of
-/// its block and leaves the last 256. Contracts see the bytes of the image, and how many calls are
-/// left up to the one that fails, that one counted: 0 after it, and where none does.
+/// A `read` that fails leaves `to` unchanged. A `write` that fails changes the first 256 bytes of its block
+/// and leaves the last 256 unchanged.
+///
+/// Contracts see the bytes of the image and a number `left`. It counts the calls up to and including the
+/// one that fails. It is 0 after that call, and always 0 if no call fails.
 #[derive(Debug, Drop)]
 pub struct FailingImage {
     inner: MemImage,
@@ -29,8 +31,8 @@ impl Model for FailingImage {
 }
 
 impl FailingImage {
-    /// Makes a store of the blocks of `inner`, whose call number `at` fails and no other. The calls
-    /// of `read` and `write` are counted together, from 1; where `at` is 0 none fails.
+    /// Makes a store of the blocks of `inner`, of which only call number `at` fails. Calls of `read` and
+    /// `write` are counted together, from 1. No call fails if `at` is 0.
     pub fn new(inner: MemImage, at: u32) -> FailingImage
         ensures bytes { result.bytes ≡ inner }
         ensures left { result.left ≡ at }
@@ -38,7 +40,7 @@ impl FailingImage {
         FailingImage { inner, left: at }
     }
 
-    /// Gives back the image, with its blocks as they are now.
+    /// Returns the image with its blocks as they are now.
     pub fn into_inner(self) -> MemImage
         ensures bytes { result ≡ self.bytes }
     {
@@ -46,7 +48,7 @@ impl FailingImage {
         inner
     }
 
-    // Counts one call, and says whether it is the one that fails.
+    // Counts one call and returns whether it is the one that fails.
     fn fails_now(&mut self) -> bool
         ensures value { (result ≡ true) ↔ (self.old.left ≡ 1) }
         ensures left { self.new.left ≡ self.old.left - 1 }
@@ -57,7 +59,7 @@ impl FailingImage {
         fails
     }
 
-    // Writes the first half of block `n` alone.
+    // Writes only the first half of block `n`.
     #[tactic(auto, using(crate::proofs::ImageLaws::image_laws))]
     fn write_half(&mut self, n: u32, from: &[u8; 512])
         requires { n < block_count_of self.old.bytes }
@@ -85,7 +87,7 @@ impl BlockStore for FailingImage {
 
     ghost within_limit = { λ image. block_count-le image.bytes };
 
-    ghost is_image = { λ image _. IsImage-blocks_of image.bytes };
+    ghost is_image = { λ image _. HasWholeBlocks-blocks_of image.bytes };
 
     fn size(&self) -> u32 {
         self.inner.size()
@@ -115,7 +117,7 @@ impl BlockStore for FailingImage {
         ensures bytes { self.new.bytes
             ≡ with_block self.old.bytes n
             (if is_ok result then from.now else half_written (block_of self.old.bytes n) from.now) }
-        ensures nature { KeepsNature (failing_state self.old) (failing_state self.new) }
+        ensures attributes { KeepsAttributes (failing_state self.old) (failing_state self.new) }
         ensures error { IfErr result (λ e. e ≡ StoreError.Write) }
         ensures writes { Writes (failing_state self.old) n (failing_state self.new) from.now
             result }

@@ -12,17 +12,21 @@ use std::marker::Model;
 use std::os::unix::fs::FileExt;
 use std::{fs, io};
 
-/// An image in a file: the logical blocks of a unit (MSCP Basic Disk Functions Manual: logical
-/// blocks), block after block, read and written at their places.
+/// An image in a file: the logical blocks of a unit, one after another (MSCP Basic Disk Functions Manual:
+/// logical blocks).
 ///
-/// Its size is that of the file when it is opened. It isn't faithful, since other programs may
-/// change the file. A read or write that fails or ends early, as behind the end of a file that was
-/// shortened, is an error. An image that isn't to be written is opened for reading alone, so that no
-/// write could reach its file, and a write to it is an error. Contracts see its size in blocks,
-/// whether it was opened to be written, and whether it was written since it was opened or last synced.
+/// Its size is that of the file when it is opened. It isn't faithful, since other programs may change the
+/// file. A read or write fails if the system fails it or ends it early, as past the end of a file that was
+/// shortened.
 ///
-/// While it is open it holds the advisory lock of its file, where the file system has such locks: an
-/// image to be written holds it alone, and those for reading share it.
+/// An image that isn't writable is opened for reading only, so no write can reach its file. A write to it
+/// fails.
+///
+/// While the image is open it holds the advisory lock of its file, if the file system has such locks. A
+/// writable image holds it exclusively, and images for reading share it.
+///
+/// Contracts see three facts: its size in blocks, whether it is writable, and whether it was written since
+/// it was opened or last synced.
 #[derive(Debug, Drop)]
 pub struct FileImage {
     file: File,
@@ -47,8 +51,8 @@ impl Model for FileImage {
     ghost invariant = { λ image. image.size ≤ store_limit };
 }
 
-// Whether a plain file stands at `path`. To open a pipe could wait for its other end, and to open
-// a device could do something to it, so this is asked first.
+// Returns whether `path` names a plain file. It is checked before the open, which could wait for the other
+// end of a pipe, or have an effect on a device.
 fn is_plain_file(rt: &HostRuntime, path: &str) -> bool {
     match fs::metadata(rt, path) {
         Ok(metadata) => metadata.is_file(),
@@ -56,8 +60,8 @@ fn is_plain_file(rt: &HostRuntime, path: &str) -> bool {
     }
 }
 
-// Takes a file's advisory lock, alone or shared; false where another open of the file is in its way. A
-// file system without such locks refuses nobody.
+// Takes a file's advisory lock, exclusive (`alone`) or shared. Returns false if another open of the file
+// holds it. Returns true on a file system without such locks.
 fn lock(file: &File, alone: bool) -> bool {
     let locked = if alone {
         file.try_lock()
@@ -68,10 +72,13 @@ fn lock(file: &File, alone: bool) -> bool {
 }
 
 impl FileImage {
-    /// Opens the plain file at `path` as an image, to be read and, where `writable`, written. Errs
-    /// with Open where it can't be opened so, is no plain file, its advisory lock is held, or its
-    /// length can't be learnt; with Length where its bytes are no whole number of blocks of 512; and
-    /// with TooLarge where those are more than [`BLOCK_LIMIT`]. Takes no memory and changes no file.
+    /// Opens the plain file at `path` as an image, for reading and, if `writable`, for writing. It
+    /// allocates no memory and changes no file. It fails with:
+    ///
+    /// - `Open` if the file can't be opened, is not a plain file, is locked by another open, or its length
+    ///   can't be read;
+    /// - `Length` if its length in bytes is not a multiple of 512;
+    /// - `TooLarge` if it has more than [`BLOCK_LIMIT`] blocks.
     pub fn open(rt: &HostRuntime, path: &str, writable: bool) -> Result<FileImage, ImageError>
         ensures writable { IfOk result (λ image. image.writable ≡ writable) }
         ensures written { IfOk result (λ image. image.written ≡ false) }
@@ -81,7 +88,7 @@ impl FileImage {
         FileImage::open_within(rt, path, writable, BLOCK_LIMIT)
     }
 
-    /// Opens a file as [`FileImage::open`] does, with up to [`STORE_LIMIT`] blocks.
+    /// Opens a file as [`FileImage::open`] does, but with up to [`STORE_LIMIT`] blocks.
     pub fn open_large(rt: &HostRuntime, path: &str, writable: bool) -> Result<FileImage, ImageError>
         ensures writable { IfOk result (λ image. image.writable ≡ writable) }
         ensures written { IfOk result (λ image. image.written ≡ false) }
@@ -125,9 +132,10 @@ impl FileImage {
         })
     }
 
-    /// Has the system hand on to the medium what was written, and the file's length; nothing is asked
-    /// of it where nothing was written. Errs with Write where the system can't, or where an error of
-    /// an earlier write shows only now.
+    /// Makes the system write to the medium what was written to the file, and the file's length. It does
+    /// nothing if nothing was written.
+    ///
+    /// Fails with `Write` if the system can't, or if it reports the error of an earlier write only now.
     pub fn sync(&mut self) -> Result<(), StoreError>
         ensures synced { OnOk result (self.new ≡ record self.old { written = false }) }
         ensures unchanged { OnErr result (self.new ≡ self.old) }
@@ -180,9 +188,9 @@ impl BlockStore for FileImage {
         }
     }
 
-    // One call of the system. What it moved of a transfer where it didn't move all, the calls of one block
-    // move again.
-    fn read_at_once(&mut self, n: u32, _count: u32, to: &mut [u8]) -> bool
+    // Makes one call of the system. If that moves only a part, the caller's reads of single blocks read all
+    // again.
+    fn try_read_blocks(&mut self, n: u32, _count: u32, to: &mut [u8]) -> bool
         ensures unchanged { self.new ≡ self.old }
         ensures long { length to.new ≡ length to.old }
     {
@@ -190,8 +198,8 @@ impl BlockStore for FileImage {
         matches!(self.file.read_at(to, 512 * u64::from(n)), Ok(moved) if moved == bytes)
     }
 
-    // One call of the system, as well.
-    fn write_at_once(&mut self, n: u32, _count: u32, from: &[u8]) -> bool
+    // Makes one call of the system, in the same way.
+    fn try_write_blocks(&mut self, n: u32, _count: u32, from: &[u8]) -> bool
         ensures written { self.old.writable ≡ true → self.new ≡ record self.old { written = true } }
         ensures read_only { self.old.writable ≡ false → result ≡ false }
         ensures unchanged { self.old.writable ≡ false → self.new ≡ self.old }

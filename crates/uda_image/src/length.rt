@@ -1,10 +1,10 @@
-//! Lengths in bytes as counts of blocks.
+//! Conversion of lengths in bytes to numbers of blocks.
 ghost use Rattle.std.specs.Prelude.{◌≡◌, ◌≢◌, ◌*◌, ◌/◌, ◌%◌, ◌<◌, ◌≤◌, ◌⊎◌, ◌↔◌, IfOk, IfErr};
 
 use crate::error::ImageError;
 
-// Returns how many blocks `bytes` bytes make, which may be at most `limit`. A length that is no whole
-// number of blocks is refused before one that is too large.
+// Returns the number of blocks in `bytes` bytes, at most `limit`. It checks first that the length is a
+// whole number of blocks, and then that it is not too large.
 pub(crate) fn count_blocks(bytes: u64, limit: u32) -> Result<u32, ImageError>
     ensures whole { IfOk result (λ count. 512 * count ≡ bytes) }
     ensures within_limit { IfOk result (λ count. count ≤ limit) }

@@ -1,6 +1,6 @@
-//! Stores of the blocks of a disk unit: images in memory, images that fail once, and files.
+//! Stores of the blocks of a disk unit: images in memory, images of which one call fails, and files.
 //!
-//! Its tests are in the crate `mem_packet_image_tests`.
+//! The tests of this crate are in `mem_packet_image_tests`.
 #![tactic(auto)]
 
 pub mod blocks;

@@ -4,10 +4,10 @@ ghost use Rattle.std.specs.Prelude.{IfOk, IfErr};
 ghost use Rattle.std.specs.List.{concat};
 ghost use Rattle.std.specs.Simd.{first_chunks};
 ghost use Rattle.uda_mem.specs.Put.{part, put};
-ghost use Rattle.uda_image.specs.Store.{Reads, Writes, KeepsNature};
-ghost use Rattle.uda_image.specs.AtOnce.{ReadsAtOnce, WritesAtOnce};
+ghost use Rattle.uda_image.specs.Store.{Reads, Writes, KeepsAttributes};
+ghost use Rattle.uda_image.specs.AtOnce.{TriesToRead, TriesToWrite};
 ghost use Rattle.uda_image.specs.Image.{block_count_of, blocks_of, block_of, with_block, image_state};
-ghost use Rattle.uda_image.specs.StoreLaws.{block_count-le, IsImage-blocks_of};
+ghost use Rattle.uda_image.specs.StoreLaws.{block_count-le, HasWholeBlocks-blocks_of};
 ghost use Rattle.uda_image.specs.Limits.{block_limit};
 
 use crate::error::ImageError;
@@ -16,13 +16,13 @@ use crate::store::{BLOCK_LIMIT, BlockStore, StoreError};
 use std::alloc::Global;
 use std::marker::Model;
 
-// How many bytes are written by one copy at most: a longer one goes another way in the C library, slow where
+// The most bytes that one copy writes. The C library copies longer ones in another way, which is slow if
 // the image isn't in the processor's cache.
 const LONGEST_COPY: usize = 4096;
 
-/// An image in memory: the logical blocks of a unit (MSCP Basic Disk Functions Manual: logical
-/// blocks), block after block. It is faithful, none of its calls fails, and it takes memory only
-/// when it is made. Contracts see it as the list of its bytes.
+/// An image in memory: the logical blocks of a unit, one after another (MSCP Basic Disk Functions Manual:
+/// logical blocks). It is faithful, and none of its calls fails. It allocates memory only when it is made.
+/// Contracts see it as the list of its bytes.
 #[derive(Debug, Drop)]
 pub struct MemImage {
     bytes: Vec<u8>,
@@ -41,9 +41,10 @@ impl Model for MemImage {
 }
 
 impl MemImage {
-    /// Makes an image of `blocks` blocks of 512 bytes, all zero. Errs with TooLarge where those are
-    /// more than [`BLOCK_LIMIT`], before memory is asked for, and with NoMemory where the allocator
-    /// has none.
+    /// Makes an image of `blocks` blocks of 512 bytes, all zero. It fails with:
+    ///
+    /// - `TooLarge` if there are more than [`BLOCK_LIMIT`] blocks, before it allocates;
+    /// - `NoMemory` if memory allocation fails.
     #[tactic(auto, using(crate::proofs::ImageLaws::image_laws))]
     pub fn new(alloc: Global, blocks: u32) -> Result<MemImage, ImageError>
         ensures zeros { IfOk result (λ image. image ≡ replicate (512 * blocks) 0) }
@@ -61,10 +62,11 @@ impl MemImage {
         })
     }
 
-    /// Makes an image of a copy of `bytes`, block after block. Errs with Length where they are no
-    /// whole number of blocks of 512 bytes, then with TooLarge where those are more than
-    /// [`BLOCK_LIMIT`], both before memory is asked for, and with NoMemory where the allocator has
-    /// none.
+    /// Makes an image of a copy of `bytes`, block after block. It fails, in this order, with:
+    ///
+    /// - `Length` if the number of bytes is not a multiple of 512, before it allocates;
+    /// - `TooLarge` if there are more than [`BLOCK_LIMIT`] blocks, before it allocates;
+    /// - `NoMemory` if memory allocation fails.
     #[tactic(auto, using(crate::proofs::ImageLaws::image_laws), unfolding(crate::specs::Image::block_count_of))]
     pub fn from_bytes(alloc: Global, bytes: &[u8]) -> Result<MemImage, ImageError>
         ensures value { IfOk result (λ image. image ≡ bytes.now) }
@@ -82,7 +84,7 @@ impl MemImage {
         })
     }
 
-    /// The bytes of all blocks, block after block.
+    /// Returns the bytes of all blocks, block after block.
     #[tactic(auto, using(crate::proofs::ImageLaws::image_laws))]
     pub fn bytes(&self) -> &[u8]
         ensures value { result.now ≡ self.now }
@@ -105,7 +107,7 @@ impl MemImage {
             .copy_from_slice(block);
     }
 
-    // The bytes of `count` blocks from block `n` on.
+    // Returns the bytes of `count` blocks from block `n`.
     #[tactic(auto, unfolding(crate::specs::Image::block_count_of, uda_mem::specs::Put::part))]
     fn blocks_at(&self, n: u32, count: u32) -> &[u8]
         requires { n + count ≤ block_count_of self.now }
@@ -116,7 +118,7 @@ impl MemImage {
         &self.bytes[start..start + 512 * count as usize]
     }
 
-    // Writes the bytes of `count` blocks from block `n` on.
+    // Writes the bytes of `count` blocks from block `n`.
     #[tactic(auto, unfolding(crate::specs::Image::block_count_of, uda_mem::specs::Put::put))]
     fn put_blocks(&mut self, n: u32, count: u32, from: &[u8])
         requires on_unit { n + count ≤ block_count_of self.old }
@@ -129,7 +131,7 @@ impl MemImage {
     }
 }
 
-// Copies bytes over as many others, a piece at a time.
+// Copies bytes over the same number of others, a piece at a time.
 fn copy_by_pieces(to: &mut [u8], from: &[u8])
     requires { length to.old ≡ length from.now }
     ensures { to.new ≡ from.now }
@@ -147,7 +149,7 @@ impl BlockStore for MemImage {
 
     ghost within_limit = { block_count-le };
 
-    ghost is_image = { λ image _. IsImage-blocks_of image };
+    ghost is_image = { λ image _. HasWholeBlocks-blocks_of image };
 
     #[tactic(auto, unfolding(crate::specs::Image::block_count_of))]
     fn size(&self) -> u32 {
@@ -173,7 +175,7 @@ impl BlockStore for MemImage {
         requires { n < block_count_of self.old }
         ensures succeeds { result ≡ Ok tt }
         ensures value { self.new ≡ with_block self.old n from.now }
-        ensures nature { KeepsNature (image_state self.old) (image_state self.new) }
+        ensures attributes { KeepsAttributes (image_state self.old) (image_state self.new) }
         ensures writes { Writes (image_state self.old) n (image_state self.new) from.now result }
     {
         self.put_block(n, from);
@@ -181,27 +183,27 @@ impl BlockStore for MemImage {
     }
 
     #[tactic(auto, using(crate::proofs::AtOnceLaws::at_once_laws))]
-    fn read_at_once(&mut self, n: u32, count: u32, to: &mut [u8]) -> bool
+    fn try_read_blocks(&mut self, n: u32, count: u32, to: &mut [u8]) -> bool
         requires on_unit { n + count ≤ block_count_of self.old }
         requires long { length to.old ≡ 512 * count }
         ensures done { result ≡ true }
         ensures unchanged { self.new ≡ self.old }
         ensures value { to.new ≡ part self.old (512 * n) (512 * count) }
         ensures long { length to.new ≡ length to.old }
-        ensures reads { ReadsAtOnce (image_state self.old) n count (image_state self.new) to.old to.new result }
+        ensures reads { TriesToRead (image_state self.old) n count (image_state self.new) to.old to.new result }
     {
         to.copy_from_slice(self.blocks_at(n, count));
         true
     }
 
     #[tactic(auto, using(crate::proofs::AtOnceLaws::at_once_laws))]
-    fn write_at_once(&mut self, n: u32, count: u32, from: &[u8]) -> bool
+    fn try_write_blocks(&mut self, n: u32, count: u32, from: &[u8]) -> bool
         requires on_unit { n + count ≤ block_count_of self.old }
         requires long { length from.now ≡ 512 * count }
         ensures done { result ≡ true }
         ensures value { self.new ≡ put self.old (512 * n) from.now }
-        ensures nature { KeepsNature (image_state self.old) (image_state self.new) }
-        ensures writes { WritesAtOnce (image_state self.old) n count (image_state self.new) from.now result }
+        ensures attributes { KeepsAttributes (image_state self.old) (image_state self.new) }
+        ensures writes { TriesToWrite (image_state self.old) n count (image_state self.new) from.now result }
     {
         self.put_blocks(n, count, from);
         true

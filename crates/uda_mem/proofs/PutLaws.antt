@@ -1,11 +1,11 @@
--- The laws of `put` and `part`, on which every layer above memory stands.
+-- The laws of `put` and `part`. Every layer above memory uses them.
 use Rattle.std.proofs.Common.{◌≡◌, ℕ, ◌+◌, ◌-◌, ◌<◌, ◌≤◌, inl, inr, min, List, [], ◌++◌, length, get_or, take, drop, refl, sym, ap, ◌∙◌, arith, length-append, length-drop, length-take}
 use borrow.Rule.Slice.PartMut.{put_mid}
 use Rattle.std.proofs.lemmas.List.{same_lists, get_or_append_left, get_or-append_right, get_or-take, get_or-drop, drop-drop, take_all}
 use Rattle.std.proofs.lemmas.Bool.{cases_lt}
-use Rattle.uda_mem.specs.Put.{part, put, Meet}
+use Rattle.uda_mem.specs.Put.{part, put, Overlap}
 
--- a place is before a range, in it or behind it
+-- an index is before a range, in it or after it
 data Side (at n k : ℕ) : Type 0 where
   before : k < at → Side at n k
   inside : at ≤ k → k < at + n → Side at n k
@@ -35,7 +35,7 @@ module _ {A : Type 0} where
   unfolding part
   get_or-part xs at n k d h = get_or-take n (drop at xs) k d h ∙ get_or-drop at xs k d
 
-  -- an item before the written range, in it and behind it
+  -- an item before the written range, in it and after it
   pub get_or-put_before : (xs : List A) (at : ℕ) (ys : List A) (k : ℕ) (d : A) → k < length xs → k < at
       → get_or (put xs at ys) k d ≡ get_or xs k d
   unfolding put
@@ -84,7 +84,7 @@ module _ {A : Type 0} where
       ∙ ap (λ i. get_or ys i d) (omega arith) ∙ sym (get_or-part ys (a - at) n k d (omega arith)))
 
   -- a range that doesn't meet the written one reads as before
-  pub part-put_apart : (xs : List A) (at : ℕ) (ys : List A) (a n : ℕ) → (Meet at (length ys) a n → ⊥)
+  pub part-put_apart : (xs : List A) (at : ℕ) (ys : List A) (a n : ℕ) → (Overlap at (length ys) a n → ⊥)
       → part (put xs at ys) a n ≡ part xs a n
   part-put_apart xs at ys a n apart =
       let same : length (part (put xs at ys) a n) ≡ length (part xs a n) = length-part (put xs at ys) a n
@@ -125,7 +125,7 @@ module _ {A : Type 0} where
         ]
       ])
 
-  -- an item that a write elsewhere leaves alone is still left alone behind a second write
+  -- an item that a write elsewhere leaves unchanged is still unchanged after a second write
   elsewhere : (xs : List A) (a : ℕ) (ys : List A) (b : ℕ) (zs : List A) (k : ℕ) (d : A) → k < length xs
       → k < length (put xs a ys)
       → get_or (put xs a ys) k d ≡ get_or xs k d → get_or (put xs b zs) k d
@@ -141,7 +141,7 @@ module _ {A : Type 0} where
 
   -- writes to ranges that don't meet may be exchanged
   pub put-put_comm : (xs : List A) (a : ℕ) (ys : List A) (b : ℕ) (zs : List A)
-      → (Meet a (length ys) b (length zs) → ⊥) → put (put xs a ys) b zs ≡ put (put xs b zs) a ys
+      → (Overlap a (length ys) b (length zs) → ⊥) → put (put xs a ys) b zs ≡ put (put xs b zs) a ys
   put-put_comm xs a ys b zs apart =
       same_lists _ _ (simp length-put) (λ k d below.
       let within : k < length xs = omega (arith, length-put (put xs a ys) b zs, length-put xs a ys) in
@@ -191,7 +191,7 @@ module _ {A : Type 0} where
         | inr high ↦ get_or-put_behind xs at [] k d within (omega arith)
       ])
 
-  -- what changed in no place is as it was
+  -- a list with no changed item is unchanged
   pub put-part_none : (xs ys : List A) (at : ℕ) → ys ≡ put xs at (part ys at 0) → ys ≡ xs
   unfolding part
   put-part_none xs ys at changed = changed ∙ put-nil xs at

@@ -3,7 +3,7 @@
 use Rattle.std.proofs.Common.{◌≡◌, ℕ, ◌+◌, ◌-◌, ◌^◌, ◌<◌, ◌≤◌, List, [], ◌++◌, length, ap, ◌∙◌, arith}
 use Rattle.byteorder.specs.Endian.{little_number}
 use Rattle.byteorder.specs.Numbers.{length-bytes_low_first, little_number-reads_back}
-use Rattle.uda_mem.specs.Put.{part, put, Meet}
+use Rattle.uda_mem.specs.Put.{part, put, Overlap}
 use Rattle.uda_mem.specs.Words.{HasWord, word_at, word_bytes}
 use Rattle.uda_mem.proofs.PutLaws.{length-put, part-put_apart, part-put_inside, put-put_next}
 
@@ -22,7 +22,7 @@ pub HasWord-put : (memory : List ℕ) (at : ℕ) (ys : List ℕ) (a : ℕ) → H
 HasWord-put memory at ys a has = (has.0, omega (arith, has.1, length-put memory at ys))
 
 -- a word whose two bytes no write meets reads as before
-pub word_at-put_apart : (memory : List ℕ) (at : ℕ) (ys : List ℕ) (a : ℕ) → (Meet at (length ys) a 2 → ⊥)
+pub word_at-put_apart : (memory : List ℕ) (at : ℕ) (ys : List ℕ) (a : ℕ) → (Overlap at (length ys) a 2 → ⊥)
     → word_at (put memory at ys) a ≡ word_at memory a
 unfolding word_at
 word_at-put_apart memory at ys a apart = ap (little_number 2) (part-put_apart memory at ys a 2 apart)
@@ -43,7 +43,7 @@ word_at-put_at memory at w room fits =
     word_at-put_inside memory at (word_bytes w) at (omega (arith, two)) (omega arith) (omega (arith, two))
     ∙ ap (word_at (word_bytes w)) (omega arith) ∙ word_at-word_bytes w fits
 
--- two words written one behind the other are one write
+-- two words written one after the other are one write
 pub put-put_words : (memory : List ℕ) (at low high : ℕ) → put (put memory at (word_bytes low)) (at + 2)
     (word_bytes high) ≡ put memory at (word_bytes low ++ word_bytes high)
 put-put_words memory at low high = put-put_next memory at (word_bytes low) (word_bytes high) (at + 2)

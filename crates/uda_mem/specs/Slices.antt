@@ -1,4 +1,4 @@
--- Memory that is handed in as a slice.
+-- Memory that a caller passes as a slice.
 use Rattle.std.specs.Prelude.{◌≡◌, ℕ, ◌%◌, ◌^◌, ◌≤◌, List, length}
 
 -- these bytes can be the memory of a host: an even number of them, at most as many as 22 bits address

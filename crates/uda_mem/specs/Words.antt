@@ -1,4 +1,4 @@
--- The words of a memory. UDA50 Programmer's Documentation Kit: a word is 16 bits, at an even address, its low
+-- The words of a memory. UDA50 Programmer's Documentation Kit: a word has 16 bits, at an even address, low
 -- byte first.
 use Rattle.std.specs.Prelude.{◌≡◌, ℕ, ◌+◌, ◌%◌, ◌≤◌, List, length}
 use Rattle.byteorder.specs.Endian.{little_bytes, little_number}
@@ -12,6 +12,6 @@ HasWord memory at = (at % 2 ≡ 0) × (at + 2 ≤ length memory)
 unfoldable pub word_at : List ℕ → ℕ → ℕ
 word_at memory at = little_number 2 (part memory at 2)
 
--- the two bytes of a word, the low one first
+-- the two bytes of a word, low byte first
 unfoldable pub word_bytes : ℕ → List ℕ
 word_bytes word = little_bytes 2 word

@@ -1,8 +1,9 @@
-//! Host memory as a UDA50 sees it over the UNIBUS: an even number of bytes, read and written in
-//! words of 16 bits, low byte first, in windows of bytes and in blocks of 512. They are the bytes of
-//! a slice that is somebody else's, or of a [`HostMemory`], which owns them.
+//! Host memory as a UDA50 accesses it over the UNIBUS: an even number of bytes. It is read and written in
+//! words of 16 bits (low byte first), in windows of bytes, and in blocks of 512 bytes.
 //!
-//! Its tests are in the crate `mem_packet_image_tests`.
+//! The bytes are those of a slice that somebody else owns, or of a [`HostMemory`], which owns them.
+//!
+//! The tests of this crate are in `mem_packet_image_tests`.
 #![tactic(auto)]
 
 mod block;

@@ -1,4 +1,4 @@
-//! The bytes of host memory, read and written in words, windows and blocks.
+//! Host memory that owns its bytes, read and written in words, windows and blocks.
 ghost use Rattle.std.specs.Prelude.{◌≡◌, ℕ, ◌+◌, ◌%◌, ◌≤◌, ◌↔◌, List, length, IsTrue, IsSome, IfOk, IfSome};
 ghost use Rattle.std.specs.Prelude.{replicate, if◌then◌else◌};
 ghost use Rattle.uda_mem.specs.Put.{put, part};
@@ -13,11 +13,11 @@ use std::error::Error;
 use std::fmt;
 use std::marker::Model;
 
-/// The most bytes that a [`HostMemory`] has: the 262,144 addresses of the UNIBUS, which are of 18
-/// bits, less the 8,192 of its I/O page.
+/// The most bytes that a [`HostMemory`] has. The UNIBUS has 262,144 addresses of 18 bits, and 8,192 of them
+/// are its I/O page.
 pub const MEMORY_LIMIT: u32 = 253_952;
 
-/// A growth was refused: the allocator had no memory for the call that answers this.
+/// Memory allocation failed.
 #[derive(Clone, Copy, Debug, PartialEq, Eq)]
 pub struct NoMemory;
 
@@ -39,10 +39,10 @@ impl From<AllocError> for NoMemory {
     }
 }
 
-/// The memory of a host, which contracts see as the list of its bytes.
+/// The memory of a host. Contracts see it as the list of its bytes.
 ///
-/// An address is the place of a byte in that list. A word is two bytes at an even address, the low
-/// byte first (UDA50 Programmer's Documentation Kit: UNIBUS addresses and words).
+/// An address is the index of a byte in that list. A word is two bytes at an even address, low byte first
+/// (UDA50 Programmer's Documentation Kit: UNIBUS addresses and words).
 #[derive(Debug, Drop)]
 pub struct HostMemory {
     bytes: Vec<u8>,
@@ -60,10 +60,10 @@ impl Model for HostMemory {
 }
 
 impl HostMemory {
-    /// Makes a memory of `len` bytes, all zero. No other call takes memory.
+    /// Makes a memory of `len` bytes, all zero. `len` is even and at most [`MEMORY_LIMIT`]. No other
+    /// function of this type allocates.
     ///
-    /// `len` is even and at most [`MEMORY_LIMIT`]. Where `alloc` has no room for the bytes the answer
-    /// is [`NoMemory`].
+    /// Fails with [`NoMemory`] if `alloc` cannot allocate the bytes.
     pub fn new(alloc: Global, len: u32) -> Result<HostMemory, NoMemory>
         requires even { len % 2 ≡ 0 }
         requires within { len ≤ memory_limit }
@@ -74,7 +74,7 @@ impl HostMemory {
         })
     }
 
-    /// The bytes of the memory, to be read.
+    /// Returns the bytes of the memory for reading.
     pub fn as_slice(&self) -> &[u8]
         ensures bytes { result.now ≡ self.now }
         ensures memory { IsMemory result.now }
@@ -82,7 +82,7 @@ impl HostMemory {
         self.bytes.as_slice()
     }
 
-    /// How many bytes the memory has: an even number, at most [`MEMORY_LIMIT`].
+    /// Returns the number of bytes of the memory: an even number, at most [`MEMORY_LIMIT`].
     pub fn len(&self) -> u32
         ensures len { result ≡ length self.now }
         ensures even { result % 2 ≡ 0 }
@@ -91,16 +91,16 @@ impl HostMemory {
         self.bytes.len() as u32
     }
 
-    /// Whether the `len` bytes from address `addr` on all lie in the memory. `addr + len` is taken as
-    /// a whole number, so no sum wraps, and an odd address is allowed.
+    /// Returns whether the `len` bytes from address `addr` all lie in the memory. The address may be odd.
+    /// The sum `addr + len` does not wrap.
     pub fn has(&self, addr: u32, len: u32) -> bool
         ensures inside { IsTrue result ↔ (addr + len ≤ length self.now) }
     {
         slice::has(self.as_slice(), addr, len)
     }
 
-    /// The word at the even address `addr`, low byte first; None where `addr` is odd or the two
-    /// bytes don't both lie in the memory.
+    /// Returns the word at the even address `addr`, low byte first. Returns `None` if `addr` is odd or the
+    /// two bytes don't both lie in the memory.
     pub fn read_word(&self, addr: u32) -> Option<u16>
         ensures present { IsSome result ↔ HasWord self.now addr }
         ensures value { IfSome result (λ word. word ≡ word_at self.now addr) }
@@ -108,8 +108,8 @@ impl HostMemory {
         slice::read_word(self.as_slice(), addr)
     }
 
-    /// Writes `word` at the even address `addr`, low byte first, and no other byte; false, with
-    /// nothing changed, where `addr` is odd or the two bytes don't both lie in the memory.
+    /// Writes `word` at the even address `addr`, low byte first, and changes no other byte. Returns false
+    /// and changes nothing if `addr` is odd or the two bytes don't both lie in the memory.
     #[tactic(auto, using(crate::proofs::PutLaws::wholes))]
     pub fn write_word(&mut self, addr: u32, word: u16) -> bool
         ensures written { IsTrue result ↔ HasWord self.old addr }
@@ -118,8 +118,8 @@ impl HostMemory {
         slice::write_word(self.as_mut_slice(), addr, word)
     }
 
-    /// Writes `word` at the even address `addr`, low byte first, and no other byte, where the two
-    /// bytes are known to lie in the memory.
+    /// Writes `word` at the even address `addr`, low byte first, and changes no other byte. The caller
+    /// knows that the two bytes lie in the memory.
     pub fn put_word(&mut self, addr: u32, word: u16)
         requires word { HasWord self.old addr }
         ensures memory { self.new ≡ put self.old addr (word_bytes word) }
@@ -127,8 +127,8 @@ impl HostMemory {
         self.write_word(addr, word);
     }
 
-    /// The `len` bytes from address `addr` on, to be read; None where they don't all lie in the
-    /// memory. An odd address is allowed.
+    /// Returns the `len` bytes from address `addr` for reading, or `None` if they don't all lie in the
+    /// memory. The address may be odd.
     pub fn window(&self, addr: u32, len: u32) -> Option<&[u8]>
         ensures present { IsSome result ↔ (addr + len ≤ length self.now) }
         ensures value { IfSome result (λ bytes. bytes.now ≡ part self.now addr len) }
@@ -137,8 +137,8 @@ impl HostMemory {
         slice::window(self.as_slice(), addr, len)
     }
 
-    /// The 512 bytes of a block from address `addr` on, to be read; None where they don't all lie in
-    /// the memory. An odd address is allowed.
+    /// Returns the 512 bytes from address `addr` for reading, or `None` if they don't all lie in the
+    /// memory. The address may be odd.
     pub fn block(&self, addr: u32) -> Option<&[u8; 512]>
         ensures present { IsSome result ↔ (addr + 512 ≤ length self.now) }
         ensures value { IfSome result (λ block. block.now ≡ part self.now addr 512) }
@@ -146,8 +146,8 @@ impl HostMemory {
         slice::block(self.as_slice(), addr)
     }
 
-    /// The 512 bytes of a block from address `addr` on, to be read, where they are known to lie in
-    /// the memory ([`has`](HostMemory::has)).
+    /// Returns the 512 bytes from address `addr` for reading. The caller knows that they lie in the memory
+    /// ([`has`](HostMemory::has)).
     pub fn block_at(&self, addr: u32) -> &[u8; 512]
         requires inside { addr + 512 ≤ length self.now }
         ensures value { result.now ≡ part self.now addr 512 }
@@ -163,7 +163,7 @@ impl HostMemory {
     ghost use Rattle.uda_mem.specs.Slices.{IsMemory};
     ghost use Rattle.uda_mem.specs.Windows.{LendsWindow, LendsWindowIf};
 
-    /// The bytes of the memory, to be written.
+    /// Returns the bytes of the memory for writing.
     #[tactic(auto, unfolding(crate::specs::Put::part, crate::specs::Put::put))]
     pub fn as_mut_slice(&mut self) -> &mut [u8]
         ensures* writes_back { sem 𝓛 (LendsWindow self.entry 0 result) }
@@ -173,8 +173,8 @@ impl HostMemory {
         self.bytes.as_mut_slice()
     }
 
-    /// The `len` bytes from address `addr` on, to be written, where they are known to lie in the
-    /// memory ([`has`](HostMemory::has)). What is written lands there and nowhere else.
+    /// Returns the `len` bytes from address `addr` for writing. The caller knows that they lie in the
+    /// memory ([`has`](HostMemory::has)). Writes through the result change no other byte.
     #[tactic(auto, unfolding(crate::specs::Put::part, crate::specs::Put::put))]
     pub fn within(&mut self, addr: u32, len: u32) -> &mut [u8]
         requires inside { addr + len ≤ length self.old }
@@ -186,9 +186,10 @@ impl HostMemory {
         self.bytes.slice_mut(start..start + len as usize)
     }
 
-    /// The `len` bytes from address `addr` on, to be written; None, with nothing changed, where they
-    /// don't all lie in the memory. An odd address is allowed. What is written lands there and
-    /// nowhere else.
+    /// Returns the `len` bytes from address `addr` for writing. The address may be odd. Writes through the
+    /// result change no other byte.
+    ///
+    /// Returns `None` and changes nothing if the bytes don't all lie in the memory.
     pub fn window_mut(&mut self, addr: u32, len: u32) -> Option<&mut [u8]>
         ensures* writes_back { sem 𝓛 (LendsWindowIf self.entry addr result) }
         ensures present { IsSome result ↔ (addr + len ≤ length self.old) }
@@ -202,8 +203,8 @@ impl HostMemory {
         }
     }
 
-    /// The 512 bytes of a block from address `addr` on, to be written, where they are known to lie
-    /// in the memory ([`has`](HostMemory::has)). What is written lands there and nowhere else.
+    /// Returns the 512 bytes from address `addr` for writing. The caller knows that they lie in the memory
+    /// ([`has`](HostMemory::has)). Writes through the result change no other byte.
     pub fn block_within(&mut self, addr: u32) -> &mut [u8; 512]
         requires inside { addr + 512 ≤ length self.old }
         ensures* writes_back { sem 𝓛 (LendsWindow self.entry addr result) }
@@ -212,9 +213,10 @@ impl HostMemory {
         as_block(self.within(addr, 512))
     }
 
-    /// The 512 bytes of a block from address `addr` on, to be written; None, with nothing changed,
-    /// where they don't all lie in the memory. An odd address is allowed. What is written lands
-    /// there and nowhere else.
+    /// Returns the 512 bytes from address `addr` for writing. The address may be odd. Writes through the
+    /// result change no other byte.
+    ///
+    /// Returns `None` and changes nothing if the bytes don't all lie in the memory.
     pub fn block_mut(&mut self, addr: u32) -> Option<&mut [u8; 512]>
         ensures* writes_back { sem 𝓛 (LendsWindowIf self.entry addr result) }
         ensures present { IsSome result ↔ (addr + 512 ≤ length self.old) }
@@ -227,7 +229,7 @@ impl HostMemory {
         }
     }
 
-    // What `has` answers, asked of a memory that is then lent on to be written.
+    // Returns the result of `has`, for a memory that the caller then borrows for writing.
     fn has_mut(&mut self, addr: u32, len: u32) -> bool
         ensures answer { IsTrue result ↔ (addr + len ≤ length self.old) }
         ensures unchanged { self.new ≡ self.old }

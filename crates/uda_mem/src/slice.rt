@@ -1,7 +1,7 @@
-//! Memory that is somebody else's: its bytes as a slice, read and written in words, windows and blocks.
+//! Host memory in a slice that somebody else owns, read and written in words, windows and blocks.
 //!
-//! An address is the place of a byte in the slice, which may have any length but for [`len`]. Whoever hands a
-//! slice to a port or an executor tests it by [`is_memory`].
+//! An address is the index of a byte in the slice. The slice may have any length, except for [`len`]. A
+//! caller that passes a slice to a port or an executor tests it with [`is_memory`] first.
 ghost use Rattle.std.specs.Prelude.{◌≡◌, ℕ, ◌+◌, ◌≤◌, ◌↔◌, length, IsTrue, IsSome, IfSome, replicate};
 ghost use Rattle.std.specs.Prelude.{if◌then◌else◌};
 ghost use Rattle.uda_mem.specs.Put.{put, part};
@@ -10,17 +10,18 @@ ghost use Rattle.uda_mem.specs.Slices.{IsMemory};
 
 use byteorder::{ByteOrder, LittleEndian};
 
-/// The most bytes that a memory in a slice has: the 4,194,304 addresses of a Q-bus, which are of 22 bits.
+/// The most bytes of a memory in a slice: the 4,194,304 addresses of a Q-bus, which have 22 bits.
 pub const SLICE_LIMIT: u32 = 4_194_304;
 
-/// Whether these bytes can be the memory of a host: they are an even number, at most [`SLICE_LIMIT`].
+/// Returns whether these bytes can be the memory of a host: an even number of them, at most
+/// [`SLICE_LIMIT`].
 pub fn is_memory(bytes: &[u8]) -> bool
     ensures memory { IsTrue result ↔ IsMemory bytes.now }
 {
     bytes.len() % 2 == 0 && bytes.len() <= SLICE_LIMIT as usize
 }
 
-/// How many bytes a memory has.
+/// Returns the number of bytes of a memory, which is at most [`SLICE_LIMIT`].
 pub fn len(memory: &[u8]) -> u32
     requires within { length memory.now ≤ SLICE_LIMIT }
     ensures len { result ≡ length memory.now }
@@ -28,16 +29,16 @@ pub fn len(memory: &[u8]) -> u32
     memory.len() as u32
 }
 
-/// Whether the `len` bytes from address `addr` on all lie in the memory. `addr + len` is taken as a whole
-/// number, so no sum wraps, and an odd address is allowed.
+/// Returns whether the `len` bytes from address `addr` all lie in the memory. The address may be odd. The
+/// sum `addr + len` does not wrap.
 pub fn has(memory: &[u8], addr: u32, len: u32) -> bool
     ensures inside { IsTrue result ↔ (addr + len ≤ length memory.now) }
 {
     addr as usize + len as usize <= memory.len()
 }
 
-/// The word at the even address `addr`, low byte first; None where `addr` is odd or the two bytes don't both
-/// lie in the memory.
+/// Returns the word at the even address `addr`, low byte first. Returns `None` if `addr` is odd or the two
+/// bytes don't both lie in the memory.
 #[tactic(auto, unfolding(crate::specs::Put::part, crate::specs::Words::word_at))]
 pub fn read_word(memory: &[u8], addr: u32) -> Option<u16>
     ensures present { IsSome result ↔ HasWord memory.now addr }
@@ -50,8 +51,8 @@ pub fn read_word(memory: &[u8], addr: u32) -> Option<u16>
     Some(LittleEndian::read_u16(bytes))
 }
 
-/// Writes `word` at the even address `addr`, low byte first, and no other byte; false, with nothing changed,
-/// where `addr` is odd or the two bytes don't both lie in the memory.
+/// Writes `word` at the even address `addr`, low byte first, and changes no other byte. Returns false and
+/// changes nothing if `addr` is odd or the two bytes don't both lie in the memory.
 #[tactic(auto, unfolding(crate::specs::Put::put, crate::specs::Words::word_bytes))]
 pub fn write_word(memory: &mut [u8], addr: u32, word: u16) -> bool
     ensures written { IsTrue result ↔ HasWord memory.old addr }
@@ -65,8 +66,8 @@ pub fn write_word(memory: &mut [u8], addr: u32, word: u16) -> bool
     true
 }
 
-/// Writes `word` at the even address `addr`, low byte first, and no other byte, where the two bytes are known
-/// to lie in the memory.
+/// Writes `word` at the even address `addr`, low byte first, and changes no other byte. The caller knows
+/// that the two bytes lie in the memory.
 pub fn put_word(memory: &mut [u8], addr: u32, word: u16)
     requires word { HasWord memory.old addr }
     ensures memory { memory.new ≡ put memory.old addr (word_bytes word) }
@@ -74,7 +75,8 @@ pub fn put_word(memory: &mut [u8], addr: u32, word: u16)
     write_word(memory, addr, word);
 }
 
-/// Writes these bytes from address `addr` on, and no other byte, where they are known to lie in the memory.
+/// Writes these bytes from address `addr`, and changes no other byte. The caller knows that they fit in the
+/// memory.
 #[tactic(auto, unfolding(crate::specs::Put::put))]
 pub fn put_bytes(memory: &mut [u8], addr: u32, bytes: &[u8])
     requires inside { addr + length bytes.now ≤ length memory.old }
@@ -84,7 +86,8 @@ pub fn put_bytes(memory: &mut [u8], addr: u32, bytes: &[u8])
     memory[start..start + bytes.len()].copy_from_slice(bytes);
 }
 
-/// Writes `len` zeros from address `addr` on, and no other byte, where they are known to lie in the memory.
+/// Writes `len` zeros from address `addr`, and changes no other byte. The caller knows that they fit in the
+/// memory.
 #[tactic(auto, unfolding(crate::specs::Put::put))]
 pub fn put_zeros(memory: &mut [u8], addr: u32, len: u32)
     requires inside { addr + len ≤ length memory.old }
@@ -94,8 +97,8 @@ pub fn put_zeros(memory: &mut [u8], addr: u32, len: u32)
     memory[start..start + len as usize].fill(0);
 }
 
-/// The `len` bytes from address `addr` on, to be read; None where they don't all lie in the memory. An odd
-/// address is allowed.
+/// Returns the `len` bytes from address `addr` for reading, or `None` if they don't all lie in the memory.
+/// The address may be odd.
 #[tactic(auto, unfolding(crate::specs::Put::part))]
 pub fn window(memory: &[u8], addr: u32, len: u32) -> Option<&[u8]>
     ensures present { IsSome result ↔ (addr + len ≤ length memory.now) }
@@ -106,8 +109,8 @@ pub fn window(memory: &[u8], addr: u32, len: u32) -> Option<&[u8]>
     memory.get(start..start + len as usize)
 }
 
-/// The 512 bytes of a block from address `addr` on, to be read; None where they don't all lie in the memory.
-/// An odd address is allowed.
+/// Returns the 512 bytes from address `addr` for reading, or `None` if they don't all lie in the memory.
+/// The address may be odd.
 pub fn block(memory: &[u8], addr: u32) -> Option<&[u8; 512]>
     ensures present { IsSome result ↔ (addr + 512 ≤ length memory.now) }
     ensures value { IfSome result (λ block. block.now ≡ part memory.now addr 512) }
@@ -115,7 +118,7 @@ pub fn block(memory: &[u8], addr: u32) -> Option<&[u8; 512]>
     window(memory, addr, 512)?.as_array()
 }
 
-/// The 512 bytes of a block from address `addr` on, to be read, where they are known to lie in the memory.
+/// Returns the 512 bytes from address `addr` for reading. The caller knows that they lie in the memory.
 pub fn block_at(memory: &[u8], addr: u32) -> &[u8; 512]
     requires inside { addr + 512 ≤ length memory.now }
     ensures value { result.now ≡ part memory.now addr 512 }

@@ -7,49 +7,49 @@ use Rattle.std.proofs.lemmas.Option.{slice_get_within, slice_get-map}
 use Rattle.uda_disk.specs.Disk.{Disks}
 use Rattle.uda_disk.specs.Request.{Act, Online, Request}
 use Rattle.uda_disk.specs.Answer.{Answer, TooLong}
-use Rattle.uda_disk.specs.Plain.{Bar, Barred, Free, bar, Outcome, Done, answer_by}
-use Rattle.uda_disk.specs.PlainRun.{FixedRequest, requests_of, too_long, step_of, plain_as, FitsRequest, PlainWithLosses}
+use Rattle.uda_disk.specs.RequestEffect.{CheckResult, Rejected, Accepted, check_result, TransferOutcome, Done, answer_by}
+use Rattle.uda_disk.specs.InOrderRun.{FixedRequest, requests_of, too_long, step_of, run_in_order_as, FitsRequest, InOrderWithFailures}
 use Rattle.uda_disk.specs.Runs.{runs_first}
-use Rattle.uda_disk.proofs.OrderLaw.{request_order_is_free}
+use Rattle.uda_disk.proofs.OrderLaw.{request_order_is_irrelevant}
 use Rattle.uda_disk.proofs.Slots.{set-itself}
-use Rattle.uda_model.specs.Ledger.{is_to_come, untold, finish, NoneToCome, GoesBefore, Opens, Closes, CarriesOut}
+use Rattle.uda_model.specs.Ledger.{is_to_come, untold, finish, NoneToCome, MayExecuteBefore, Opens, Closes, CarriesOut}
 
--- ---- one that may go is done first
+-- ---- an eligible one is executed first
 
 -- two requests leave the same in either order
 abbrev Swap : FixedRequest → FixedRequest → Type 0
-Swap y x = (disks : Disks) → runs_first step_of 1 x (y ∷ x ∷ []) disks ≡ plain_as disks (y ∷ x ∷ [])
+Swap y x = (disks : Disks) → runs_first step_of 1 x (y ∷ x ∷ []) disks ≡ run_in_order_as disks (y ∷ x ∷ [])
 
-swap : (y x : FixedRequest) → (too_long y.request ≡ false → GoesBefore y.request x.request) → Swap y x
+swap : (y x : FixedRequest) → (too_long y.request ≡ false → MayExecuteBefore y.request x.request) → Swap y x
 swap y x may disks = by (too_long y.request) refl
   where
     by : (b : Bool) → too_long y.request ≡ b
-        → runs_first step_of 1 x (y ∷ x ∷ []) disks ≡ plain_as disks (y ∷ x ∷ [])
+        → runs_first step_of 1 x (y ∷ x ∷ []) disks ≡ run_in_order_as disks (y ∷ x ∷ [])
     by true long = rw long refl
     by false short =
         let goes = may short in
-        request_order_is_free (y ∷ x ∷ []) 1 x disks
+        request_order_is_irrelevant (y ∷ x ∷ []) 1 x disks
         (λ i j d before within.
         let first : i ≡ 0 = omega arith in let second : j ≡ 1 = omega arith in rw (first, second) goes.clear)
         (record {
           stands = omega arith;
-          passes_each = λ i older r below at_i at_j.
+          overtakes_each = λ i older r below at_i at_j.
               let first : i ≡ 0 = omega arith in
               let one : Some y.request ≡ Some older = rw first at at_i in
               let y_is : y.request ≡ older = cc in let x_is : x.request ≡ r = cc in
-              rw (← y_is, ← x_is) goes.passes;
+              rw (← y_is, ← x_is) goes.may_overtake;
         }) refl
 
--- a request that isn't too long is told another answer than TooLong
-told-by : (o : Outcome) (act : Act) (b : Bar) → is_to_come (answer_by o act b) ≡ false
-told-by o (Online protect) (Barred refusal) = refl
-told-by o _ (Barred refusal) = refl
-told-by o (Online protect) (Free disk) = refl
-told-by o _ (Free disk) = refl
+-- a request that isn't too long has another answer than TooLong
+told-by : (o : TransferOutcome) (act : Act) (b : CheckResult) → is_to_come (answer_by o act b) ≡ false
+told-by o (Online protect) (Rejected refusal) = refl
+told-by o _ (Rejected refusal) = refl
+told-by o (Online protect) (Accepted disk) = refl
+told-by o _ (Accepted disk) = refl
 
 is_told : (x : FixedRequest) (disks : Disks) → too_long x.request ≡ false
     → is_to_come (step_of x disks).0 ≡ false
-is_told x disks short = rw short (told-by x.outcome x.request.act (bar disks x.request))
+is_told x disks short = rw short (told-by x.outcome x.request.act (check_result disks x.request))
 
 goes_first : (xs : List FixedRequest) (told : List Answer) (k : ℕ) (x : FixedRequest) (disks : Disks)
     → k < length xs → slice_get told k ≡ Some TooLong → too_long x.request ≡ false
@@ -67,7 +67,7 @@ goes_first (y ∷ ys) (TooLong ∷ told) (suc k) x disks low at short swaps =
     (goes_first ys told k x (step_of y disks).1 (omega arith) at short
     (λ i z below there still. swaps (suc i) z (omega arith) there still))
   where
-    -- both answers, each told, and the others on the disks that the two leave
+    -- both answers, and those of the others on the disks that the two leave
     seam : FixedRequest → List FixedRequest → List Answer → ℕ → List Answer → Disks → List Answer × Disks
     seam y ys told k (a ∷ b ∷ rest) w = let later = finish ys (set told k b) w in (a ∷ later.0, later.1)
     seam y ys told k answers w = (answers, w)
@@ -89,13 +89,13 @@ ledger_carries_out start requests now k x it may fits h fixed e fit =
       short = short;
       untold = still;
     }))) in
-    subst (λ w. PlainWithLosses start requests w.0 w.1) (sym first)
+    subst (λ w. InOrderWithFailures start requests w.0 w.1) (sym first)
     (h all asked (All-set FitsRequest fixed k x fits fit))
 
 -- ---- the beginning and the end
 
 opened : (xs : List FixedRequest) (disks : Disks)
-    → finish xs (untold (requests_of xs)) disks ≡ plain_as disks xs
+    → finish xs (untold (requests_of xs)) disks ≡ run_in_order_as disks xs
 opened [] disks = refl
 opened (x ∷ xs) disks =
     ap (λ (w : List Answer × Disks). ((step_of x disks).0 ∷ w.0, w.1)) (opened xs (step_of x disks).1)
@@ -130,7 +130,7 @@ closed (x ∷ xs) (a ∷ told) disks none =
     by TooLong none rest = long_stays (too_long x.request) refl none rest
     by a none rest = ap (behind a) rest
 
--- a request whose outcome is that it is done
+-- a request whose outcome is success
 abbrev done : Request → FixedRequest
 done r = record { request = r; outcome = Done }
 
@@ -142,6 +142,6 @@ pub ledger_closes : Closes
 ledger_closes start requests now none h =
     let xs = map done requests in
     let asked = done-asks requests in
-    subst (λ w. PlainWithLosses start requests w.0 w.1)
+    subst (λ w. InOrderWithFailures start requests w.0 w.1)
     (closed xs now.0 now.1 (subst (λ rs. NoneToCome rs now.0) (sym asked) none))
     (h xs asked (All-map FitsRequest done requests (λ i r low. tt)))

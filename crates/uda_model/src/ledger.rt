@@ -1,19 +1,19 @@
 //! The laws of the ledger.
 ghost use Rattle.uda_model.specs.Ledger.{Opens, CarriesOut, Closes};
 
-/// Proves that the ledger holds at the start, when no answer is told.
+/// States that the ledger holds at the start, when no answer is written.
 pub fn opens()
     ensures law { Opens }
 {}
 
-/// Proves that the ledger still holds after a request is executed that may go before each older one
-/// whose answer is still to come.
+/// States that the ledger still holds after the execution of a request that may be executed before each
+/// older one without an answer.
 pub fn carries_out()
     ensures law { CarriesOut }
 {}
 
-/// Proves that at the end, when only requests that are too long are left, the ledger is an in-order run
-/// with losses.
+/// States that at the end, when only requests that are too long are left, the ledger is an in-order run in
+/// which transfers may fail.
 pub fn closes()
     ensures law { Closes }
 {}

@@ -1,5 +1,5 @@
--- The grammar and the functions that read agree, so a text stands for one command, one fault or one end
--- message.
+-- The grammar and the functions that read agree, so a text has the meaning of exactly one command, one
+-- fault or one end message.
 use Rattle.std.proofs.Common.{◌≡◌, ℕ, Bool, true, false, List, Option, Some, None, Result, Ok, Err, refl, sym, ◌∙◌, subst, ◌↔◌, MatchResult, MatchOption}
 use Rattle.std.proofs.lemmas.Bool.{ne_eqb, eq-eqb}
 use Rattle.uda_packet.specs.declared.command.Command.{Command}
@@ -16,7 +16,7 @@ use Rattle.uda_packet.specs.Reply.{reply_named, read_reply}
 use Rattle.uda_packet.specs.Text.{OpText, VersionFits, FaultText, CommandText, BadText, HasUnknownOpcode, HasStrayModifier, HasWrongVersion, EndText, IsNoEnd}
 use Rattle.uda_packet.specs.Reading.{op_by_version, read_op, read_command, read_end}
 
--- where a version is named it is judged
+-- if there is a version, it is checked
 version_read : (bytes : List ℕ) (o : Op) (named : Bool) → VersionFits bytes named
     → op_by_version bytes o named ≡ Ok o
 version_read bytes o false t = refl
@@ -112,9 +112,9 @@ only_end bytes (Some d) t e = (
   λ u. sym (end_is_read bytes d t) ∙ end_is_read bytes e u,
 )
 
--- ---- end messages of the profile for guests
+-- ---- end messages of the compatible profile
 
--- what a text of such an end message is read as
+-- the end message that a text of it is read as
 pub record ReplyText (bytes : List ℕ) (r : Reply) : Type 0 where
   pub reference_is : number_in reference_field bytes ≡ r.reference
   pub unit_is : number_in unit_field bytes ≡ r.unit

@@ -12,7 +12,7 @@ use Rattle.uda_packet.specs.declared.end.Kind.TheVariants as kind
 use Rattle.uda_packet.specs.Field.{Entry, ◌holds◌, text_of, with_entries, with_number, number_in, reference_field, unit_field, code_field, status_field, unit_flags_field, unit_size_field}
 use Rattle.uda_packet.specs.Opcode.{opcode_of, end_code, parameters, names_version}
 use Rattle.uda_packet.specs.Text.{CommandText, NamesOp, AllowsModifiers, VersionFits, EndText, BodyText}
-use Rattle.uda_packet.specs.Commands.{BodyFits, answer_entries, unit_entries, controller_entries, tells_status, tells_online}
+use Rattle.uda_packet.specs.Commands.{BodyFits, answer_entries, unit_entries, strict_controller_entries, tells_status, tells_online}
 use Rattle.uda_packet.specs.Written.{written_command, written_end}
 use Rattle.uda_packet.specs.Range.{EntriesFit}
 use Rattle.uda_packet.specs.declared.reply.Reply.{Reply}
@@ -39,7 +39,7 @@ word_back n h = little_number-reads_back 2 n [] h
 long_back : (n : ℕ) → n < 2 ^ 32 → little_from 0 4 (little_bytes 4 n) ≡ n
 long_back n h = little_number-reads_back 4 n [] h
 
--- one, two or three numbers in place of equal ones
+-- one, two or three numbers that replace equal ones
 one : {A : Type 0} (f : ℕ → A) {a b : ℕ} → a ≡ b → f a ≡ f b
 one f e = ap f e
 
@@ -153,7 +153,7 @@ writes_command c code before after named headed written =
 
 -- ---- end messages
 
--- a body of the strict profile is read as it is in the profile for guests
+-- a body of the strict profile is read as it is in the compatible profile
 basic_is_read : (bytes : List ℕ) (b : EndBody) → BodyText bytes b
     → reply_named (number_in code_field bytes) bytes ≡ Some (Basic b)
 basic_is_read bytes b t = rw t refl
@@ -166,7 +166,7 @@ module _ (reference unit status : ℕ) where
   abbrev whole_text : ℕ → List Entry → List ℕ
   whole_text code rest = text_of (head_entries reference unit code (status_field holds status ∷ rest))
 
-  -- what is proved of an end message's row, of which each body has one proof
+  -- the facts proved of an end message's row, with one proof for each body
   record LawfulEnd (b : EndBody) (rest : List Entry) : Type 0 where
     entries : with_entries rest (text_begin (end_code b)) ≡ whole_text (end_code b) rest
     long : length (whole_text (end_code b) rest) ≡ 48
@@ -179,7 +179,7 @@ module _ (reference unit status : ℕ) where
   status_lawful flags false =
       record { entries = refl; long = refl; text = λ h. one (λ x. Some (body.Status x)) (word_back flags h) }
 
-  controller_lawful : (told : Bool) → LawfulEnd body.Controller (controller_entries told)
+  controller_lawful : (told : Bool) → LawfulEnd body.Controller (strict_controller_entries told)
   controller_lawful true = record { entries = refl; long = refl; text = λ h. refl }
   controller_lawful false = record { entries = refl; long = refl; text = λ h. refl }
 
@@ -263,7 +263,7 @@ pub length-written_end : (e : End) → length (written_end e) ≡ 48
 unfolding written_end
 length-written_end e = (written_lawful e).long
 
--- ---- end messages of the profile for guests
+-- ---- end messages of the compatible profile
 
 pub record ReplyIsFit (r : Reply) : Type 0 where
   pub reference_fits : r.reference < 2 ^ 32
@@ -272,7 +272,7 @@ pub record ReplyIsFit (r : Reply) : Type 0 where
   pub body_fits : ReplyFits r.body
 
 module _ (reference unit status : ℕ) where
-  -- what is proved of the row of such an end message
+  -- the facts proved of the row of such an end message
   record LawfulReply (b : ReplyBody) (rest : List Entry) : Type 0 where
     entries : with_entries rest (text_begin reference unit status (reply_code b))
         ≡ whole_text reference unit status (reply_code b) rest

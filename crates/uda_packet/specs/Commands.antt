@@ -1,6 +1,6 @@
--- The commands: all that tells one from another. A command has a row in `row_of` and one in `ops_in`. The
--- body of its end message has one in `body_row`, `answer_entries`, `bodies_in` and `BodyFits`.
--- MSCP Basic Disk Functions Manual: command and end messages.
+-- The commands: all the facts in which they differ. A command has a row in `row_of` and one in `ops_in`.
+-- The body of its end message has one in `body_row`, `answer_entries`, `bodies_in` and `BodyFits`. MSCP
+-- Basic Disk Functions Manual: command and end messages.
 use Rattle.std.specs.Prelude.{ℕ, ◌+◌, ◌*◌, ◌^◌, ◌<◌, ◌==◌, ◌||◌, Bool, true, false, Option, Some, None, List}
 use Rattle.std.specs.Prelude.{[], ◌∷◌, ◌++◌, codes, if◌then◌else◌}
 use Rattle.std.specs.Int.RustNames.{bit_and}
@@ -22,17 +22,17 @@ use Rattle.uda_disk.specs.Status.{SUCCESS, AVAILABLE, ALREADY_ONLINE}
 
 -- ---- commands
 
--- what tells one command from another; its opcode is in the row of its answer
+-- the constant facts of a command; its opcode is in the row of its end message
 pub record OpRow : Type 0 where
   -- the body of its end message with all numbers 0
   pub blank : EndBody
   -- the modifier bits that it may have
   pub allowed : ℕ
-  -- whether it names a version of MSCP
+  -- whether it has a field for the version of MSCP
   pub versioned : Bool
   -- the range and the buffer of a transfer
   pub transfer : Option Transfer
-  -- what its text holds after the opcode
+  -- the fields of its text after the opcode
   pub parameters : List Entry
 
 abbrev pub protection_flags : Bool → ℕ
@@ -54,7 +54,7 @@ plain_row answer = record {
   parameters = [];
 }
 
--- a transfer without a buffer, for which 0 stands
+-- a transfer without a buffer; the address 0 replaces it
 abbrev extent_row : Kind → ℕ → ℕ → OpRow
 extent_row which bytes lbn = record (plain_row (body.Moved which 0)) {
   transfer = Some (record { kind = which; bytes = bytes; lbn = lbn; buffer = 0 });
@@ -86,7 +86,7 @@ abbrev pub asks_protection : List ℕ → Bool
 asks_protection bytes =
     bit_and (number_in unit_flags_field bytes) software_protection == software_protection
 
--- what an Online says of protection
+-- the request of an Online for software protection, if it makes one
 abbrev pub protection_in : List ℕ → Option Bool
 protection_in bytes =
     if number_in modifiers_field bytes == set_write_protect
@@ -104,15 +104,15 @@ ops_in bytes =
 
 -- ---- end messages
 
--- what tells the body of one end message from another
+-- the constant facts of the body of an end message
 pub record BodyRow : Type 0 where
-  -- the opcode that it answers, 0 where it answers none
+  -- the opcode of its command, or 0 for an invalid command
   pub opcode : ℕ
-  -- how many bytes the manual gives its text
+  -- the length in bytes that the manual gives its text
   pub length : ℕ
-  -- what the command is called
+  -- the name of the command
   pub name : List ℕ
-  -- its numbers as a person reads them
+  -- the printed text of its numbers
   pub numbers : List ℕ
 
 abbrev pub body_line : ℕ → ℕ → List ℕ → List ℕ → BodyRow
@@ -152,11 +152,11 @@ body_row (body.Online flags size) =
 body_row (body.Moved which bytes) =
     body_line (transfer_opcode which) 32 (kind_display which) (moved_shown bytes)
 
--- the unit's number below, its class 2 (disk) in the highest byte
-abbrev unit_identifier : ℕ → ℕ
-unit_identifier number = number + 2 * 256 ^ 7
+-- the unit's number in the low bytes, its class 2 (disk) in the highest byte
+abbrev strict_unit_identifier : ℕ → ℕ
+strict_unit_identifier number = number + 2 * 256 ^ 7
 
--- the controller's number 1 below, its model 6 and its class 1 (mass storage controller) in the
+-- the controller's number 1 in the low bytes, its model 6 and its class 1 (mass storage controller) in the
 -- highest bytes
 abbrev controller_identifier : ℕ
 controller_identifier = 1 + 6 * 256 ^ 6 + 1 * 256 ^ 7
@@ -165,31 +165,30 @@ controller_identifier = 1 + 6 * 256 ^ 6 + 1 * 256 ^ 7
 abbrev media_type : ℕ
 media_type = 0x25641051
 
--- an end message of Get Unit Status tells identifier and media type where the unit is online or
--- available
+-- an end message of Get Unit Status has identifier and media type if the unit is online or available
 abbrev pub tells_status : ℕ → Bool
 tells_status status = (status == SUCCESS) || (status == AVAILABLE)
 
--- one of Online where the unit is online now, or was
+-- one of Online has them if the unit is online now, or was
 abbrev pub tells_online : ℕ → Bool
 tells_online status = (status == SUCCESS) || (status == ALREADY_ONLINE)
 
 abbrev pub unit_entries : Bool → ℕ → List Entry
 unit_entries true unit =
-    identifier_field holds (unit_identifier unit) ∷ media_type_field holds media_type ∷ []
+    identifier_field holds (strict_unit_identifier unit) ∷ media_type_field holds media_type ∷ []
 unit_entries false unit = []
 
--- the controller's identifier, after success alone
-abbrev pub controller_entries : Bool → List Entry
-controller_entries true = identifier_field holds controller_identifier ∷ []
-controller_entries false = []
+-- the controller's identifier, only after success
+abbrev pub strict_controller_entries : Bool → List Entry
+strict_controller_entries true = identifier_field holds controller_identifier ∷ []
+strict_controller_entries false = []
 
--- what an end message of this unit and status holds after the status
+-- the fields after the status of an end message of this unit and status
 abbrev pub answer_entries : ℕ → ℕ → EndBody → List Entry
 answer_entries unit status body.Invalid = []
 answer_entries unit status (body.Status flags) =
     unit_flags_field holds flags ∷ unit_entries (tells_status status) unit
-answer_entries unit status body.Controller = controller_entries (status == SUCCESS)
+answer_entries unit status body.Controller = strict_controller_entries (status == SUCCESS)
 answer_entries unit status body.Available = []
 answer_entries unit status (body.Online flags size) =
     unit_flags_field holds flags

@@ -1,4 +1,4 @@
--- Messages as a person reads them.
+-- The printed texts of messages.
 use Rattle.std.specs.Prelude.{ℕ, List, [], ◌++◌, codes, Option, Some, None}
 use Rattle.std.specs.Fmt.{decimal}
 use Rattle.uda_packet.specs.declared.bad.Bad.{Bad}
@@ -15,11 +15,11 @@ use Rattle.uda_packet.specs.Transfer.{transfer_of}
 use Rattle.uda_disk.specs.Status.{status_name}
 use Rattle.uda_disk.specs.Display.{word_digits}
 
--- what the command is called that a body answers
+-- the name of the command of a body
 abbrev pub body_name : EndBody → List ℕ
 body_name b = (body_row b).name
 
--- the numbers that it tells
+-- the printed text of its numbers
 abbrev pub body_numbers : EndBody → List ℕ
 body_numbers b = (body_row b).numbers
 
@@ -43,11 +43,11 @@ bad_display b =
     codes "reference " ++ decimal b.reference ++ codes ", unit " ++ decimal b.unit
     ++ codes ": " ++ fault_display b.kind
 
--- what an operation is called: as the body of its end
+-- the name of an operation: that of the body of its end message
 abbrev pub op_name : Op → List ℕ
 op_name o = body_name (blank_body o)
 
--- the blocks that a transfer speaks of
+-- the range of a transfer
 abbrev pub range_display : Option Transfer → List ℕ
 range_display (Some t) = codes " lbn " ++ decimal t.lbn ++ codes " bytes " ++ decimal t.bytes
 range_display None = []

@@ -1,5 +1,5 @@
--- The drive types that a unit can report, with what a host learns of each.
--- MSCP Basic Disk Functions Manual: media type identifiers, unit identifiers, Get Unit Status.
+-- The drive types that a unit can report, with the facts that a host can read of each. MSCP Basic Disk
+-- Functions Manual: media type identifiers, unit identifiers, Get Unit Status.
 use Rattle.std.specs.Prelude.{ℕ, true, false, List, codes}
 use Rattle.uda_packet.specs.declared.drive_type.DriveType.{DriveType}
 use Rattle.uda_packet.specs.declared.drive_type.DriveType.TheVariants as drive
@@ -9,7 +9,7 @@ use Rattle.uda_packet.specs.declared.drive_type.Geometry.{Geometry}
 abbrev geometry : ℕ → ℕ → ℕ → Geometry
 geometry sectors tracks groups = record { sectors = sectors; tracks = tracks; groups = groups }
 
--- a drive whose medium stays in it and can be written
+-- a drive with a fixed, writable medium
 abbrev fixed : ℕ → ℕ → ℕ → Geometry → DriveTraits
 fixed blocks model media shape = record {
   blocks = blocks;
@@ -23,7 +23,7 @@ fixed blocks model media shape = record {
 abbrev removable : DriveTraits → DriveTraits
 removable traits = record traits { is_removable = true }
 
--- usual size in blocks, model, media type; sectors a track, tracks a group, groups a cylinder
+-- usual size in blocks, model, media type; sectors per track, tracks per group, groups per cylinder
 abbrev pub drive_traits : DriveType → DriveTraits
 drive_traits drive.Rx50 = removable (fixed 800 7 0x25658032 (geometry 10 5 16))
 drive_traits drive.Rx33 = removable (fixed 2400 10 0x25658021 (geometry 15 2 1))

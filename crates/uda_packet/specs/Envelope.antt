@@ -6,7 +6,7 @@ use Rattle.uda_packet.specs.declared.envelope.Envelope.{Envelope}
 abbrev pub envelope_words : Envelope → ℕ × ℕ
 envelope_words e = (e.length, e.credits + 16 * e.kind + 256 * e.connection)
 
--- the envelope that two words are
+-- the envelope in two words
 abbrev pub envelope_of : ℕ → ℕ → Envelope
 envelope_of size grant = record {
   length = size;

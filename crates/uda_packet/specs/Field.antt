@@ -1,10 +1,10 @@
--- Where the fields of a message stand, and the two ways to look at them: the number that a field
--- holds, and the bytes of a text that holds given numbers.
+-- The offsets of a message's fields, and two views of them: the number in a field, and the bytes of a text
+-- with given numbers.
 use Rattle.std.specs.Prelude.{ℕ, ◌+◌, ◌-◌, List, [], ◌∷◌, ◌++◌, replicate}
 use Rattle.std.specs.List.{splice}
 use Rattle.byteorder.specs.Endian.{little_from, little_bytes}
 
--- a field of a message: its first byte and how many bytes it has
+-- a field of a message: the offset of its first byte, and its width in bytes
 pub record Field : Type 0 where
   pub offset : ℕ
   pub width : ℕ
@@ -32,11 +32,11 @@ status_field = field 10 2
 abbrev pub byte_count_field : Field
 byte_count_field = field 12 4
 
--- the reference of the command that an Abort or a Get Command Status names
+-- the reference of the command that an Abort or a Get Command Status concerns
 abbrev pub named_field : Field
 named_field = field 12 4
 
--- how far the command is that a Get Command Status names
+-- the progress of the command that a Get Command Status concerns
 abbrev pub progress_field : Field
 progress_field = field 16 4
 
@@ -63,11 +63,11 @@ media_type_field = field 28 4
 abbrev pub unit_size_field : Field
 unit_size_field = field 36 4
 
--- the number that a field holds, its low byte first
+-- the number in a field, low byte first
 abbrev pub number_in : Field → List ℕ → ℕ
 number_in f bytes = little_from f.offset f.width bytes
 
--- a field and the number that it is to hold
+-- a field and the number to write into it
 pub record Entry : Type 0 where
   pub place : Field
   pub number : ℕ
@@ -76,8 +76,8 @@ infix 90 ◌holds◌
 abbrev pub ◌holds◌ : Field → ℕ → Entry
 f holds n = record { place = f; number = n }
 
--- the bytes of a text from byte `start` to its end: the entries stand at their places, in rising
--- order, and every byte between them is 0
+-- the bytes of a text from byte `start` to its end: the entries are at their offsets, in rising order, and
+-- every byte between them is 0
 abbrev pub text_from : ℕ → List Entry → List ℕ
 text_from start [] = replicate (48 - start) 0
 text_from start (e ∷ rest) =
@@ -88,11 +88,11 @@ text_from start (e ∷ rest) =
 abbrev pub text_of : List Entry → List ℕ
 text_of entries = text_from 0 entries
 
--- a text after a number is written into a field
+-- a text after a write of a number into a field
 abbrev pub with_number : Field → ℕ → List ℕ → List ℕ
 with_number f n bytes = splice bytes f.offset (f.offset + f.width) (little_bytes f.width n)
 
--- a text after the entries are written into it, one after the other
+-- a text after writes of the entries, one after another
 abbrev pub with_entries : List Entry → List ℕ → List ℕ
 with_entries [] bytes = bytes
 with_entries (e ∷ rest) bytes = with_entries rest (with_number e.place e.number bytes)

@@ -1,5 +1,5 @@
--- What the text of a guest's command asks: any command of basic MSCP, whatever its modifiers.
--- MSCP Basic Disk Functions Manual: command messages, opcodes, command modifiers.
+-- The request in the text of a guest's command: any command of basic MSCP, whatever its modifiers. MSCP
+-- Basic Disk Functions Manual: command messages, opcodes, command modifiers.
 use Rattle.std.specs.Prelude.{ℕ, ◌+◌, ◌%◌, ◌==◌, nat_lt, ◌&&◌, Bool, List, Option, Some, None, Result, Ok, Err}
 use Rattle.std.specs.Prelude.{if◌then◌else◌}
 use Rattle.std.specs.Int.RustNames.{bit_and}
@@ -27,9 +27,9 @@ use Rattle.uda_packet.specs.Reply.{basic_reply}
 use Rattle.uda_packet.specs.declared.end.EndBody.TheVariants.{Invalid}
 use Rattle.uda_disk.specs.Status.{SUCCESS, INVALID_OPCODE}
 
--- ---- commands that are answered when they are fetched
+-- ---- commands that the port executes when it fetches them
 
--- the body of the answer, which the text alone gives; the progress that a Get Command Status asks for is not
+-- the body of the end message, which depends only on the text; the progress for a Get Command Status is not
 -- known yet
 abbrev pub body_at_once : ℕ → List ℕ → Option ReplyBody
 body_at_once code bytes =
@@ -79,7 +79,7 @@ plain_text identity bytes =
     (with_number modifiers_field (modifiers_meant bytes)
     (with_number unit_field (drive_number identity (unit_meant identity bytes)) bytes))
 
--- a command on a connection that isn't MSCP's is answered as an unknown opcode is
+-- a command on a connection that isn't MSCP's has the end message of an unknown opcode
 abbrev pub other_connection_reply : Identity → List ℕ → Reply
 other_connection_reply identity bytes = basic_reply (record {
   reference = number_in reference_field bytes;
@@ -88,7 +88,7 @@ other_connection_reply identity bytes = basic_reply (record {
   body = Invalid;
 })
 
--- ---- what is asked
+-- ---- the request
 
 abbrev pub reply_to_bad : Result Command Bad → Result Command Reply
 reply_to_bad (Ok c) = Ok c
@@ -104,8 +104,8 @@ asked_by identity bytes (Some answer) =
     })
 asked_by identity bytes None = reply_to_bad (read_command (plain_text identity bytes))
 
--- the command of a text that the strict profile knows, or the end message of one that is answered at once or
--- is invalid; its unit is the drive that the guest means
+-- the command of a text that the strict profile knows, or the end message of one that is invalid or
+-- executed at once; its unit is the drive that the guest means
 abbrev pub read_resembled : Identity → List ℕ → Result Command Reply
 read_resembled identity bytes = asked_by identity bytes (body_at_once (number_in code_field bytes) bytes)
 
@@ -113,7 +113,7 @@ read_resembled identity bytes = asked_by identity bytes (body_at_once (number_in
 abbrev pub resembled_text : List ℕ → List ℕ
 resembled_text bytes = with_number code_field (opcode_resembled (number_in code_field bytes)) bytes
 
--- what is to be done with the command, if it is one
+-- the operation to execute with the command, if it is valid
 abbrev pub asked_as : GuestOp → Result Command Reply → Result GuestCommand Reply
 asked_as op (Ok c) = Ok (record { command = c; op = op })
 asked_as op (Err r) = Err r
@@ -122,6 +122,6 @@ abbrev pub read_as : GuestOp → Identity → List ℕ → Result GuestCommand R
 read_as guest.Basic identity bytes = asked_as guest.Basic (read_resembled identity bytes)
 read_as op identity bytes = asked_as op (read_resembled identity (resembled_text bytes))
 
--- a command to be executed, or the end message of one that is answered at once or is invalid
+-- a command to be executed, or the end message of one that is invalid or executed at once
 abbrev pub read_guest : Identity → List ℕ → Result GuestCommand Reply
 read_guest identity bytes = read_as (guest_op (number_in code_field bytes)) identity bytes

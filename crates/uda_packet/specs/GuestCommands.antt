@@ -1,6 +1,6 @@
--- Commands of the profile for guests: those of the strict profile, and two that it doesn't know, each of
--- which has the parameters of one that it knows. Such a command has a line in each table here.
--- MSCP Basic Disk Functions Manual: Set Unit Characteristics, Compare Host Data, opcodes.
+-- Commands of the compatible profile: those of the strict profile, and two that it doesn't know. Each of
+-- the two has the parameters of one that the strict profile knows, and a line in each table here. MSCP
+-- Basic Disk Functions Manual: Set Unit Characteristics, Compare Host Data, opcodes.
 use Rattle.std.specs.Prelude.{ℕ, ◌==◌, List, ◌++◌, codes, if◌then◌else◌}
 use Rattle.std.specs.Fmt.{decimal}
 use Rattle.uda_packet.specs.declared.command.Command.{Command}
@@ -14,7 +14,7 @@ use Rattle.uda_packet.specs.Opcode.{opcode_of, blank_body}
 use Rattle.uda_packet.specs.Display.{op_name, range_display}
 use Rattle.uda_packet.specs.Transfer.{transfer_of}
 
--- what is to be done with the command of this opcode
+-- the operation to execute with the command of this opcode
 abbrev pub guest_op : ℕ → GuestOp
 guest_op code = if code == 10 then guest.SetUnit else if code == 32 then guest.Compare else guest.Basic
 
@@ -28,7 +28,7 @@ opcode_meant guest.Basic o = opcode_of o
 opcode_meant guest.SetUnit o = 10
 opcode_meant guest.Compare o = 32
 
--- what it is called
+-- the name of such a command
 abbrev pub guest_name : GuestOp → Op → List ℕ
 guest_name guest.Basic o = op_name o
 guest_name guest.SetUnit o = codes "Set Unit Characteristics"
@@ -44,7 +44,7 @@ blank_reply guest.Compare o = reply.Compare 0
 abbrev pub basic_command : Command → GuestCommand
 basic_command c = record { command = c; op = guest.Basic }
 
--- a command: its reference, its name, its unit, and the blocks of a transfer
+-- a command: its reference, its name, its unit, and the range of a transfer
 abbrev pub guest_command_display : GuestCommand → List ℕ
 guest_command_display g =
     decimal g.command.reference ++ codes " " ++ guest_name g.op g.command.op ++ codes " unit "

@@ -1,4 +1,4 @@
--- The numbers of entries are in the ranges of their fields.
+-- The numbers of entries fit the widths of their fields.
 use Rattle.std.specs.Prelude.{◌<◌, ◌^◌, ◌*◌, List, [], ◌∷◌}
 use Rattle.uda_packet.specs.Field.{Entry}
 

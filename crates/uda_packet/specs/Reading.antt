@@ -1,4 +1,4 @@
--- The grammar of the texts as functions: what the bytes are read as.
+-- The grammar of the texts as functions from bytes to messages.
 use Rattle.std.specs.Prelude.{ℕ, ◌==◌, List, Bool, true, false, Option, Some, None, Result, Ok, Err}
 use Rattle.std.specs.Prelude.{if◌then◌else◌}
 use Rattle.std.specs.Int.RustNames.{bit_and}
@@ -16,7 +16,7 @@ use Rattle.uda_packet.specs.Opcode.{blank_body, allowed_modifiers, names_version
 
 -- ---- commands
 
--- the version is judged where a command names one
+-- the version is checked if a command has a field for it
 abbrev pub op_by_version : List ℕ → Op → Bool → Result Op (BadKind × EndBody)
 op_by_version bytes o false = Ok o
 op_by_version bytes o true =
@@ -33,7 +33,7 @@ abbrev pub op_by_name : List ℕ → Option Op → Result Op (BadKind × EndBody
 op_by_name bytes None = Err (fault.Opcode, body.Invalid)
 op_by_name bytes (Some o) = op_by_modifiers bytes o
 
--- the operation, or what is wrong: the opcode is judged first, then the modifiers, then the version
+-- the operation, or the invalid field: the opcode is checked first, then the modifiers, then the version
 unfoldable pub read_op : List ℕ → Result Op (BadKind × EndBody)
 read_op bytes = op_by_name bytes (op_named (number_in code_field bytes) bytes)
 
@@ -42,7 +42,7 @@ with_head number drive (Ok o) = Ok (record { reference = number; unit = drive; o
 with_head number drive (Err f) =
     Err (record { reference = number; unit = drive; kind = f.0; body = f.1 })
 
--- the command that the bytes are the text of, or what is wrong with it
+-- the command of a text, or the reason why it is invalid
 unfoldable pub read_command : List ℕ → Result Command Bad
 read_command bytes =
     with_head (number_in reference_field bytes) (number_in unit_field bytes) (read_op bytes)
@@ -54,7 +54,7 @@ end_of number drive outcome None = None
 end_of number drive outcome (Some b) =
     Some (record { reference = number; unit = drive; status = outcome; body = b })
 
--- the end message that the bytes are the text of
+-- the end message of a text
 unfoldable pub read_end : List ℕ → Option End
 read_end bytes =
     end_of (number_in reference_field bytes) (number_in unit_field bytes)

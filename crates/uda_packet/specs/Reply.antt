@@ -1,4 +1,4 @@
--- End messages of the profile for guests: those of the strict profile, and those of commands that it doesn't
+-- End messages of the compatible profile: those of the strict profile, and those of commands that it doesn't
 -- know. A body of the second kind has a line in `reply_row`, `reply_entries`, `replies_in` and `ReplyFits`.
 -- MSCP Basic Disk Functions Manual: end messages; Abort, Get Command Status, Determine Access Paths, Compare
 -- Controller Data, Flush, Set Unit Characteristics, Compare Host Data.
@@ -45,7 +45,7 @@ strict_end r = record {
   body = basic_body r.body;
 }
 
--- ---- what tells one body from another
+-- ---- the facts in which bodies differ
 
 abbrev pub reply_row : ReplyBody → BodyRow
 reply_row (Basic b) = body_row b
@@ -60,7 +60,7 @@ reply_row (Compare bytes) = body_line 32 32 (codes "Compare Host Data") []
 abbrev pub reply_code : ReplyBody → ℕ
 reply_code b = (reply_row b).opcode + 0x80
 
--- how many bytes the manual gives such an end message
+-- the length in bytes that the manual gives such an end message
 abbrev pub reply_length : ReplyBody → ℕ
 reply_length b = (reply_row b).length
 
@@ -78,9 +78,9 @@ ReplyFits Flush = Unit {0}
 ReplyFits (SetUnit flags size) = (flags < 2 ^ 16) × (size < 2 ^ 32)
 ReplyFits (Compare bytes) = bytes < 2 ^ 32
 
--- ---- as it is written
+-- ---- encoding
 
--- what an end message of this unit and status holds after the status
+-- the fields after the status of an end message of this unit and status
 abbrev pub reply_entries : ℕ → ℕ → ReplyBody → List Entry
 reply_entries unit status (Basic b) = answer_entries unit status b
 reply_entries unit status (Abort named) = named_field holds named ∷ []
@@ -93,14 +93,14 @@ reply_entries unit status (SetUnit flags size) =
     unit_flags_field holds flags ∷ unit_size_field holds size ∷ []
 reply_entries unit status (Compare bytes) = byte_count_field holds bytes ∷ []
 
--- the text that it is written as
+-- the text of an end message
 unfoldable pub written_reply : Reply → List ℕ
 written_reply r =
     text_of (
     reference_field holds r.reference ∷ unit_field holds r.unit ∷ code_field holds (reply_code r.body)
     ∷ status_field holds r.status ∷ reply_entries r.unit r.status r.body)
 
--- ---- as it is read
+-- ---- decoding
 
 -- each body that the strict profile doesn't know, with the numbers that a text holds for it
 abbrev pub replies_in : List ℕ → List ReplyBody
@@ -128,7 +128,7 @@ reply_from number drive outcome None = None
 reply_from number drive outcome (Some b) =
     Some (record { reference = number; unit = drive; status = outcome; body = b })
 
--- the end message that the bytes are the text of: the grammar of `read_end`, and seven bodies more
+-- the end message of a text: the grammar of `read_end`, and seven bodies more
 unfoldable pub read_reply : List ℕ → Option Reply
 read_reply bytes =
     reply_from (number_in reference_field bytes) (number_in unit_field bytes)

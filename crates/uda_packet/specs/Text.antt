@@ -1,5 +1,5 @@
--- What a text stands for: a grammar over its fields. Any bytes are the text of exactly one command
--- or show exactly one fault.
+-- The meaning of a text: a grammar over its fields. Any bytes are either the text of exactly one command,
+-- or invalid for exactly one reason.
 use Rattle.std.specs.Prelude.{◌≡◌, ◌≢◌, ℕ, List, Bool, true, false, Some, None}
 use Rattle.std.specs.Int.RustNames.{bit_and}
 use Rattle.uda_packet.specs.declared.command.Command.{Command}
@@ -27,7 +27,7 @@ abbrev pub VersionFits : List ℕ → Bool → Type 0
 VersionFits bytes true = number_in version_field bytes ≡ 0
 VersionFits bytes false = Unit {0}
 
--- an operation stands in the text
+-- the text has this operation
 pub record OpText (bytes : List ℕ) (o : Op) : Type 0 where
   pub named : NamesOp bytes o
   pub allowed : AllowsModifiers bytes o
@@ -39,14 +39,14 @@ pub record CommandText (bytes : List ℕ) (c : Command) : Type 0 where
   pub unit_is : number_in unit_field bytes ≡ c.unit
   pub op_is : OpText bytes c.op
 
--- ---- commands at fault
+-- ---- invalid commands
 
 -- no command has this opcode
 pub record HasUnknownOpcode (bytes : List ℕ) (b : EndBody) : Type 0 where
   pub unknown : op_named (number_in code_field bytes) bytes ≡ None
   pub body_is : b ≡ body.Invalid
 
--- the opcode is a command's, and some modifier bit is none that this command may have
+-- the opcode is a command's, and some modifier bit is not one of that command
 pub record HasStrayModifier (bytes : List ℕ) (b : EndBody) : Type 0 where
   pub asked : Op
   pub named : NamesOp bytes asked
@@ -68,7 +68,7 @@ FaultText bytes fault.Opcode b = HasUnknownOpcode bytes b
 FaultText bytes fault.Modifiers b = HasStrayModifier bytes b
 FaultText bytes fault.Version b = HasWrongVersion bytes b
 
--- the bytes are no command's text, and this is why
+-- the bytes are not the text of a command, for this reason
 pub record BadText (bytes : List ℕ) (b : Bad) : Type 0 where
   pub reference_is : number_in reference_field bytes ≡ b.reference
   pub unit_is : number_in unit_field bytes ≡ b.unit
@@ -76,7 +76,7 @@ pub record BadText (bytes : List ℕ) (b : Bad) : Type 0 where
 
 -- ---- end messages
 
--- a body stands in the text
+-- the text has this body
 abbrev pub BodyText : List ℕ → EndBody → Type 0
 BodyText bytes b = body_named (number_in code_field bytes) bytes ≡ Some b
 

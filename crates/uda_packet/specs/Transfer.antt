@@ -1,4 +1,4 @@
--- What a transfer names. MSCP Basic Disk Functions Manual: transfer commands.
+-- The range and the buffer of a transfer. MSCP Basic Disk Functions Manual: transfer commands.
 use Rattle.std.specs.Prelude.{Bool, true, false, Option}
 use Rattle.uda_packet.specs.declared.command.Op.{Op}
 use Rattle.uda_packet.specs.declared.end.Kind.{Kind}
@@ -6,8 +6,7 @@ use Rattle.uda_packet.specs.declared.end.Kind.TheVariants as kind
 use Rattle.uda_packet.specs.declared.transfer.Transfer.{Transfer}
 use Rattle.uda_packet.specs.Commands.{row_of}
 
--- an operation as a transfer, where it is one: an Access and an Erase have no buffer, which 0
--- stands for
+-- an operation as a transfer, if it is one: an Access and an Erase have no buffer, so its address is 0
 abbrev pub transfer_of : Op → Option Transfer
 transfer_of o = (row_of o).transfer
 

@@ -1,4 +1,4 @@
--- The texts as they are written.
+-- Encoding of texts.
 use Rattle.std.specs.Prelude.{ℕ, List, ◌∷◌}
 use Rattle.uda_packet.specs.declared.command.Command.{Command}
 use Rattle.uda_packet.specs.declared.end.End.{End}
@@ -6,14 +6,14 @@ use Rattle.uda_packet.specs.Field.{◌holds◌, text_of, reference_field, unit_f
 use Rattle.uda_packet.specs.Commands.{answer_entries}
 use Rattle.uda_packet.specs.Opcode.{opcode_of, end_code, parameters}
 
--- the text that a command is written as
+-- the text of a command
 unfoldable pub written_command : Command → List ℕ
 written_command c =
     text_of (
     reference_field holds c.reference ∷ unit_field holds c.unit ∷ code_field holds (opcode_of c.op)
     ∷ parameters c.op)
 
--- the text that an end message is written as
+-- the text of an end message
 unfoldable pub written_end : End → List ℕ
 written_end e =
     text_of (

@@ -1,4 +1,4 @@
-//! Texts that are no command's.
+//! Invalid commands.
 
 ghost use Rattle.std.specs.Prelude.{◌≡◌, Some};
 ghost use Rattle.uda_packet.specs.Bad.{fault_number, fault_status, bad_end};
@@ -9,23 +9,23 @@ use crate::status;
 use std::error::Error;
 use std::fmt;
 
-/// What is wrong with a text that is no command's.
+/// The reason why a text is not a valid command.
 ///
 /// MSCP Basic Disk Functions Manual: invalid command end message.
 #[derive(Clone, Copy, PartialEq, Eq, Debug)]
 pub struct Bad {
-    /// The command reference number that stands in the text.
+    /// The command reference number in the text.
     pub reference: u32,
-    /// The unit number that stands in the text.
+    /// The unit number in the text.
     pub unit: u16,
-    /// Which field is at fault.
+    /// The invalid field.
     pub kind: BadKind,
-    /// The body of the end message: that of the opcode with all numbers 0, `Invalid` where no
-    /// command has the opcode.
+    /// The body of the end message: that of the opcode with all numbers 0, or `Invalid` if no command has
+    /// the opcode.
     pub body: EndBody,
 }
 
-/// Which field of the text is at fault, numbered in the order in which they are judged.
+/// The invalid field of a text. The numbers follow the order of the checks.
 #[derive(Clone, Copy, PartialEq, Eq, Debug)]
 pub enum BadKind {
     /// No command has this opcode.
@@ -37,8 +37,8 @@ pub enum BadKind {
 }
 
 impl Bad {
-    /// The end message that tells the host what is wrong: status 0x0801 for the opcode, 0x0A01 for
-    /// the modifiers, 0x0C01 for the version.
+    /// Returns the end message for the host. Its status is 0x0801 for an invalid opcode, 0x0A01 for invalid
+    /// modifiers, and 0x0C01 for an invalid version.
     ///
     /// MSCP Basic Disk Functions Manual: invalid command end message.
     pub fn end(&self) -> End
@@ -54,14 +54,14 @@ impl Bad {
 }
 
 impl BadKind {
-    /// The number of the kind: 1 for the opcode, 2 for the modifiers, 3 for the version.
+    /// Returns the number of the kind: 1 for the opcode, 2 for the modifiers, 3 for the version.
     pub fn number(self) -> u8
         ensures number { result ≡ fault_number self }
     {
         self as u8
     }
 
-    // The status: an invalid command, with the field's byte offset in the text as its subcode.
+    // Returns the status: invalid command, with the field's byte offset in the text as its subcode.
     fn status(self) -> u16
         ensures { result ≡ fault_status self }
     {
@@ -87,7 +87,7 @@ impl fmt::Display for BadKind {
 
 impl Error for BadKind {}
 
-/// As `reference 7, unit 2: no command has this opcode`.
+/// Writes a line such as `reference 7, unit 2: no command has this opcode`.
 impl fmt::Display for Bad {
     ghost output = { λ bad. Some (bad_display bad) };
 

@@ -17,23 +17,22 @@ use bitflags::Flags;
 use std::fmt;
 use uda_disk::UnitFlags;
 
-/// A command message: what the host asks of one unit.
+/// A command message: the request of a host to one unit.
 ///
-/// Its default stands for nothing that a host asks: it is what the free places of an array or a
-/// queue of commands hold.
+/// The default value is no request of a host. It fills unused elements of an array or a queue of commands.
 ///
 /// MSCP Basic Disk Functions Manual: command messages.
 #[derive(Clone, Copy, PartialEq, Eq, Debug, Default)]
 pub struct Command {
-    /// The command reference number, by which the host knows the end message.
+    /// The command reference number, by which the host identifies the end message.
     pub reference: u32,
     /// The unit number.
     pub unit: u16,
-    /// What is to be done, with its parameters.
+    /// The operation, with its parameters.
     pub op: Op,
 }
 
-/// As `3 Read unit 0 lbn 9 bytes 512`, or `4 Online unit 0`.
+/// Writes a line such as `3 Read unit 0 lbn 9 bytes 512`, or `4 Online unit 0`.
 impl fmt::Display for Command {
     ghost output = { λ command. Some (command_display command) };
 
@@ -65,41 +64,41 @@ pub enum Op {
     Status,
     /// Set Controller Characteristics, for version 0 of MSCP.
     Controller,
-    /// Available: ends the unit's use.
+    /// Available: makes the unit available, so that its use ends.
     Available,
-    /// Online: begins the unit's use.
+    /// Online: brings the unit online.
     Online {
-        /// Whether the unit is to be protected by software; `None` where the host doesn't say.
+        /// Whether the unit is to have software write protection; `None` if the host doesn't say.
         soft: Option<bool>,
     },
     /// Access: reads blocks and moves nothing to the host.
     Access {
-        /// How many bytes.
+        /// The number of bytes.
         bytes: u32,
         /// The first logical block.
         lbn: u32,
     },
     /// Erase: writes zeros.
     Erase {
-        /// How many bytes.
+        /// The number of bytes.
         bytes: u32,
         /// The first logical block.
         lbn: u32,
     },
     /// Read: moves blocks into the host's buffer.
     Read {
-        /// How many bytes.
+        /// The number of bytes.
         bytes: u32,
-        /// Where the host's buffer begins.
+        /// The address of the host's buffer.
         address: u32,
         /// The first logical block.
         lbn: u32,
     },
     /// Write: moves the host's buffer into blocks.
     Write {
-        /// How many bytes.
+        /// The number of bytes.
         bytes: u32,
-        /// Where the host's buffer begins.
+        /// The address of the host's buffer.
         address: u32,
         /// The first logical block.
         lbn: u32,
@@ -107,7 +106,7 @@ pub enum Op {
 }
 
 impl Op {
-    /// The opcode of the command.
+    /// Returns the opcode of the command.
     ///
     /// MSCP Basic Disk Functions Manual: opcodes.
     pub fn opcode(self) -> u8
@@ -116,28 +115,28 @@ impl Op {
         self.row().blank.opcode()
     }
 
-    /// What the command is called.
+    /// Returns the name of the command.
     pub fn name(self) -> &'static str
         ensures name { result.now ≡ op_name self }
     {
         self.row().blank.name()
     }
 
-    /// The body of the command's end message, with all numbers 0.
+    /// Returns the body of the command's end message, with all numbers 0.
     pub fn blank_body(self) -> EndBody
         ensures blank { result ≡ blank_body self }
     {
         self.row().blank
     }
 
-    /// What the operation names as a transfer; `None` if it is none.
+    /// Returns the range and the buffer of a transfer, or `None` for any other operation.
     pub fn transfer(self) -> Option<Transfer>
         ensures transfer { result ≡ transfer_of self }
     {
         self.row().transfer
     }
 
-    // What tells the command from the others, without its parameters.
+    // Returns the constant facts of the command, without its parameters.
     pub(crate) fn row(self) -> OpRow
         ensures blank { result.blank ≡ blank_body self }
         ensures modifiers { result.modifiers ≡ allowed_modifiers self }
@@ -170,7 +169,7 @@ impl Op {
         }
     }
 
-    // The operation of an opcode, with the parameters that stand in the text.
+    // Returns the operation of an opcode, with the parameters in the text.
     pub(crate) fn of_code(code: u8, text: &Text) -> Option<Op>
         ensures { result ≡ op_named code text.now }
     {
@@ -203,7 +202,7 @@ impl Op {
         })
     }
 
-    // Writes what stands after the command's opcode.
+    // Writes the fields that follow the command's opcode.
     pub(crate) fn put(self, text: &mut Text)
         ensures written { text.new ≡ with_entries (parameters self) text.old }
         ensures fits { EntriesFit (parameters self) }
@@ -233,22 +232,21 @@ impl Op {
     }
 }
 
-// What tells one command from another, without its opcode and parameters. Its opcode is that of its
-// answer.
+// The constant facts of a command, without its parameters. Its opcode is that of its end message.
 #[derive(Clone, Copy)]
 pub(crate) struct OpRow {
     // The body of the end message, with all numbers 0.
     pub(crate) blank: EndBody,
     // The modifier bits that the command may have.
     pub(crate) modifiers: u16,
-    // Whether the command names a version of MSCP.
+    // Whether the command has a field for the version of MSCP.
     pub(crate) versioned: bool,
     // The range and the buffer of a transfer.
     pub(crate) transfer: Option<Transfer>,
 }
 
 impl OpRow {
-    // A command without modifiers, version and blocks.
+    // Makes the row of a command without modifiers, version and blocks.
     fn plain(blank: EndBody) -> OpRow
         ensures blank { result.blank ≡ blank }
         ensures modifiers { result.modifiers ≡ 0 }
@@ -263,7 +261,7 @@ impl OpRow {
         }
     }
 
-    // A transfer without a buffer, for which 0 stands.
+    // Makes the row of a transfer without a buffer. The address 0 replaces it.
     fn extent(kind: Kind, bytes: u32, lbn: u32) -> OpRow
         ensures row { result ≡ record {
           blank = EndBody.Moved kind 0;
@@ -275,7 +273,7 @@ impl OpRow {
         OpRow::buffer(kind, bytes, 0, lbn)
     }
 
-    // A transfer with a buffer in host memory.
+    // Makes the row of a transfer with a buffer in host memory.
     fn buffer(kind: Kind, bytes: u32, address: u32, lbn: u32) -> OpRow
         ensures row { result ≡ record {
           blank = EndBody.Moved kind 0;
@@ -297,7 +295,7 @@ impl OpRow {
     }
 }
 
-// Whether an Online asks for software protection, where its modifiers let it say so.
+// Returns whether an Online asks for software protection, or `None` if its modifiers say nothing of it.
 fn protection_in(text: &Text) -> Option<bool>
     ensures { result ≡ protection_in text.now }
 {
@@ -308,7 +306,7 @@ fn protection_in(text: &Text) -> Option<bool>
     }
 }
 
-// Writes what a command says of software protection: the modifier, and the unit flag.
+// Writes the request for software protection: the modifier and the unit flag.
 fn put_protection(text: &mut Text, soft: Option<bool>)
     ensures written { text.new ≡ with_entries (protection_entries soft) text.old }
     ensures fits { EntriesFit (protection_entries soft) }
@@ -319,7 +317,7 @@ fn put_protection(text: &mut Text, soft: Option<bool>)
     }
 }
 
-// The unit flags that ask for software protection, or for none.
+// Returns the unit flags that request software protection, or none.
 fn protection_flags(soft: bool) -> UnitFlags
     ensures { result.0 ≡ protection_flags soft }
 {

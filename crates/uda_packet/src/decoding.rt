@@ -1,4 +1,4 @@
-//! Texts that are read.
+//! Decoding of texts.
 //!
 //! MSCP Basic Disk Functions Manual: command and end messages.
 
@@ -14,16 +14,18 @@ use crate::command::{Command, Op};
 use crate::end::{End, EndBody};
 use crate::field::{MODIFIERS, REFERENCE, STATUS, UNIT, VERSION, code_in};
 
-/// The command that a text stands for, or what is wrong with it.
+/// Returns the command of a text, or the reason why it is invalid.
 ///
-/// Bytes that the command doesn't name may hold anything. Of a text that is no command's the opcode
-/// is judged first, then the modifiers, then the version.
+/// Bytes that the command doesn't use may have any value. The opcode is checked first, then the modifiers,
+/// then the version.
 ///
 /// # Errors
 ///
-/// The fault with the reference and the unit of the text: the opcode is none of a command, a
-/// modifier bit is set that the command doesn't have, or a Set Controller Characteristics asks for
-/// another version of MSCP than 0.
+/// The invalid field, with the reference and the unit of the text:
+///
+/// - no command has the opcode;
+/// - a modifier bit is set that the command doesn't have;
+/// - a Set Controller Characteristics asks for a version of MSCP other than 0.
 ///
 /// MSCP Basic Disk Functions Manual: command messages.
 pub fn decode_command(text: &[u8; 48]) -> Result<Command, Bad>
@@ -58,10 +60,10 @@ pub fn decode_command(text: &[u8; 48]) -> Result<Command, Bad>
     })
 }
 
-/// The end message that a text stands for.
+/// Returns the end message of a text, or `None` if byte 8 is not an end code.
 ///
-/// Bytes that the end message doesn't name may hold anything, and so may its flags, identifier and
-/// media type. `None` where byte 8 is no end code.
+/// Bytes that the end message doesn't use may have any value. So may its end flags, identifier and media
+/// type.
 ///
 /// MSCP Basic Disk Functions Manual: end messages.
 pub fn decode_end(text: &[u8; 48]) -> Option<End>

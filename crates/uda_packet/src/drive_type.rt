@@ -7,7 +7,7 @@ ghost use Rattle.uda_packet.specs.DriveTypes.{drive_traits, drive_name};
 
 use std::fmt;
 
-/// A drive type, by which a host's driver chooses its tables.
+/// A drive type, by which a host's driver selects its tables.
 #[derive(Clone, Copy, Debug, PartialEq, Eq)]
 pub enum DriveType {
     /// RX50, diskette.
@@ -42,7 +42,7 @@ pub enum DriveType {
     Rrd40,
 }
 
-/// What a host learns of a drive type.
+/// The facts of a drive type that a host can read.
 ///
 /// MSCP Basic Disk Functions Manual: media type identifiers, unit identifiers, Get Unit Status.
 #[derive(Clone, Copy, Debug, PartialEq, Eq)]
@@ -53,24 +53,24 @@ pub struct DriveTraits {
     pub model: u8,
     /// The media type identifier.
     pub media: u32,
-    /// The shape of a volume.
+    /// The geometry of a volume.
     pub geometry: Geometry,
-    /// Whether the medium can be taken out.
+    /// Whether the medium is removable.
     pub is_removable: bool,
     /// Whether the drive can't write.
     pub is_read_only: bool,
 }
 
-/// The shape of a volume.
+/// The geometry of a volume.
 ///
 /// MSCP Basic Disk Functions Manual: Get Unit Status.
 #[derive(Clone, Copy, Debug, PartialEq, Eq)]
 pub struct Geometry {
-    /// Sectors of a track.
+    /// Sectors per track.
     pub sectors: u16,
-    /// Tracks of a group.
+    /// Tracks per group.
     pub tracks: u16,
-    /// Groups of a cylinder.
+    /// Groups per cylinder.
     pub groups: u16,
 }
 
@@ -117,7 +117,7 @@ impl DriveType {
         }
     }
 
-    /// Returns what a host learns of the drive type.
+    /// Returns the facts of the drive type that a host can read.
     ///
     /// MSCP Basic Disk Functions Manual: media type identifiers, unit identifiers, Get Unit Status.
     pub fn traits(self) -> DriveTraits
@@ -146,8 +146,8 @@ impl DriveType {
     }
 }
 
-// A drive whose medium stays in it and can be written. The shape is sectors of a track, tracks of a
-// group and groups of a cylinder.
+// Makes the facts of a drive with a fixed, writable medium. The shape is sectors per track, tracks per
+// group and groups per cylinder.
 fn fixed(blocks: u32, model: u8, media: u32, shape: (u16, u16, u16)) -> DriveTraits
     ensures value { result ≡ record {
       blocks = blocks;
@@ -174,7 +174,7 @@ fn fixed(blocks: u32, model: u8, media: u32, shape: (u16, u16, u16)) -> DriveTra
 }
 
 impl DriveTraits {
-    // The same with a medium that can be taken out.
+    // Returns the same facts with a removable medium.
     fn removable(self) -> DriveTraits
         ensures value { result ≡ record self { is_removable = true } }
     {

@@ -1,4 +1,4 @@
-//! Texts that are written.
+//! Encoding of texts.
 //!
 //! MSCP Basic Disk Functions Manual: command and end messages.
 
@@ -13,10 +13,10 @@ use crate::command::Command;
 use crate::end::End;
 use crate::field::{CODE, REFERENCE, STATUS, Text, UNIT};
 
-/// The text of a command, which `decode_command` reads as that command again, whatever its numbers.
+/// Returns the text of a command. `decode_command` reads it as the same command, whatever its numbers.
 ///
-/// Every byte that the command doesn't name is 0. An Online that asks for protection, or for none,
-/// has the modifier 0x0004 and the unit flags 0x1000, or 0.
+/// Every byte that the command doesn't use is 0. An Online whose `soft` is not `None` has the modifier
+/// 0x0004. Its unit flags are 0x1000 to request software protection, and 0 to request none.
 ///
 /// MSCP Basic Disk Functions Manual: command messages.
 pub fn encode_command(command: &Command) -> [u8; 48]
@@ -35,12 +35,15 @@ pub fn encode_command(command: &Command) -> [u8; 48]
     text
 }
 
-/// The text of an end message, which `decode_end` reads as that end message again, whatever its
-/// numbers.
+/// Returns the text of an end message. `decode_end` reads it as the same end message, whatever its numbers.
+/// Every byte that the end message doesn't use is 0.
 ///
-/// Identifier and media type of a unit are told where the status of an Online is 0x0000 or 0x0100
-/// and where that of a Get Unit Status is 0x0000 or 0x0004, the controller's identifier where the
-/// status is 0x0000. Every byte that the end message doesn't name is 0.
+/// These fields depend on the status:
+///
+/// - the unit's identifier and media type in the end message of an Online: if the status is 0x0000 or
+///   0x0100;
+/// - the same in that of a Get Unit Status: if it is 0x0000 or 0x0004;
+/// - the controller's identifier: if it is 0x0000.
 ///
 /// MSCP Basic Disk Functions Manual: end messages.
 pub fn encode_end(end: &End) -> [u8; 48]
@@ -61,7 +64,7 @@ pub fn encode_end(end: &End) -> [u8; 48]
     text
 }
 
-// A text with what all messages begin with, and 0 elsewhere.
+// Makes a text with the fields that all messages begin with, and 0 elsewhere.
 pub(crate) fn head(reference: u32, unit: u16, code: u8) -> Text
     ensures { result
         ≡ text_of (reference_field holds reference ∷ unit_field holds unit

@@ -1,9 +1,9 @@
 //! End messages.
 
 ghost use Rattle.std.specs.Prelude.{◌≡◌, ◌<◌, ◌≤◌, Some};
-ghost use Rattle.uda_packet.specs.Bad.{other_length_end};
+ghost use Rattle.uda_packet.specs.Bad.{invalid_length_end};
 ghost use Rattle.uda_packet.specs.Commands.{BodyFits, answer_entries, unit_entries, kind_display};
-ghost use Rattle.uda_packet.specs.Commands.{controller_entries, tells_status, tells_online};
+ghost use Rattle.uda_packet.specs.Commands.{strict_controller_entries, tells_status, tells_online};
 ghost use Rattle.uda_packet.specs.Commands.{transfer_opcode};
 ghost use Rattle.uda_packet.specs.Field.{with_entries};
 ghost use Rattle.uda_packet.specs.Opcode.{end_code, end_length, answered_opcode, body_named};
@@ -16,24 +16,23 @@ use crate::status;
 use crate::status::{ALREADY_ONLINE, AVAILABLE, SUCCESS};
 use std::fmt;
 
-// An end code is the opcode that it answers with this bit set.
+// The bit of an end code. The other bits are the opcode of the command.
 pub(crate) const END_CODE: u8 = 0x80;
 
 // The class of a disk unit, in the highest byte of its identifier.
 const DISK: u64 = 2 << 56;
 
-// The controller's identifier: its number 1, its model 6 and its class 1, a mass storage
-// controller.
+// The controller's identifier: its number 1, its model 6 and its class 1, a mass storage controller.
 const CONTROLLER: u64 = 0x0106_0000_0000_0001;
 
-// The media type of every drive, an RA81's: the device `DU`, the medium `RA` and its number 81, in
+// The media type of every drive, that of an RA81: the device `DU`, the medium `RA` and its number 81, in
 // five letters of five bits and a number of seven.
 const MEDIA: u32 = 0x2564_1051;
 
-/// An end message: how a command went.
+/// An end message: the result of a command.
 ///
-/// Its default stands for nothing that a controller says: it is what the free places of an array or
-/// a queue of end messages hold.
+/// The default value is no message of a controller. It fills unused elements of an array or a queue of end
+/// messages.
 ///
 /// MSCP Basic Disk Functions Manual: end messages.
 #[derive(Clone, Copy, PartialEq, Eq, Debug, Default)]
@@ -44,17 +43,17 @@ pub struct End {
     pub unit: u16,
     /// The status word: the major status in bits 4-0, the subcode above.
     pub status: u16,
-    /// Which command ended, with what it answers.
+    /// The command that ended, with its results.
     pub body: EndBody,
 }
 
 impl End {
-    /// The end message of a packet whose length is none of a command: invalid command, status
-    /// 0x0001, with the reference and the unit that stand in bytes 0 to 5 of its text.
+    /// Returns the end message for a packet whose length is not that of a command: invalid command, status
+    /// 0x0001. Its reference and unit are those in bytes 0 to 5 of the text.
     ///
     /// MSCP Basic Disk Functions Manual: invalid command end message.
-    pub fn of_other_length(text: &[u8; 48]) -> End
-        ensures end { result ≡ other_length_end text.now }
+    pub fn for_invalid_length(text: &[u8; 48]) -> End
+        ensures end { result ≡ invalid_length_end text.now }
     {
         End {
             reference: REFERENCE.get(text),
@@ -65,7 +64,7 @@ impl End {
     }
 }
 
-/// As `reference 3, unit 0, status 0x0000 (success): Read, 512 bytes`.
+/// Writes a line such as `reference 3, unit 0, status 0x0000 (success): Read, 512 bytes`.
 impl fmt::Display for End {
     ghost output = { λ end. Some (end_display end) };
 
@@ -84,12 +83,12 @@ impl fmt::Display for End {
     }
 }
 
-/// Which command an end message ends, with what it answers.
+/// The command that an end message ends, with its results.
 ///
 /// MSCP Basic Disk Functions Manual: end messages.
 #[derive(Clone, Copy, PartialEq, Eq, Debug, Default)]
 pub enum EndBody {
-    /// The packet was no command at all.
+    /// An invalid command.
     #[default]
     Invalid,
     /// Get Unit Status.
@@ -110,16 +109,17 @@ pub enum EndBody {
     },
     /// Access, Erase, Read or Write.
     Moved {
-        /// Which transfer.
+        /// The kind of transfer.
         kind: Kind,
-        /// Bytes of the blocks that were read, written, accessed or erased; 0 after a refusal.
+        /// The number of bytes of the blocks that were read, written, accessed or erased; 0 for a rejected
+        /// command.
         bytes: u32,
     },
 }
 
 impl EndBody {
-    /// The end code: the opcode of the command that the body answers with bit 7 set, and that bit
-    /// alone where it answers none.
+    /// Returns the end code: the opcode of the command with bit 7 set, or only that bit for an invalid
+    /// command.
     ///
     /// MSCP Basic Disk Functions Manual: end codes.
     pub fn code(self) -> u8
@@ -128,7 +128,7 @@ impl EndBody {
         END_CODE + self.opcode()
     }
 
-    /// How many bytes the manual gives an end message with this body.
+    /// Returns the length in bytes that the manual gives an end message with this body.
     ///
     /// MSCP Basic Disk Functions Manual: end messages.
     pub fn length(self) -> u16
@@ -138,14 +138,14 @@ impl EndBody {
         self.row().length
     }
 
-    /// What the command is called that the body answers, and `invalid command` where that was none.
+    /// Returns the name of the command that the body belongs to, or `invalid command`.
     pub fn name(self) -> &'static str
         ensures name { result.now ≡ body_name self }
     {
         self.row().name
     }
 
-    // The opcode that the body answers, 0 where it answers none.
+    // Returns the opcode of the command that the body belongs to, or 0 for an invalid command.
     pub(crate) fn opcode(self) -> u8
         ensures value { result ≡ answered_opcode self }
         ensures below { result < 128 }
@@ -153,7 +153,7 @@ impl EndBody {
         self.row().opcode
     }
 
-    // What tells the body from the others, without its numbers.
+    // Returns the constant facts of the body, without its numbers.
     pub(crate) fn row(self) -> BodyRow
         ensures opcode { result.opcode ≡ answered_opcode self }
         ensures below { result.opcode < 128 }
@@ -171,7 +171,7 @@ impl EndBody {
         }
     }
 
-    // The body of an end code, with the numbers that stand in the text.
+    // Returns the body of an end code, with the numbers in the text.
     pub(crate) fn of_code(code: u8, text: &Text) -> Option<EndBody>
         ensures { result ≡ body_named code text.now }
     {
@@ -198,7 +198,7 @@ impl EndBody {
         })
     }
 
-    // Writes what stands after the status of an end message.
+    // Writes the fields that follow the status of an end message.
     pub(crate) fn put(self, text: &mut Text, unit: u16, status: u16)
         ensures written { text.new ≡ with_entries (answer_entries unit status self) text.old }
         ensures fits { BodyFits self }
@@ -220,14 +220,14 @@ impl EndBody {
     }
 }
 
-// What tells the body of one end message from another.
+// The constant facts of the body of an end message.
 #[derive(Clone, Copy)]
 pub(crate) struct BodyRow {
-    // The opcode that it answers, 0 where it answers none.
+    // The opcode of its command, or 0 for an invalid command.
     pub(crate) opcode: u8,
-    // How many bytes its text has.
+    // The length of its text in bytes.
     pub(crate) length: u16,
-    // What the command is called.
+    // The name of the command.
     pub(crate) name: &'static str,
 }
 
@@ -245,7 +245,7 @@ impl BodyRow {
     }
 }
 
-/// As `Read, 512 bytes`, or `Online, flags 0x1000, 891072 blocks`.
+/// Writes a line such as `Read, 512 bytes`, or `Online, flags 0x1000, 891072 blocks`.
 impl fmt::Display for EndBody {
     ghost output = { λ body. Some (body_display body) };
 
@@ -276,7 +276,7 @@ pub enum Kind {
 }
 
 impl Kind {
-    // The opcode of such a transfer.
+    // Returns the opcode of such a transfer.
     fn opcode(self) -> u8
         ensures opcode { result ≡ transfer_opcode self }
         ensures below { result < 128 }
@@ -289,7 +289,7 @@ impl Kind {
         }
     }
 
-    /// What the transfer is called.
+    /// Returns the name of the transfer.
     pub fn name(self) -> &'static str
         ensures name { result.now ≡ kind_display self }
     {
@@ -310,21 +310,21 @@ impl fmt::Display for Kind {
     }
 }
 
-// Whether an end message of Get Unit Status tells identifier and media type.
+// Returns whether an end message of Get Unit Status has identifier and media type.
 fn tells_status(status: u16) -> bool
     ensures { result ≡ tells_status status }
 {
     status == SUCCESS || status == AVAILABLE
 }
 
-// Whether an end message of Online tells identifier and media type.
+// Returns whether an end message of Online has identifier and media type.
 fn tells_online(status: u16) -> bool
     ensures { result ≡ tells_online status }
 {
     status == SUCCESS || status == ALREADY_ONLINE
 }
 
-// Writes identifier and media type of a unit, where they are told.
+// Writes identifier and media type of a unit, if the message has them.
 fn put_unit(text: &mut Text, unit: u16, told: bool)
     ensures { text.new ≡ with_entries (unit_entries told unit) text.old }
 {
@@ -334,9 +334,9 @@ fn put_unit(text: &mut Text, unit: u16, told: bool)
     }
 }
 
-// Writes the controller's identifier, where it is told.
+// Writes the controller's identifier, if the message has it.
 fn put_controller(text: &mut Text, told: bool)
-    ensures { text.new ≡ with_entries (controller_entries told) text.old }
+    ensures { text.new ≡ with_entries (strict_controller_entries told) text.old }
 {
     if told {
         IDENTIFIER.put(text, CONTROLLER);

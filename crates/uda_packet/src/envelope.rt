@@ -3,7 +3,7 @@
 ghost use Rattle.std.specs.Prelude.{◌≡◌, ◌≤◌};
 ghost use Rattle.uda_packet.specs.Envelope.{envelope_of, envelope_words};
 
-/// The envelope below a message text: its two words, taken apart.
+/// The envelope below a message text: the fields of its two words.
 ///
 /// UDA50 Programmer's Documentation Kit: message envelopes.
 #[derive(Clone, Copy, PartialEq, Eq, Debug)]
@@ -19,8 +19,8 @@ pub struct Envelope {
 }
 
 impl Envelope {
-    /// The envelope that two words are: the length; then credits in bits 3-0, message type in bits
-    /// 7-4 and connection in bits 15-8.
+    /// Returns the envelope in two words. The first is the length. The second has credits in bits 3-0,
+    /// message type in bits 7-4 and connection in bits 15-8.
     pub fn of_words(length: u16, grant: u16) -> Envelope
         ensures envelope { result ≡ envelope_of length grant }
         ensures few_credits { result.credits ≤ 15 }
@@ -36,8 +36,8 @@ impl Envelope {
         }
     }
 
-    /// The two words of the envelope, as `of_words` takes them. Credits and message type must be at
-    /// most 15.
+    /// Returns the two words of the envelope, in the form that `of_words` reads. Credits and message type
+    /// must be at most 15.
     pub fn words(&self) -> (u16, u16)
         requires few_credits { self.now.credits ≤ 15 }
         requires small_kind { self.now.kind ≤ 15 }

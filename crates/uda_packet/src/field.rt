@@ -1,4 +1,4 @@
-//! The fields of the texts, each with its place and its width.
+//! The fields of the texts, each with its offset and its width.
 //!
 //! MSCP Basic Disk Functions Manual: command and end message formats.
 
@@ -48,34 +48,34 @@ pub(crate) const SHADOW_UNIT: Word = Word(32);
 
 pub(crate) const UNIT_SIZE: Long = Long(36);
 
-// Sectors of a track.
+// Sectors per track.
 pub(crate) const TRACK: Word = Word(36);
 
-// Tracks of a group.
+// Tracks per group.
 pub(crate) const GROUP: Word = Word(38);
 
-// Groups of a cylinder.
+// Groups per cylinder.
 pub(crate) const CYLINDER: Word = Word(40);
 
 // The serial number of a volume.
 pub(crate) const SERIAL: Long = Long(40);
 
-// The opcode or end code of a text.
+// Returns the opcode or end code of a text.
 pub(crate) fn code_in(text: &Text) -> u8
     ensures { result ≡ number_in code_field text.now }
 {
     text[CODE]
 }
 
-// A field of two bytes, by its first.
+// A field of two bytes, given by the offset of its first.
 #[derive(Clone, Copy)]
 pub(crate) struct Word(usize);
 
-// A field of four bytes, by its first.
+// A field of four bytes, given by the offset of its first.
 #[derive(Clone, Copy)]
 pub(crate) struct Long(usize);
 
-// A field of eight bytes, by its first.
+// A field of eight bytes, given by the offset of its first.
 #[derive(Clone, Copy)]
 pub(crate) struct Quad(usize);
 

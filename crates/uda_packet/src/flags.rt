@@ -6,14 +6,14 @@ ghost use Rattle.std.specs.Prelude.{⊤, [], ◌∷◌, codes};
 
 use bitflags::{Flag, Flags, bitflag_items};
 
-/// The modifiers of a command. Online alone has one. Their methods are those of [`Flags`], which
-/// this crate hands on.
+/// The modifiers of a command in the strict profile: only Online has one. Their methods are those of the
+/// trait [`Flags`], which this crate re-exports.
 #[derive(Clone, Copy, PartialEq, Eq, Debug)]
 pub struct Modifiers(u16);
 
 bitflag_items! {
     impl Modifiers: u16 {
-        /// The unit flags of the command say whether the unit is to be protected.
+        /// The unit flags of the command say whether the unit is to have software protection.
         const SET_WRITE_PROTECT = 0x0004;
     }
 }

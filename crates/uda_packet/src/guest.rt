@@ -1,4 +1,4 @@
-//! Texts of guests' commands: any command of basic MSCP, whatever its modifiers.
+//! Decoding of guests' commands: any command of basic MSCP, whatever its modifiers.
 //!
 //! MSCP Basic Disk Functions Manual: command messages, opcodes, command modifiers.
 
@@ -24,22 +24,24 @@ const GET_UNIT_STATUS: u8 = 3;
 // The modifier "next unit" of Get Unit Status.
 const NEXT_UNIT: u16 = 0x0001;
 
-// The units of a controller.
+// The number of units of a controller.
 const UNITS: u16 = 4;
 
-/// Returns the command that a guest's text asks for, if it is to be executed.
+/// Returns the command of a guest's text, if it is to be executed.
 ///
-/// Its unit is the number of the drive that the guest means. Modifiers that have no meaning for the command are
-/// ignored, and so are bits of an address that the bus doesn't have. A Get Unit Status with the modifier 0x0001,
-/// *next unit*, is for the lowest of the controller's units that isn't below the unit of the text, and for unit 0
-/// if there is none. A Set Unit Characteristics has the parameters of an Online, and a Compare Host Data those of a
-/// Read.
+/// - Its unit is the number of the drive that the guest means.
+/// - Modifiers that have no meaning for the command are ignored. So are address bits that the bus doesn't
+///   have.
+/// - A Get Unit Status with the modifier 0x0001, *next unit*, is for the lowest of the controller's units
+///   that isn't below the unit of the text. It is for unit 0 if there is none.
+/// - A Set Unit Characteristics has the parameters of an Online, and a Compare Host Data those of a Read.
 ///
 /// # Errors
 ///
-/// The end message of an Abort, a Get Command Status, a Determine Access Paths, a Compare Controller Data or a
-/// Flush, with status 0. The text doesn't tell the progress of a command, so it is 0 in that of a Get Command
-/// Status. For an invalid command, the end message of [`Bad::end`](crate::Bad::end).
+/// - For an Abort, a Get Command Status, a Determine Access Paths, a Compare Controller Data or a Flush:
+///   its end message with status 0. That of a Get Command Status has progress 0, since the text doesn't
+///   contain the progress of a command.
+/// - For an invalid command: the end message of [`Bad::end`](crate::Bad::end).
 ///
 /// MSCP Basic Disk Functions Manual: command messages, command modifiers.
 pub fn decode_for_guests(text: &[u8; 48], identity: Identity) -> Result<GuestCommand, Reply>
@@ -53,7 +55,7 @@ pub fn decode_for_guests(text: &[u8; 48], identity: Identity) -> Result<GuestCom
     Ok(GuestCommand { command, op })
 }
 
-// Returns what is to be done with the command of an opcode.
+// Returns the operation of an opcode in the compatible profile.
 fn guest_op(code: u8) -> GuestOp
     ensures { result ≡ guest_op code }
 {
@@ -92,8 +94,8 @@ fn decode_resembled(text: &Text, identity: Identity) -> Result<Command, Reply>
     }
 }
 
-/// Returns the end message of a command on a connection that isn't MSCP's: that of an unknown opcode, with the
-/// reference of the text and the drive that the guest means.
+/// Returns the end message of a command on a connection that isn't MSCP's: that of an unknown opcode. It
+/// has the reference of the text and the number of the drive that the guest means.
 ///
 /// MSCP Basic Disk Functions Manual: invalid command end message.
 pub fn other_connection_reply(text: &[u8; 48], identity: Identity) -> Reply
@@ -107,7 +109,7 @@ pub fn other_connection_reply(text: &[u8; 48], identity: Identity) -> Reply
     })
 }
 
-// Returns the body of the answer, if the command is answered when it is fetched.
+// Returns the body of the end message, if the port returns it when it fetches the command.
 fn body_at_once(text: &Text) -> Option<ReplyBody>
     ensures { result ≡ body_at_once (number_in code_field text.now) text.now }
 {
@@ -126,7 +128,8 @@ fn body_at_once(text: &Text) -> Option<ReplyBody>
     }
 }
 
-// Returns the text with the unit that it is for and the modifiers that have a meaning.
+// Returns the text with the unit that it is for, and only the modifiers and address bits that have a
+// meaning.
 fn plain_text(text: &Text, identity: Identity) -> Text
     ensures { result ≡ plain_text identity text.now }
 {
@@ -152,7 +155,7 @@ fn unit_meant(text: &Text, identity: Identity) -> u16
     }
 }
 
-// Whether a Get Unit Status asks for the next unit.
+// Returns whether a Get Unit Status asks for the next unit.
 fn asks_next(text: &Text) -> bool
     ensures { result ≡ asks_next text.now }
 {
@@ -160,7 +163,8 @@ fn asks_next(text: &Text) -> bool
     code_in(text) == GET_UNIT_STATUS && modifiers & NEXT_UNIT == NEXT_UNIT
 }
 
-// Returns the lowest of the controller's units that isn't below the one asked for, and unit 0 if there is none.
+// Returns the lowest of the controller's units that isn't below the one asked for, or unit 0 if there is
+// none.
 fn next_from(first: u16, asked: u16) -> u16
     ensures { result ≡ next_from first asked }
 {

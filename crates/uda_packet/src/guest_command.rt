@@ -1,4 +1,4 @@
-//! Commands of the profile for guests, which has two that the strict profile doesn't know.
+//! Commands of the compatible profile. Two of them are unknown to the strict profile.
 //!
 //! MSCP Basic Disk Functions Manual: Set Unit Characteristics, Compare Host Data.
 
@@ -11,7 +11,7 @@ use crate::end::EndBody;
 use crate::reply::ReplyBody;
 use std::fmt;
 
-/// What a guest asks to be done with a command.
+/// The operation that a guest requests with a command.
 ///
 /// MSCP Basic Disk Functions Manual: opcodes.
 #[derive(Clone, Copy, PartialEq, Eq, Debug, Default)]
@@ -19,20 +19,21 @@ pub enum GuestOp {
     /// The command itself, which the strict profile knows too.
     #[default]
     Basic,
-    /// Set Unit Characteristics. The command is an Online, and says what that says of software protection.
+    /// Set Unit Characteristics. The command is an Online with the same request for software protection.
     SetUnit,
-    /// Compare Host Data. The command is a Read, of the blocks and the buffer that are compared.
+    /// Compare Host Data. The command is a Read of the blocks and the buffer that are compared.
     Compare,
 }
 
-/// A command of the profile for guests: a command of the strict profile, and what is to be done with it.
+/// A command of the compatible profile: a command of the strict profile, and the operation to execute with
+/// it.
 ///
 /// MSCP Basic Disk Functions Manual: command messages.
 #[derive(Clone, Copy, PartialEq, Eq, Debug)]
 pub struct GuestCommand {
     /// The command. Its operation has the parameters.
     pub command: Command,
-    /// What is to be done with it.
+    /// The operation to execute with it.
     pub op: GuestOp,
 }
 
@@ -50,7 +51,7 @@ impl GuestOp {
         }
     }
 
-    /// Returns what a command with this operation is called.
+    /// Returns the name of a command with this operation.
     pub fn name(self, op: Op) -> &'static str
         ensures name { result.now ≡ guest_name self op }
     {
@@ -73,7 +74,8 @@ impl GuestOp {
     }
 }
 
-/// As `3 Compare Host Data unit 0 lbn 9 bytes 512`, or `4 Set Unit Characteristics unit 0`.
+/// Writes a line such as `3 Compare Host Data unit 0 lbn 9 bytes 512`, or `4 Set Unit Characteristics unit
+/// 0`.
 impl fmt::Display for GuestCommand {
     ghost output = { λ command. Some (guest_command_display command) };
 

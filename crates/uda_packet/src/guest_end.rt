@@ -1,4 +1,4 @@
-//! End messages as a controller for guests writes them.
+//! Encoding of end messages by a compatible controller.
 //!
 //! MSCP Basic Disk Functions Manual: end messages, unit flags, unit and controller identifiers.
 
@@ -22,7 +22,7 @@ use crate::field::{
 use crate::reply::{Reply, ReplyBody};
 use crate::status::{ABORTED, SUCCESS};
 
-/// The bus that a controller is on: it decides which controller a guest sees.
+/// The bus of a controller. It decides which controller a guest sees.
 #[derive(Clone, Copy, Debug, PartialEq, Eq)]
 pub enum Bus {
     /// The UNIBUS, with addresses of 18 bits: a UDA50.
@@ -31,7 +31,7 @@ pub enum Bus {
     Qbus,
 }
 
-/// Which controller a guest sees.
+/// The identity of the controller that a guest sees.
 #[derive(Clone, Copy, Debug, PartialEq, Eq)]
 pub struct Identity {
     /// The bus.
@@ -40,35 +40,35 @@ pub struct Identity {
     pub first_unit: u16,
 }
 
-/// What a controller reports of one of its units.
+/// The facts that a controller reports of one of its units.
 #[derive(Clone, Copy, Debug, PartialEq, Eq)]
 pub struct UnitReport {
     /// The drive type.
     pub kind: DriveType,
-    /// Whether the drive is write-protected.
+    /// Whether the drive has hardware write protection.
     pub hard: bool,
-    /// Whether the host has protected the unit.
+    /// Whether the unit has software write protection, set by the host.
     pub soft: bool,
     /// The size of the volume in blocks, 0 without a volume.
     pub size: u32,
 }
 
-/// What a controller reports beside the outcome of a command.
+/// The facts that a controller reports in addition to the outcome of a command.
 #[derive(Clone, Copy, Debug, PartialEq, Eq)]
 pub struct Report {
-    /// Which controller it is.
+    /// The identity of the controller.
     pub identity: Identity,
     /// The controller flags that the host has set.
     pub controller_flags: u16,
-    /// The unit that the message is about, None if it isn't one of the controller's.
+    /// The unit that the message is about, or `None` if it isn't one of the controller's.
     pub unit: Option<UnitReport>,
 }
 
 /// Returns the text of an end message as a guest reads it.
 ///
-/// The unit of `end` is the number of a drive, and the text has the number by which the guest knows it. What the
-/// text says of the controller and of the unit comes from `report`, not from the body. The end message of a command
-/// that was aborted says nothing of them. Every byte that no field names is 0.
+/// The unit of `end` is the number of a drive. The text has the number by which the guest knows it. The
+/// facts of the controller and of the unit come from `report`, not from the body. The end message of an
+/// aborted command has none of them. Every byte that no field uses is 0.
 ///
 /// MSCP Basic Disk Functions Manual: end messages.
 pub fn encode_guest_end(end: &Reply, report: &Report) -> [u8; 48]
@@ -84,8 +84,8 @@ pub fn encode_guest_end(end: &Reply, report: &Report) -> [u8; 48]
 
 /// Returns the text of the attention message that a unit has become available.
 ///
-/// `number` is the number by which the guest knows the unit. The message has reference 0 and status 0, and who the
-/// unit is. The manual gives it [`ATTENTION_LENGTH`] bytes.
+/// `number` is the number by which the guest knows the unit. The message has reference 0, status 0 and the
+/// identity of the unit. The manual gives it [`ATTENTION_LENGTH`] bytes.
 ///
 /// MSCP Basic Disk Functions Manual: unit available attention message.
 pub fn encode_unit_available(unit: &UnitReport, number: u16) -> [u8; 48]
@@ -98,15 +98,16 @@ pub fn encode_unit_available(unit: &UnitReport, number: u16) -> [u8; 48]
 }
 
 impl Identity {
-    /// Returns the number by which a guest knows a drive: the first unit's number plus the drive's, of 16 bits.
+    /// Returns the number by which a guest knows a drive: the first unit's number plus the drive's, modulo
+    /// 2^16.
     pub fn unit_number(self, drive: u16) -> u16
         ensures number { result ≡ unit_number self drive }
     {
         self.first_unit.wrapping_add(drive)
     }
 
-    /// Returns the number of the drive that a guest means by a unit number: 0 to 3 for the controller's units, and
-    /// another number for any other unit.
+    /// Returns the number of the drive that a guest means by a unit number. It is 0 to 3 for the
+    /// controller's units, and another number for any other unit.
     pub fn drive_number(self, unit: u16) -> u16
         ensures number { result ≡ drive_number self unit }
     {
@@ -123,7 +124,7 @@ impl Identity {
         }
     }
 
-    // The controller's identifier: its model and its class 1, a mass storage controller.
+    // Returns the controller's identifier: its model and its class 1, a mass storage controller.
     fn controller(self) -> u64
         ensures { result ≡ model_of self.bus * 256 ^ 6 + 1 * 256 ^ 7 }
     {
@@ -135,7 +136,7 @@ impl Identity {
 }
 
 impl Report {
-    // Writes what stands after the status of any message.
+    // Writes the fields that follow the status, for any message.
     fn put_reply(&self, text: &mut Text, number: u16, status: u16, body: ReplyBody)
         ensures { text.new ≡ with_entries (guest_reply_entries self.now number status body) text.old }
     {
@@ -148,7 +149,7 @@ impl Report {
         }
     }
 
-    // Writes what stands after the status, of a message that the strict profile knows.
+    // Writes the fields that follow the status, for a message that the strict profile knows.
     fn put(&self, text: &mut Text, number: u16, status: u16, body: EndBody)
         ensures { text.new ≡ with_entries (guest_entries self.now number status body) text.old }
     {
@@ -161,7 +162,7 @@ impl Report {
         }
     }
 
-    // Writes what the controller is, after success.
+    // Writes the facts of the controller, if the command succeeded.
     fn put_controller(&self, text: &mut Text, succeeded: bool)
         ensures { text.new ≡ with_entries (controller_entries self.now succeeded) text.old }
     {
@@ -173,7 +174,7 @@ impl Report {
         }
     }
 
-    // Writes what Get Unit Status reports.
+    // Writes the facts that Get Unit Status reports.
     fn put_status(&self, text: &mut Text, number: u16)
         ensures { text.new ≡ with_entries (status_entries self.now.unit number) text.old }
     {
@@ -183,7 +184,7 @@ impl Report {
         }
     }
 
-    // Writes what Online reports.
+    // Writes the facts that Online reports.
     fn put_online(&self, text: &mut Text, number: u16)
         ensures { text.new ≡ with_entries (online_entries self.now.unit number) text.old }
     {
@@ -195,7 +196,7 @@ impl Report {
 }
 
 impl UnitReport {
-    // Writes which unit it is.
+    // Writes the identity of the unit.
     fn put_identity(&self, text: &mut Text, number: u16)
         ensures { text.new ≡ with_entries (identity_entries self.now number) text.old }
     {
@@ -206,7 +207,7 @@ impl UnitReport {
         MEDIA_TYPE.put(text, traits.media);
     }
 
-    // Writes the shape of a volume.
+    // Writes the geometry of a volume.
     fn put_geometry(&self, text: &mut Text, number: u16)
         ensures { text.new ≡ with_entries (geometry_entries self.now number) text.old }
     {
@@ -217,7 +218,7 @@ impl UnitReport {
         CYLINDER.put(text, shape.groups);
     }
 
-    // Writes what the volume is.
+    // Writes the facts of the volume.
     fn put_volume(&self, text: &mut Text, number: u16)
         ensures { text.new ≡ with_entries (volume_entries self.now number) text.old }
     {
@@ -226,7 +227,7 @@ impl UnitReport {
         SERIAL.put(text, FIRST_SERIAL + u32::from(number));
     }
 
-    // The unit flags.
+    // Returns the unit flags.
     fn flags(&self, traits: &DriveTraits) -> u16
         requires { traits.now ≡ drive_traits self.now.kind }
         ensures { result ≡ unit_flags self.now }
@@ -245,23 +246,24 @@ impl UnitReport {
     }
 }
 
-// The unit's identifier: its number, its model and the class 2, a disk.
+// Returns the unit's identifier: its number, its model and the class 2, a disk.
 fn identifier(traits: &DriveTraits, number: u16) -> u64
     ensures { result ≡ unit_identifier traits.now number }
 {
     u64::from(number) + (u64::from(traits.model) << 48) + (2 << 56)
 }
 
-/// How many bytes an attention message has.
+/// The length of an attention message in bytes.
 pub const ATTENTION_LENGTH: u16 = 32;
 
 // The code of the attention message that a unit has become available.
 const UNIT_AVAILABLE: u8 = 0x40;
 
-// The bit of controller and unit flags: the controller replaces bad blocks, so the host doesn't.
+// The bit of controller and unit flags that says that the controller replaces bad blocks, so the host
+// doesn't.
 const REPLACES_BLOCKS: u16 = 0x8000;
 
-// After how many seconds a host may take the controller for dead.
+// The time in seconds after which a host may treat the controller as failed.
 const SECONDS: u16 = 120;
 
 // The controller's software version 3 and its hardware version 1.

@@ -1,14 +1,14 @@
-//! The messages between a host and a disk controller: the texts of 48 bytes of the MSCP commands
-//! and end messages, and the envelope below each, both ways.
+//! The messages between a host and a disk controller. This crate encodes and decodes the 48-byte texts of
+//! MSCP commands and end messages, and the envelope below each.
 //!
-//! What a text stands for is a grammar over its fields (`specs/Text.antt`), and what is written
-//! follows the same table of fields (`specs/Written.antt`). Any 48 bytes are the text of exactly
-//! one command or show exactly one fault, and what is written reads as what it was written from.
+//! A grammar over the fields defines the meaning of a text (`specs/Text.antt`). Encoding follows the same
+//! table of fields (`specs/Written.antt`). Any 48 bytes are either the text of exactly one command, or
+//! invalid for exactly one reason. A decoded text gives the message that it was encoded from.
 //!
-//! MSCP Basic Disk Functions Manual: command and end messages. UDA50 Programmer's Documentation
-//! Kit: message envelopes.
+//! MSCP Basic Disk Functions Manual: command and end messages. UDA50 Programmer's Documentation Kit:
+//! message envelopes.
 //!
-//! Its tests are in the crate `mem_packet_image_tests`.
+//! The tests of this crate are in `mem_packet_image_tests`.
 
 #![tactic(auto)]
 

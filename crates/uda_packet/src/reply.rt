@@ -1,4 +1,4 @@
-//! End messages of the profile for guests.
+//! End messages of the compatible profile.
 //!
 //! MSCP Basic Disk Functions Manual: end messages; Abort, Get Command Status, Determine Access Paths, Compare
 //! Controller Data, Flush, Set Unit Characteristics, Compare Host Data.
@@ -15,7 +15,7 @@ use crate::field::{
     BYTE_COUNT, NAMED, PROGRESS, REFERENCE, STATUS, Text, UNIT, UNIT_FLAGS, UNIT_SIZE, code_in,
 };
 
-/// An end message of the profile for guests. This profile has commands that the strict one doesn't know.
+/// An end message of the compatible profile. This profile has commands that the strict one doesn't know.
 ///
 /// MSCP Basic Disk Functions Manual: end messages.
 #[derive(Clone, Copy, PartialEq, Eq, Debug)]
@@ -26,12 +26,12 @@ pub struct Reply {
     pub unit: u16,
     /// The status word: the major status in bits 4-0, the subcode above.
     pub status: u16,
-    /// Which command ended, with what it answers.
+    /// The command that ended, with its results.
     pub body: ReplyBody,
 }
 
 impl Reply {
-    /// Returns an end message of the strict profile, as the profile for guests has it.
+    /// Returns an end message of the strict profile in the form of the compatible profile.
     pub fn basic(end: End) -> Reply
         ensures reply { result ≡ basic_reply end }
     {
@@ -43,8 +43,8 @@ impl Reply {
         }
     }
 
-    /// Returns the end message that a strict port sends: this one if the strict profile knows it, and otherwise
-    /// that of an invalid command.
+    /// Returns the end message that a strict port sends: this one if the strict profile knows it, or that
+    /// of an invalid command.
     pub fn strict_end(&self) -> End
         ensures end { result ≡ strict_end self.now }
     {
@@ -57,7 +57,7 @@ impl Reply {
     }
 }
 
-/// Which command an end message of the profile for guests ends, with what it answers.
+/// The command that an end message of the compatible profile ends, with its results.
 ///
 /// MSCP Basic Disk Functions Manual: end messages.
 #[derive(Clone, Copy, PartialEq, Eq, Debug)]
@@ -71,7 +71,7 @@ pub enum ReplyBody {
     },
     /// Get Command Status.
     CommandStatus {
-        /// The reference of the command that is asked about.
+        /// The reference of the command whose status is requested.
         named: u32,
         /// The byte count of that command, if it is a pending transfer; otherwise 0.
         progress: u32,
@@ -91,13 +91,15 @@ pub enum ReplyBody {
     },
     /// Compare Host Data.
     Compare {
-        /// How many bytes are equal before the first difference, or before the block that could not be read.
+        /// The number of bytes that are equal before the first difference, or before the block that could
+        /// not be read.
         bytes: u32,
     },
 }
 
 impl ReplyBody {
-    /// Returns the end code: the opcode of the command with bit 7 set, and only that bit for an invalid command.
+    /// Returns the end code: the opcode of the command with bit 7 set, or only that bit for an invalid
+    /// command.
     ///
     /// MSCP Basic Disk Functions Manual: end codes.
     pub fn code(self) -> u8
@@ -106,7 +108,7 @@ impl ReplyBody {
         END_CODE + self.row().opcode
     }
 
-    /// Returns how many bytes the manual gives such an end message.
+    /// Returns the length in bytes that the manual gives such an end message.
     ///
     /// MSCP Basic Disk Functions Manual: end messages.
     pub fn length(self) -> u16
@@ -116,7 +118,7 @@ impl ReplyBody {
         self.row().length
     }
 
-    /// Returns what the command is called, and `invalid command` if it was none.
+    /// Returns the name of the command, or `invalid command`.
     pub fn name(self) -> &'static str
         ensures name { result.now ≡ reply_name self }
     {
@@ -139,7 +141,7 @@ impl ReplyBody {
         }
     }
 
-    // Returns what tells the body from the others, without its numbers.
+    // Returns the constant facts of the body, without its numbers.
     fn row(self) -> BodyRow
         ensures opcode { result.opcode ≡ (reply_row self).opcode }
         ensures below { result.opcode < 128 }
@@ -188,7 +190,7 @@ impl ReplyBody {
         })
     }
 
-    // Writes what stands after the status of an end message.
+    // Writes the fields that follow the status of an end message.
     pub(crate) fn put(self, text: &mut Text, unit: u16, status: u16)
         ensures written { text.new ≡ with_entries (reply_entries unit status self) text.old }
         ensures fits { ReplyFits self }
@@ -210,8 +212,9 @@ impl ReplyBody {
     }
 }
 
-/// Returns the text of an end message of the profile for guests, which `decode_reply` reads as that end
-/// message again, whatever its numbers. One that the strict profile knows has the text of [`encode_end`](crate::encode_end).
+/// Returns the text of an end message of the compatible profile. `decode_reply` reads it as the same end
+/// message, whatever its numbers. A message that the strict profile knows has the text of
+/// [`encode_end`](crate::encode_end).
 ///
 /// MSCP Basic Disk Functions Manual: end messages.
 pub fn encode_reply(reply: &Reply) -> [u8; 48]
@@ -231,8 +234,9 @@ pub fn encode_reply(reply: &Reply) -> [u8; 48]
     text
 }
 
-/// Returns the end message of the profile for guests that a text stands for: one that [`decode_end`](crate::decode_end) reads, or
-/// that of a command that the strict profile doesn't know. `None` if byte 8 is no end code of either.
+/// Returns the end message of the compatible profile in a text, or `None` if byte 8 is no end code of this
+/// profile. It is one that [`decode_end`](crate::decode_end) reads, or one of a command that the strict
+/// profile doesn't know.
 ///
 /// MSCP Basic Disk Functions Manual: end messages.
 pub fn decode_reply(text: &[u8; 48]) -> Option<Reply>

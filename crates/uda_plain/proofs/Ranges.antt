@@ -22,7 +22,7 @@ pub part-range : {A : Type 0} → (xs : List A) (at n k : ℕ) → k ≡ n → t
 unfolding part
 part-range xs at n k e = ap (λ m. take m (drop at xs)) e
 
--- what a range of a slice leaves of the list behind it
+-- the rest of the list after a range of a slice
 pub put-range : {A : Type 0} → (xs : List A) (at n : ℕ) (ys : List A) → n ≡ length ys
     → at + length ys ≤ length xs → take at xs ++ (ys ++ drop n (drop at xs)) ≡ put xs at ys
 unfolding put

@@ -1,4 +1,4 @@
-//! One unit's blocks and mode.
+//! The blocks and the mode of one unit.
 ghost use Rattle.std.specs.Prelude.{◌≡◌, ℕ, Some, ◌≤◌, ◌<◌, ◌+◌, ◌↔◌, false, length, replicate, IfOk, IfErr};
 ghost use Rattle.std.specs.Prelude.{IfSome, IsNone};
 ghost use Rattle.std.specs.List.{concat};
@@ -8,9 +8,9 @@ ghost use Rattle.uda_disk.specs.Status.{SUCCESS};
 ghost use Rattle.uda_disk.specs.Request as ask;
 ghost use Rattle.uda_disk.specs.Request.{blocks_for, in_blocks};
 ghost use Rattle.uda_disk.specs.Answer.{Moved, Plain, blank_answer};
-ghost use Rattle.uda_disk.specs.Plain.{Done, Free, bar_at, refusal_status, extent_refusal, mode_after};
-ghost use Rattle.uda_disk.specs.Plain.{answer_on, disk_after, answer_by, disk_by};
-ghost use Rattle.uda_disk.specs.PlainRun.{too_long};
+ghost use Rattle.uda_disk.specs.RequestEffect.{Done, Accepted, check_at, refusal_status, first_failed_check, mode_after};
+ghost use Rattle.uda_disk.specs.RequestEffect.{answer_on, disk_after, answer_by, disk_by};
+ghost use Rattle.uda_disk.specs.InOrderRun.{too_long};
 ghost use Rattle.uda_disk.specs.Values.{request_value, extent_value, answer_value};
 
 use std::alloc::Global;
@@ -38,7 +38,7 @@ impl Model for PlainDisk {
     ghost invariant = { λ d. length d.blocks.items ≤ block_limit };
 }
 
-/// The bytes of blocks, joined.
+/// Returns the bytes of blocks, joined.
 fn joined(alloc: Global, blocks: &[[u8; 512]]) -> Result<Vec<u8>, NoMemory>
     ensures bytes { IfOk result (λ bytes. bytes.items ≡ concat blocks.now) }
 {
@@ -49,7 +49,7 @@ fn joined(alloc: Global, blocks: &[[u8; 512]]) -> Result<Vec<u8>, NoMemory>
     Ok(bytes)
 }
 
-/// Writes `from` over the blocks from `first` on.
+/// Writes `from` over the blocks from `first`.
 fn overwrite(blocks: &mut [[u8; 512]], first: usize, from: &[[u8; 512]])
     requires inside { first + length from.now ≤ length blocks.old }
     ensures blocks { blocks.new ≡ put blocks.old first from.now }
@@ -57,7 +57,7 @@ fn overwrite(blocks: &mut [[u8; 512]], first: usize, from: &[[u8; 512]])
     blocks[first..first + from.len()].copy_from_slice(from);
 }
 
-/// Writes bytes over the blocks from `first` on; behind them the last is zeros.
+/// Writes bytes over the blocks from `first`, and fills the last block with zeros.
 fn write_bytes(blocks: &mut [[u8; 512]], first: usize, bytes: &[u8])
     requires inside { first + blocks_for (length bytes.now) ≤ length blocks.old }
     ensures blocks { blocks.new ≡ put blocks.old first (in_blocks bytes.now) }
@@ -67,7 +67,7 @@ fn write_bytes(blocks: &mut [[u8; 512]], first: usize, bytes: &[u8])
     }
 }
 
-/// Writes zeros over so many blocks from `first` on.
+/// Writes zeros over `count` blocks from `first`.
 fn clear(blocks: &mut [[u8; 512]], first: usize, count: usize)
     requires inside { first + count ≤ length blocks.old }
     ensures blocks { blocks.new ≡ put blocks.old first (replicate count (replicate 512 0)) }
@@ -78,8 +78,8 @@ fn clear(blocks: &mut [[u8; 512]], first: usize, count: usize)
 }
 
 impl PlainDisk {
-    /// A unit of these blocks, available, with this hardware protection. `None` where there are more than
-    /// [`BLOCK_LIMIT`].
+    /// Makes an available unit of these blocks, with this hardware protection. Returns `None` if there are
+    /// more than [`BLOCK_LIMIT`] blocks.
     pub fn new(blocks: Vec<[u8; 512]>, hard: bool) -> Option<PlainDisk>
         ensures none { IsNone result ↔ (block_limit < length blocks.items) }
         ensures disk { IfSome result (λ disk. disk ≡ record {
@@ -99,14 +99,14 @@ impl PlainDisk {
         Some(PlainDisk { blocks, mode })
     }
 
-    /// The blocks.
+    /// Returns the blocks.
     pub fn blocks(&self) -> &[[u8; 512]]
         ensures blocks { result.now ≡ self.now.blocks }
     {
         self.blocks.as_slice()
     }
 
-    /// Whether it is online, and its write protections.
+    /// Returns the mode: whether the unit is online, and its write protections.
     pub fn mode(&self) -> Mode
         ensures mode { result ≡ self.now.mode }
     {
@@ -120,9 +120,9 @@ impl PlainDisk {
         self.blocks.len() as u32
     }
 
-    // Why a transfer is refused.
-    fn extent_refusal(&self, extent: Extent) -> Option<Refusal>
-        ensures refusal { result ≡ extent_refusal (extent_value extent) self.now.size self.now.mode }
+    // Returns the reason why a transfer is rejected, if there is one.
+    fn first_failed_check(&self, extent: Extent) -> Option<Refusal>
+        ensures refusal { result ≡ first_failed_check (extent_value extent) self.now.size self.now.mode }
     {
         let size = u64::from(self.size());
         let lbn = u64::from(extent.lbn);
@@ -216,10 +216,10 @@ impl PlainDisk {
         clear(&mut self.blocks, lbn as usize, bytes.div_ceil(512) as usize);
     }
 
-    // Does a request that nothing bars.
+    // Executes a request that has passed all checks.
     fn act(&mut self, alloc: Global, request: &Request) -> Result<Answer, NoMemory>
         requires short { too_long (request_value request.now) ≡ false }
-        requires free { bar_at (request_value request.now).act (Some (Some self.old)) ≡ Free self.old }
+        requires free { check_at (request_value request.now).act (Some (Some self.old)) ≡ Accepted self.old }
         ensures answer { IfOk result (λ answer.
             answer_value answer ≡ answer_on Done (request_value request.now).act self.old) }
         ensures disk { IfOk result (λ _.
@@ -243,23 +243,23 @@ impl PlainDisk {
         })
     }
 
-    /// Does one request that isn't too long.
+    /// Executes one request that isn't too long.
     ///
     /// # Errors
     ///
-    /// [`NoMemory`] where no memory is left for a Read's bytes: then nothing was done.
+    /// [`NoMemory`] if the bytes of a Read can't be allocated. Nothing has changed then.
     pub(crate) fn step(&mut self, alloc: Global, request: &Request) -> Result<Answer, NoMemory>
         requires short { too_long (request_value request.now) ≡ false }
         ensures answer { IfOk result (λ answer. answer_value answer
             ≡ answer_by Done (request_value request.now).act
-            (bar_at (request_value request.now).act (Some (Some self.old)))) }
+            (check_at (request_value request.now).act (Some (Some self.old)))) }
         ensures disk { IfOk result (λ _. self.new
             ≡ disk_by Done (request_value request.now).act
-            (bar_at (request_value request.now).act (Some (Some self.old))) self.old) }
+            (check_at (request_value request.now).act (Some (Some self.old))) self.old) }
         ensures unchanged { IfErr result (λ _. self.new ≡ self.old) }
     {
         let refusal = match request.extent() {
-            Some(extent) => self.extent_refusal(extent),
+            Some(extent) => self.first_failed_check(extent),
             None => None,
         };
         match refusal {
@@ -269,7 +269,7 @@ impl PlainDisk {
     }
 }
 
-/// The answer of a refused request: its status alone.
+/// Returns the answer of a rejected request: only its status.
 pub(crate) fn refused(alloc: Global, request: &Request, refusal: Refusal) -> Answer
     ensures answer { answer_value result
         ≡ blank_answer (request_value request.now).act (refusal_status refusal) }

@@ -1,7 +1,7 @@
-//! Four units, and lists of requests done on them.
+//! Four units, and the execution of lists of requests on them.
 ghost use Rattle.std.specs.Prelude.{◌≡◌, false, Some, IfOk, IfErr, option_map};
-ghost use Rattle.uda_disk.specs.Plain.{Done, answer_by, bar_at, disk_by};
-ghost use Rattle.uda_disk.specs.PlainRun.{too_long, plain, step};
+ghost use Rattle.uda_disk.specs.RequestEffect.{Done, answer_by, check_at, disk_by};
+ghost use Rattle.uda_disk.specs.InOrderRun.{too_long, run_in_order, step};
 ghost use Rattle.uda_disk.specs.Values.{request_value, request_values, answer_value, answer_values};
 
 use crate::disk::{PlainDisk, refused};
@@ -10,7 +10,7 @@ use std::marker::Model;
 use uda_disk::{Answer, Refusal, Request};
 use uda_mem::NoMemory;
 
-/// Four units, numbered from 0; `None` is one without a drive.
+/// Four units, numbered from 0; `None` is a unit without a drive.
 #[derive(Debug, Drop)]
 pub struct PlainUnits {
     units: [Option<PlainDisk>; 4],
@@ -24,7 +24,7 @@ impl Model for PlainUnits {
     ghost view = { λ u. u.units };
 }
 
-// Does one request, that isn't too long, on the unit that it names.
+// Executes one request, which isn't too long, on its unit.
 fn step_unit(
     unit: &mut Option<PlainDisk>,
     alloc: Global,
@@ -33,10 +33,10 @@ fn step_unit(
     requires short { too_long (request_value request.now) ≡ false }
     ensures answer { IfOk result (λ answer. answer_value answer
         ≡ answer_by Done (request_value request.now).act
-        (bar_at (request_value request.now).act (Some unit.old))) }
+        (check_at (request_value request.now).act (Some unit.old))) }
     ensures unit { IfOk result (λ _. unit.new
         ≡ option_map (disk_by Done (request_value request.now).act
-        (bar_at (request_value request.now).act (Some unit.old))) unit.old) }
+        (check_at (request_value request.now).act (Some unit.old))) unit.old) }
     ensures unchanged { IfErr result (λ _. unit.new ≡ unit.old) }
 {
     match unit {
@@ -65,25 +65,25 @@ fn step(
 }
 
 impl PlainUnits {
-    /// These disks as units 0 to 3.
+    /// Makes units 0 to 3 of these disks.
     pub fn new(units: [Option<PlainDisk>; 4]) -> PlainUnits
         ensures disks { result ≡ units }
     {
         PlainUnits { units }
     }
 
-    /// The disks of units 0 to 3.
+    /// Returns the disks of units 0 to 3.
     pub fn disks(&self) -> &[Option<PlainDisk>]
         ensures disks { result.now ≡ self.now }
     {
         self.units.as_slice()
     }
 
-    /// Does one request.
+    /// Executes one request.
     ///
     /// # Errors
     ///
-    /// [`NoMemory`] where no memory is left for a Read's bytes: then nothing was done.
+    /// [`NoMemory`] if the bytes of a Read can't be allocated. Nothing has changed then.
     pub fn step(&mut self, alloc: Global, request: &Request) -> Result<Answer, NoMemory>
         ensures step { IfOk result (λ answer.
             (answer_value answer, self.new) ≡ step (request_value request.now) self.old) }
@@ -92,14 +92,15 @@ impl PlainUnits {
         step(&mut self.units, alloc, request)
     }
 
-    /// Does the requests from the first to the last, and answers each.
+    /// Executes the requests from the first to the last, and returns an answer for each.
     ///
     /// # Errors
     ///
-    /// [`NoMemory`] where no memory is left for the answers: those before were done.
+    /// [`NoMemory`] if an answer can't be allocated. The requests before it were executed, and it may have
+    /// been too.
     pub fn run(&mut self, alloc: Global, requests: &[Request]) -> Result<Vec<Answer>, NoMemory>
-        ensures plain { IfOk result (λ answers.
-            (answer_values answers.items, self.new) ≡ plain self.old (request_values requests.now)) }
+        ensures in_order_run { IfOk result (λ answers.
+            (answer_values answers.items, self.new) ≡ run_in_order self.old (request_values requests.now)) }
     {
         let mut answers = Vec::new(alloc);
         for request in requests {

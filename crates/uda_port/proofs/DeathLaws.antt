@@ -1,4 +1,4 @@
--- What a port dies of, from what each event does.
+-- The causes of fatal errors, from the effect of each event.
 use Rattle.std.proofs.Common.{◌≡◌, ◌≢◌, ℕ, ◌⊎◌, inl, inr, Bool, true, false, List, [], ◌∷◌, length, Result, Ok, Err, refl, sym, ap, subst, ◌∙◌}
 use Rattle.std.specs.Prelude.{if◌then◌else◌}
 use Rattle.std.proofs.lemmas.List.Elements.{All-nil, All-cons, All-head, All-tail}
@@ -6,21 +6,21 @@ use borrow.Author.Tests.{ltb-true, ltb-false}
 use Rattle.uda_packet.specs.declared.guest_command.GuestCommand.{GuestCommand}
 use Rattle.uda_packet.specs.declared.reply.Reply.{Reply}
 use Rattle.uda_port.specs.declared.phase.Phase.{Phase}
-use Rattle.uda_port.specs.declared.phase.Phase.TheVariants.{Step1, Step2, Step3, Wrap, Purge, Poll, Step4, Running, Dead}
+use Rattle.uda_port.specs.declared.phase.Phase.TheVariants.{Step1, Step2, Step3, Wrap, PurgeTest, PollTest, Step4, Running, Dead}
 use Rattle.uda_port.specs.declared.phase.Fatal.{Fatal}
-use Rattle.uda_port.specs.declared.phase.Fatal.TheVariants.{PacketRead, PacketWrite, RingRead, RingWrite, CreditsExceeded, WrongEnvelope, StartUpWord}
+use Rattle.uda_port.specs.declared.phase.Fatal.TheVariants.{PacketRead, PacketWrite, RingRead, RingWrite, CreditsExceeded, InvalidConnection, InitializationError}
 use Rattle.uda_port.specs.declared.profile.Profile.{Profile}
-use Rattle.uda_port.specs.declared.profile.Profile.TheVariants.{Strict, ForGuests}
+use Rattle.uda_port.specs.declared.profile.Profile.TheVariants.{Strict, Compatible}
 use Rattle.uda_port.specs.declared.turn.Turn.{Turn}
 use Rattle.uda_port.specs.declared.turn.Turn.TheVariants.{Fetched, Executed, Delivered, Notified, Idle, Dead as DeadTurn}
 use Rattle.uda_port.specs.declared.play.HostEvent.{HostEvent}
 use Rattle.uda_port.specs.declared.play.HostEvent.TheVariants.{WriteIp, ReadIp, WriteSa, Word, Turn as TurnEvent}
-use Rattle.uda_port.specs.Port.{PortState, port_shows, port_asked}
+use Rattle.uda_port.specs.Port.{PortState, port_in_phase, port_after_ip_read}
 use Rattle.uda_port.specs.Interrupt.{interrupts_asked}
-use Rattle.uda_port.specs.Startup.{has_bit, area_of, has_area, refuses_second, refuses_third, asks_test, after_third, by_word, dead_port, port_with_rings, memory_with_area, wrap_by}
-use Rattle.uda_port.specs.Turn.{port_turn_on, port_with_message, TurnGoes, RunningTurn, GoesOn, Fails, InFetch, InRest, FetchLine}
+use Rattle.uda_port.specs.Startup.{has_bit, area_of, has_area, refuses_second, refuses_third, asks_test, after_third, after_sa_write, failed_port, port_with_rings, memory_with_area, after_wrap_request}
+use Rattle.uda_port.specs.Turn.{port_turn_on, port_with_message, TurnEffect, RunningTurn, GoesOn, Fails, InFetch, InRest, FetchRule}
 use Rattle.uda_port.specs.Message.{message_in}
-use Rattle.uda_port.specs.Play.{EventGoes, Played, FatalTurn, FatalWord, MeetsCause, LeavesIp, DiedOf, StaysDead, DeathHasCause}
+use Rattle.uda_port.specs.Events.{EventEffect, EventsEffect, FatalTurn, FatalWord, MeetsCause, LeavesIp, DiedAtEvent, StaysDead, DeathHasCause}
 
 -- an event that isn't a write to IP
 abbrev IsOther : HostEvent → Type 0
@@ -30,34 +30,34 @@ IsOther event = event ≢ WriteIp
 phases : (a b : PortState) → a ≡ b → a.phase ≡ b.phase
 phases a b is = ap (λ (x : PortState). x.phase) is
 
--- a running port that is left in its phase isn't dead
+-- a running port whose phase doesn't change isn't dead
 alive : (cause : Fatal) (a b : Phase) → a ≡ Running → b ≡ a → b ≡ Dead cause → ⊥
 alive cause a b runs same dead = cc
 
 same_cause : (a b : Fatal) → Dead a ≡ Dead b → a ≡ b
 same_cause a b is = cc
 
--- ---- a word of the start-up
+-- ---- a word of initialization
 
--- a port that died of this cause died of the one that the word met
-of_word : (met cause : Fatal) (word : ℕ) (old new : PortState) (memory : List ℕ) → new ≡ dead_port old met
+-- a port that failed after a word is dead of the cause that the word met
+of_word : (met cause : Fatal) (word : ℕ) (old new : PortState) (memory : List ℕ) → new ≡ failed_port old met
     → new.phase ≡ Dead cause → FatalWord met word old memory → FatalWord cause word old memory
 of_word met cause word old new memory is dead fatal = subst (λ (x : Fatal). FatalWord x word old memory)
-    (same_cause met cause (sym (phases new (dead_port old met) is) ∙ dead)) fatal
+    (same_cause met cause (sym (phases new (failed_port old met) is) ∙ dead)) fatal
 
 first_word : (cause : Fatal) (word : ℕ) (old new : PortState) (memory : List ℕ) (profile : Profile)
     (step wrap : Bool) → old.phase ≡ Step1 → old.profile ≡ profile → has_bit word 15 ≡ step → has_bit word 14
     ≡ wrap
     → new ≡ (
     if step then (
-    if wrap then wrap_by profile old word
-    else port_shows (record old { interrupts = interrupts_asked old.profile old.interrupts word })
+    if wrap then after_wrap_request profile old word
+    else port_in_phase (record old { interrupts = interrupts_asked old.profile old.interrupts word })
     (Step2 word)
     ) else old)
     → new.phase ≡ Dead cause → FatalWord cause word old memory
 first_word cause word old new memory Strict true true p q step wrap is dead =
-    of_word StartUpWord cause word old new memory is dead (rw (p, q) (step, wrap))
-first_word cause word old new memory (ForGuests identity) true true p q step wrap is dead =
+    of_word InitializationError cause word old new memory is dead (rw (p, q) (step, wrap))
+first_word cause word old new memory (Compatible identity) true true p q step wrap is dead =
     let same = phases new _ is in absurd (cc)
 first_word cause word old new memory profile' true false p q step wrap is dead =
     let same = phases new _ is in absurd (cc)
@@ -66,19 +66,19 @@ first_word cause word old new memory profile' false wrap' p q step wrap is dead 
 
 second_word : (cause : Fatal) (first word : ℕ) (old new : PortState) (memory : List ℕ) (profile : Profile)
     (refuses : Bool) → old.phase ≡ Step2 first → old.profile ≡ profile → refuses_second profile word ≡ refuses
-    → new ≡ (if refuses then dead_port old StartUpWord else port_shows old (Step3 first word))
+    → new ≡ (if refuses then failed_port old InitializationError else port_in_phase old (Step3 first word))
     → new.phase ≡ Dead cause → FatalWord cause word old memory
 second_word cause first word old new memory Strict true p q purge is dead =
-    of_word StartUpWord cause word old new memory is dead (rw (p, q) purge)
-second_word cause first word old new memory (ForGuests identity) true p q purge is dead = absurd (cc)
+    of_word InitializationError cause word old new memory is dead (rw (p, q) purge)
+second_word cause first word old new memory (Compatible identity) true p q purge is dead = absurd (cc)
 second_word cause first word old new memory profile' false p q purge is dead =
     let same = phases new _ is in absurd (cc)
 
--- what follows the third word isn't dead
+-- the phase after the third word isn't dead
 lives_on : (cause : Fatal) (old : PortState) (word : ℕ) → (after_third old word).phase ≡ Dead cause → ⊥
 lives_on cause old word is = by (asks_test old.profile word) is
   where
-    by : (test : Bool) → (if test then record old { phase = Purge } else port_shows old Step4).phase
+    by : (test : Bool) → (if test then record old { phase = PurgeTest } else port_in_phase old Step4).phase
         ≡ Dead cause → ⊥
     by true is = cc
     by false is = cc
@@ -87,16 +87,16 @@ third_word : (cause : Fatal) (first second word : ℕ) (old new : PortState) (me
     (profile : Profile) (refuses has : Bool) → old.phase ≡ Step3 first second → old.profile ≡ profile
     → refuses_third profile word ≡ refuses → has_area (area_of profile first second word) (length memory)
     ≡ has
-    → ◌≡◌ {A = PortState × List ℕ} (new, memory_after) (if refuses then (dead_port old StartUpWord, memory)
+    → ◌≡◌ {A = PortState × List ℕ} (new, memory_after) (if refuses then (failed_port old InitializationError, memory)
     else if has then (
       after_third (port_with_rings old (area_of profile first second word)) word,
       memory_with_area (area_of profile first second word) memory,
     )
-    else (dead_port old RingWrite, memory)) → new.phase ≡ Dead cause → FatalWord cause word old memory
+    else (failed_port old RingWrite, memory)) → new.phase ≡ Dead cause → FatalWord cause word old memory
 third_word cause first second word old new memory memory_after Strict true has' p q high area is dead =
-    of_word StartUpWord cause word old new memory (ap (λ (x : PortState × List ℕ). x.0) is) dead
+    of_word InitializationError cause word old new memory (ap (λ (x : PortState × List ℕ). x.0) is) dead
     (rw (p, q) (ltb-true 3 word high))
-third_word cause first second word old new memory memory_after (ForGuests identity) true has' p q high area is
+third_word cause first second word old new memory memory_after (Compatible identity) true has' p q high area is
     dead = absurd (cc)
 third_word cause first second word old new memory memory_after profile' false true p q high area is dead =
     absurd (lives_on cause (port_with_rings old (area_of profile' first second word)) word
@@ -104,13 +104,13 @@ third_word cause first second word old new memory memory_after profile' false tr
 third_word cause first second word old new memory memory_after Strict false false p q high area is dead =
     of_word RingWrite cause word old new memory (ap (λ (x : PortState × List ℕ). x.0) is) dead
     (rw (p, q) (ltb-false 3 word high, area))
-third_word cause first second word old new memory memory_after (ForGuests identity) false false p q high area
+third_word cause first second word old new memory memory_after (Compatible identity) false false p q high area
     is dead =
     of_word RingWrite cause word old new memory (ap (λ (x : PortState × List ℕ). x.0) is) dead
     (rw (p, q) (tt, area))
 
-purge_word : (cause : Fatal) (word : ℕ) (old new : PortState) (none : Bool) → old.phase ≡ Purge
-    → new ≡ (if none then record old { phase = Poll } else old) → new.phase ≡ Dead cause → ⊥
+purge_word : (cause : Fatal) (word : ℕ) (old new : PortState) (none : Bool) → old.phase ≡ PurgeTest
+    → new ≡ (if none then record old { phase = PollTest } else old) → new.phase ≡ Dead cause → ⊥
 purge_word cause word old new true p is dead = let same = phases new _ is in absurd (cc)
 purge_word cause word old new false p is dead = let same = phases new _ is in absurd (cc)
 
@@ -121,7 +121,7 @@ fourth_word cause word old new false p is dead = let same = phases new _ is in a
 
 -- a port that is dead after a word was dead before it, or the word was fatal
 fatal_word : (cause : Fatal) (word : ℕ) (p : Phase) (old new : PortState) (memory memory_after : List ℕ)
-    → old.phase ≡ p → (new, memory_after) ≡ by_word p old memory word → new.phase ≡ Dead cause
+    → old.phase ≡ p → (new, memory_after) ≡ after_sa_write p old memory word → new.phase ≡ Dead cause
     → (old.phase ≡ Dead cause) ⊎ FatalWord cause word old memory
 fatal_word cause word Step1 old new memory memory_after p is dead =
     let first = ap (λ (x : PortState × List ℕ). x.0) is in
@@ -134,9 +134,9 @@ fatal_word cause word (Step3 first second) old new memory memory_after p is dead
     dead)
 fatal_word cause word (Wrap before) old new memory memory_after p is dead =
     let same = phases new _ (ap (λ (x : PortState × List ℕ). x.0) is) in absurd (cc)
-fatal_word cause word Purge old new memory memory_after p is dead =
+fatal_word cause word PurgeTest old new memory memory_after p is dead =
     absurd (purge_word cause word old new _ p (ap (λ (x : PortState × List ℕ). x.0) is) dead)
-fatal_word cause word Poll old new memory memory_after p is dead =
+fatal_word cause word PollTest old new memory memory_after p is dead =
     inl (sym (phases new old (ap (λ (x : PortState × List ℕ). x.0) is)) ∙ dead)
 fatal_word cause word Step4 old new memory memory_after p is dead =
     absurd (fourth_word cause word old new _ p (ap (λ (x : PortState × List ℕ). x.0) is) dead)
@@ -147,20 +147,20 @@ fatal_word cause word (Dead before) old new memory memory_after p is dead =
 
 -- ---- a turn
 
--- what it met in its first line
+-- what rule 1 met
 fails_fetch : (cause : Fatal) (old : PortState) (memory : List ℕ) (before : PortState) (memory_after : List ℕ)
-    → FetchLine old memory (Err cause) before memory_after → FatalTurn cause old memory
+    → FetchRule old memory (Err cause) before memory_after → FatalTurn cause old memory
 fails_fetch PacketRead old memory before memory_after line = line.0
 fails_fetch RingRead old memory before memory_after line = inl line.0
 fails_fetch CreditsExceeded old memory before memory_after line =
     record { new = before; memory_after = memory_after; bad = line }
-fails_fetch WrongEnvelope old memory before memory_after line =
+fails_fetch InvalidConnection old memory before memory_after line =
     record { new = before; memory_after = memory_after; bad = line }
 fails_fetch PacketWrite old memory before memory_after line = absurd line
 fails_fetch RingWrite old memory before memory_after line = absurd line
-fails_fetch StartUpWord old memory before memory_after line = absurd line
+fails_fetch InitializationError old memory before memory_after line = absurd line
 
--- what it met in its third
+-- what rule 3 met
 fails_rest : (cause : Fatal) (old : PortState) (memory : List ℕ) (before : PortState) (memory_after : List ℕ)
     → GoesOn old memory (Err cause) before memory_after → FatalTurn cause old memory
 fails_rest PacketWrite old memory before memory_after goes = (
@@ -178,9 +178,9 @@ fails_rest RingRead old memory before memory_after goes = inr (
 )
 fails_rest PacketRead old memory before memory_after goes = absurd goes.rest.1
 fails_rest CreditsExceeded old memory before memory_after goes = absurd goes.rest.1
-fails_rest WrongEnvelope old memory before memory_after goes = absurd goes.rest.1
+fails_rest InvalidConnection old memory before memory_after goes = absurd goes.rest.1
 fails_rest RingWrite old memory before memory_after goes = absurd goes.rest.1
-fails_rest StartUpWord old memory before memory_after goes = absurd goes.rest.1
+fails_rest InitializationError old memory before memory_after goes = absurd goes.rest.1
 
 fails_of : (cause : Fatal) (old : PortState) (memory : List ℕ) (before : PortState) (memory_after : List ℕ)
     → Fails cause old memory before memory_after → FatalTurn cause old memory
@@ -189,13 +189,13 @@ fails_of cause old memory before memory_after (InFetch line) =
 fails_of cause old memory before memory_after (InRest goes) =
     fails_rest cause old memory before memory_after goes
 
--- a message leaves the phase
+-- a message doesn't change the phase
 message_phase : (old : PortState) (message : Result GuestCommand Reply)
     → (port_with_message old message).phase ≡ old.phase
 message_phase old (Ok c) = refl
 message_phase old (Err e) = refl
 
--- a turn of a running port leaves it running, or meets a cause
+-- a running port runs after a turn, or the turn met a cause
 running_turn : (cause : Fatal) (turn : Turn) (old new : PortState) (memory memory_after : List ℕ)
     → old.phase ≡ Running → RunningTurn old memory turn new memory_after → new.phase ≡ Dead cause
     → FatalTurn cause (port_turn_on old) memory
@@ -217,7 +217,7 @@ running_turn cause DeadTurn old new memory memory_after p goes dead =
 
 -- a port that is dead after a turn was dead before it, or the turn met a cause
 fatal_turn : (cause : Fatal) (turn : Turn) (p : Phase) (old new : PortState) (memory memory_after : List ℕ)
-    → old.phase ≡ p → TurnGoes p old memory turn new memory_after → new.phase ≡ Dead cause
+    → old.phase ≡ p → TurnEffect p old memory turn new memory_after → new.phase ≡ Dead cause
     → (old.phase ≡ Dead cause) ⊎ ((old.phase ≡ Running) × FatalTurn cause (port_turn_on old) memory)
 fatal_turn cause turn Running old new memory memory_after p goes dead =
     inr (p, running_turn cause turn old new memory memory_after p goes dead)
@@ -231,44 +231,43 @@ fatal_turn cause turn (Step3 first second) old new memory memory_after p goes de
     inl (sym (phases new old goes.unchanged.state) ∙ dead)
 fatal_turn cause turn (Wrap before) old new memory memory_after p goes dead =
     inl (sym (phases new old goes.unchanged.state) ∙ dead)
-fatal_turn cause turn Purge old new memory memory_after p goes dead =
+fatal_turn cause turn PurgeTest old new memory memory_after p goes dead =
     inl (sym (phases new old goes.unchanged.state) ∙ dead)
-fatal_turn cause turn Poll old new memory memory_after p goes dead =
+fatal_turn cause turn PollTest old new memory memory_after p goes dead =
     inl (sym (phases new old goes.unchanged.state) ∙ dead)
 fatal_turn cause turn Step4 old new memory memory_after p goes dead =
     inl (sym (phases new old goes.unchanged.state) ∙ dead)
 
 -- ---- an event, and events
 
--- a port whose IP is read is dead where it was, and only there
-asked_dead : (cause : Fatal) (p : Phase) (old : PortState) → old.phase ≡ p → (port_asked p old).phase
+-- a read of IP leaves a port dead exactly if it was dead
+asked_dead : (cause : Fatal) (p : Phase) (old : PortState) → old.phase ≡ p → (port_after_ip_read p old).phase
     ≡ Dead cause → old.phase ≡ Dead cause
 asked_dead cause Running old is dead = dead
 asked_dead cause Step1 old is dead = dead
 asked_dead cause (Step2 first) old is dead = dead
 asked_dead cause (Step3 first second) old is dead = dead
 asked_dead cause (Wrap before) old is dead = dead
-asked_dead cause Purge old is dead = dead
-asked_dead cause Poll old is dead = absurd (cc)
+asked_dead cause PurgeTest old is dead = dead
+asked_dead cause PollTest old is dead = absurd (cc)
 asked_dead cause Step4 old is dead = dead
 asked_dead cause (Dead before) old is dead = dead
 
 still_dead : (cause : Fatal) (p : Phase) (old : PortState) → old.phase ≡ p → old.phase ≡ Dead cause
-    → (port_asked p old).phase ≡ Dead cause
+    → (port_after_ip_read p old).phase ≡ Dead cause
 still_dead cause Running old is dead = dead
 still_dead cause Step1 old is dead = dead
 still_dead cause (Step2 first) old is dead = dead
 still_dead cause (Step3 first second) old is dead = dead
 still_dead cause (Wrap before) old is dead = dead
-still_dead cause Purge old is dead = dead
-still_dead cause Poll old is dead = absurd (cc)
+still_dead cause PurgeTest old is dead = dead
+still_dead cause PollTest old is dead = absurd (cc)
 still_dead cause Step4 old is dead = dead
 still_dead cause (Dead before) old is dead = dead
 
--- a port that is dead after an event was dead before it, and the event wasn't a write to IP; or the event met
--- a cause
+-- A port that is dead after an event met a cause in it, or was dead before and the event isn't a write to IP.
 fatal_event : (cause : Fatal) (event : HostEvent) (old new : PortState) (memory memory_after : List ℕ)
-    → EventGoes event old memory new memory_after → new.phase ≡ Dead cause
+    → EventEffect event old memory new memory_after → new.phase ≡ Dead cause
     → ((event ≢ WriteIp) × (old.phase ≡ Dead cause)) ⊎ MeetsCause cause event old memory
 fatal_event cause WriteIp old new memory memory_after goes dead =
     let same = phases new _ goes.0 in absurd (cc)
@@ -288,8 +287,8 @@ fatal_event cause TurnEvent old new memory memory_after goes dead =
     ]
 
 dies : (cause : Fatal) (events : List HostEvent) (old : PortState) (memory : List ℕ) (new : PortState)
-    (memory_after : List ℕ) → Played events old memory new memory_after → new.phase ≡ Dead cause
-    → StaysDead cause events old ⊎ DiedOf cause events (old, memory) (new, memory_after)
+    (memory_after : List ℕ) → EventsEffect events old memory new memory_after → new.phase ≡ Dead cause
+    → StaysDead cause events old ⊎ DiedAtEvent cause events (old, memory) (new, memory_after)
 dies cause [] old memory new memory_after played dead =
     inl (record { was = sym (phases new old played.state) ∙ dead; leaves_ip = All-nil IsOther })
 dies cause (event ∷ rest) old memory new memory_after played dead =
@@ -327,29 +326,29 @@ dies cause (event ∷ rest) old memory new memory_after played dead =
       })
     ]
 
--- a dead port stays so where IP isn't written
+-- a dead port remains dead until IP is written
 dead_word : (cause : Fatal) (word : ℕ) (p : Phase) (old new : PortState) (memory memory_after : List ℕ)
-    → (new, memory_after) ≡ by_word p old memory word → p ≡ Dead cause → new ≡ old
+    → (new, memory_after) ≡ after_sa_write p old memory word → p ≡ Dead cause → new ≡ old
 dead_word cause word (Dead before) old new memory memory_after is dead =
     ap (λ (x : PortState × List ℕ). x.0) is
 dead_word cause word Step1 old new memory memory_after is dead = absurd (cc dead)
 dead_word cause word (Step2 first) old new memory memory_after is dead = absurd (cc dead)
 dead_word cause word (Step3 first second) old new memory memory_after is dead = absurd (cc dead)
 dead_word cause word (Wrap before) old new memory memory_after is dead = absurd (cc dead)
-dead_word cause word Purge old new memory memory_after is dead = absurd (cc dead)
-dead_word cause word Poll old new memory memory_after is dead = absurd (cc dead)
+dead_word cause word PurgeTest old new memory memory_after is dead = absurd (cc dead)
+dead_word cause word PollTest old new memory memory_after is dead = absurd (cc dead)
 dead_word cause word Step4 old new memory memory_after is dead = absurd (cc dead)
 dead_word cause word Running old new memory memory_after is dead = absurd (cc dead)
 
 dead_turn : (cause : Fatal) (turn : Turn) (p : Phase) (old new : PortState) (memory memory_after : List ℕ)
-    → TurnGoes p old memory turn new memory_after → p ≡ Dead cause → new ≡ old
+    → TurnEffect p old memory turn new memory_after → p ≡ Dead cause → new ≡ old
 dead_turn cause turn (Dead before) old new memory memory_after goes dead = goes.unchanged.state
 dead_turn cause turn Step1 old new memory memory_after goes dead = goes.unchanged.state
 dead_turn cause turn (Step2 first) old new memory memory_after goes dead = goes.unchanged.state
 dead_turn cause turn (Step3 first second) old new memory memory_after goes dead = goes.unchanged.state
 dead_turn cause turn (Wrap before) old new memory memory_after goes dead = goes.unchanged.state
-dead_turn cause turn Purge old new memory memory_after goes dead = goes.unchanged.state
-dead_turn cause turn Poll old new memory memory_after goes dead = goes.unchanged.state
+dead_turn cause turn PurgeTest old new memory memory_after goes dead = goes.unchanged.state
+dead_turn cause turn PollTest old new memory memory_after goes dead = goes.unchanged.state
 dead_turn cause turn Step4 old new memory memory_after goes dead = goes.unchanged.state
 dead_turn cause turn Running old new memory memory_after goes dead = absurd (not_running cause dead)
   where
@@ -357,7 +356,7 @@ dead_turn cause turn Running old new memory memory_after goes dead = absurd (not
     not_running cause is = cc
 
 dead_event : (cause : Fatal) (event : HostEvent) (old new : PortState) (memory memory_after : List ℕ)
-    → EventGoes event old memory new memory_after → event ≢ WriteIp → old.phase ≡ Dead cause
+    → EventEffect event old memory new memory_after → event ≢ WriteIp → old.phase ≡ Dead cause
     → new.phase ≡ Dead cause
 dead_event cause WriteIp old new memory memory_after goes other dead = absurd (other refl)
 dead_event cause ReadIp old new memory memory_after goes other dead = phases new _ goes.0
@@ -370,7 +369,7 @@ dead_event cause TurnEvent old new memory memory_after goes other dead =
     phases new old (dead_turn cause goes.0 old.phase old new memory memory_after goes.1 dead) ∙ dead
 
 stays : (cause : Fatal) (events : List HostEvent) (old : PortState) (memory : List ℕ) (new : PortState)
-    (memory_after : List ℕ) → Played events old memory new memory_after
+    (memory_after : List ℕ) → EventsEffect events old memory new memory_after
     → old.phase ≡ Dead cause → LeavesIp events → new.phase ≡ Dead cause
 stays cause [] old memory new memory_after played dead leaves = phases new old played.state ∙ dead
 stays cause (event ∷ rest) old memory new memory_after played dead leaves =
@@ -379,7 +378,7 @@ stays cause (event ∷ rest) old memory new memory_after played dead leaves =
     (All-head IsOther event rest leaves) dead) (All-tail IsOther event rest leaves)
 
 pub death_has_cause : (events : List HostEvent) (old : PortState) (memory : List ℕ) (new : PortState)
-    (memory_after : List ℕ) → Played events old memory new memory_after
+    (memory_after : List ℕ) → EventsEffect events old memory new memory_after
     → DeathHasCause events old memory new memory_after
 death_has_cause events old memory new memory_after played = record {
   dies = λ cause dead. dies cause events old memory new memory_after played dead;

@@ -1,4 +1,4 @@
--- What is posted in a ring, by the descriptor at its place; and that a fetch keeps ring order.
+-- What is posted in a ring, from its next descriptor on; and that a fetch follows ring order.
 use Rattle.std.proofs.Common.{◌≡◌, ℕ, ◌^◌, mod-eq_of_lt, ◌+◌, ◌*◌, ◌%◌, ◌<◌, ◌≤◌, ◌⊎◌, inl, inr, Bool, true, false, List, [], ◌∷◌, ◌++◌, length, get_or, set, take, drop, Option, Some, None, Result, Ok, Err, refl, sym, ap, ap₂, ◌∙◌, arith, length-set}
 use Rattle.std.specs.Prelude.{nat_le, if◌then◌else◌}
 use Rattle.std.proofs.lemmas.List.{drop_more, append_assoc, append-nil, same_lists, get_or-set_same, get_or-set_other, drop-set-lt, take_more_set, drop_all, take_all}
@@ -12,11 +12,11 @@ use Rattle.uda_mem.proofs.WordLaws.{length-word_bytes, word_at-put_apart, word_a
 use Rattle.uda_port.specs.declared.descriptor.Descriptor.{Descriptor}
 use Rattle.uda_port.specs.declared.packet.Fetched.{Fetched}
 use Rattle.uda_port.specs.declared.packet.Fetching.{Fetching}
-use Rattle.uda_port.specs.Ring.{is_owned, word_given_back, descriptor_at, ring, owned_front, posted, RingState, descriptor_address, next_descriptor, ring_advanced, memory_given_back, posted_in}
-use Rattle.uda_port.specs.Interrupt.{memory_told, IsBelow}
+use Rattle.uda_port.specs.Ring.{is_owned, returned_word, descriptor_at, ring, owned_front, posted, RingState, descriptor_address, next_descriptor, ring_advanced, memory_returned, posted_in}
+use Rattle.uda_port.specs.Interrupt.{memory_with_indicator, IsBelow}
 use Rattle.uda_port.specs.declared.ring.RingFault.{RingFault}
 use Rattle.uda_port.specs.declared.ring.RingFault.TheVariants.{Ring as RingLost, Packet as PacketLost}
-use Rattle.uda_port.specs.Fetch.{Takes, TakesFirst, FetchGoes, OrderKept}
+use Rattle.uda_port.specs.Fetch.{Takes, TakesFirst, FetchEffect, OrderKept}
 
 length-ring : (memory : List ℕ) (base n : ℕ) → length (ring memory base n) ≡ n
 length-ring memory base n = length-map-range_with_len _ 0 n
@@ -26,7 +26,7 @@ get_or-ring : (memory : List ℕ) (base n k : ℕ) (d : Option Descriptor) → k
 get_or-ring memory base n k d h = get_or-map-range_with_len (λ k. descriptor_at memory (base + 4 * k)) 0 n k k
     d h (omega arith)
 
--- the descriptor at the place comes first
+-- the next descriptor comes first
 rotated : (memory : List ℕ) (r : RingState) → r.place < r.count
     → drop r.place (ring memory r.base r.count) ++ take r.place (ring memory r.base r.count)
     ≡ descriptor_at memory (descriptor_address r)
@@ -40,7 +40,7 @@ rotated memory r within =
     ap (λ (ds : List (Option Descriptor)). ds ++ take r.place all)
     (next ∙ ap (λ (d : Option Descriptor). d ∷ drop (r.place + 1) all) is)
 
--- the rest of the ring behind its place
+-- the rest of the ring after its next descriptor
 abbrev pub behind : List ℕ → RingState → List (Option Descriptor)
 behind memory r = drop (r.place + 1) (ring memory r.base r.count) ++ take r.place (ring memory r.base r.count)
 
@@ -65,7 +65,7 @@ pub owned_posted : (memory : List ℕ) (r : RingState) (d : Descriptor) → r.pl
     → posted_in memory r ≡ d ∷ owned_front (behind memory r)
 owned_posted memory r d within h owned = posted_next memory r d true within h owned
 
--- a descriptor that the port doesn't own ends a run wherever it stands
+-- a descriptor that the host owns ends a run at any index
 owned_front-append : (ds : List (Option Descriptor)) (d : Descriptor) → is_owned d ≡ false
     → owned_front (ds ++ Some d ∷ []) ≡ owned_front ds
 owned_front-append [] d h = rw h refl
@@ -99,7 +99,7 @@ descriptor_at-within memory at d h = go (nat_le (at + 4) (length memory)) refl h
     go true is h = leb-true (at + 4) (length memory) is
     go false is h = absurd (cc)
 
--- and makes that one the port's no more
+-- and the host owns that one afterwards
 descriptor_at-put_here : (memory : List ℕ) (at word : ℕ) → at + 4 ≤ length memory → word < 2 ^ 16
     → descriptor_at (put memory (at + 2) (word_bytes word)) at
     ≡ Some (record { low = word_at memory at; high = word })
@@ -110,13 +110,13 @@ descriptor_at-put_here memory at word room fits =
     let make : ℕ → ℕ → Option Descriptor = λ l h. Some (record { low = l; high = h }) in
     rw (length-put, le-leb (at + 4) (length memory) room) (ap₂ make low high)
 
-word_given_back-fits : (high : ℕ) → word_given_back high < 2 ^ 16
-word_given_back-fits high = omega arith
+returned_word-fits : (high : ℕ) → returned_word high < 2 ^ 16
+returned_word-fits high = omega arith
 
-word_given_back-free : (low high : ℕ) → is_owned (record { low = low; high = word_given_back high }) ≡ false
-word_given_back-free low high = lt-leb 32768 (word_given_back high) (omega arith)
+returned_word-free : (low high : ℕ) → is_owned (record { low = low; high = returned_word high }) ≡ false
+returned_word-free low high = lt-leb 32768 (returned_word high) (omega arith)
 
--- the ring after the give back: the descriptor at the place is another, and the others are as they were
+-- the ring after the return of a descriptor: the next descriptor is changed, and the others are unchanged
 ring_after : (memory : List ℕ) (r : RingState) (word : ℕ) → r.place < r.count
     → descriptor_address r + 4 ≤ length memory → word < 2 ^ 16
     → ring (put memory (descriptor_address r + 2) (word_bytes word)) r.base r.count
@@ -152,7 +152,7 @@ ring_after memory r word within room fits =
           ∙ get_or-ring memory r.base r.count k d inside)
     ])
 
--- the ring seen from the next place, going round
+-- the ring from the next index on, around
 advanced : (ds : List (Option Descriptor)) (place count : ℕ) (given : Option Descriptor) → place < count
     → length ds ≡ count
     → drop ((place + 1) % count) (set ds place given) ++ take ((place + 1) % count) (set ds place given)
@@ -176,27 +176,27 @@ advanced ds place count given within long = elim (cases_lt (place + 1) count) [
       rw (round, none) (append-nil (set ds place given) ∙ whole)
 ]
 
--- a descriptor that is given back leaves the rest posted
-given_back : (memory : List ℕ) (old : RingState) (first : Descriptor) → old.place < old.count
+-- the return of a descriptor leaves the rest posted
+posted_after_return : (memory : List ℕ) (old : RingState) (first : Descriptor) → old.place < old.count
     → next_descriptor memory old ≡ Some first → is_owned first ≡ true
-    → posted_in memory old ≡ first ∷ posted_in (memory_given_back memory old first) (ring_advanced old)
-given_back memory old first within is_next owned =
+    → posted_in memory old ≡ first ∷ posted_in (memory_returned memory old first) (ring_advanced old)
+posted_after_return memory old first within is_next owned =
     let room = descriptor_at-within memory (descriptor_address old) first is_next in
-    let word = word_given_back first.high in
+    let word = returned_word first.high in
     let given : Descriptor = record { low = word_at memory (descriptor_address old); high = word } in
-    let after = ring_after memory old word within room (word_given_back-fits first.high) in
-    let rest : posted_in (memory_given_back memory old first) (ring_advanced old)
+    let after = ring_after memory old word within room (returned_word-fits first.high) in
+    let rest : posted_in (memory_returned memory old first) (ring_advanced old)
     ≡ owned_front (behind memory old) =
     ap (λ (ds : List (Option Descriptor)). posted ds ((old.place + 1) % old.count)) after
     ∙ ap owned_front (advanced (ring memory old.base old.count) old.place old.count (Some given) within
     (length-ring memory old.base old.count))
     ∙ owned_front-append (behind memory old) given
-    (word_given_back-free (word_at memory (descriptor_address old)) first.high) in
+    (returned_word-free (word_at memory (descriptor_address old)) first.high) in
     owned_posted memory old first within is_next owned ∙ ap (λ (ds : List Descriptor). first ∷ ds) (sym rest)
 
--- a word below a ring's base is none of its descriptors
-descriptor_told : (memory : List ℕ) (told : Option ℕ) (base other : ℕ) → IsBelow told base → base ≤ other
-    → descriptor_at (memory_told memory told) other ≡ descriptor_at memory other
+-- a word below a ring's base isn't part of its descriptors
+descriptor_told : (memory : List ℕ) (indicator : Option ℕ) (base other : ℕ) → IsBelow indicator base → base ≤ other
+    → descriptor_at (memory_with_indicator memory indicator) other ≡ descriptor_at memory other
 descriptor_told memory None base other below above = refl
 descriptor_told memory (Some at) base other below above =
     let two = length-word_bytes 1 in let under = below.1 in
@@ -208,37 +208,37 @@ descriptor_told memory (Some at) base other below above =
     (word_at (put memory at (word_bytes 1)) (other + 2))) (length-put memory at (word_bytes 1))
     ∙ ap₂ (make (length memory)) low high
 
-ring_told : (memory : List ℕ) (told : Option ℕ) (base n : ℕ) → IsBelow told base
-    → ring (memory_told memory told) base n ≡ ring memory base n
-ring_told memory told base n below = same_lists _ _
-    (length-ring (memory_told memory told) base n ∙ sym (length-ring memory base n)) (λ k d less.
-    let inside : k < n = omega (arith, length-ring (memory_told memory told) base n) in
-    get_or-ring (memory_told memory told) base n k d inside ∙ descriptor_told memory told base
+ring_told : (memory : List ℕ) (indicator : Option ℕ) (base n : ℕ) → IsBelow indicator base
+    → ring (memory_with_indicator memory indicator) base n ≡ ring memory base n
+ring_told memory indicator base n below = same_lists _ _
+    (length-ring (memory_with_indicator memory indicator) base n ∙ sym (length-ring memory base n)) (λ k d less.
+    let inside : k < n = omega (arith, length-ring (memory_with_indicator memory indicator) base n) in
+    get_or-ring (memory_with_indicator memory indicator) base n k d inside ∙ descriptor_told memory indicator base
     (base + 4 * k) below (omega arith) ∙ sym (get_or-ring memory base n k d inside))
 
--- a fetch takes the first that is posted, and leaves the rest posted
+-- a fetch removes the first posted descriptor, and leaves the rest posted
 pub takes_first : (f : Fetching) (old : RingState) (memory : List ℕ) (p : Fetched) (new : RingState)
-    (memory_after : List ℕ) → IsBelow f.told old.base → old.place < old.count
+    (memory_after : List ℕ) → IsBelow f.indicator old.base → old.place < old.count
     → Takes f old memory p new memory_after
     → TakesFirst old memory new memory_after
 takes_first f old memory p new memory_after below within t =
-    let there = memory_told memory f.told in
+    let there = memory_with_indicator memory f.indicator in
     let same : ring there old.base old.count ≡ ring memory old.base old.count =
-    ring_told memory f.told old.base old.count below in
-    let is_next : next_descriptor there old ≡ Some t.first = descriptor_told memory f.told old.base
+    ring_told memory f.indicator old.base old.count below in
+    let is_next : next_descriptor there old ≡ Some t.first = descriptor_told memory f.indicator old.base
     (descriptor_address old) below (omega arith) ∙ t.is_next in
     record {
       first = t.first;
       is_next = t.is_next;
       in_order = ap (λ (ds : List (Option Descriptor)). posted ds old.place) (sym same)
-          ∙ given_back there old t.first within is_next t.owned
+          ∙ posted_after_return there old t.first within is_next t.owned
           ∙ ap (λ (ds : List Descriptor). t.first ∷ ds) (sym (ap₂ posted_in t.written t.advanced));
     }
 
--- what a fetch does by the descriptor at the place it does by what is posted: ring order
+-- the effect of a fetch at the next descriptor is that on what is posted: ring order
 pub order_kept : (f : Fetching) (old : RingState) (memory : List ℕ)
     (result : Result (Option Fetched) RingFault) (new : RingState) (memory_after : List ℕ)
-    → IsBelow f.told old.base → old.place < old.count → FetchGoes f old memory result new memory_after
+    → IsBelow f.indicator old.base → old.place < old.count → FetchEffect f old memory result new memory_after
     → OrderKept old memory result new memory_after
 order_kept f old memory (Ok (Some p)) new memory_after below within goes =
     takes_first f old memory p new memory_after below within goes

@@ -1,4 +1,4 @@
--- The number that a tally stands for.
+-- The number that a tally represents.
 use Rattle.std.specs.Prelude.{ℕ, ◌+◌}
 use Rattle.uda_port.specs.declared.tally.Count.{Count, Zero, Next'}
 

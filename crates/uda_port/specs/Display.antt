@@ -1,5 +1,5 @@
--- The error as a person reads it.
+-- The text of the error.
 use Rattle.std.specs.Prelude.{ℕ, List, codes}
 
-abbrev pub no_port_display : List ℕ
-no_port_display = codes "out of memory"
+abbrev pub port_alloc_error_display : List ℕ
+port_alloc_error_display = codes "out of memory"

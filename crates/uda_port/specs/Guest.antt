@@ -1,6 +1,6 @@
--- What a port for guests reports of its units and of itself: the types of the units, the controller flags,
--- and the units for which an attention message is due. MSCP Basic Disk Functions Manual: controller flags,
--- unit identifiers, attention messages.
+-- State that only a compatible port has: the drive types, the controller flags, and the units for which an
+-- attention message is due.
+-- MSCP Basic Disk Functions Manual: controller flags, unit identifiers, attention messages.
 use Rattle.std.specs.Prelude.{ℕ, ◌/◌, ◌%◌, ◌==◌, ◌&&◌, ◌||◌, Bool, true, false, List}
 use Rattle.std.specs.Prelude.{replicate, set, slice_get, unwrap_or, Option, Some, None, if◌then◌else◌}
 use Rattle.uda_disk.specs.Status.{SUCCESS, ALREADY_ONLINE}
@@ -13,30 +13,30 @@ use Rattle.uda_packet.specs.declared.end.EndBody.TheVariants as body
 use Rattle.uda_packet.specs.declared.guest_end.Bus.TheVariants.{Unibus}
 use Rattle.uda_packet.specs.declared.guest_end.Identity.{Identity}
 use Rattle.uda_packet.specs.declared.guest_end.UnitReport.{UnitReport}
-use Rattle.uda_exec.specs.declared.drive_unit.UnitLook.{UnitLook}
+use Rattle.uda_exec.specs.declared.drive_unit.UnitInfo.{UnitInfo}
 use Rattle.uda_port.specs.declared.guest.Guest.{Guest}
 
--- the controller whose kind nobody has chosen: on a UNIBUS, with units from 0 on
+-- the default identity: on a UNIBUS, with units from 0 on
 abbrev pub usual_identity : Identity
 usual_identity = record { bus = Unibus; first_unit = 0 }
 
--- before anything is set: every unit is of the type RA81
+-- the state of a new port: every unit is an RA81
 abbrev pub GUEST_AT_FIRST : Guest
 GUEST_AT_FIRST = record { types = replicate 4 Ra81; flags = 0; attentions = replicate 4 false }
 
--- a start-up clears the controller flags and what attention is due for; the types stay
+-- a write to IP clears the controller flags and the due attention messages; the drive types stay
 abbrev pub guest_restarted : Guest → Guest
 guest_restarted g = record g { flags = 0; attentions = replicate 4 false }
 
--- by bit 7 of the controller flags a host asks to be told of units that become available
+-- bit 7 of the controller flags asks for a message when a unit becomes available
 abbrev pub asks_attention : ℕ → Bool
 asks_attention flags = flags / 0x80 % 2 == 1
 
--- an attention message is due for this drive, or it isn't
+-- sets whether an attention message is due for this drive
 abbrev pub attention_set : Guest → ℕ → Bool → Guest
 attention_set g drive due = record g { attentions = set g.attentions drive due }
 
--- the first drive for which a message is due
+-- the first drive for which an attention message is due
 abbrev pub is_due : List Bool → ℕ → Bool
 is_due attentions drive = unwrap_or (slice_get attentions drive) false
 
@@ -49,16 +49,16 @@ abbrev ends_online : ReplyBody → Bool
 ends_online (Basic (body.Online flags size)) = true
 ends_online _ = false
 
--- an Online brought its unit online, or found it so
+-- whether an Online brought its unit online, or found it online
 abbrev pub is_online_now : Reply → Bool
 is_online_now e = ends_online e.body && (e.status == SUCCESS || e.status == ALREADY_ONLINE)
 
--- then no message is due for its drive any more
+-- after such an end message no attention message is due for its drive
 abbrev pub guest_after : Reply → Guest → Guest
 guest_after e g = if is_online_now e then attention_set g e.unit false else g
 
--- a unit of this type, by what stands there: without a volume its size is 0
-abbrev pub unit_reported : DriveType → Option UnitLook → UnitReport
+-- the report of a unit of this type; without a volume its size is 0
+abbrev pub unit_reported : DriveType → Option UnitInfo → UnitReport
 unit_reported kind None = record { kind = kind; hard = false; soft = false; size = 0 }
 unit_reported kind (Some look) =
     record { kind = kind; hard = look.mode.hard; soft = look.mode.soft; size = look.size }

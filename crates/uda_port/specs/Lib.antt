@@ -7,11 +7,11 @@ pub mod Message
 pub mod Guest
 pub mod AtOnce
 pub mod Port
-pub mod IsPort
+pub mod PortInvariant
 pub mod Count
 pub mod Report
 pub mod Startup
 pub mod Trace
 pub mod Turn
-pub mod Play
+pub mod Events
 pub mod Display

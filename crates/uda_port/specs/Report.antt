@@ -1,4 +1,4 @@
--- The texts of the end messages that a port delivers.
+-- The texts of the messages that a port delivers.
 -- MSCP Basic Disk Functions Manual: end messages.
 use Rattle.std.specs.Prelude.{ℕ, List, take, Option, Some, None, option_map, slice_get}
 use Rattle.uda_packet.specs.declared.reply.Reply.{Reply}
@@ -9,19 +9,19 @@ use Rattle.uda_packet.specs.GuestEnd.{written_guest_end, written_unit_available,
 use Rattle.uda_packet.specs.Reply.{reply_length, strict_end}
 use Rattle.uda_packet.specs.Written.{written_end}
 use Rattle.uda_disk.specs.Units.{Units}
-use Rattle.uda_exec.specs.Drives.{look_at}
+use Rattle.uda_exec.specs.Drives.{info_at}
 use Rattle.uda_port.specs.declared.profile.Profile.{Profile}
-use Rattle.uda_port.specs.declared.profile.Profile.TheVariants.{Strict, ForGuests}
+use Rattle.uda_port.specs.declared.profile.Profile.TheVariants.{Strict, Compatible}
 use Rattle.uda_port.specs.declared.guest.Guest.{Guest}
 use Rattle.uda_port.specs.Guest.{unit_reported, first_due}
 use Rattle.uda_port.specs.Port.{PortState}
 
--- what a port reports of a drive, if it is one of its four
+-- what a port reports about a drive, if it is one of its four
 abbrev pub unit_report : Guest → Units → ℕ → Option UnitReport
 unit_report guest units drive =
-    option_map (λ kind. unit_reported kind (look_at (slice_get units drive))) (slice_get guest.types drive)
+    option_map (λ kind. unit_reported kind (info_at (slice_get units drive))) (slice_get guest.types drive)
 
--- and beside the outcome of a command on that drive
+-- what an end message about that drive reports in addition to the outcome of the command
 abbrev pub report_of : Identity → Guest → Units → ℕ → Report
 report_of identity guest units drive = record {
   identity = identity;
@@ -29,14 +29,14 @@ report_of identity guest units drive = record {
   unit = unit_report guest units drive;
 }
 
--- the text of an end message as it is delivered: in the strict profile always 48 bytes, to a guest those of
--- its kind, which report the controller and the unit as they are then
+-- The text of an end message as it is delivered. In the strict profile it has 48 bytes. In the compatible
+-- profile it has as many as its kind, and reports the controller and the unit at the time of the delivery.
 abbrev pub text_by : Profile → Guest → Units → Reply → List ℕ
 text_by Strict guest units e = written_end (strict_end e)
-text_by (ForGuests identity) guest units e =
+text_by (Compatible identity) guest units e =
     take (reply_length e.body) (written_guest_end (report_of identity guest units e.unit) e)
 
--- the message that a unit has become available, of which an attention message has 32 bytes
+-- the attention message that a unit became available, of 32 bytes
 abbrev pub available_text : Identity → ℕ → UnitReport → List ℕ
 available_text identity drive u = take 32 (written_unit_available u (unit_number identity drive))
 
@@ -45,10 +45,10 @@ attention_of identity guest units None = None
 attention_of identity guest units (Some drive) =
     option_map (available_text identity drive) (unit_report guest units drive)
 
--- the attention message that is due next, if one is; the strict profile has none
+-- the next attention message that is due, if any; the strict profile has none
 abbrev pub attention_by : Profile → Guest → Units → Option (List ℕ)
 attention_by Strict guest units = None
-attention_by (ForGuests identity) guest units =
+attention_by (Compatible identity) guest units =
     attention_of identity guest units (first_due guest.attentions)
 
 abbrev pub end_text : PortState → Reply → List ℕ
@@ -57,7 +57,7 @@ end_text port e = text_by port.profile port.guest port.exec.units e
 abbrev pub attention_text : PortState → Option (List ℕ)
 attention_text port = attention_by port.profile port.guest port.exec.units
 
--- the text that is delivered next: that of the first end message that waits, or else an attention message's
+-- the next text to deliver: that of the first queued end message, or else of an attention message
 abbrev pub next_by : Option Reply → Profile → Guest → Units → Option (List ℕ)
 next_by (Some e) profile guest units = Some (text_by profile guest units e)
 next_by None profile guest units = attention_by profile guest units

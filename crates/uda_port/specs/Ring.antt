@@ -7,19 +7,19 @@ use Rattle.uda_mem.specs.Put.{put}
 use Rattle.uda_mem.specs.Words.{word_at, word_bytes}
 use Rattle.uda_port.specs.declared.descriptor.Descriptor.{Descriptor}
 
--- the owner bit is bit 15 of the second word: where it is set, the port owns the descriptor
+-- the owner bit is bit 15 of the second word: if it is set, the port owns the descriptor
 abbrev pub is_owned : Descriptor → Bool
 is_owned d = nat_le 0x8000 d.high
 
--- the address of the message text: the first word, and bits 13-0 of the second above it
+-- the address of the message text: the first word, with bits 13-0 of the second above it
 abbrev pub address_of : Descriptor → ℕ
 address_of d = d.low + 0x10000 * (d.high % 0x4000)
 
--- a second word as the port gives it back: the owner bit clear, the flag bit set, the rest as it was
-abbrev pub word_given_back : ℕ → ℕ
-word_given_back high = high % 0x4000 + 0x4000
+-- the second word of a returned descriptor: the owner bit clear, the flag bit set, the rest unchanged
+abbrev pub returned_word : ℕ → ℕ
+returned_word high = high % 0x4000 + 0x4000
 
--- the descriptor at an address, if it lies wholly in memory
+-- the descriptor at an address, if it is wholly in memory
 abbrev pub descriptor_at : List ℕ → ℕ → Option Descriptor
 descriptor_at memory at =
     if nat_le (at + 4) (length memory)
@@ -30,14 +30,13 @@ descriptor_at memory at =
 abbrev pub ring : List ℕ → ℕ → ℕ → List (Option Descriptor)
 ring memory base n = map (λ k. descriptor_at memory (base + 4 * k)) (range_with_len 0 n)
 
--- the owned descriptors at the front of a list, up to the first that the port doesn't own or that isn't in
--- memory
+-- the owned descriptors at the front of a list, up to the first that the host owns or that isn't in memory
 abbrev pub owned_front : List (Option Descriptor) → List Descriptor
 owned_front [] = []
 owned_front (None ∷ rest) = []
 owned_front (Some d ∷ rest) = if is_owned d then d ∷ owned_front rest else []
 
--- the longest run of owned descriptors from a place on, going round
+-- the longest run of owned descriptors from an index on, around the ring
 abbrev pub posted : List (Option Descriptor) → ℕ → List Descriptor
 posted descriptors place = owned_front (drop place descriptors ++ take place descriptors)
 
@@ -52,28 +51,28 @@ pub record IsRingBase (base : ℕ) : Type 0 where
   pub even : base % 2 ≡ 0
   pub within : base ≤ 262142
 
--- a ring as its user sees it: where it starts, how many descriptors it has, and the place of the next
+-- the state of a ring: its base, its number of descriptors, and the index of the next one
 pub record RingState : Type 0 where
   pub base : ℕ
   pub count : ℕ
   pub place : ℕ
 
--- the address of the descriptor at the place
+-- the address of the next descriptor
 abbrev pub descriptor_address : RingState → ℕ
 descriptor_address r = r.base + 4 * r.place
 
--- the descriptor at the place
+-- the next descriptor
 abbrev pub next_descriptor : List ℕ → RingState → Option Descriptor
 next_descriptor memory r = descriptor_at memory (descriptor_address r)
 
--- the ring with its place on by one; after the last descriptor comes the first
+-- the ring with its index advanced; the first descriptor follows the last
 abbrev pub ring_advanced : RingState → RingState
 ring_advanced r = record r { place = (r.place + 1) % r.count }
 
--- memory with the descriptor at the place given back: its second word alone is written
-abbrev pub memory_given_back : List ℕ → RingState → Descriptor → List ℕ
-memory_given_back memory r d = put memory (descriptor_address r + 2) (word_bytes (word_given_back d.high))
+-- memory after the return of the next descriptor: only its second word changes
+abbrev pub memory_returned : List ℕ → RingState → Descriptor → List ℕ
+memory_returned memory r d = put memory (descriptor_address r + 2) (word_bytes (returned_word d.high))
 
--- what is posted in a ring, from its place on
+-- what is posted in a ring, from its next index on
 abbrev pub posted_in : List ℕ → RingState → List Descriptor
 posted_in memory r = posted (ring memory r.base r.count) r.place

@@ -1,22 +1,22 @@
--- The start-up: what each word that the host writes to SA does, by the phase of the port.
--- UDA50 Programmer's Documentation Kit: initialisation, communication area, fatal errors.
+-- Initialization: the effect of each word that the host writes to SA, by the phase of the port.
+-- UDA50 Programmer's Documentation Kit: initialization, communication area, fatal errors.
 use Rattle.std.specs.Prelude.{◌≡◌, ℕ, ◌+◌, ◌-◌, ◌*◌, ◌/◌, ◌%◌, ◌^◌, ◌==◌, ◌<◌, ◌≤◌, Bool, false, ◌&&◌, nat_le}
 use Rattle.std.specs.Prelude.{nat_lt, IsTrue, List, length, replicate, if◌then◌else◌}
 use Rattle.uda_mem.specs.Put.{put}
 use Rattle.uda_port.specs.declared.phase.Phase.{Phase}
-use Rattle.uda_port.specs.declared.phase.Phase.TheVariants.{Step1, Step2, Step3, Wrap, Purge, Poll, Step4}
+use Rattle.uda_port.specs.declared.phase.Phase.TheVariants.{Step1, Step2, Step3, Wrap, PurgeTest, PollTest, Step4}
 use Rattle.uda_port.specs.declared.phase.Phase.TheVariants.{Running, Dead}
 use Rattle.uda_port.specs.declared.phase.Fatal.{Fatal}
 use Rattle.uda_port.specs.declared.phase.Fatal.TheVariants.{PacketRead, PacketWrite, RingRead, RingWrite}
-use Rattle.uda_port.specs.declared.phase.Fatal.TheVariants.{CreditsExceeded, WrongEnvelope, StartUpWord}
+use Rattle.uda_port.specs.declared.phase.Fatal.TheVariants.{CreditsExceeded, InvalidConnection, InitializationError}
 use Rattle.uda_port.specs.declared.profile.Profile.{Profile}
-use Rattle.uda_port.specs.declared.profile.Profile.TheVariants.{Strict, ForGuests}
+use Rattle.uda_port.specs.declared.profile.Profile.TheVariants.{Strict, Compatible}
 use Rattle.uda_port.specs.declared.area.Area.{Area}
 use Rattle.uda_packet.specs.declared.guest_end.Bus.{Bus}
 use Rattle.uda_packet.specs.declared.guest_end.Bus.TheVariants.{Unibus, Qbus}
 use Rattle.uda_port.specs.Ring.{is_ring_length}
 use Rattle.uda_port.specs.Interrupt.{interrupts_asked, raised}
-use Rattle.uda_port.specs.Port.{PortState, port_shows}
+use Rattle.uda_port.specs.Port.{PortState, port_in_phase}
 
 -- the codes of the fatal errors
 abbrev pub code_of : Fatal → ℕ
@@ -25,24 +25,24 @@ code_of PacketWrite = 2
 code_of RingRead = 6
 code_of RingWrite = 7
 code_of CreditsExceeded = 10
-code_of WrongEnvelope = 14
-code_of StartUpWord = 19
+code_of InvalidConnection = 14
+code_of InitializationError = 19
 
--- SA as the host reads it: S1 in step 1; S2 with the high byte of the first word; S3 with its low byte; in
--- wrap mode the last word that was written; 0 during the purge and poll test; S4 with module 6 and version
--- 3; 0 while the port runs; ER with the code of a fatal error
+-- What SA shows. In step 1: S1. In step 2: S2 with the high byte of the first word. In step 3: S3 with its
+-- low byte. In step 4: S4 with module 6 and version 3. In wrap mode: the last word that the host wrote.
+-- During the purge and poll test and while the port runs: 0. After a fatal error: ER with its code.
 abbrev pub sa_of : Phase → ℕ
 sa_of Step1 = 0x0800
 sa_of (Step2 first) = 0x1000 + first / 256
 sa_of (Step3 first second) = 0x2000 + first % 256
 sa_of (Wrap word) = word
-sa_of Purge = 0
-sa_of Poll = 0
+sa_of PurgeTest = 0
+sa_of PollTest = 0
 sa_of Step4 = 0x4063
 sa_of Running = 0
 sa_of (Dead cause) = 0x8000 + code_of cause
 
--- a guest sees in steps 1 and 4 which controller it is: a UDA50, or on a Q-bus an RQDX3
+-- the compatible profile shows in steps 1 and 4 which controller it is: a UDA50, or an RQDX3 on a Q-bus
 abbrev pub guest_sa : Bus → Phase → ℕ
 guest_sa Unibus Step1 = 0x0940
 guest_sa Qbus Step1 = 0x0B40
@@ -51,9 +51,9 @@ guest_sa bus phase = sa_of phase
 
 abbrev pub sa_by : Profile → Phase → ℕ
 sa_by Strict phase = sa_of phase
-sa_by (ForGuests identity) phase = guest_sa identity.bus phase
+sa_by (Compatible identity) phase = guest_sa identity.bus phase
 
--- SA as the host of a port reads it
+-- what SA shows in the port's profile
 abbrev pub sa_shown : PortState → ℕ
 sa_shown port = sa_by port.profile port.phase
 
@@ -61,7 +61,7 @@ sa_shown port = sa_by port.profile port.phase
 abbrev pub has_bit : ℕ → ℕ → Bool
 has_bit word bit = word / 2 ^ bit % 2 == 1
 
--- the lengths of the rings, by their exponents in the first word: bits 10-8 for responses, bits 13-11 for
+-- the lengths of the rings: their exponents are bits 10-8 of the first word for responses, and bits 13-11 for
 -- commands
 abbrev pub response_count : ℕ → ℕ
 response_count first = 2 ^ (first / 0x100 % 8)
@@ -69,20 +69,19 @@ response_count first = 2 ^ (first / 0x100 % 8)
 abbrev pub command_count : ℕ → ℕ
 command_count first = 2 ^ (first / 0x800 % 8)
 
--- the ring base: bits 15-1 of the second word, and the third above them
+-- the ring base: bits 15-1 of the second word, with the third word above them
 abbrev pub ring_base : ℕ → ℕ → ℕ
 ring_base second third = 2 * (second / 2) + 0x10000 * third
 
--- how many values the part of an address above bit 15 has: the UNIBUS has addresses of 18 bits, the Q-bus of
--- 22
+-- the number of values of an address above bit 15: UNIBUS addresses have 18 bits, Q-bus addresses 22
 abbrev pub high_addresses : Bus → ℕ
 high_addresses Unibus = 4
 high_addresses Qbus = 64
 
--- The communication area that the first three words describe. Strictly four bytes below the ring base belong
--- to it, and the third word is the high part of the base. A guest that asks for purge interrupts, by bit 0
--- of the second word, has eight bytes below, and of its third word only as many bits as an address on its
--- bus has.
+-- The communication area that the first three words describe. In the strict profile four bytes below the ring
+-- base belong to it, and the third word is the high part of the base. In the compatible profile eight bytes
+-- belong to it if bit 0 of the second word asks for purge interrupts. The high part of the base then has as
+-- many bits of the third word as an address of the bus has above bit 15.
 abbrev pub area_of : Profile → ℕ → ℕ → ℕ → Area
 area_of Strict first second third = record {
   base = ring_base second third;
@@ -90,14 +89,14 @@ area_of Strict first second third = record {
   responses = response_count first;
   commands = command_count first;
 }
-area_of (ForGuests identity) first second third = record {
+area_of (Compatible identity) first second third = record {
   base = ring_base second (third % high_addresses identity.bus);
   below = if has_bit second 0 then 8 else 4;
   responses = response_count first;
   commands = command_count first;
 }
 
--- what is true of each
+-- the invariant of an area
 pub record IsArea (area : Area) : Type 0 where
   pub even : area.base % 2 ≡ 0
   pub within : area.base < 2 ^ 31
@@ -111,7 +110,7 @@ pub record IsArea (area : Area) : Type 0 where
 abbrev pub rings_size : Area → ℕ
 rings_size area = 4 * (area.responses + area.commands)
 
--- the area lies in a memory of so many bytes
+-- the area is in a memory of this many bytes
 abbrev pub has_area : Area → ℕ → Bool
 has_area area size = nat_le area.below area.base && nat_le (area.base + rings_size area) size
 
@@ -119,83 +118,85 @@ abbrev pub memory_with_area : Area → List ℕ → List ℕ
 memory_with_area area memory =
     put memory (area.base - area.below) (replicate (area.below + rings_size area) 0)
 
--- a fatal error, which may raise a request
-abbrev pub dead_port : PortState → Fatal → PortState
-dead_port port cause = record port {
+-- the port after a fatal error, which may raise a request
+abbrev pub failed_port : PortState → Fatal → PortState
+failed_port port cause = record port {
   phase = Dead cause;
   interrupts = raised port.profile port.interrupts;
 }
 
--- wrap mode, by bit 14 of the first word, which the strict profile hasn't
-abbrev pub wrap_by : Profile → PortState → ℕ → PortState
-wrap_by Strict old word = dead_port old StartUpWord
-wrap_by (ForGuests identity) old word = record old { phase = Wrap word }
+-- wrap mode, at bit 14 of the first word; the strict profile doesn't support it
+abbrev pub after_wrap_request : Profile → PortState → ℕ → PortState
+after_wrap_request Strict old word = failed_port old InitializationError
+after_wrap_request (Compatible identity) old word = record old { phase = Wrap word }
 
--- step 1: a word without bit 15 is none; bit 14 asks for wrap; a guest's asks for interrupts
-abbrev pub by_first : PortState → ℕ → PortState
-by_first old word =
+-- step 1: a word without bit 15 is ignored; bit 14 asks for wrap mode; other bits ask for interrupts in the
+-- compatible profile
+abbrev pub after_step1_write : PortState → ℕ → PortState
+after_step1_write old word =
     let asked = record old { interrupts = interrupts_asked old.profile old.interrupts word } in
     if has_bit word 15 then
-    (if has_bit word 14 then wrap_by old.profile old word else port_shows asked (Step2 word))
+    (if has_bit word 14 then after_wrap_request old.profile old word else port_in_phase asked (Step2 word))
     else old
 
--- what the strict profile hasn't: purge interrupts, by bit 0 of the second word, and any bit of the third but
--- bits 1 and 0
+-- what the strict profile doesn't support: purge interrupts, at bit 0 of the second word, and all bits of the
+-- third except bits 1 and 0
 abbrev pub refuses_second : Profile → ℕ → Bool
 refuses_second Strict word = has_bit word 0
-refuses_second (ForGuests identity) word = false
+refuses_second (Compatible identity) word = false
 
 abbrev pub refuses_third : Profile → ℕ → Bool
 refuses_third Strict word = nat_lt 3 word
-refuses_third (ForGuests identity) word = false
+refuses_third (Compatible identity) word = false
 
 -- step 2: bit 0 asks for purge interrupts
-abbrev pub by_second : PortState → ℕ → ℕ → PortState
-by_second old first word =
-    if refuses_second old.profile word then dead_port old StartUpWord
-    else port_shows old (Step3 first word)
+abbrev pub after_step2_write : PortState → ℕ → ℕ → PortState
+after_step2_write old first word =
+    if refuses_second old.profile word then failed_port old InitializationError
+    else port_in_phase old (Step3 first word)
 
--- what follows the third word: a guest's purge and poll test, where it asks for it, and else step 4
+-- after the third word: the purge and poll test, if a host asks for it in the compatible profile, and
+-- otherwise step 4
 abbrev pub asks_test : Profile → ℕ → Bool
 asks_test Strict word = false
-asks_test (ForGuests identity) word = has_bit word 15
+asks_test (Compatible identity) word = has_bit word 15
 
 abbrev pub after_third : PortState → ℕ → PortState
 after_third old word =
-    if asks_test old.profile word then record old { phase = Purge } else port_shows old Step4
+    if asks_test old.profile word then record old { phase = PurgeTest } else port_in_phase old Step4
 
--- the rings are where the area has them, each with its place at 0
+-- the rings in the area, each with its index at 0
 abbrev pub port_with_rings : PortState → Area → PortState
 port_with_rings old area = record old {
   responses = record { base = area.base; count = area.responses; place = 0 };
   commands = record { base = area.base + 4 * area.responses; count = area.commands; place = 0 };
 }
 
--- step 3: the high part of the ring base; the communication area is zeroed
-abbrev pub by_third : PortState → List ℕ → ℕ → ℕ → ℕ → PortState × List ℕ
-by_third old memory first second word =
+-- step 3: the word is the high part of the ring base, and the communication area is zeroed
+abbrev pub after_step3_write : PortState → List ℕ → ℕ → ℕ → ℕ → PortState × List ℕ
+after_step3_write old memory first second word =
     let area = area_of old.profile first second word in
-    if refuses_third old.profile word then (dead_port old StartUpWord, memory)
+    if refuses_third old.profile word then (failed_port old InitializationError, memory)
     else if has_area area (length memory) then
     (after_third (port_with_rings old area) word, memory_with_area area memory)
-    else (dead_port old RingWrite, memory)
+    else (failed_port old RingWrite, memory)
 
 -- the purge test: the host writes 0, and the poll test follows
-abbrev pub by_purge : PortState → ℕ → PortState
-by_purge old word = if word == 0 then record old { phase = Poll } else old
+abbrev pub after_purge_test_write : PortState → ℕ → PortState
+after_purge_test_write old word = if word == 0 then record old { phase = PollTest } else old
 
--- step 4: bit 0 says go
-abbrev pub by_fourth : PortState → ℕ → PortState
-by_fourth old word = if has_bit word 0 then record old { phase = Running } else old
+-- step 4: bit 0 is the go bit
+abbrev pub after_step4_write : PortState → ℕ → PortState
+after_step4_write old word = if has_bit word 0 then record old { phase = Running } else old
 
--- a word written to SA, by the phase of the port
-abbrev pub by_word : Phase → PortState → List ℕ → ℕ → PortState × List ℕ
-by_word Step1 old memory word = (by_first old word, memory)
-by_word (Step2 first) old memory word = (by_second old first word, memory)
-by_word (Step3 first second) old memory word = by_third old memory first second word
-by_word (Wrap before) old memory word = (record old { phase = Wrap word }, memory)
-by_word Purge old memory word = (by_purge old word, memory)
-by_word Poll old memory word = (old, memory)
-by_word Step4 old memory word = (by_fourth old word, memory)
-by_word Running old memory word = (old, memory)
-by_word (Dead cause) old memory word = (old, memory)
+-- the effect of a word written to SA, by the phase of the port
+abbrev pub after_sa_write : Phase → PortState → List ℕ → ℕ → PortState × List ℕ
+after_sa_write Step1 old memory word = (after_step1_write old word, memory)
+after_sa_write (Step2 first) old memory word = (after_step2_write old first word, memory)
+after_sa_write (Step3 first second) old memory word = after_step3_write old memory first second word
+after_sa_write (Wrap before) old memory word = (record old { phase = Wrap word }, memory)
+after_sa_write PurgeTest old memory word = (after_purge_test_write old word, memory)
+after_sa_write PollTest old memory word = (old, memory)
+after_sa_write Step4 old memory word = (after_step4_write old word, memory)
+after_sa_write Running old memory word = (old, memory)
+after_sa_write (Dead cause) old memory word = (old, memory)

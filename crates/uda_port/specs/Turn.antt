@@ -1,4 +1,4 @@
--- What a turn of a port does: the first of its lines that fits.
+-- The complete effect of a turn: the first of its rules that fits.
 -- UDA50 Programmer's Documentation Kit: command ring polling, message envelopes, credits, fatal errors.
 use Rattle.std.specs.Prelude.{◌≡◌, ℕ, ◌+◌, ◌-◌, ◌<◌, Bool, true, false, ◌&&◌, ◌||◌, not, List, [], ◌∷◌, ◌++◌, length}
 use Rattle.std.specs.Prelude.{Some, Result, Ok, Err}
@@ -14,43 +14,43 @@ use Rattle.uda_port.specs.declared.packet.Fetched.{Fetched}
 use Rattle.uda_port.specs.declared.phase.Phase.{Phase}
 use Rattle.uda_port.specs.declared.phase.Phase.TheVariants.{Running, Dead as DeadPhase}
 use Rattle.uda_port.specs.declared.profile.Profile.{Profile}
-use Rattle.uda_port.specs.declared.profile.Profile.TheVariants.{Strict, ForGuests}
+use Rattle.uda_port.specs.declared.profile.Profile.TheVariants.{Strict, Compatible}
 use Rattle.uda_port.specs.declared.turn.Turn.{Turn}
 use Rattle.uda_port.specs.declared.turn.Turn.TheVariants.{Fetched as TurnFetched, Executed, Delivered, Idle}
 use Rattle.uda_port.specs.declared.turn.Turn.TheVariants.{Notified, Dead}
 use Rattle.uda_port.specs.declared.phase.Fatal.{Fatal}
 use Rattle.uda_port.specs.declared.phase.Fatal.TheVariants.{PacketRead, PacketWrite, RingRead}
-use Rattle.uda_port.specs.declared.phase.Fatal.TheVariants.{CreditsExceeded, WrongEnvelope}
-use Rattle.uda_port.specs.Fetch.{Takes, TakesFirst, FindsNone, LosesRing, LosesPacket}
+use Rattle.uda_port.specs.declared.phase.Fatal.TheVariants.{CreditsExceeded, InvalidConnection}
+use Rattle.uda_port.specs.Fetch.{Takes, TakesFirst, HostOwnsNext, DescriptorOutsideMemory, PacketUnreadable}
 use Rattle.uda_port.specs.declared.packet.Delivery.{Delivery}
 use Rattle.uda_port.specs.declared.packet.Fetching.{Fetching}
 use Rattle.uda_port.specs.Report.{end_text, attention_text, next_text}
 use Rattle.uda_port.specs.Guest.{guest_after, attention_set, first_due}
 use Rattle.uda_port.specs.Packet.{IsLegible}
 use Rattle.uda_port.specs.AtOnce.{replies_at_once, exec_at_once}
-use Rattle.uda_port.specs.Delivery.{Puts, LosesRoom}
+use Rattle.uda_port.specs.Delivery.{Puts, BufferUnusable}
 use Rattle.uda_port.specs.Message.{IsSequential, message_in, flags_kept}
 use Rattle.uda_port.specs.Port.{lacks_credit}
-use Rattle.uda_port.specs.Port.{PortState, next_grant, commands_told, responses_told, interrupts_told}
-use Rattle.uda_port.specs.Startup.{dead_port}
+use Rattle.uda_port.specs.Port.{PortState, next_grant, command_indicator, response_indicator, interrupts_after}
+use Rattle.uda_port.specs.Startup.{failed_port}
 
 -- a turn of a running port counts itself
 abbrev pub port_turn_on : PortState → PortState
 port_turn_on old = record old { turns = old.turns + 1 }
 
--- and the port stops looking where there is nothing to fetch
-abbrev pub port_not_looking : PortState → PortState
-port_not_looking old = record old { looking = false }
+-- the port stops polling, since there is nothing to fetch
+abbrev pub port_not_polling : PortState → PortState
+port_not_polling old = record old { polling = false }
 
 pub record Unchanged (old : PortState) (memory : List ℕ) (new : PortState)
     (memory_after : List ℕ) : Type 0 where
   pub state : new ≡ old
   pub memory_stays : memory_after ≡ memory
 
--- ---- the first line: a command is fetched
+-- ---- rule 1: a command is fetched
 
--- a command goes last among those pending; the end message of what is none, last among those that wait; a
--- command that is answered at once is done first
+-- A command is appended to the pending commands. The end message of an invalid command is queued. A command
+-- that is answered at once is executed, and then its end message is queued.
 abbrev pub port_with_message : PortState → Result GuestCommand Reply → PortState
 port_with_message old (Ok c) = record old { exec = with_accepted old.exec c }
 port_with_message old (Err r) = record old {
@@ -58,13 +58,13 @@ port_with_message old (Err r) = record old {
   waiting = old.waiting ++ replies_at_once old.profile r old.exec;
 }
 
--- a port that looks may fetch, unless its guest has no credit
+-- a port that polls may fetch, unless the profile is compatible and the host has no credit
 abbrev pub may_fetch : PortState → Bool
-may_fetch old = old.looking && not (lacks_credit old.profile old.credits)
+may_fetch old = old.polling && not (lacks_credit old.profile old.credits)
 
--- how a command is fetched
+-- the settings of a fetch
 abbrev pub fetching_of : PortState → List ℕ → Fetching
-fetching_of port memory = record { profile = port.profile; told = commands_told port memory }
+fetching_of port memory = record { profile = port.profile; indicator = command_indicator port memory }
 
 pub record FetchesOne (old : PortState) (memory : List ℕ) (new : PortState)
     (memory_after : List ℕ) : Type 0 where
@@ -78,16 +78,16 @@ pub record FetchesOne (old : PortState) (memory : List ℕ) (new : PortState)
       ≡ record (port_with_message old (message_in old.profile packet)) {
         commands = new.commands;
         credits = old.credits - 1;
-        interrupts = interrupts_told old (commands_told old memory);
+        interrupts = interrupts_after old (command_indicator old memory);
         fetches = old.fetches + 1;
         guest = flags_kept old.profile packet (message_in old.profile packet) old.guest;
       }
 
--- the port may not fetch, or doesn't own the next command descriptor
+-- the port may not fetch, or the host owns the next command descriptor
 abbrev pub NothingToFetch : PortState → List ℕ → Type 0
-NothingToFetch old memory = may_fetch old ≡ true → FindsNone old.commands memory
+NothingToFetch old memory = may_fetch old ≡ true → HostOwnsNext old.commands memory
 
--- a packet was taken, and its descriptor given back
+-- a packet was fetched, and its descriptor was returned
 pub record TakesPacket (old : PortState) (memory : List ℕ) (packet : Fetched) (new : PortState)
     (memory_after : List ℕ) : Type 0 where
   pub looks : may_fetch old ≡ true
@@ -95,20 +95,20 @@ pub record TakesPacket (old : PortState) (memory : List ℕ) (packet : Fetched) 
   pub others : new
       ≡ record old {
         commands = new.commands;
-        interrupts = interrupts_told old (commands_told old memory);
+        interrupts = interrupts_after old (command_indicator old memory);
       }
 
 -- fatal: the next command descriptor isn't in memory
-pub record LosesCommandRing (old : PortState) (memory : List ℕ) : Type 0 where
+pub record CommandRingOutsideMemory (old : PortState) (memory : List ℕ) : Type 0 where
   pub looks : may_fetch old ≡ true
-  pub no_descriptor : LosesRing old.commands memory
+  pub no_descriptor : DescriptorOutsideMemory old.commands memory
 
--- fatal: its packet isn't there to be read
-pub record LosesCommand (old : PortState) (memory : List ℕ) : Type 0 where
+-- fatal: the command packet isn't readable
+pub record CommandUnreadable (old : PortState) (memory : List ℕ) : Type 0 where
   pub looks : may_fetch old ≡ true
-  pub no_packet : LosesPacket old.profile old.commands memory
+  pub no_packet : PacketUnreadable old.profile old.commands memory
 
--- fatal in the strict profile: the host had no credit for it
+-- fatal in the strict profile: the host had no credit left
 pub record ExceedsCredits (old : PortState) (memory : List ℕ) (new : PortState)
     (memory_after : List ℕ) : Type 0 where
   pub packet : Fetched
@@ -116,40 +116,40 @@ pub record ExceedsCredits (old : PortState) (memory : List ℕ) (new : PortState
   pub strict : old.profile ≡ Strict
   pub no_credit : old.credits ≡ 0
 
--- fatal: its envelope is of another connection or message type
-pub record TakesForeign (old : PortState) (memory : List ℕ) (new : PortState)
+-- fatal: the envelope has an invalid connection or message type
+pub record HasInvalidConnection (old : PortState) (memory : List ℕ) (new : PortState)
     (memory_after : List ℕ) : Type 0 where
   pub packet : Fetched
   pub taken : TakesPacket old memory packet new memory_after
   pub credit : 0 < old.credits
   pub not_sequential : IsSequential old.profile packet → ⊥
 
--- whether the first line fits, or why it is fatal
-abbrev pub FetchLine : PortState → List ℕ → Result Bool Fatal → PortState → List ℕ → Type 0
-FetchLine old memory (Ok true) new memory_after = FetchesOne old memory new memory_after
-FetchLine old memory (Ok false) new memory_after =
+-- whether rule 1 fits, or which fatal error it meets
+abbrev pub FetchRule : PortState → List ℕ → Result Bool Fatal → PortState → List ℕ → Type 0
+FetchRule old memory (Ok true) new memory_after = FetchesOne old memory new memory_after
+FetchRule old memory (Ok false) new memory_after =
     NothingToFetch old memory × Unchanged old memory new memory_after
-FetchLine old memory (Err RingRead) new memory_after =
-    LosesCommandRing old memory × Unchanged old memory new memory_after
-FetchLine old memory (Err PacketRead) new memory_after =
-    LosesCommand old memory × Unchanged old memory new memory_after
-FetchLine old memory (Err CreditsExceeded) new memory_after = ExceedsCredits old memory new memory_after
-FetchLine old memory (Err WrongEnvelope) new memory_after = TakesForeign old memory new memory_after
-FetchLine old memory (Err _) new memory_after = ⊥
+FetchRule old memory (Err RingRead) new memory_after =
+    CommandRingOutsideMemory old memory × Unchanged old memory new memory_after
+FetchRule old memory (Err PacketRead) new memory_after =
+    CommandUnreadable old memory × Unchanged old memory new memory_after
+FetchRule old memory (Err CreditsExceeded) new memory_after = ExceedsCredits old memory new memory_after
+FetchRule old memory (Err InvalidConnection) new memory_after = HasInvalidConnection old memory new memory_after
+FetchRule old memory (Err _) new memory_after = ⊥
 
--- ---- the second line: a pending command that may go is executed, the one at place j, and its end waits last
+-- ---- rule 2: the eligible pending command at index j is executed, and its end message is queued
 
--- strictly the command is executed as it is
+-- in the strict profile the command is executed without an additional operation
 pub record ExecutesStrictly (j : ℕ) (old : ExecState) (memory : List ℕ) (r : Reply) (new : ExecState)
     (memory_after : List ℕ) : Type 0 where
   pub end : End
   pub reply_is : r ≡ basic_reply end
   pub executes : ExecutesAt j old memory end new memory_after
 
--- for a guest what that asks is done with it
+-- in the compatible profile its additional operation is executed too
 abbrev pub ExecutesFor : Profile → ℕ → ExecState → List ℕ → Reply → ExecState → List ℕ → Type 0
 ExecutesFor Strict j old memory r new memory_after = ExecutesStrictly j old memory r new memory_after
-ExecutesFor (ForGuests identity) j old memory r new memory_after =
+ExecutesFor (Compatible identity) j old memory r new memory_after =
     ExecutesGuestAt j old memory r new memory_after
 
 pub record ExecutesOne (j : ℕ) (old : PortState) (memory : List ℕ) (new : PortState)
@@ -164,19 +164,19 @@ pub record ExecutesOne (j : ℕ) (old : PortState) (memory : List ℕ) (new : Po
         guest = guest_after end old.guest;
       }
 
-abbrev pub ExecuteLine : PortState → List ℕ → Bool → PortState → List ℕ → Type 0
-ExecuteLine old memory true new memory_after = (j : ℕ) × ExecutesOne j old memory new memory_after
-ExecuteLine old memory false new memory_after =
+abbrev pub ExecuteRule : PortState → List ℕ → Bool → PortState → List ℕ → Type 0
+ExecuteRule old memory true new memory_after = (j : ℕ) × ExecutesOne j old memory new memory_after
+ExecuteRule old memory false new memory_after =
     (old.exec.pending ≡ []) × Unchanged old memory new memory_after
 
--- ---- the third line: the first waiting end is delivered, and a port whose guest had no credit looks again
+-- ---- rule 3: the first queued end message is delivered, and a port whose host had no credit polls again
 
--- what goes with the next end
+-- the settings of the delivery of an end message
 abbrev pub delivery_of : PortState → List ℕ → Delivery
 delivery_of port memory = record {
   profile = port.profile;
   credits = next_grant port.deliveries;
-  told = responses_told port memory;
+  indicator = response_indicator port memory;
 }
 
 pub record DeliversOne (old : PortState) (memory : List ℕ) (new : PortState)
@@ -189,42 +189,42 @@ pub record DeliversOne (old : PortState) (memory : List ℕ) (new : PortState)
   pub others : new ≡ record old {
     responses = new.responses;
     waiting = new.waiting;
-    looking = lacks_credit old.profile old.credits || old.looking;
+    polling = lacks_credit old.profile old.credits || old.polling;
     credits = old.credits + next_grant old.deliveries;
-    interrupts = interrupts_told old (responses_told old memory);
+    interrupts = interrupts_after old (response_indicator old memory);
     deliveries = old.deliveries + 1;
   }
 
--- there is no message, or the port doesn't own the next response descriptor
+-- there is no message, or the host owns the next response descriptor
 abbrev pub NothingToDeliver : PortState → List ℕ → Type 0
-NothingToDeliver old memory = (text : List ℕ) → next_text old ≡ Some text → FindsNone old.responses memory
+NothingToDeliver old memory = (text : List ℕ) → next_text old ≡ Some text → HostOwnsNext old.responses memory
 
 -- fatal: the next response descriptor isn't in memory
-pub record LosesResponseRing (old : PortState) (memory : List ℕ) : Type 0 where
+pub record ResponseRingOutsideMemory (old : PortState) (memory : List ℕ) : Type 0 where
   pub text : List ℕ
   pub is_next : next_text old ≡ Some text
-  pub no_descriptor : LosesRing old.responses memory
+  pub no_descriptor : DescriptorOutsideMemory old.responses memory
 
--- fatal: its buffer can't take a text
-pub record LosesResponse (old : PortState) (memory : List ℕ) : Type 0 where
+-- fatal: the text doesn't fit the buffer of the next response descriptor
+pub record ResponseUnwritable (old : PortState) (memory : List ℕ) : Type 0 where
   pub text : List ℕ
   pub is_next : next_text old ≡ Some text
-  pub no_room : LosesRoom old.profile old.responses memory (length text)
+  pub no_room : BufferUnusable old.profile old.responses memory (length text)
 
--- whether the third line fits, or why it is fatal
-abbrev pub DeliverLine : PortState → List ℕ → Result Bool Fatal → PortState → List ℕ → Type 0
-DeliverLine old memory (Ok true) new memory_after = DeliversOne old memory new memory_after
-DeliverLine old memory (Ok false) new memory_after =
+-- whether rule 3 fits, or which fatal error it meets
+abbrev pub DeliverRule : PortState → List ℕ → Result Bool Fatal → PortState → List ℕ → Type 0
+DeliverRule old memory (Ok true) new memory_after = DeliversOne old memory new memory_after
+DeliverRule old memory (Ok false) new memory_after =
     NothingToDeliver old memory × Unchanged old memory new memory_after
-DeliverLine old memory (Err RingRead) new memory_after =
-    LosesResponseRing old memory × Unchanged old memory new memory_after
-DeliverLine old memory (Err PacketWrite) new memory_after =
-    LosesResponse old memory × Unchanged old memory new memory_after
-DeliverLine old memory (Err _) new memory_after = ⊥
+DeliverRule old memory (Err RingRead) new memory_after =
+    ResponseRingOutsideMemory old memory × Unchanged old memory new memory_after
+DeliverRule old memory (Err PacketWrite) new memory_after =
+    ResponseUnwritable old memory × Unchanged old memory new memory_after
+DeliverRule old memory (Err _) new memory_after = ⊥
 
--- ---- and where no end waits, an attention message is
+-- ---- rule 3 without a queued end message: an attention message is delivered
 
--- what goes with it: no credits
+-- the settings of its delivery: no credits
 abbrev pub notice_of : PortState → List ℕ → Delivery
 notice_of port memory = record (delivery_of port memory) { credits = 0 }
 
@@ -238,58 +238,58 @@ pub record NotifiesOne (old : PortState) (memory : List ℕ) (new : PortState)
   pub puts : Puts (notice_of old memory) old.responses memory text new.responses memory_after
   pub others : new ≡ record old {
     responses = new.responses;
-    interrupts = interrupts_told old (responses_told old memory);
+    interrupts = interrupts_after old (response_indicator old memory);
     guest = attention_set old.guest drive false;
   }
 
--- whether an attention message is delivered, or why it is fatal
-abbrev pub NotifyLine : PortState → List ℕ → Result Bool Fatal → PortState → List ℕ → Type 0
-NotifyLine old memory (Ok true) new memory_after = NotifiesOne old memory new memory_after
-NotifyLine old memory (Ok false) new memory_after = DeliverLine old memory (Ok false) new memory_after
-NotifyLine old memory (Err cause) new memory_after = DeliverLine old memory (Err cause) new memory_after
+-- whether an attention message is delivered, or which fatal error the delivery meets
+abbrev pub NotifyRule : PortState → List ℕ → Result Bool Fatal → PortState → List ℕ → Type 0
+NotifyRule old memory (Ok true) new memory_after = NotifiesOne old memory new memory_after
+NotifyRule old memory (Ok false) new memory_after = DeliverRule old memory (Ok false) new memory_after
+NotifyRule old memory (Err cause) new memory_after = DeliverRule old memory (Err cause) new memory_after
 
--- ---- the lines in their order
+-- ---- the rules in their order
 
--- a turn that has nothing to fetch: the second line, or else the third
-abbrev pub RestGoes : PortState → List ℕ → Result Turn Fatal → PortState → List ℕ → Type 0
-RestGoes old memory (Ok Executed) new memory_after = ExecuteLine old memory true new memory_after
-RestGoes old memory (Ok Delivered) new memory_after =
-    (old.exec.pending ≡ []) × DeliverLine old memory (Ok true) new memory_after
-RestGoes old memory (Ok Notified) new memory_after =
-    (old.exec.pending ≡ []) × NotifyLine old memory (Ok true) new memory_after
-RestGoes old memory (Ok Idle) new memory_after =
-    (old.exec.pending ≡ []) × DeliverLine old memory (Ok false) new memory_after
-RestGoes old memory (Ok _) new memory_after = ⊥
-RestGoes old memory (Err cause) new memory_after =
-    (old.exec.pending ≡ []) × DeliverLine old memory (Err cause) new memory_after
+-- a turn that has nothing to fetch: rule 2, or else rule 3
+abbrev pub LaterRulesEffect : PortState → List ℕ → Result Turn Fatal → PortState → List ℕ → Type 0
+LaterRulesEffect old memory (Ok Executed) new memory_after = ExecuteRule old memory true new memory_after
+LaterRulesEffect old memory (Ok Delivered) new memory_after =
+    (old.exec.pending ≡ []) × DeliverRule old memory (Ok true) new memory_after
+LaterRulesEffect old memory (Ok Notified) new memory_after =
+    (old.exec.pending ≡ []) × NotifyRule old memory (Ok true) new memory_after
+LaterRulesEffect old memory (Ok Idle) new memory_after =
+    (old.exec.pending ≡ []) × DeliverRule old memory (Ok false) new memory_after
+LaterRulesEffect old memory (Ok _) new memory_after = ⊥
+LaterRulesEffect old memory (Err cause) new memory_after =
+    (old.exec.pending ≡ []) × DeliverRule old memory (Err cause) new memory_after
 
--- the first line didn't fit
+-- rule 1 didn't fit
 pub record GoesOn (old : PortState) (memory : List ℕ) (result : Result Turn Fatal) (new : PortState)
     (memory_after : List ℕ) : Type 0 where
   pub nothing_to_fetch : NothingToFetch old memory
-  pub rest : RestGoes (port_not_looking old) memory result new memory_after
+  pub rest : LaterRulesEffect (port_not_polling old) memory result new memory_after
 
--- a turn that is fatal is so in its first line or in its third
+-- a fatal turn meets its error in rule 1 or in rule 3
 pub data Fails (cause : Fatal) (old : PortState) (memory : List ℕ) (new : PortState)
     (memory_after : List ℕ) : Type 0 where
-  InFetch : FetchLine old memory (Err cause) new memory_after → Fails cause old memory new memory_after
+  InFetch : FetchRule old memory (Err cause) new memory_after → Fails cause old memory new memory_after
   InRest : GoesOn old memory (Err cause) new memory_after → Fails cause old memory new memory_after
 
-abbrev pub LinesGo : PortState → List ℕ → Result Turn Fatal → PortState → List ℕ → Type 0
-LinesGo old memory (Ok TurnFetched) new memory_after = FetchesOne old memory new memory_after
-LinesGo old memory (Ok turn) new memory_after = GoesOn old memory (Ok turn) new memory_after
-LinesGo old memory (Err cause) new memory_after = Fails cause old memory new memory_after
+abbrev pub FirstRuleEffect : PortState → List ℕ → Result Turn Fatal → PortState → List ℕ → Type 0
+FirstRuleEffect old memory (Ok TurnFetched) new memory_after = FetchesOne old memory new memory_after
+FirstRuleEffect old memory (Ok turn) new memory_after = GoesOn old memory (Ok turn) new memory_after
+FirstRuleEffect old memory (Err cause) new memory_after = Fails cause old memory new memory_after
 
--- the port dies of what its lines met
+-- the port fails with the error that its rules met
 pub record Dies (old : PortState) (memory : List ℕ) (new : PortState) (memory_after : List ℕ) : Type 0 where
   pub cause : Fatal
   pub before : PortState
   pub fails : Fails cause (port_turn_on old) memory before memory_after
-  pub died : new ≡ dead_port before cause
+  pub died : new ≡ failed_port before cause
 
 abbrev pub RunningTurn : PortState → List ℕ → Turn → PortState → List ℕ → Type 0
 RunningTurn old memory Dead new memory_after = Dies old memory new memory_after
-RunningTurn old memory turn new memory_after = LinesGo (port_turn_on old) memory (Ok turn) new memory_after
+RunningTurn old memory turn new memory_after = FirstRuleEffect (port_turn_on old) memory (Ok turn) new memory_after
 
 -- a port that doesn't run changes nothing
 pub record Stopped (old : PortState) (memory : List ℕ) (expected turn : Turn) (new : PortState)
@@ -298,7 +298,7 @@ pub record Stopped (old : PortState) (memory : List ℕ) (expected turn : Turn) 
   pub unchanged : Unchanged old memory new memory_after
 
 -- a turn, by the phase of the port
-abbrev pub TurnGoes : Phase → PortState → List ℕ → Turn → PortState → List ℕ → Type 0
-TurnGoes Running old memory turn new memory_after = RunningTurn old memory turn new memory_after
-TurnGoes (DeadPhase cause) old memory turn new memory_after = Stopped old memory Dead turn new memory_after
-TurnGoes _ old memory turn new memory_after = Stopped old memory Idle turn new memory_after
+abbrev pub TurnEffect : Phase → PortState → List ℕ → Turn → PortState → List ℕ → Type 0
+TurnEffect Running old memory turn new memory_after = RunningTurn old memory turn new memory_after
+TurnEffect (DeadPhase cause) old memory turn new memory_after = Stopped old memory Dead turn new memory_after
+TurnEffect _ old memory turn new memory_after = Stopped old memory Idle turn new memory_after

@@ -1,6 +1,6 @@
-//! The communication area, which a host's start-up words describe.
+//! The communication area, which the first three words of initialization describe.
 //!
-//! UDA50 Programmer's Documentation Kit: initialisation, communication area.
+//! UDA50 Programmer's Documentation Kit: initialization, communication area.
 ghost use Rattle.std.specs.Prelude.{◌≡◌, ◌+◌, ◌≤◌, ◌%◌, ◌^◌, ◌<◌, ◌⊎◌, IsTrue, length};
 ghost use Rattle.uda_port.specs.declared.profile.Profile.TheVariants.{Strict};
 ghost use Rattle.uda_port.specs.Ring.{is_ring_length};
@@ -10,24 +10,25 @@ ghost use Rattle.uda_port.specs.Startup.{response_count, command_count, high_add
 use crate::profile::Profile;
 use uda_packet::Bus;
 
-/// Where a host's rings stand, and what belongs to them.
+/// The position and size of a host's rings, with the bytes below them that belong to the area.
 #[derive(Clone, Copy, Debug, PartialEq, Eq)]
 pub(crate) struct Area {
-    /// The ring base, where the response ring begins; the command ring stands behind it.
+    /// The ring base. The response ring begins here, and the command ring follows it.
     pub(crate) base: u32,
-    /// How many bytes below the ring base belong to it.
+    /// The number of bytes below the ring base that belong to the area: 4 or 8.
     pub(crate) below: u32,
-    /// How many descriptors the response ring has.
+    /// The number of descriptors of the response ring.
     pub(crate) responses: u16,
-    /// How many descriptors the command ring has.
+    /// The number of descriptors of the command ring.
     pub(crate) commands: u16,
 }
 
-/// The bit of the second word by which the host asks for purge interrupts.
-const PURGE: u16 = 0x0001;
+/// The bit of the second word that asks for purge interrupts.
+const PURGE_MASK: u16 = 0x0001;
 
 impl Area {
-    /// The area of the first three words; strictly the third is the high part of the ring base alone.
+    /// Returns the area that the first three words describe. In the strict profile the whole third word is
+    /// the high part of the ring base.
     pub(crate) fn of_words(profile: Profile, first: u16, second: u16, third: u16) -> Area
         requires high { profile ≡ Strict → third < 2 ^ 15 }
         ensures area { result ≡ area_of profile first second third }
@@ -42,16 +43,16 @@ impl Area {
                 responses,
                 commands,
             },
-            Profile::ForGuests(identity) => Area {
+            Profile::Compatible(identity) => Area {
                 base: ring_base(second, base_high(identity.bus, third)),
-                below: if second & PURGE == 0 { 4 } else { 8 },
+                below: if second & PURGE_MASK == 0 { 4 } else { 8 },
                 responses,
                 commands,
             },
         }
     }
 
-    /// Whether the area lies in memory.
+    /// Returns whether the whole area is in memory.
     pub(crate) fn is_in(&self, memory: &[u8]) -> bool
         requires sound { IsArea self.now }
         ensures area { result ≡ has_area self.now (length memory.now) }
@@ -71,7 +72,7 @@ impl Area {
         uda_mem::put_zeros(memory, self.base - self.below, self.below + self.size());
     }
 
-    // The bytes of both rings.
+    // Returns the number of bytes of both rings.
     fn size(&self) -> u32
         requires sound { IsArea self.now }
         ensures size { result ≡ rings_size self.now }
@@ -81,7 +82,8 @@ impl Area {
     }
 }
 
-// The high part of a guest's ring base: as many bits of the third word as an address has above 16.
+// Returns the high part of a ring base in the compatible profile. It has as many bits of the third word as an
+// address of the bus has above bit 15.
 fn base_high(bus: Bus, third: u16) -> u16
     ensures bits { result ≡ third % high_addresses bus }
     ensures small { result < 64 }
@@ -92,7 +94,7 @@ fn base_high(bus: Bus, third: u16) -> u16
     }
 }
 
-// How many descriptors a ring of this exponent has.
+// Returns the number of descriptors of a ring with this exponent.
 fn ring_count(exponent: u16) -> u16
     requires { exponent < 8 }
     ensures count { result ≡ 2 ^ exponent }
@@ -111,7 +113,7 @@ fn ring_count(exponent: u16) -> u16
     }
 }
 
-// How many descriptors the response ring has: bits 10-8 of the first word.
+// Returns the number of descriptors of the response ring, from bits 10-8 of the first word.
 fn response_count(first: u16) -> u16
     ensures count { result ≡ response_count first }
     ensures length { IsTrue (is_ring_length result) }
@@ -120,7 +122,7 @@ fn response_count(first: u16) -> u16
     ring_count(first >> 8 & 7)
 }
 
-// How many descriptors the command ring has: bits 13-11 of the first word.
+// Returns the number of descriptors of the command ring, from bits 13-11 of the first word.
 fn command_count(first: u16) -> u16
     ensures count { result ≡ command_count first }
     ensures length { IsTrue (is_ring_length result) }
@@ -129,7 +131,7 @@ fn command_count(first: u16) -> u16
     ring_count(first >> 11 & 7)
 }
 
-// Where the rings start.
+// Returns the ring base: bits 15-1 of the second word, with the third word above them.
 fn ring_base(second: u16, third: u16) -> u32
     requires high { third < 2 ^ 15 }
     ensures base { result ≡ ring_base second third }

@@ -1,25 +1,27 @@
-//! Commands that a port answers when it fetches them.
+//! Commands that the port executes at the moment that it fetches them.
 //!
 //! MSCP Basic Disk Functions Manual: Abort, Get Command Status.
-ghost use Rattle.std.specs.Prelude.{◌≡◌, ◌+◌, ◌<◌, ◌++◌, length};
+ghost use Rattle.std.specs.Prelude.{◌≡◌, ◌+◌, ◌<◌, [], ◌∷◌, ◌++◌, length};
 ghost use Rattle.circular_buffer.specs.Buffer.{buffer};
 ghost use Rattle.uda_port.specs.AtOnce.{replies_at_once, exec_at_once, replies_for, exec_for};
+ghost use Rattle.uda_port.specs.Trace.{TracesAnswer};
 
 use crate::profile::Profile;
+use crate::trace::Trace;
 use crate::turn::hold;
 use circular_buffer::HeapCircularBuffer;
 use uda_exec::Exec;
 use uda_image::BlockStore;
 use uda_packet::{Reply, ReplyBody};
 
-// Queues the end message of an invalid command, or does a command that is answered at once and queues its end
-// message. A strict port knows no such command.
+// Queues the end message of an invalid command. For a command that is answered at once, executes it and
+// queues its end message. The strict profile has no such commands.
 pub(crate) fn answer_at_once<S: BlockStore>(
     profile: Profile,
     exec: &mut Exec<S>,
     waiting: &mut HeapCircularBuffer<Reply>,
     reply: Reply,
-)
+) -> Trace
     requires room { length exec.old.pending + length waiting.old.items < waiting.old.capacity }
     ensures exec { exec.new ≡ exec_at_once profile reply exec.old }
     ensures replies { waiting.new
@@ -28,19 +30,20 @@ pub(crate) fn answer_at_once<S: BlockStore>(
         ≡ length exec.old.pending + length waiting.old.items + 1 }
     ensures units { exec.new.units ≡ exec.old.units }
     ensures capacity { waiting.new.capacity ≡ waiting.old.capacity }
+    ensures accurate { TracesAnswer result waiting.old.items waiting.new.items }
 {
     match profile {
-        Profile::Strict => hold(waiting, reply),
-        Profile::ForGuests(_) => answer_guest(exec, waiting, reply),
+        Profile::Strict => answer(waiting, reply),
+        Profile::Compatible(_) => answer_guest(exec, waiting, reply),
     }
 }
 
-// The same for a guest.
+// Does the same in the compatible profile.
 fn answer_guest<S: BlockStore>(
     exec: &mut Exec<S>,
     waiting: &mut HeapCircularBuffer<Reply>,
     reply: Reply,
-)
+) -> Trace
     requires room { length exec.old.pending + length waiting.old.items < waiting.old.capacity }
     ensures exec { exec.new ≡ exec_for reply.body reply exec.old }
     ensures replies { waiting.new
@@ -49,24 +52,48 @@ fn answer_guest<S: BlockStore>(
         ≡ length exec.old.pending + length waiting.old.items + 1 }
     ensures units { exec.new.units ≡ exec.old.units }
     ensures capacity { waiting.new.capacity ≡ waiting.old.capacity }
+    ensures accurate { TracesAnswer result waiting.old.items waiting.new.items }
 {
     match reply.body {
-        ReplyBody::Abort { named } => {
-            if let Some(aborted) = exec.abort(reply.unit, named) {
+        ReplyBody::Abort { named } => match exec.abort(reply.unit, named) {
+            Some(aborted) => {
                 hold(waiting, aborted);
+                hold(waiting, reply);
+                Trace::Aborted(reply)
             }
-            hold(waiting, reply);
-        }
+            None => answer(waiting, reply),
+        },
         ReplyBody::CommandStatus { named, .. } => {
             let progress = exec.progress(reply.unit, named);
             let body = ReplyBody::CommandStatus { named, progress };
-            hold(waiting, Reply { body, ..reply });
+            answer(waiting, Reply { body, ..reply })
         }
-        ReplyBody::Basic(_) => hold(waiting, reply),
-        ReplyBody::AccessPaths => hold(waiting, reply),
-        ReplyBody::CompareController => hold(waiting, reply),
-        ReplyBody::Flush => hold(waiting, reply),
-        ReplyBody::SetUnit { .. } => hold(waiting, reply),
-        ReplyBody::Compare { .. } => hold(waiting, reply),
+        ReplyBody::Basic(_) => answer(waiting, reply),
+        ReplyBody::AccessPaths => answer(waiting, reply),
+        ReplyBody::CompareController => answer(waiting, reply),
+        ReplyBody::Flush => answer(waiting, reply),
+        ReplyBody::SetUnit { .. } => answer(waiting, reply),
+        ReplyBody::Compare { .. } => answer(waiting, reply),
+    }
+}
+
+// Queues an end message, and returns the trace of the command that is answered by it.
+fn answer(waiting: &mut HeapCircularBuffer<Reply>, reply: Reply) -> Trace
+    requires room { length waiting.old.items < waiting.old.capacity }
+    ensures last { waiting.new ≡ buffer (waiting.old.items ++ reply ∷ []) waiting.old.capacity }
+    ensures longer { length waiting.new.items ≡ length waiting.old.items + 1 }
+    ensures capacity { waiting.new.capacity ≡ waiting.old.capacity }
+    ensures accurate { TracesAnswer result waiting.old.items waiting.new.items }
+{
+    hold(waiting, reply);
+    match reply.body {
+        ReplyBody::Basic(_) => Trace::InvalidCommand(reply),
+        ReplyBody::Abort { .. } => Trace::Answered(reply),
+        ReplyBody::CommandStatus { .. } => Trace::Answered(reply),
+        ReplyBody::AccessPaths => Trace::Answered(reply),
+        ReplyBody::CompareController => Trace::Answered(reply),
+        ReplyBody::Flush => Trace::Answered(reply),
+        ReplyBody::SetUnit { .. } => Trace::Answered(reply),
+        ReplyBody::Compare { .. } => Trace::Answered(reply),
     }
 }

@@ -1,28 +1,29 @@
-//! What a port for guests reports of its units: their types; and the controller flags.
+//! State that only a compatible port has: drive types, controller flags and due attention messages.
 //!
 //! MSCP Basic Disk Functions Manual: controller flags, unit identifiers.
 ghost use Rattle.std.specs.Prelude.{◌≡◌, slice_get, option_map};
 ghost use Rattle.uda_port.specs.Guest.{GUEST_AT_FIRST, guest_restarted, unit_reported, asks_attention};
 ghost use Rattle.uda_port.specs.Guest.{attention_set, is_due, first_due, guest_after, is_online_now};
 
-use uda_exec::UnitLook;
+use uda_exec::UnitInfo;
 use uda_packet::{DriveType, EndBody, Reply, ReplyBody, UnitReport, status};
 
-/// What a port for guests reports beside its units: a strict port reports nothing of it.
+/// What a compatible port reports in addition to the state of its units. A strict port reports none of it.
 ///
 /// MSCP Basic Disk Functions Manual: controller flags, unit identifiers.
 #[derive(Clone, Copy, Debug, PartialEq, Eq)]
 pub struct Guest {
-    /// The type of each unit, with a volume or without.
+    /// The type of each unit, with or without a volume.
     pub types: [DriveType; 4],
-    /// The controller flags that the host has set since start-up.
+    /// The controller flags that the host set last since initialization, at first 0.
     pub flags: u16,
-    /// For which units an attention message is due.
+    /// For each unit, whether an attention message is due.
     pub attentions: [bool; 4],
 }
 
 impl Guest {
-    /// Returns what is reported before anything is set.
+    /// Returns the state of a new port: every unit is an RA81, no flag is set, and no attention message is
+    /// due.
     pub(crate) fn new() -> Guest
         ensures { result ≡ GUEST_AT_FIRST }
     {
@@ -33,7 +34,7 @@ impl Guest {
         }
     }
 
-    /// Returns the same after a start-up has begun.
+    /// Returns the state after a write to IP: only the drive types stay.
     pub(crate) fn restarted(self) -> Guest
         ensures { result ≡ guest_restarted self }
     {
@@ -44,14 +45,15 @@ impl Guest {
         }
     }
 
-    /// Returns whether the host asks to be told of units that become available: bit 7 of the controller flags.
+    /// Returns whether the host asks for a message when a unit becomes available: bit 7 of the controller
+    /// flags.
     pub(crate) fn asks_attention(&self) -> bool
         ensures { result ≡ asks_attention self.now.flags }
     {
         self.flags >> 7 & 1 != 0
     }
 
-    /// Has an attention message due for a drive, or none.
+    /// Makes an attention message for a drive due, or not due. Changes nothing if `drive` is above 3.
     pub(crate) fn set_attention(&mut self, drive: usize, due: bool)
         ensures { self.new ≡ attention_set self.old drive due }
     {
@@ -60,7 +62,7 @@ impl Guest {
         }
     }
 
-    /// Drops the attention message of a unit that this end message says is online.
+    /// Drops the attention message of a unit that this end message reports as online.
     pub(crate) fn note_end(&mut self, end: &Reply)
         ensures { self.new ≡ guest_after end.now self.old }
     {
@@ -69,7 +71,7 @@ impl Guest {
         }
     }
 
-    /// Returns the first drive for which an attention message is due.
+    /// Returns the first drive for which an attention message is due, or None.
     pub(crate) fn first_due(&self) -> Option<u16>
         ensures { result ≡ first_due self.now.attentions }
     {
@@ -86,15 +88,16 @@ impl Guest {
         }
     }
 
-    // Whether an attention message is due for a drive.
-    fn is_due(&self, drive: usize) -> bool
+    // Returns whether an attention message is due for a drive.
+    pub(crate) fn is_due(&self, drive: usize) -> bool
         ensures { result ≡ is_due self.now.attentions drive }
     {
         self.attentions.get(drive).copied().unwrap_or(false)
     }
 
-    /// Returns what is reported of a unit by what stands there, None if there is no such unit.
-    pub(crate) fn unit(&self, unit: usize, look: Option<UnitLook>) -> Option<UnitReport>
+    /// Returns the report of a unit with this mode and size, or None if there is no such unit. A unit without
+    /// a volume has size 0 and no protection.
+    pub(crate) fn unit(&self, unit: usize, look: Option<UnitInfo>) -> Option<UnitReport>
         ensures { result ≡ option_map (λ kind. unit_reported kind look) (slice_get self.now.types unit) }
     {
         let kind = *self.types.get(unit)?;
@@ -115,7 +118,7 @@ impl Guest {
     }
 }
 
-// Whether an Online brought its unit online, or found it so.
+// Returns whether the end message reports that an Online brought its unit online, or found it online.
 fn is_online_now(end: &Reply) -> bool
     ensures { result ≡ is_online_now end.now }
 {

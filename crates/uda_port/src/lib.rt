@@ -3,15 +3,15 @@
 //! Its tests are in the crate `port_tests`.
 #![tactic(auto)]
 
+mod alloc_error;
 mod area;
 mod at_once;
 mod descriptor;
 mod drives;
 mod guest;
+mod inspect;
 mod interrupt;
-mod look;
 mod message;
-mod no_port;
 mod packet;
 mod phase;
 mod play;
@@ -23,10 +23,10 @@ mod tally;
 mod trace;
 mod turn;
 
+pub use alloc_error::PortAllocError;
 pub use descriptor::Descriptor;
 pub use guest::Guest;
 pub use interrupt::Interrupts;
-pub use no_port::NoPort;
 pub use packet::Fetched;
 pub use phase::{Fatal, Phase};
 pub use play::HostEvent;

@@ -1,9 +1,10 @@
-//! What a command packet says.
+//! Decoding of command packets.
 //!
 //! UDA50 Programmer's Documentation Kit: message envelopes.
 ghost use Rattle.std.specs.Prelude.{◌≡◌, ◌↔◌, IsTrue, MatchOption, length};
 ghost use Rattle.uda_port.specs.Message.{IsSequential, is_length, message_in, text_by_length, text_read};
-ghost use Rattle.uda_port.specs.Message.{text_asks, length_reply, flags_kept, is_controller};
+ghost use Rattle.uda_port.specs.Message.{text_asks, length_reply, flags_kept};
+ghost use Rattle.uda_exec.specs.Commands.{is_controller};
 ghost use Rattle.uda_port.specs.Message.{mscp_message, HasConnection};
 ghost use Rattle.uda_port.specs.declared.profile.Profile.TheVariants.{Strict};
 ghost use Rattle.uda_packet.specs.Envelope.{envelope_of};
@@ -20,11 +21,11 @@ use uda_packet::{
 /// The connection of DUP, the diagnostics protocol.
 const DUP: u8 = 2;
 
-/// The bytes that a command has as far as its opcode and modifiers go.
+/// The number of bytes of a command up to the end of its opcode and modifiers.
 const HEAD: u16 = 12;
 
-/// The command of a packet, or the end message of what is none or is answered at once. None where the envelope
-/// is of another connection or message type.
+/// Returns the command of a packet. Returns an end message instead if the packet is an invalid command or a
+/// command that is answered at once. Returns None if the envelope has an invalid connection or message type.
 pub(crate) fn message_in(profile: Profile, packet: &Fetched) -> Option<Result<GuestCommand, Reply>>
     ensures { MatchOption result (IsSequential profile packet.now → ⊥)
         (λ message. IsSequential profile packet.now × (message ≡ message_in profile packet.now)) }
@@ -36,30 +37,30 @@ pub(crate) fn message_in(profile: Profile, packet: &Fetched) -> Option<Result<Gu
     Some(message_of(profile, envelope.connection, packet))
 }
 
-// Whether a host may use a connection: MSCP's, and a guest also DUP's.
+// Returns whether a host may use a connection: 0 is MSCP's. The compatible profile also allows DUP's.
 fn has_connection(profile: Profile, connection: u8) -> bool
     ensures { IsTrue result ↔ HasConnection profile connection }
 {
     match profile {
         Profile::Strict => connection == 0,
-        Profile::ForGuests(_) => connection == 0 || connection == DUP,
+        Profile::Compatible(_) => connection == 0 || connection == DUP,
     }
 }
 
-// A packet's message.
+// Returns the command or end message of a packet with a valid envelope.
 fn message_of(profile: Profile, connection: u8, packet: &Fetched) -> Result<GuestCommand, Reply>
     requires { connection ≡ (envelope_of packet.now.words.0 packet.now.words.1).connection }
     ensures { result ≡ message_in profile packet.now }
 {
     match profile {
-        Profile::ForGuests(identity) if connection == DUP => {
+        Profile::Compatible(identity) if connection == DUP => {
             Err(other_connection_reply(&text_by_length(packet), identity))
         }
-        Profile::Strict | Profile::ForGuests(_) => mscp_message(profile, packet),
+        Profile::Strict | Profile::Compatible(_) => mscp_message(profile, packet),
     }
 }
 
-// The message of a packet on MSCP's connection.
+// Returns the command or end message of a packet on MSCP's connection.
 fn mscp_message(profile: Profile, packet: &Fetched) -> Result<GuestCommand, Reply>
     ensures { result ≡ mscp_message profile packet.now }
 {
@@ -70,21 +71,21 @@ fn mscp_message(profile: Profile, packet: &Fetched) -> Result<GuestCommand, Repl
     text_asks(profile, &text)
 }
 
-// The end message of a packet of a length that no command has.
+// Returns the end message of a packet whose length is invalid.
 fn length_reply(profile: Profile, text: &[u8; 48]) -> Reply
     ensures { result ≡ length_reply profile text.now }
 {
-    let end = End::of_other_length(text);
+    let end = End::for_invalid_length(text);
     match profile {
         Profile::Strict => Reply::basic(end),
-        Profile::ForGuests(identity) => Reply {
+        Profile::Compatible(identity) => Reply {
             unit: identity.drive_number(end.unit),
             ..Reply::basic(end)
         },
     }
 }
 
-/// Keeps the controller flags of a Set Controller Characteristics, in the profile for guests.
+/// Stores the controller flags of a Set Controller Characteristics command, in the compatible profile.
 pub(crate) fn keep_flags(
     guest: &mut Guest,
     profile: Profile,
@@ -93,7 +94,7 @@ pub(crate) fn keep_flags(
 )
     ensures { guest.new ≡ flags_kept profile packet.now message.now guest.old }
 {
-    let (Profile::ForGuests(_), Ok(asked)) = (profile, message) else {
+    let (Profile::Compatible(_), Ok(asked)) = (profile, message) else {
         return;
     };
     if is_controller(&asked.command.op) {
@@ -101,14 +102,14 @@ pub(crate) fn keep_flags(
     }
 }
 
-// Whether the command is Set Controller Characteristics.
+// Returns whether the command is Set Controller Characteristics.
 fn is_controller(op: &Op) -> bool
     ensures { result ≡ is_controller op.now }
 {
     matches!(op, Op::Controller)
 }
 
-// The controller flags of a text.
+// Returns the controller flags of a text.
 fn flags_in(text: &[u8; 48]) -> u16
     ensures { result ≡ word_at text.now 14 }
 {
@@ -118,17 +119,17 @@ fn flags_in(text: &[u8; 48]) -> u16
     flags
 }
 
-// What a text asks.
+// Returns the command of a text, or its end message.
 fn text_asks(profile: Profile, text: &[u8; 48]) -> Result<GuestCommand, Reply>
     ensures { result ≡ text_asks profile text.now }
 {
     match profile {
         Profile::Strict => decode_strictly(text),
-        Profile::ForGuests(identity) => decode_for_guests(text, identity),
+        Profile::Compatible(identity) => decode_for_guests(text, identity),
     }
 }
 
-// The command of a text, or its end message, in the strict profile.
+// Returns the command of a text, or its end message, in the strict profile.
 fn decode_strictly(text: &[u8; 48]) -> Result<GuestCommand, Reply>
     ensures { result ≡ text_asks Strict text.now }
 {
@@ -141,27 +142,28 @@ fn decode_strictly(text: &[u8; 48]) -> Result<GuestCommand, Reply>
     }
 }
 
-// Whether a command may have so many bytes: strictly each has 48.
+// Returns whether a command may have this length in bytes. The strict profile allows only 48.
 fn is_length(profile: Profile, length: u16) -> bool
     ensures { result ≡ is_length profile length }
 {
     match profile {
         Profile::Strict => length == TEXT,
-        Profile::ForGuests(_) => length >= HEAD,
+        Profile::Compatible(_) => length >= HEAD,
     }
 }
 
-// The text of a packet as it is read: strictly as it stands, else by its length.
+// Returns the text of a packet as the profile reads it. The strict profile reads all 48 bytes; the compatible
+// profile reads as many as the length word says.
 fn text_read(profile: Profile, packet: &Fetched) -> [u8; 48]
     ensures { result ≡ text_read profile packet.now }
 {
     match profile {
         Profile::Strict => packet.text,
-        Profile::ForGuests(_) => text_by_length(packet),
+        Profile::Compatible(_) => text_by_length(packet),
     }
 }
 
-// The text of a packet, with zeros behind its length.
+// Returns the text of a packet, with zeros past its length.
 fn text_by_length(packet: &Fetched) -> [u8; 48]
     ensures { result ≡ text_by_length packet.now }
 {

@@ -2,45 +2,45 @@
 //!
 //! UDA50 Programmer's Documentation Kit: message envelopes.
 ghost use Rattle.std.specs.Prelude.{◌≡◌, ◌≤◌, ◌↔◌, IsTrue, IsSome, IfSome, length};
-ghost use Rattle.uda_port.specs.Packet.{HasPacket, HasText, IsPacketAt, TellsRoom, HasRoom};
+ghost use Rattle.uda_port.specs.Packet.{HasPacket, HasText, IsPacketAt, DeclaresRoom, HasRoom};
 ghost use Rattle.uda_port.specs.Packet.{packet_put};
 
 use crate::profile::Profile;
 use uda_packet::Envelope;
 
-/// The bytes of a text.
+/// The number of bytes of a text.
 pub(crate) const TEXT: u16 = 48;
 
-/// How a command is fetched.
+/// The settings of a fetch.
 #[derive(Clone, Copy, Debug, PartialEq, Eq)]
 pub(crate) struct Fetching {
-    /// The profile, by which the address of the text is read.
+    /// The profile, which decides how the address of the text is read.
     pub(crate) profile: Profile,
-    /// Where the host is told of the ring's transition, if it is.
-    pub(crate) told: Option<u32>,
+    /// The address of the command interrupt indicator to set, if any.
+    pub(crate) indicator: Option<u32>,
 }
 
-/// What goes with a text that is delivered.
+/// The settings of a delivery.
 #[derive(Clone, Copy, Debug, PartialEq, Eq)]
 pub(crate) struct Delivery {
-    /// The profile, by which the address of the buffer is read and its room is judged.
+    /// The profile, which decides how the address of the buffer is read and how its size is checked.
     pub(crate) profile: Profile,
-    /// The credits that the envelope grants.
+    /// The number of credits that the envelope grants.
     pub(crate) credits: u8,
-    /// Where the host is told of the ring's transition, if it is.
-    pub(crate) told: Option<u32>,
+    /// The address of the response interrupt indicator to set, if any.
+    pub(crate) indicator: Option<u32>,
 }
 
-/// A message's text, of which so many bytes are delivered.
+/// A message text, and the number of its bytes to deliver.
 #[derive(Clone, Copy, Debug, PartialEq, Eq)]
 pub(crate) struct Message {
     /// The text.
     pub(crate) text: [u8; 48],
-    /// How many of its bytes are delivered.
+    /// The number of bytes to deliver.
     pub(crate) size: u16,
 }
 
-/// An attention message, and the drive that it is about.
+/// An attention message and its drive.
 #[derive(Clone, Copy, Debug, PartialEq, Eq)]
 pub(crate) struct Notice {
     /// The drive.
@@ -49,20 +49,21 @@ pub(crate) struct Notice {
     pub(crate) message: Message,
 }
 
-/// A command packet as it stood in host memory: the two words of its envelope, and its text.
+/// A command packet as it was in host memory: the two words of its envelope, and its text.
 ///
 /// UDA50 Programmer's Documentation Kit: message envelopes.
 #[derive(Clone, Copy, Debug, PartialEq, Eq)]
 pub struct Fetched {
-    /// The envelope, which stands in the four bytes below the text: the length in bytes; then
-    /// credits in bits 3-0, the message type in bits 7-4 and the connection in bits 15-8. Both are
-    /// as the host wrote them, and no value of them is a fault of the ring.
+    /// The two words of the envelope, which is in the four bytes below the text. The first is the length in
+    /// bytes. The second has the credits in bits 3-0, the message type in bits 7-4 and the connection in bits
+    /// 15-8. The ring accepts every value.
     pub words: (u16, u16),
     /// The 48 bytes of the text.
     pub text: [u8; 48],
 }
 
-/// The packet at an address, or None where it isn't readable there.
+/// Returns the packet at an address. Returns None if the address is odd or below 4, or the packet isn't
+/// wholly in memory.
 pub(crate) fn packet_at(memory: &[u8], address: u32) -> Option<Fetched>
     ensures readable { IsSome result ↔ HasPacket memory.now address }
     ensures packet { IfSome result (λ p. IsPacketAt memory.now address p) }
@@ -81,27 +82,27 @@ pub(crate) fn packet_at(memory: &[u8], address: u32) -> Option<Fetched>
     })
 }
 
-/// Whether a packet with a text of so many bytes can be written at an address: it lies in memory, and
-/// in the strict profile the length word says that its buffer holds a text.
+/// Returns whether a packet with a text of `size` bytes can be written at an address. The packet must be in
+/// memory. In the strict profile the length word must also declare a buffer of at least 48 bytes.
 pub(crate) fn has_room(profile: Profile, memory: &[u8], address: u32, size: u16) -> bool
     ensures { IsTrue result ↔ HasRoom profile memory.now address size }
 {
     match profile {
         Profile::Strict => tells_room(memory, address),
-        Profile::ForGuests(_) => has_text(memory, address, size),
+        Profile::Compatible(_) => has_text(memory, address, size),
     }
 }
 
-// Whether a packet with a text of so many bytes lies in memory.
+// Returns whether a packet with a text of `size` bytes is wholly in memory, at an even address.
 fn has_text(memory: &[u8], address: u32, size: u16) -> bool
     ensures { IsTrue result ↔ HasText memory.now address size }
 {
     address % 2 == 0 && address >= 4 && uda_mem::has(memory, address, u32::from(size))
 }
 
-// The same with a text of 48 bytes, for which the length word says that there is room.
+// Returns whether a packet with a text of 48 bytes is in memory, and its length word is at least 48.
 fn tells_room(memory: &[u8], address: u32) -> bool
-    ensures { IsTrue result ↔ TellsRoom memory.now address }
+    ensures { IsTrue result ↔ DeclaresRoom memory.now address }
 {
     if address % 2 != 0 || address < 4 || !uda_mem::has(memory, address, u32::from(TEXT)) {
         return false;
@@ -112,7 +113,7 @@ fn tells_room(memory: &[u8], address: u32) -> bool
     }
 }
 
-/// Writes a text, and then the envelope below it, which grants so many credits.
+/// Writes a text, and then the envelope below it, which grants `credits` credits.
 #[tactic(auto, using(crate::proofs::Length::lengths))]
 #[inline(always)]
 pub(crate) fn put_packet(memory: &mut [u8], address: u32, credits: u8, text: &[u8])

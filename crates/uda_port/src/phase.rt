@@ -1,74 +1,77 @@
-//! What a port is doing, and what a fatal error is.
+//! Phases of a port, and fatal errors.
 //!
-//! UDA50 Programmer's Documentation Kit: initialisation, fatal errors.
+//! UDA50 Programmer's Documentation Kit: initialization, fatal errors.
 ghost use Rattle.std.specs.Prelude.{◌≡◌, ◌≤◌};
 ghost use Rattle.uda_port.specs.Startup.{sa_of, code_of};
 
 use std::error::Error;
 use std::fmt;
 
-/// What a port is doing. A phase of the start-up holds the words that were accepted before it.
+/// The phase of a port. A phase of initialization contains the words that were accepted before it.
 ///
-/// UDA50 Programmer's Documentation Kit: initialisation.
+/// UDA50 Programmer's Documentation Kit: initialization.
 #[derive(Clone, Copy, Debug, PartialEq, Eq)]
 pub enum Phase {
-    /// It waits for the first word: the lengths of the rings, and the interrupt vector.
+    /// The port waits for the first word: the lengths of the rings, and the interrupt vector.
     Step1,
-    /// It waits for the second word: the low part of the ring base.
+    /// The port waits for the second word: the low part of the ring base.
     Step2 {
         /// The first word.
         first: u16,
     },
-    /// It waits for the third word: the high part of the ring base.
+    /// The port waits for the third word: the high part of the ring base.
     Step3 {
         /// The first word.
         first: u16,
         /// The second word.
         second: u16,
     },
-    /// Wrap mode, of a port for guests: SA shows each word that is written to it, until IP is written.
+    /// Wrap mode of the compatible profile. SA shows each word that the host writes to it, until the host
+    /// writes IP.
     Wrap {
-        /// The last word that was written.
+        /// The last word that the host wrote.
         word: u16,
     },
-    /// It waits for 0 in SA, the purge test.
-    Purge,
-    /// It waits for a read of IP, the poll test.
-    Poll,
-    /// It waits for the word that says go.
+    /// The port waits for a write of 0 to SA, the purge test.
+    PurgeTest,
+    /// The port waits for a read of IP, the poll test.
+    PollTest,
+    /// The port waits for the fourth word, with the go bit.
     Step4,
-    /// It runs.
+    /// The port is running.
     Running,
-    /// It met a fatal error, and does nothing until IP is written.
+    /// A fatal error occurred. The port does nothing until the host writes IP.
     Dead {
         /// The error.
         cause: Fatal,
     },
 }
 
-/// Why a port is dead.
+/// The cause of a fatal error.
 ///
 /// UDA50 Programmer's Documentation Kit: fatal errors.
 #[derive(Clone, Copy, Debug, PartialEq, Eq)]
 pub enum Fatal {
-    /// Code 1: a command's address is odd, or its envelope or its text isn't in memory.
+    /// Code 1: the port can't read a command packet. Its envelope or its text isn't in memory, or its address
+    /// is odd in the strict profile.
     PacketRead,
-    /// Code 2: the same of a response's buffer, or, strictly, its length word is under 48.
+    /// Code 2: the port can't write a response packet, for the same reasons. In the strict profile also: the
+    /// buffer's length word is under 48.
     PacketWrite,
     /// Code 6: the next descriptor of a ring isn't in memory.
     RingRead,
-    /// Code 7: the communication area isn't in memory at start-up.
+    /// Code 7: the communication area isn't in memory during initialization.
     RingWrite,
-    /// Code 10: a command was fetched when the host had no credit left.
+    /// Code 10: the port fetched a command although the host had no credit left. Only in the strict profile.
     CreditsExceeded,
-    /// Code 14: an envelope is of another connection or message type.
-    WrongEnvelope,
-    /// Code 19: a start-up word asks for what this port hasn't.
-    StartUpWord,
+    /// Code 14: an envelope has an invalid connection or message type.
+    InvalidConnection,
+    /// Code 19: a word of initialization asks for an unsupported feature. Only in the strict profile.
+    InitializationError,
 }
 
 impl Fatal {
-    /// The code that SA shows, with bit 15 set.
+    /// Returns the code that SA shows in addition to bit 15.
     ///
     /// UDA50 Programmer's Documentation Kit: fatal errors.
     pub fn code(self) -> u16
@@ -81,8 +84,8 @@ impl Fatal {
             Fatal::RingRead => 6,
             Fatal::RingWrite => 7,
             Fatal::CreditsExceeded => 10,
-            Fatal::WrongEnvelope => 14,
-            Fatal::StartUpWord => 19,
+            Fatal::InvalidConnection => 14,
+            Fatal::InitializationError => 19,
         }
     }
 }
@@ -95,8 +98,8 @@ impl fmt::Display for Fatal {
             Fatal::RingRead => "a descriptor can't be read",
             Fatal::RingWrite => "the communication area can't be written",
             Fatal::CreditsExceeded => "the host exceeded its credits",
-            Fatal::WrongEnvelope => "an envelope is of another connection or message type",
-            Fatal::StartUpWord => "a start-up word asks for what this port hasn't",
+            Fatal::InvalidConnection => "an envelope is of another connection or message type",
+            Fatal::InitializationError => "a start-up word asks for what this port hasn't",
         })
     }
 }
@@ -104,10 +107,14 @@ impl fmt::Display for Fatal {
 impl Error for Fatal {}
 
 impl Phase {
-    /// What SA shows: the step and its echo, in wrap mode the last word that was written, 0 during the purge and
-    /// poll test and while the port runs, or bit 15 with the code of the fatal error.
+    /// Returns what SA shows:
     ///
-    /// UDA50 Programmer's Documentation Kit: initialisation.
+    /// - the step and its echo in steps 1 to 4;
+    /// - the last word that the host wrote in wrap mode;
+    /// - 0 during the purge and poll test, and while the port runs;
+    /// - bit 15 with the code of the fatal error if the port is dead.
+    ///
+    /// UDA50 Programmer's Documentation Kit: initialization.
     pub fn sa(self) -> u16
         ensures sa { result ≡ sa_of self }
     {
@@ -117,7 +124,7 @@ impl Phase {
             Phase::Step3 { first, .. } => 0x2000 | first & 0xff,
             Phase::Wrap { word } => word,
             Phase::Step4 => 0x4063,
-            Phase::Purge | Phase::Poll | Phase::Running => 0,
+            Phase::PurgeTest | Phase::PollTest | Phase::Running => 0,
             Phase::Dead { cause } => 0x8000 | cause.code(),
         }
     }

@@ -1,15 +1,15 @@
-//! The port: its state, its IP register, and what an emulator reads of it.
+//! The port: its state, its IP register, and queries for an emulator.
 //!
-//! UDA50 Programmer's Documentation Kit: port registers, initialisation.
+//! UDA50 Programmer's Documentation Kit: port registers, initialization.
 ghost use Rattle.std.specs.Prelude.{◌≡◌, ◌≤◌, IfOk, IfErr, length};
-ghost use Rattle.uda_port.specs.Port.{port_at_start, port_restarted, port_asked, port_shows};
+ghost use Rattle.uda_port.specs.Port.{port_at_start, port_restarted, port_after_ip_read, port_in_phase};
 ghost use Rattle.uda_port.specs.Guest.{usual_identity};
 ghost use Rattle.uda_port.specs.Interrupt.{vector_of, served};
-ghost use Rattle.uda_port.specs.declared.profile.Profile.TheVariants.{Strict, ForGuests};
+ghost use Rattle.uda_port.specs.declared.profile.Profile.TheVariants.{Strict, Compatible};
 
+use crate::alloc_error::PortAllocError;
 use crate::guest::Guest;
 use crate::interrupt::Interrupts;
-use crate::no_port::NoPort;
 use crate::phase::Phase;
 use crate::profile::Profile;
 use crate::ring::Ring;
@@ -22,54 +22,62 @@ use uda_exec::{Exec, PENDING};
 use uda_image::BlockStore;
 use uda_packet::{Bus, Identity, Reply};
 
-/// The controller of [`Port::for_guests`]: on a UNIBUS, with units from 0 on.
+/// The identity that [`Port::compatible`] uses: a UDA50 on a UNIBUS, whose units have the numbers from 0 on.
 pub const USUAL_IDENTITY: Identity = Identity {
     bus: Bus::Unibus,
     first_unit: 0,
 };
 
-/// The port of a controller: it stands between a host, which writes its registers and its rings in
-/// host memory, and an executor with its units.
+/// The port of a controller. It connects a host, which uses two registers and the rings in host memory, to an
+/// executor with its units.
 ///
-/// Host memory is handed to each call that touches it, and may be another each time: a
-/// [`HostMemory`](uda_mem::HostMemory), or bytes that are somebody else's, in a slice. Whatever stands
-/// in it, and whatever the host writes to the registers, the port does what its contracts say, and
-/// dies only of a [`Fatal`](crate::Fatal) cause, with that cause's code, until IP is written.
+/// Each call that uses host memory takes it as an argument: a [`HostMemory`](uda_mem::HostMemory), or a slice
+/// of borrowed bytes. It may be another one each time. Every content of memory and every register access is
+/// allowed. The port fails only with a [`Fatal`](crate::Fatal) error, and is then dead until the host writes
+/// IP.
 ///
-/// Contracts see the profile, the phase, the executor's units and pending commands, both rings' bases,
-/// lengths and places, the ends that wait, whether the port looks at its command ring, the credits that
-/// the host has, its interrupts, and four counts since start-up: turns, fetches, deliveries, and the load,
-/// to which each execution adds the number of commands then pending. The counts exist for contracts alone.
+/// Contracts read these parts of the state:
 ///
-/// UDA50 Programmer's Documentation Kit: port registers, initialisation, credits.
+/// - the profile and the phase;
+/// - the executor's units and pending commands;
+/// - the base, the length and the next index of both rings;
+/// - the queued end messages;
+/// - whether the port polls its command ring;
+/// - the host's credits and the interrupts;
+/// - four counts since initialization: turns, fetches, deliveries, and the load.
+///
+/// Each execution adds the number of commands then pending to the load. The counts exist only in contracts.
+///
+/// UDA50 Programmer's Documentation Kit: port registers, initialization, credits.
 #[derive(Drop)]
 pub struct Port<S: BlockStore> {
     pub(crate) profile: Profile,
     pub(crate) phase: Phase,
-    // Whether an end was delivered since start-up.
+    // Whether an end message was delivered since initialization.
     pub(crate) begun: bool,
     pub(crate) responses: Ring,
     pub(crate) commands: Ring,
-    // The ends that wait for delivery, the next one first.
+    // The queued end messages, the next one first.
     pub(crate) waiting: HeapCircularBuffer<Reply>,
-    // Whether the port looks at its command ring.
-    pub(crate) looking: bool,
-    // The credits that the host has.
+    // Whether the port polls its command ring.
+    pub(crate) polling: bool,
+    // The host's credits.
     pub(crate) credits: u8,
     pub(crate) interrupts: Interrupts,
     pub(crate) turns: Tally,
     pub(crate) fetches: Tally,
     pub(crate) deliveries: Tally,
     pub(crate) load: Tally,
-    // What a port for guests reports beside its units.
+    // What a compatible port reports in addition to the state of its units.
     pub(crate) guest: Guest,
-    // Last, as whatever has a store in it: that what moves has a size is found soonest there.
+    // The last field, as in every type with a store: the toolchain finds the size of a moved value soonest
+    // there.
     pub(crate) exec: Exec<S>,
 }
 
 impl<S: BlockStore> Model for Port<S> {
     ghost use Rattle.uda_port.specs.Port.{PortState};
-    ghost use Rattle.uda_port.specs.IsPort.{IsPort};
+    ghost use Rattle.uda_port.specs.PortInvariant.{PortInvariant};
 
     ghost Value = { PortState };
 
@@ -80,7 +88,7 @@ impl<S: BlockStore> Model for Port<S> {
       responses = p.responses;
       commands = p.commands;
       waiting = p.waiting.items;
-      looking = p.looking;
+      polling = p.polling;
       credits = p.credits;
       interrupts = p.interrupts;
       turns = p.turns;
@@ -90,55 +98,60 @@ impl<S: BlockStore> Model for Port<S> {
       guest = p.guest;
     } };
 
-    ghost invariant = { IsPort };
+    ghost invariant = { PortInvariant };
 }
 
 impl<S: BlockStore> Port<S> {
-    /// A port of the strict profile over `exec`, which is reset: it stands in step 1, as after
+    /// Returns a strict port over `exec`, which it resets. The port is in step 1, as after
     /// [`write_ip`](Port::write_ip).
     ///
-    /// Takes memory for the ends that wait, and no later call does. Where `alloc` has none the answer
-    /// is a [`NoPort`] that has `exec` as it was.
+    /// Allocates the queue of end messages; no later call allocates. If the allocation fails, returns a
+    /// [`PortAllocError`] with the unchanged `exec`.
     ///
-    /// UDA50 Programmer's Documentation Kit: initialisation.
-    pub fn new(alloc: Global, exec: Exec<S>) -> Result<Port<S>, NoPort<Exec<S>>>
+    /// UDA50 Programmer's Documentation Kit: initialization.
+    pub fn new(alloc: Global, exec: Exec<S>) -> Result<Port<S>, PortAllocError<Exec<S>>>
         ensures ok { IfOk result (λ port. port ≡ port_at_start Strict exec) }
         ensures err { IfErr result (λ refusal. refusal.exec ≡ exec) }
     {
         Port::over(alloc, Profile::Strict, exec)
     }
 
-    /// The same of the profile for guests: [`new`](Port::new) for hosts as they were shipped.
-    pub fn for_guests(alloc: Global, exec: Exec<S>) -> Result<Port<S>, NoPort<Exec<S>>>
-        ensures ok { IfOk result (λ port. port ≡ port_at_start (ForGuests usual_identity) exec) }
+    /// Returns a port of the compatible profile, for existing bootstraps and operating systems. Otherwise it
+    /// is as [`new`](Port::new).
+    pub fn compatible(alloc: Global, exec: Exec<S>) -> Result<Port<S>, PortAllocError<Exec<S>>>
+        ensures ok { IfOk result (λ port. port ≡ port_at_start (Compatible usual_identity) exec) }
         ensures err { IfErr result (λ refusal. refusal.exec ≡ exec) }
     {
-        Port::for_guests_as(alloc, USUAL_IDENTITY, exec)
+        Port::compatible_as(alloc, USUAL_IDENTITY, exec)
     }
 
-    /// Returns a port for guests that is this controller: [`for_guests`](Port::for_guests) is one on a UNIBUS,
-    /// whose units have the numbers from 0 on.
+    /// Returns a port of the compatible profile with the given identity. [`compatible`](Port::compatible)
+    /// makes one on a UNIBUS, whose units have the numbers from 0 on.
     ///
     /// `identity` decides what SA shows in steps 1 and 4, how many bits an address has, and which numbers the
-    /// guest knows the units by.
-    pub fn for_guests_as(
+    /// host uses for the units.
+    pub fn compatible_as(
         alloc: Global,
         identity: Identity,
         exec: Exec<S>,
-    ) -> Result<Port<S>, NoPort<Exec<S>>>
-        ensures ok { IfOk result (λ port. port ≡ port_at_start (ForGuests identity) exec) }
+    ) -> Result<Port<S>, PortAllocError<Exec<S>>>
+        ensures ok { IfOk result (λ port. port ≡ port_at_start (Compatible identity) exec) }
         ensures err { IfErr result (λ refusal. refusal.exec ≡ exec) }
     {
-        Port::over(alloc, Profile::ForGuests(identity), exec)
+        Port::over(alloc, Profile::Compatible(identity), exec)
     }
 
-    // A port of either profile.
-    fn over(alloc: Global, profile: Profile, exec: Exec<S>) -> Result<Port<S>, NoPort<Exec<S>>>
+    // Returns a port of the given profile.
+    fn over(
+        alloc: Global,
+        profile: Profile,
+        exec: Exec<S>,
+    ) -> Result<Port<S>, PortAllocError<Exec<S>>>
         ensures ok { IfOk result (λ port. port ≡ port_at_start profile exec) }
         ensures err { IfErr result (λ refusal. refusal.exec ≡ exec) }
     {
         match HeapCircularBuffer::with_capacity(alloc, PENDING) {
-            Err(_) => Err(NoPort { exec }),
+            Err(_) => Err(PortAllocError { exec }),
             Ok(waiting) => {
                 let mut exec = exec;
                 exec.reset();
@@ -150,7 +163,7 @@ impl<S: BlockStore> Port<S> {
                     responses: Ring::new(0, 1),
                     commands: Ring::new(0, 1),
                     waiting,
-                    looking: false,
+                    polling: false,
                     credits: 1,
                     interrupts: Interrupts::none(),
                     turns: Tally::new(),
@@ -163,15 +176,16 @@ impl<S: BlockStore> Port<S> {
         }
     }
 
-    /// The host writes IP, with any value and in any phase: start-up begins anew.
+    /// Restarts initialization: the host writes IP, with any value and in any phase.
     ///
-    /// Commands, ends and a request of an interrupt are dropped, every unit with a drive is available
-    /// without software protection, the port doesn't look, and credits, places and counts begin anew.
-    /// Blocks and hardware protection stay, and so does the profile.
+    /// Drops the pending commands, the queued end messages and the interrupt request. Makes every unit that
+    /// has a drive available, without software write protection. Stops polling, and resets credits, ring
+    /// indexes and counts. Clears the controller flags and the due attention messages. Blocks, hardware write
+    /// protection, drive types and the profile don't change.
     ///
-    /// UDA50 Programmer's Documentation Kit: initialisation.
+    /// UDA50 Programmer's Documentation Kit: initialization.
     pub fn write_ip(&mut self, _value: u16)
-        ensures starts { self.new ≡ port_restarted self.old }
+        ensures restarts { self.new ≡ port_restarted self.old }
     {
         self.phase = Phase::Step1;
         self.begun = false;
@@ -179,7 +193,7 @@ impl<S: BlockStore> Port<S> {
         self.responses = Ring::new(0, 1);
         self.commands = Ring::new(0, 1);
         self.waiting.clear();
-        self.looking = false;
+        self.polling = false;
         self.credits = 1;
         self.interrupts = Interrupts::none();
         self.turns = Tally::new();
@@ -189,62 +203,67 @@ impl<S: BlockStore> Port<S> {
         self.guest = self.guest.restarted();
     }
 
-    /// The host reads IP: a port that runs begins to look at its command ring, and one in the poll test
-    /// goes on to step 4. The value is always 0.
+    /// Starts polling of the command ring if the port runs: the host reads IP. A port in the poll test
+    /// continues with step 4. Always returns 0.
     ///
-    /// UDA50 Programmer's Documentation Kit: command ring polling, initialisation.
+    /// UDA50 Programmer's Documentation Kit: command ring polling, initialization.
     pub fn read_ip(&mut self) -> u16
-        ensures zero { result ≡ 0 }
-        ensures looks { self.new ≡ port_asked self.old.phase self.old }
+        ensures reads_zero { result ≡ 0 }
+        ensures starts_polling { self.new ≡ port_after_ip_read self.old.phase self.old }
     {
         match self.phase {
-            Phase::Running => self.looking = true,
-            Phase::Poll => self.show(Phase::Step4),
+            Phase::Running => self.polling = true,
+            Phase::PollTest => self.show(Phase::Step4),
             _ => {}
         }
         0
     }
 
-    /// Takes the request of an interrupt that waits, where one does: the address of its vector.
+    /// Takes the pending interrupt request, and returns its vector address. Returns None if no request is
+    /// pending.
     ///
-    /// In the profile for guests a request is raised when SA shows a step to which a word of the host
-    /// led, or the poll test; when the host is told that a ring fills or empties; and when the port dies.
-    /// A step raises one only if the first word of the start-up has bit 7; and nothing does if the vector is
-    /// 0, or in the strict profile. One that waits stays one, and a write to IP drops it.
+    /// In the compatible profile these events raise a request, if the vector isn't 0:
+    ///
+    /// - the port enters step 2, 3 or 4, and the first word has bit 7 set;
+    /// - a ring transition that the host asked about;
+    /// - a fatal error.
+    ///
+    /// The strict profile raises no request. A pending request stays pending until this call or a write to
+    /// IP.
     ///
     /// UDA50 Programmer's Documentation Kit: interrupts.
     pub fn take_interrupt(&mut self) -> Option<u16>
         ensures vector { result ≡ vector_of self.old.interrupts }
-        ensures gone { self.new ≡ record self.old { interrupts = served self.old.interrupts } }
+        ensures request_cleared { self.new ≡ record self.old { interrupts = served self.old.interrupts } }
     {
         let request = self.interrupts.request();
         self.interrupts = self.interrupts.served();
         request
     }
 
-    // SA shows another step of the start-up, which may raise a request.
+    // Enters a step of initialization, which may raise a request.
     pub(crate) fn show(&mut self, phase: Phase)
-        ensures { self.new ≡ port_shows self.old phase }
+        ensures { self.new ≡ port_in_phase self.old phase }
     {
         self.phase = phase;
         self.interrupts = self.interrupts.raised_by_step(self.profile);
     }
 
-    /// Which hosts the port serves.
+    /// Returns the profile.
     pub fn profile(&self) -> Profile
         ensures profile { result ≡ self.now.profile }
     {
         self.profile
     }
 
-    /// What the port is doing, with the cause where it is dead.
+    /// Returns the phase. A dead port's phase contains the cause.
     pub fn phase(&self) -> Phase
         ensures phase { result ≡ self.now.phase }
     {
         self.phase
     }
 
-    /// How many commands were fetched and not yet executed.
+    /// Returns the number of commands that the port fetched and hasn't executed yet.
     pub fn pending(&self) -> usize
         ensures count { result ≡ length self.now.exec.pending }
         ensures within { result ≤ PENDING }
@@ -252,7 +271,7 @@ impl<S: BlockStore> Port<S> {
         self.exec.pending()
     }
 
-    /// How many end messages wait for delivery.
+    /// Returns the number of queued end messages.
     pub fn waiting(&self) -> usize
         ensures count { result ≡ length self.now.waiting }
         ensures within { result ≤ PENDING }
@@ -260,15 +279,18 @@ impl<S: BlockStore> Port<S> {
         self.waiting.len()
     }
 
-    /// Whether the port looks at its command ring: it runs, IP was read, and no look has found a
-    /// descriptor that isn't its own since.
-    pub fn is_looking(&self) -> bool
-        ensures looking { result ≡ self.now.looking }
+    /// Returns whether the port polls its command ring. A read of IP starts polling, and a poll that finds a
+    /// descriptor of the host's ends it.
+    ///
+    /// In the compatible profile polling also ends while the host has no credit, and the next delivery of an
+    /// end message starts it again. A fatal error doesn't change the value.
+    pub fn is_polling(&self) -> bool
+        ensures polling { result ≡ self.now.polling }
     {
-        self.looking
+        self.polling
     }
 
-    /// The executor, with its units and its pending commands as they are.
+    /// Returns the executor, with its units and its pending commands unchanged.
     pub fn into_exec(self) -> Exec<S>
         ensures exec { result ≡ self.exec }
     {
@@ -283,7 +305,7 @@ impl<S: BlockStore> fmt::Debug for Port<S> {
             .field("phase", &self.phase)
             .field("pending", &self.exec.pending())
             .field("waiting", &self.waiting.len())
-            .field("looking", &self.looking)
+            .field("looking", &self.polling)
             .field("credits", &self.credits)
             .finish_non_exhaustive()
     }

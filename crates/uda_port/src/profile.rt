@@ -1,18 +1,18 @@
-//! Which hosts a port serves.
+//! Profiles: which behaviour of a host a port accepts.
 //!
-//! UDA50 Programmer's Documentation Kit: initialisation, message envelopes.
+//! UDA50 Programmer's Documentation Kit: initialization, message envelopes.
 
 use uda_packet::Identity;
 
-/// How far a port bears with its host.
+/// Which deviations and options of a host the port accepts.
 #[derive(Clone, Copy, Debug, PartialEq, Eq)]
 pub enum Profile {
-    /// For whoever tests a driver: every text has 48 bytes, a start-up word asks for nothing beside rings in
-    /// 18 bits, and there are no interrupts.
+    /// For tests of drivers. Every text has 48 bytes, initialization accepts only rings at addresses of 18
+    /// bits, and there are no interrupts.
     Strict,
-    /// For whoever runs hosts as they were shipped: a command has as many bytes as its length says and an
-    /// end as many as its kind has, purge interrupts and the purge and poll test are taken, a ring base has
-    /// as many bits as the bus, and there are interrupts. Its identity is what the
-    /// guest sees of the controller.
-    ForGuests(Identity),
+    /// For existing bootstraps and operating systems, unchanged. A command has as many bytes as its length
+    /// word says, and an end message as many as its kind has. Initialization accepts purge interrupts and the
+    /// purge and poll test. A ring base has as many bits as the bus, and there are interrupts. The identity
+    /// is what the host sees of the controller.
+    Compatible(Identity),
 }

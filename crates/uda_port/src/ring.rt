@@ -1,9 +1,10 @@
-//! Rings of descriptors in host memory: packets are fetched from a command ring and put into a
-//! response ring, each at the ring's place, which then goes on by one.
+//! Rings of descriptors in host memory. The port fetches packets from a command ring and puts packets into a
+//! response ring. Each access uses the descriptor at the ring's next index, and then advances the index by
+//! one.
 //!
 //! UDA50 Programmer's Documentation Kit: communication area, command and response rings.
 ghost use Rattle.std.specs.Prelude.{◌≡◌, length};
-ghost use Rattle.uda_port.specs.Interrupt.{IsBelow, memory_told};
+ghost use Rattle.uda_port.specs.Interrupt.{IsBelow, memory_with_indicator};
 
 use crate::descriptor::Descriptor;
 use crate::packet::{Delivery, Fetched, Fetching, has_room, packet_at, put_packet};
@@ -13,22 +14,23 @@ use std::fmt;
 use std::marker::Model;
 use uda_mem::HostMemory;
 
-/// The highest base that [`Ring::new`] takes: the last even address of 18 bits, which a strict ring base has.
+/// The largest base that [`Ring::new`] accepts: the last even address of 18 bits. A strict ring base has 18
+/// bits.
 ///
 /// UDA50 Programmer's Documentation Kit: communication area.
 pub const RING_BASE_LIMIT: u32 = 262_142;
 
-/// Why a look at a ring answers no packet: the port can't read the next descriptor, or can't use
-/// what it points to.
+/// Why no packet could be fetched or delivered: the next descriptor, or the packet it points to, isn't
+/// usable.
 ///
 /// UDA50 Programmer's Documentation Kit: command ring, response ring.
 #[derive(Clone, Copy, Debug, PartialEq, Eq)]
 pub enum RingFault {
-    /// The next descriptor isn't wholly in memory: fewer than four bytes stand from it on.
+    /// The next descriptor isn't wholly in memory: fewer than four bytes follow from its address on.
     Ring,
-    /// The next descriptor is the port's, and its text is at an odd address, at one below 4, which
-    /// leaves no room for the envelope, or not wholly in memory. A strict port's response ring has it too
-    /// where the buffer's length word is under 48.
+    /// The port owns the next descriptor, but its packet isn't usable. The text's address is odd, or is below
+    /// 4 and leaves no room for the envelope, or the text isn't wholly in memory. A strict port also reports
+    /// it for a response buffer whose length word is under 48.
     Packet,
 }
 
@@ -43,10 +45,10 @@ impl fmt::Display for RingFault {
 
 impl Error for RingFault {}
 
-/// The port's end of a ring: where the ring stands in host memory, how many descriptors it has, and
-/// which is next, its place. After the last descriptor comes the first.
+/// The port's state of a ring: its address in host memory, its number of descriptors, and the index of the
+/// next one. The first descriptor follows the last.
 ///
-/// The ring itself is in host memory, which each call is given anew and may find changed.
+/// The descriptors themselves are in host memory, which each call takes as an argument and may find changed.
 ///
 /// UDA50 Programmer's Documentation Kit: communication area, command and response rings.
 #[derive(Clone, Copy, Debug, PartialEq, Eq)]
@@ -64,7 +66,7 @@ impl Model for Ring {
 
     ghost view = { λ r. record { base = r.base; count = r.count; place = r.place } };
 
-    // A guest's ring base has 31 bits, and its command ring stands behind up to 128 descriptors.
+    // Bases of 31 bits are allowed, and a command ring follows up to 128 descriptors.
     ghost invariant = { λ r. (r.base % 2 ≡ 0) × (r.base ≤ 2 ^ 31 + 512) × (r.count ≤ 128)
         × (r.place < r.count) };
 
@@ -75,16 +77,16 @@ impl Ring {
     ghost use Rattle.std.specs.Prelude.{◌≡◌, ◌+◌, ◌%◌, ◌^◌, ◌<◌, ◌≤◌, ◌↔◌, IsTrue, length, OnOk, None};
     ghost use Rattle.uda_mem.specs.Slices.{IsMemory};
     ghost use Rattle.uda_port.specs.Ring.{IsRingBase, is_ring_length, descriptor_address, ring_advanced};
-    ghost use Rattle.uda_port.specs.Ring.{memory_given_back, next_descriptor};
-    ghost use Rattle.uda_port.specs.Interrupt.{transits, ring_before, any_owned, word_below};
-    ghost use Rattle.uda_port.specs.Fetch.{FetchGoes, Looks, OrderKept, STRICT_FETCHING};
-    ghost use Rattle.uda_port.specs.Delivery.{PutGoes};
+    ghost use Rattle.uda_port.specs.Ring.{memory_returned, next_descriptor};
+    ghost use Rattle.uda_port.specs.Interrupt.{is_ring_transition, ring_before, any_owned, word_below};
+    ghost use Rattle.uda_port.specs.Fetch.{FetchEffect, ReadsNext, OrderKept, STRICT_FETCHING};
+    ghost use Rattle.uda_port.specs.Delivery.{DeliveryEffect};
     ghost use Rattle.uda_port.specs.declared.profile.Profile.TheVariants.{Strict};
 
-    /// A ring of `n` descriptors from the address `base` on, of which the first is next.
+    /// Returns a ring of `n` descriptors from the address `base` on, with the first one next.
     ///
-    /// `base` is even and at most [`RING_BASE_LIMIT`] ([`is_base`](Ring::is_base)), and `n` is 1, 2,
-    /// 4, 8, 16, 32, 64 or 128. The ring needn't lie in any memory: each look at it finds out.
+    /// `base` is even and at most [`RING_BASE_LIMIT`] ([`is_base`](Ring::is_base)), and `n` is 1, 2, 4, 8,
+    /// 16, 32, 64 or 128. The ring may be outside memory: each access checks that.
     ///
     /// UDA50 Programmer's Documentation Kit: communication area.
     pub fn new(base: u32, n: u16) -> Ring
@@ -95,8 +97,8 @@ impl Ring {
         Ring::placed(base, n)
     }
 
-    /// A ring of `n` descriptors from the even address `base` on, where a start-up's words have it: a guest's
-    /// ring base has 31 bits, and a command ring stands behind up to 128 descriptors.
+    /// Returns a ring of `n` descriptors from the even address `base` on, as initialization describes it.
+    /// Bases of 31 bits are allowed, and a command ring follows up to 128 descriptors.
     pub(crate) fn placed(base: u32, n: u16) -> Ring
         requires even { base % 2 ≡ 0 }
         requires within { base ≤ 2 ^ 31 + 512 }
@@ -110,28 +112,28 @@ impl Ring {
         }
     }
 
-    /// Whether [`Ring::new`] takes the address `base`: it is even and at most [`RING_BASE_LIMIT`].
+    /// Returns whether [`Ring::new`] accepts the address `base`: it is even and at most [`RING_BASE_LIMIT`].
     pub fn is_base(base: u32) -> bool
         ensures base { IsTrue result ↔ IsRingBase base }
     {
         base % 2 == 0 && base <= RING_BASE_LIMIT
     }
 
-    /// The address of the first descriptor.
+    /// Returns the address of the first descriptor.
     pub fn base(self) -> u32
         ensures base { result ≡ self.base }
     {
         self.base
     }
 
-    /// How many descriptors the ring has.
+    /// Returns the number of descriptors.
     pub fn count(self) -> u16
         ensures count { result ≡ self.count }
     {
         self.count
     }
 
-    /// The place of the next descriptor, counted from 0.
+    /// Returns the index of the next descriptor, counted from 0.
     pub fn place(self) -> u16
         ensures place { result ≡ self.place }
         ensures within { result < self.count }
@@ -139,58 +141,58 @@ impl Ring {
         self.place
     }
 
-    /// Takes the next command: reads the packet of the descriptor at the place, gives the descriptor
-    /// back and goes on by one, round the ring.
+    /// Fetches the next command: reads the packet of the next descriptor, returns the descriptor to the host,
+    /// and advances the index around the ring.
     ///
-    /// None where the port doesn't own that descriptor, whatever stands behind it: commands are taken
-    /// in ring order, each once. [`RingFault::Ring`] where the descriptor isn't wholly in memory, and
-    /// [`RingFault::Packet`] where the port owns it and its packet isn't there to be read. After None
-    /// or a fault neither the ring nor the memory has changed; otherwise the descriptor's second word
-    /// alone has ([`Descriptor::given_back`]), and the answer is the packet as it stood before.
+    /// Returns None if the host owns the descriptor, whatever follows it: commands are fetched in ring order,
+    /// each once. Fails with [`RingFault::Ring`] if the descriptor isn't wholly in memory, and with
+    /// [`RingFault::Packet`] if the port owns it and can't read its packet. After None or an error, ring and
+    /// memory are unchanged. Otherwise only the second word of the descriptor changes
+    /// ([`Descriptor::given_back`]), and the result is the packet as it was before.
     ///
     /// UDA50 Programmer's Documentation Kit: command ring, message envelopes.
     #[tactic(auto, using(crate::proofs::Length::wholes))]
     pub fn fetch(&mut self, memory: &mut HostMemory) -> Result<Option<Fetched>, RingFault>
-        ensures goes { FetchGoes STRICT_FETCHING self.old memory.old result self.new memory.new }
+        ensures effect { FetchEffect STRICT_FETCHING self.old memory.old result self.new memory.new }
         ensures order { OrderKept self.old memory.old result self.new memory.new }
     {
         self.fetch_in(memory.as_mut_slice())
     }
 
-    /// The same in memory that is somebody else's: [`fetch`](Ring::fetch) from a slice.
+    /// Does the same over a slice: [`fetch`](Ring::fetch) from borrowed memory.
     pub fn fetch_in(&mut self, memory: &mut [u8]) -> Result<Option<Fetched>, RingFault>
         requires memory { IsMemory memory.old }
-        ensures goes { FetchGoes STRICT_FETCHING self.old memory.old result self.new memory.new }
+        ensures effect { FetchEffect STRICT_FETCHING self.old memory.old result self.new memory.new }
         ensures order { OrderKept self.old memory.old result self.new memory.new }
     {
         let fetching = Fetching {
             profile: Profile::Strict,
-            told: None,
+            indicator: None,
         };
         self.fetch_by(memory, fetching)
     }
 
-    /// Does the same for either profile. Where the host is told of the ring's transition, it is so before the
-    /// descriptor is given back.
+    /// Does the same in either profile. At a ring transition it sets the interrupt indicator before it
+    /// returns the descriptor.
     pub(crate) fn fetch_by(
         &mut self,
         memory: &mut [u8],
         fetching: Fetching,
     ) -> Result<Option<Fetched>, RingFault>
         requires memory { IsMemory memory.old }
-        requires below { IsBelow fetching.told self.old.base }
-        ensures goes { FetchGoes fetching self.old memory.old result self.new memory.new }
+        requires below { IsBelow fetching.indicator self.old.base }
+        ensures effect { FetchEffect fetching self.old memory.old result self.new memory.new }
         ensures order { OrderKept self.old memory.old result self.new memory.new }
         ensures base { self.new.base ≡ self.old.base }
     {
         self.take(memory, fetching)
     }
 
-    // What a fetch does, by the descriptor at the place.
+    // Fetches the packet of the next descriptor.
     fn take(&mut self, memory: &mut [u8], fetching: Fetching) -> Result<Option<Fetched>, RingFault>
         requires memory { IsMemory memory.old }
-        requires below { IsBelow fetching.told self.old.base }
-        ensures goes { FetchGoes fetching self.old memory.old result self.new memory.new }
+        requires below { IsBelow fetching.indicator self.old.base }
+        ensures effect { FetchEffect fetching self.old memory.old result self.new memory.new }
         ensures place { self.old.place < self.old.count }
         ensures base { self.new.base ≡ self.old.base }
     {
@@ -200,22 +202,21 @@ impl Ring {
         let Some(fetched) = packet_at(memory, descriptor.text_address(fetching.profile)) else {
             return Err(RingFault::Packet);
         };
-        tell(memory, fetching.told);
+        set_indicator(memory, fetching.indicator);
         self.give_back(memory, descriptor);
         Ok(Some(fetched))
     }
 
-    /// Delivers a text: writes it to the buffer of the descriptor at the place, with an envelope that
-    /// grants so many credits, gives the descriptor back and goes on by one, round the ring.
+    /// Delivers a text with an envelope to the buffer of the next descriptor. Returns the descriptor to the
+    /// host, and advances the index around the ring. The envelope grants `delivery.credits` credits.
     ///
-    /// The writes come in this order: text, envelope, the word by which the host is told of the ring's
-    /// transition, if it is, and the descriptor's second word. False where
-    /// the port doesn't own that descriptor; [`RingFault::Ring`] where it isn't wholly in memory, and
-    /// [`RingFault::Packet`] where it is the port's and its buffer can't take a text. After false or a
-    /// fault nothing has changed.
+    /// The writes come in this order: text, envelope, the interrupt indicator if there is a ring transition,
+    /// and the second word of the descriptor. Returns false if the host owns the descriptor. Fails with
+    /// [`RingFault::Ring`] if the descriptor isn't wholly in memory, and with [`RingFault::Packet`] if the
+    /// port owns it and the text doesn't fit its buffer. After false or an error nothing has changed.
     ///
     /// UDA50 Programmer's Documentation Kit: response ring, message envelopes.
-    // inlined, a strict port's texts are copied by their fixed length
+    // Inlined, it copies a strict port's texts with a fixed length.
     #[inline(always)]
     pub(crate) fn put(
         &mut self,
@@ -225,10 +226,10 @@ impl Ring {
     ) -> Result<bool, RingFault>
         requires memory { IsMemory memory.old }
         requires few { delivery.credits ≤ 15 }
-        requires below { IsBelow delivery.told self.old.base }
+        requires below { IsBelow delivery.indicator self.old.base }
         requires long { delivery.profile ≡ Strict → length text.now ≡ 48 }
         requires short { length text.now ≤ 48 }
-        ensures goes { PutGoes delivery self.old memory.old text.now result self.new memory.new }
+        ensures effect { DeliveryEffect delivery self.old memory.old text.now result self.new memory.new }
         ensures base { self.new.base ≡ self.old.base }
     {
         let Some(descriptor) = self.next(memory)? else {
@@ -239,16 +240,16 @@ impl Ring {
             return Err(RingFault::Packet);
         }
         put_packet(memory, address, delivery.credits, text);
-        tell(memory, delivery.told);
+        set_indicator(memory, delivery.indicator);
         self.give_back(memory, descriptor);
         Ok(true)
     }
 
-    /// Whether giving the next descriptor back is a transition that the host asks to be told of: its flag
-    /// is set, and the port owns the descriptor before it, round the ring.
-    pub(crate) fn transits(&self, memory: &[u8]) -> bool
+    /// Returns whether the return of the next descriptor is a ring transition that the host asks about. The
+    /// flag bit of the descriptor is set, and the port owns the descriptor before it around the ring.
+    pub(crate) fn is_ring_transition(&self, memory: &[u8]) -> bool
         requires memory { IsMemory memory.now }
-        ensures transits { result ≡ transits memory.now self.now }
+        ensures is_ring_transition { result ≡ is_ring_transition memory.now self.now }
     {
         match Descriptor::read_in(memory, self.address()) {
             Some(descriptor) if descriptor.is_flagged() => self.owns_before(memory),
@@ -256,7 +257,7 @@ impl Ring {
         }
     }
 
-    // Whether the port owns the descriptor before the one at the place.
+    // Returns whether the port owns the descriptor before the next one.
     fn owns_before(&self, memory: &[u8]) -> bool
         requires memory { IsMemory memory.now }
         ensures owns { result ≡ any_owned (next_descriptor memory.now (ring_before self.now)) }
@@ -268,7 +269,7 @@ impl Ring {
         }
     }
 
-    /// The word so many bytes below the ring's base, where there are as many.
+    /// Returns the address that is `bytes` bytes below the ring base, or None if the base is smaller.
     pub(crate) fn word_below(&self, bytes: u32) -> Option<u32>
         requires even { bytes % 2 ≡ 0 }
         requires some { 2 ≤ bytes }
@@ -282,10 +283,10 @@ impl Ring {
         }
     }
 
-    // The descriptor at the place, or None where the port doesn't own it.
+    // Returns the next descriptor, or None if the host owns it.
     fn next(&self, memory: &[u8]) -> Result<Option<Descriptor>, RingFault>
         requires memory { IsMemory memory.now }
-        ensures looks { Looks self.now memory.now result }
+        ensures next { ReadsNext self.now memory.now result }
         ensures there { OnOk result (descriptor_address self.now + 4 ≤ length memory.now) }
         ensures place { self.now.place < self.now.count }
     {
@@ -299,19 +300,19 @@ impl Ring {
         Ok(Some(descriptor))
     }
 
-    // Gives the descriptor at the place back, and goes on by one.
+    // Returns the next descriptor to the host, and advances the index.
     #[inline(always)]
     fn give_back(&mut self, memory: &mut [u8], descriptor: Descriptor)
         requires there { descriptor_address self.old + 4 ≤ length memory.old }
         ensures ring { self.new ≡ ring_advanced self.old }
-        ensures memory { memory.new ≡ memory_given_back memory.old self.old descriptor }
+        ensures memory { memory.new ≡ memory_returned memory.old self.old descriptor }
     {
         let at = self.address();
-        uda_mem::put_word(memory, at + 2, descriptor.given_back());
+        uda_mem::put_word(memory, at + 2, descriptor.returned_word());
         self.place = self.place_behind();
     }
 
-    // The place behind the one at hand, round the ring: compared, since a division takes longer.
+    // Returns the index after the next one, around the ring. It compares, since a division takes longer.
     fn place_behind(&self) -> u16
         ensures place { result ≡ (self.now.place + 1) % self.now.count }
         ensures within { result < self.now.count }
@@ -320,7 +321,7 @@ impl Ring {
         if next < self.count { next } else { 0 }
     }
 
-    // Where the descriptor at the place stands.
+    // Returns the address of the next descriptor.
     fn address(&self) -> u32
         ensures address { result ≡ descriptor_address self.now }
         ensures even { result % 2 ≡ 0 }
@@ -331,13 +332,13 @@ impl Ring {
     }
 }
 
-// Tells the host of a transition, by a 1 in this word.
-fn tell(memory: &mut [u8], told: Option<u32>)
-    requires there { IsBelow told (length memory.old) }
-    ensures told { memory.new ≡ memory_told memory.old told }
+// Sets the interrupt indicator at this address to 1.
+fn set_indicator(memory: &mut [u8], indicator: Option<u32>)
+    requires there { IsBelow indicator (length memory.old) }
+    ensures indicator { memory.new ≡ memory_with_indicator memory.old indicator }
     ensures length { length memory.new ≡ length memory.old }
 {
-    if let Some(at) = told {
+    if let Some(at) = indicator {
         uda_mem::put_word(memory, at, 1);
     }
 }

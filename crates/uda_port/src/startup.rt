@@ -1,10 +1,10 @@
-//! The start-up: the SA register, and the four words that a host writes to it.
+//! Initialization: the SA register, and the four words that a host writes to it.
 //!
-//! UDA50 Programmer's Documentation Kit: initialisation, communication area.
+//! UDA50 Programmer's Documentation Kit: initialization, communication area.
 ghost use Rattle.std.specs.Prelude.{◌≡◌, ◌≤◌, ◌<◌};
-ghost use Rattle.uda_port.specs.Startup.{sa_shown, guest_sa, by_first, by_second, by_third, by_purge, by_fourth, by_word};
+ghost use Rattle.uda_port.specs.Startup.{sa_shown, guest_sa, after_step1_write, after_step2_write, after_step3_write, after_purge_test_write, after_step4_write, after_sa_write};
 ghost use Rattle.uda_port.specs.Startup.{has_bit, refuses_second, refuses_third, asks_test, after_third};
-ghost use Rattle.uda_port.specs.Startup.{IsArea, port_with_rings, dead_port, wrap_by};
+ghost use Rattle.uda_port.specs.Startup.{IsArea, port_with_rings, failed_port, after_wrap_request};
 
 use crate::area::Area;
 use crate::phase::{Fatal, Phase};
@@ -15,85 +15,95 @@ use uda_image::BlockStore;
 use uda_mem::HostMemory;
 use uda_packet::Bus;
 
-/// The bit of the first word that makes it one.
+/// The bit that the first word must have set.
 const STEP: u16 = 15;
 
-/// The bit of the first word by which the host asks for wrap.
+/// The bit of the first word that asks for wrap mode.
 const WRAP: u16 = 14;
 
-/// The bit of the second word by which the host asks for purge interrupts.
+/// The bit of the second word that asks for purge interrupts.
 const PURGE: u16 = 0;
 
 /// The bits of the third word that are the high part of the ring base in the strict profile.
 const BASE_HIGH: u16 = 0x0003;
 
-/// The bit of the third word by which the host asks for the purge and poll test.
+/// The bit of the third word that asks for the purge and poll test.
 const TEST: u16 = 15;
 
-/// The bit of the fourth word that says go.
+/// The go bit of the fourth word.
 const GO: u16 = 0;
 
 impl<S: BlockStore> Port<S> {
-    /// The host reads SA: the step of the start-up with its echo, 0 while the port runs, and bit 15
-    /// with the code of the fatal error where it is dead.
+    /// Returns SA: the step of initialization with its echo, 0 while the port runs, or bit 15 with the code
+    /// of the fatal error.
     ///
-    /// UDA50 Programmer's Documentation Kit: initialisation, fatal errors.
+    /// UDA50 Programmer's Documentation Kit: initialization, fatal errors.
     pub fn read_sa(&self) -> u16
         ensures sa { result ≡ sa_shown self.now }
     {
         match self.profile {
             Profile::Strict => self.phase.sa(),
-            Profile::ForGuests(identity) => guest_sa(identity.bus, self.phase),
+            Profile::Compatible(identity) => guest_sa(identity.bus, self.phase),
         }
     }
 
-    /// The host writes `word` to SA: one step of the start-up. A port that runs or is dead ignores it.
+    /// Writes `word` to SA: one step of initialization. A port that runs or is dead ignores the word.
     ///
-    /// The first word has bit 15 set, or it is ignored; in bits 10-8 and 13-11 it has the exponents of
-    /// the lengths of response and command ring. The second has bits 15-1 of the ring base, and the
-    /// third its high part, at most 3. With the third the four bytes below the ring base and both
-    /// rings become zero; where they don't all lie in `memory` the port is dead with
-    /// [`Fatal::RingWrite`], and nothing is written. The fourth has bit 0 set, or it is ignored, and
-    /// then the port runs. Wrap (bit 14 of the first), purge interrupts (bit 0 of the second) and any
-    /// other bit of the third are not in the strict profile: [`Fatal::StartUpWord`].
+    /// - The first word has bit 15 set; otherwise the port ignores it. Bits 10-8 and 13-11 are the exponents
+    ///   of the lengths of response ring and command ring. In the compatible profile bit 7 enables interrupts
+    ///   by the steps, and bits 6-0 are a quarter of the vector address.
+    /// - The second word has bits 15-1 of the ring base.
+    /// - The third word is the high part of the ring base, at most 3. The port then zeroes both rings and the
+    ///   four bytes below the ring base. If they aren't all in `memory`, it writes nothing and fails with
+    ///   [`Fatal::RingWrite`].
+    /// - The fourth word has bit 0 set; otherwise the port ignores it. The port then runs.
     ///
-    /// In the profile for guests wrap alone isn't. With purge interrupts eight bytes below the ring base
-    /// become zero. The third word's bits 14-0 are the high part of the base, and bit 15 asks for the purge
-    /// and poll test: SA shows 0, the host writes 0 to SA and then reads IP, and step 4 follows.
+    /// In the strict profile [`Fatal::InitializationError`] follows a request for wrap mode (bit 14 of the first
+    /// word) or for purge interrupts (bit 0 of the second). It also follows any other bit of the third word.
     ///
-    /// UDA50 Programmer's Documentation Kit: initialisation, communication area.
+    /// The compatible profile accepts all of them:
+    ///
+    /// - Wrap mode begins at bit 14 of the first word: SA shows each word that the host writes, until the
+    ///   host writes IP.
+    /// - With purge interrupts the port zeroes eight bytes below the ring base.
+    /// - The high part of the base has as many bits of the third word as an address of the bus has above bit
+    ///   15.
+    /// - Bit 15 of the third word asks for the purge and poll test. SA shows 0, the host writes 0 to SA and
+    ///   then reads IP, and step 4 follows.
+    ///
+    /// UDA50 Programmer's Documentation Kit: initialization, communication area.
     #[tactic(auto, using(crate::proofs::Length::wholes))]
     pub fn write_sa(&mut self, word: u16, memory: &mut HostMemory)
-        ensures steps { (self.new, memory.new) ≡ by_word self.old.phase self.old memory.old word }
+        ensures effect { (self.new, memory.new) ≡ after_sa_write self.old.phase self.old memory.old word }
     {
         self.write_sa_in(word, memory.as_mut_slice())
     }
 
-    /// The same over memory that is somebody else's: [`write_sa`](Port::write_sa) on a slice, of any length.
+    /// Does the same over a slice of any length: [`write_sa`](Port::write_sa) with borrowed memory.
     pub fn write_sa_in(&mut self, word: u16, memory: &mut [u8])
-        ensures steps { (self.new, memory.new) ≡ by_word self.old.phase self.old memory.old word }
+        ensures effect { (self.new, memory.new) ≡ after_sa_write self.old.phase self.old memory.old word }
     {
         match self.phase {
             Phase::Step1 => self.first_word(word),
             Phase::Step2 { first } => self.second_word(first, word),
             Phase::Step3 { first, second } => self.third_word(first, second, word, memory),
             Phase::Wrap { .. } => self.phase = Phase::Wrap { word },
-            Phase::Purge => self.purge_word(word),
+            Phase::PurgeTest => self.purge_word(word),
             Phase::Step4 => self.fourth_word(word),
-            Phase::Poll | Phase::Running | Phase::Dead { .. } => {}
+            Phase::PollTest | Phase::Running | Phase::Dead { .. } => {}
         }
     }
 
-    /// A fatal error, which may raise a request.
+    /// Fails with a fatal error, which may raise an interrupt request.
     pub(crate) fn die(&mut self, cause: Fatal)
-        ensures { self.new ≡ dead_port self.old cause }
+        ensures { self.new ≡ failed_port self.old cause }
     {
         self.phase = Phase::Dead { cause };
         self.interrupts = self.interrupts.raised(self.profile);
     }
 
     fn first_word(&mut self, word: u16)
-        ensures { self.new ≡ by_first self.old word }
+        ensures { self.new ≡ after_step1_write self.old word }
     {
         if !has_bit(word, STEP) {
             return;
@@ -105,21 +115,21 @@ impl<S: BlockStore> Port<S> {
         self.show(Phase::Step2 { first: word });
     }
 
-    // Wrap mode, which the strict profile hasn't.
+    // Enters wrap mode. In the strict profile it is a fatal error.
     fn wrap(&mut self, word: u16)
-        ensures { self.new ≡ wrap_by self.old.profile self.old word }
+        ensures { self.new ≡ after_wrap_request self.old.profile self.old word }
     {
         match self.profile {
-            Profile::Strict => self.die(Fatal::StartUpWord),
-            Profile::ForGuests(_) => self.phase = Phase::Wrap { word },
+            Profile::Strict => self.die(Fatal::InitializationError),
+            Profile::Compatible(_) => self.phase = Phase::Wrap { word },
         }
     }
 
     fn second_word(&mut self, first: u16, word: u16)
-        ensures { self.new ≡ by_second self.old first word }
+        ensures { self.new ≡ after_step2_write self.old first word }
     {
         if refuses_second(self.profile, word) {
-            return self.die(Fatal::StartUpWord);
+            return self.die(Fatal::InitializationError);
         }
         self.show(Phase::Step3 {
             first,
@@ -128,10 +138,10 @@ impl<S: BlockStore> Port<S> {
     }
 
     fn third_word(&mut self, first: u16, second: u16, word: u16, memory: &mut [u8])
-        ensures { (self.new, memory.new) ≡ by_third self.old memory.old first second word }
+        ensures { (self.new, memory.new) ≡ after_step3_write self.old memory.old first second word }
     {
         if refuses_third(self.profile, word) {
-            return self.die(Fatal::StartUpWord);
+            return self.die(Fatal::InitializationError);
         }
         let area = Area::of_words(self.profile, first, second, word);
         if !area.is_in(memory) {
@@ -142,35 +152,36 @@ impl<S: BlockStore> Port<S> {
         self.leave_third(word);
     }
 
-    // What follows the third word.
+    // Enters the phase that follows the third word.
     fn leave_third(&mut self, word: u16)
         ensures { self.new ≡ after_third self.old word }
     {
         if asks_test(self.profile, word) {
-            self.phase = Phase::Purge;
+            self.phase = Phase::PurgeTest;
         } else {
             self.show(Phase::Step4);
         }
     }
 
-    // The purge test: any other word than 0 is ignored.
+    // Enters the poll test if the word is 0. The purge test ignores any other word.
     fn purge_word(&mut self, word: u16)
-        ensures { self.new ≡ by_purge self.old word }
+        ensures { self.new ≡ after_purge_test_write self.old word }
     {
         if word == 0 {
-            self.phase = Phase::Poll;
+            self.phase = Phase::PollTest;
         }
     }
 
     fn fourth_word(&mut self, word: u16)
-        ensures { self.new ≡ by_fourth self.old word }
+        ensures { self.new ≡ after_step4_write self.old word }
     {
         if has_bit(word, GO) {
             self.phase = Phase::Running;
         }
     }
 
-    // The rings are where the area has them: the responses at the ring base, the commands behind them.
+    // Sets the rings from the area: the response ring begins at the ring base, and the command ring follows
+    // it.
     fn place_rings(&mut self, area: Area)
         requires sound { IsArea area }
         ensures { self.new ≡ port_with_rings self.old area }
@@ -181,7 +192,7 @@ impl<S: BlockStore> Port<S> {
     }
 }
 
-// What SA shows a guest: in steps 1 and 4 which controller it is.
+// Returns what SA shows in the compatible profile. Steps 1 and 4 identify the controller.
 fn guest_sa(bus: Bus, phase: Phase) -> u16
     ensures { result ≡ guest_sa bus phase }
 {
@@ -193,37 +204,37 @@ fn guest_sa(bus: Bus, phase: Phase) -> u16
     }
 }
 
-// Whether the second word asks for what the profile hasn't.
+// Returns whether the second word asks for a feature that the profile doesn't support.
 fn refuses_second(profile: Profile, word: u16) -> bool
     ensures { result ≡ refuses_second profile word }
 {
     match profile {
         Profile::Strict => has_bit(word, PURGE),
-        Profile::ForGuests(_) => false,
+        Profile::Compatible(_) => false,
     }
 }
 
-// Whether the third word does.
+// Returns whether the third word asks for a feature that the profile doesn't support.
 fn refuses_third(profile: Profile, word: u16) -> bool
     ensures { result ≡ refuses_third profile word }
 {
     match profile {
         Profile::Strict => word > BASE_HIGH,
-        Profile::ForGuests(_) => false,
+        Profile::Compatible(_) => false,
     }
 }
 
-// Whether the third word asks for the purge and poll test; strictly none does.
+// Returns whether the third word asks for the purge and poll test. In the strict profile it can't.
 fn asks_test(profile: Profile, word: u16) -> bool
     ensures { result ≡ asks_test profile word }
 {
     match profile {
         Profile::Strict => false,
-        Profile::ForGuests(_) => has_bit(word, TEST),
+        Profile::Compatible(_) => has_bit(word, TEST),
     }
 }
 
-// Whether a bit of a word is set.
+// Returns whether a bit of a word is set.
 fn has_bit(word: u16, bit: u16) -> bool
     requires { bit < 16 }
     ensures { result ≡ has_bit word bit }

@@ -1,17 +1,17 @@
-//! Counts that contracts speak of, and that take no byte when the program runs.
+//! Counts that only contracts use. They occupy no byte at run time.
 ghost use Rattle.std.specs.Prelude.{◌≡◌, ◌+◌};
 
 use std::marker::Model;
 use std::snapshot::Snapshot;
 
-/// How a count came to be, from the latest step back.
+/// The steps of a count, the latest first.
 #[derive(Drop)]
 enum Count {
     Zero,
     Next(Snapshot<Count>, usize),
 }
 
-/// A natural number without a bound, for contracts alone: it takes no byte, and nothing reads it.
+/// A natural number without a bound. Only contracts read it, and it occupies no byte.
 #[derive(Drop)]
 pub(crate) struct Tally {
     count: Snapshot<Count>,
@@ -27,7 +27,7 @@ impl Model for Tally {
 }
 
 impl Tally {
-    /// The count 0.
+    /// Returns the count 0.
     pub(crate) fn new() -> Tally
         ensures { result ≡ 0 }
     {

@@ -1,22 +1,24 @@
 //! The turns of a port.
 //!
 //! UDA50 Programmer's Documentation Kit: command ring polling, message envelopes, credits.
-ghost use Rattle.std.specs.Prelude.{◌≡◌, ◌≢◌, ◌+◌, ◌<◌, ◌≤◌, IfSome, option_map, slice_get, [], ◌∷◌, ◌++◌, length, take, Some};
-ghost use Rattle.std.specs.Prelude.{ℕ, IsNone, IfNone, ◌↔◌, ◌||◌};
+ghost use Rattle.std.specs.Prelude.{◌≡◌, ◌≢◌, ◌+◌, ◌<◌, ◌≤◌, IfSome, IfOk, option_map, slice_get, [], ◌∷◌, ◌++◌, length};
+ghost use Rattle.std.specs.Prelude.{take, Some, true, ◌||◌};
 ghost use Rattle.uda_mem.specs.Slices.{IsMemory};
-ghost use Rattle.uda_disk.specs.Units.{AreImages};
+ghost use Rattle.uda_disk.specs.Units.{AreWellFormed};
 ghost use Rattle.uda_exec.specs.Disks.{PENDING_LIMIT};
 ghost use Rattle.circular_buffer.specs.Buffer.{buffer};
-ghost use Rattle.uda_port.specs.Port.{CreditsAgree, next_grant, commands_told, responses_told};
+ghost use Rattle.uda_port.specs.Port.{CreditsAgree, next_grant, command_indicator, response_indicator};
 ghost use Rattle.uda_port.specs.Interrupt.{IsBelow};
-ghost use Rattle.uda_port.specs.Turn.{FetchLine, ExecuteLine, DeliverLine, NotifyLine, RestGoes, LinesGo, RunningTurn};
-ghost use Rattle.uda_port.specs.Turn.{TurnGoes, ExecutesFor, delivery_of, may_fetch};
+ghost use Rattle.uda_port.specs.Turn.{FetchRule, ExecuteRule, DeliverRule, NotifyRule, LaterRulesEffect, FirstRuleEffect, RunningTurn};
+ghost use Rattle.uda_port.specs.Turn.{TurnEffect, delivery_of, may_fetch};
+ghost use Rattle.uda_port.specs.Trace.{Reports, ReportsIf};
+ghost use Rattle.uda_port.specs.declared.turn.Turn.TheVariants.{Fetched, Executed};
 ghost use Rattle.uda_port.specs.Port.{lacks_credit};
 ghost use Rattle.uda_port.specs.Report.{end_text, report_of, attention_text};
 ghost use Rattle.uda_port.specs.Guest.{first_due};
 ghost use Rattle.uda_port.specs.declared.profile.Profile.TheVariants.{Strict};
 ghost use Rattle.uda_port.specs.Packet.{IsLegible};
-ghost use Rattle.uda_port.specs.Delivery.{PutGoes};
+ghost use Rattle.uda_port.specs.Delivery.{DeliveryEffect};
 
 use crate::at_once::answer_at_once;
 use crate::message::{keep_flags, message_in};
@@ -25,16 +27,17 @@ use crate::phase::{Fatal, Phase};
 use crate::port::Port;
 use crate::profile::Profile;
 use crate::ring::{Ring, RingFault};
+use crate::trace::Trace;
 use circular_buffer::HeapCircularBuffer;
-use uda_exec::{Exec, PENDING};
+use uda_exec::PENDING;
 use uda_image::BlockStore;
 use uda_mem::HostMemory;
 use uda_packet::{
     ATTENTION_LENGTH, Identity, Reply, Report, encode_end, encode_guest_end, encode_unit_available,
 };
 
-/// The credits that a host has once the first end since start-up is delivered: as many commands as it may
-/// then have out, and as many as may be pending.
+/// The credits that the first end message since initialization grants. As many commands may then be
+/// outstanding, and as many may be pending.
 ///
 /// UDA50 Programmer's Documentation Kit: credits.
 pub const CREDITS: u8 = PENDING as u8;
@@ -42,166 +45,202 @@ pub const CREDITS: u8 = PENDING as u8;
 /// What a turn did.
 #[derive(Clone, Copy, Debug, PartialEq, Eq)]
 pub enum Turn {
-    /// A command packet was fetched: the command is pending, or the end of what is none waits.
+    /// The port fetched a command packet. The command is pending, or an end message is queued instead.
     Fetched,
-    /// A pending command was executed, and its end waits.
+    /// The port executed a pending command, and queued its end message.
     Executed,
-    /// The first end that waited was delivered to the response ring.
+    /// The port delivered the first queued end message to the response ring.
     Delivered,
-    /// An attention message was delivered to the response ring.
+    /// The port delivered an attention message to the response ring.
     Notified,
-    /// Nothing: the port is in start-up, has nothing to do, or has an end and no response descriptor.
+    /// The port did nothing. It is in initialization, has nothing to do, or has a message and the host owns
+    /// the next response descriptor.
     Idle,
-    /// Nothing: the port is dead. It may have died in this turn.
+    /// The port did nothing, since it is dead. The fatal error may have occurred in this turn.
     Dead,
 }
 
 impl<S: BlockStore> Port<S> {
-    /// One turn: the first of these lines that fits.
+    /// Runs one turn: applies the first of these rules that fits.
     ///
-    /// 1. The port looks, and the next command descriptor is its own or can't be read: fetch. The
-    ///    port dies where descriptor or packet can't be read, with memory unchanged. Else the
-    ///    descriptor was given back, and then: no credit left is [`Fatal::CreditsExceeded`]; another
-    ///    connection or message type than 0 is [`Fatal::WrongEnvelope`]; a length other than 48 makes
-    ///    an end of status 0x0001, and a text that is no command's an end that says what is wrong;
-    ///    any other text is a command, and pending.
-    /// 2. The port stops looking. A command is pending: one that may go is executed, and its end waits
-    ///    last.
-    /// 3. An end waits: where the next response descriptor is the port's, the text, then the envelope
-    ///    with its credits ([`CREDITS`] with the first end since start-up, then 1), then the descriptor's
-    ///    second word are written. The port dies where descriptor or buffer can't be used.
-    /// 4. [`Turn::Idle`].
+    /// 1. Fetch. The port polls, and it owns the next command descriptor or can't read it. If it can't read
+    ///    the descriptor or the packet, it fails, and memory is unchanged. Otherwise it returns the
+    ///    descriptor to the host and checks the packet.
+    /// 2. Execute. The port stops polling. If a command is pending, the port executes an eligible one and
+    ///    queues its end message.
+    /// 3. Deliver. An end message is queued, and the port owns the next response descriptor or can't read it.
+    ///    The port writes the text, then the envelope with its credits, then the second word of the
+    ///    descriptor. The first end message since initialization grants [`CREDITS`] credits, and each later
+    ///    one grants 1. If the port can't use the descriptor or the buffer, it fails.
+    /// 4. Otherwise the result is [`Turn::Idle`].
     ///
-    /// That is the strict profile. A port for guests reads a text by its length: of one that is shorter than
-    /// 48 bytes the bytes behind its length count as 0, a longer one is read as far as 48, and one under 12
-    /// makes the end of status 0x0001. It judges no response's length, and writes an end with the bytes of
-    /// its kind: 12, 32, 44 or 48. Where a descriptor that it gives back has its flag, and the one before it
-    /// in its ring is the port's, it first writes 1 to the word at 4 (commands) or 2 (responses) bytes below
-    /// the ring base, and raises a request ([`take_interrupt`](Port::take_interrupt)). While its guest has no
-    /// credit it doesn't fetch, and with the next delivery it looks again.
+    /// The first of these checks that fits decides about a fetched packet:
     ///
-    /// A port in start-up answers [`Turn::Idle`] and a dead one [`Turn::Dead`], and neither changes
+    /// 1. The host had no credit left: the port fails with [`Fatal::CreditsExceeded`].
+    /// 2. The connection or the message type isn't 0: the port fails with [`Fatal::InvalidConnection`].
+    /// 3. The length isn't 48: an end message of status 0x0001 is queued.
+    /// 4. The command is invalid: an end message that says what is wrong is queued.
+    /// 5. Otherwise the command is pending.
+    ///
+    /// Those are the rules of the strict profile. The compatible profile differs:
+    ///
+    /// - It reads a text by its length word. In a shorter text the bytes past its length count as 0; of a
+    ///   longer one it reads 48. A length under 12 makes the end message of status 0x0001.
+    /// - Connection 2, DUP, isn't fatal: each of its commands is invalid.
+    /// - Some commands are answered at once: the fetch queues their end messages.
+    /// - It ignores a response buffer's length word, and writes as many bytes as the kind of end message has.
+    /// - At a ring transition with the flag set, it first writes 1 to an interrupt indicator. The command
+    ///   indicator is 4 bytes below the ring base, the response indicator 2 bytes. The port also raises an
+    ///   interrupt request ([`take_interrupt`](Port::take_interrupt)).
+    /// - While the host has no credit, it doesn't fetch. After the next delivery it polls again.
+    /// - If no end message is queued, it delivers an attention message that is due.
+    ///
+    /// A port in initialization returns [`Turn::Idle`], and a dead one [`Turn::Dead`]. Neither changes
     /// anything.
     ///
     /// UDA50 Programmer's Documentation Kit: command ring polling, message envelopes, credits.
     #[tactic(auto, using(crate::proofs::Length::wholes))]
     pub fn turn(&mut self, memory: &mut HostMemory) -> Turn
-        ensures goes { TurnGoes self.old.phase self.old memory.old result self.new memory.new }
+        ensures effect { TurnEffect self.old.phase self.old memory.old result self.new memory.new }
         ensures credits { CreditsAgree self.new }
-        ensures four { length self.new.exec.units ≡ 4 }
-        ensures images { AreImages self.new.exec.units }
+        ensures four_units { length self.new.exec.units ≡ 4 }
+        ensures well_formed { AreWellFormed self.new.exec.units }
     {
         self.turn_in(memory.as_mut_slice())
     }
 
-    /// The same over memory that is somebody else's: [`turn`](Port::turn) on a slice of an even length, at
-    /// most [`SLICE_LIMIT`](uda_mem::SLICE_LIMIT) ([`is_memory`](uda_mem::is_memory)). It may be another
-    /// slice at each call.
+    /// Does the same over a slice: [`turn`](Port::turn) with borrowed memory. The length of the slice is even
+    /// and at most [`SLICE_LIMIT`](uda_mem::SLICE_LIMIT) ([`is_memory`](uda_mem::is_memory)). Each call may
+    /// get another slice.
     pub fn turn_in(&mut self, memory: &mut [u8]) -> Turn
         requires memory { IsMemory memory.old }
-        ensures goes { TurnGoes self.old.phase self.old memory.old result self.new memory.new }
+        ensures effect { TurnEffect self.old.phase self.old memory.old result self.new memory.new }
         ensures credits { CreditsAgree self.new }
-        ensures four { length self.new.exec.units ≡ 4 }
-        ensures images { AreImages self.new.exec.units }
+        ensures four_units { length self.new.exec.units ≡ 4 }
+        ensures well_formed { AreWellFormed self.new.exec.units }
     {
-        let turn = self.take_turn(memory);
+        let mut trace = Trace::Idle;
+        let turn = self.take_turn(memory, &mut trace);
         self.keep();
         turn
     }
 
-    /// What is true of every port, told: it has four units, whose images are images, and its credits agree.
+    /// States the invariant of every port: it has four units, each of them well formed, and its credits are
+    /// consistent.
     pub fn keep(&self)
         ensures credits { CreditsAgree self.now }
-        ensures four { length self.now.exec.units ≡ 4 }
-        ensures images { AreImages self.now.exec.units }
+        ensures four_units { length self.now.exec.units ≡ 4 }
+        ensures well_formed { AreWellFormed self.now.exec.units }
     {
         let _ = &self.credits;
     }
 
-    // A turn, by the phase.
-    fn take_turn(&mut self, memory: &mut [u8]) -> Turn
-        requires { IsMemory memory.old }
-        ensures { TurnGoes self.old.phase self.old memory.old result self.new memory.new }
+    // Runs a turn, by the phase, and reports it in `trace`.
+    pub(crate) fn take_turn(&mut self, memory: &mut [u8], trace: &mut Trace) -> Turn
+        requires memory { IsMemory memory.old }
+        ensures effect { TurnEffect self.old.phase self.old memory.old result self.new memory.new }
+        ensures reports { Reports result trace.new self.old self.new }
     {
+        *trace = Trace::Idle;
         match self.phase {
-            Phase::Running => self.run(memory),
-            Phase::Dead { .. } => Turn::Dead,
+            Phase::Running => self.run(memory, trace),
+            Phase::Dead { cause } => {
+                *trace = Trace::Dead(cause);
+                Turn::Dead
+            }
             Phase::Step1 => Turn::Idle,
             Phase::Step2 { .. } => Turn::Idle,
             Phase::Step3 { .. } => Turn::Idle,
             Phase::Wrap { .. } => Turn::Idle,
-            Phase::Purge => Turn::Idle,
-            Phase::Poll => Turn::Idle,
+            Phase::PurgeTest => Turn::Idle,
+            Phase::PollTest => Turn::Idle,
             Phase::Step4 => Turn::Idle,
         }
     }
 
-    // A turn of a port that runs.
+    // Runs a turn of a running port.
     #[tactic(auto, using(crate::proofs::TurnLaws::running_turn))]
-    fn run(&mut self, memory: &mut [u8]) -> Turn
-        requires { IsMemory memory.old }
-        ensures { RunningTurn self.old memory.old result self.new memory.new }
+    fn run(&mut self, memory: &mut [u8], trace: &mut Trace) -> Turn
+        requires memory { IsMemory memory.old }
+        ensures effect { RunningTurn self.old memory.old result self.new memory.new }
+        ensures reports { Reports result trace.new self.old self.new }
     {
         self.turns.add(1);
-        match self.lines(memory) {
+        match self.lines(memory, trace) {
             Ok(turn) => turn,
             Err(cause) => {
                 self.die(cause);
+                *trace = Trace::Dead(cause);
                 Turn::Dead
             }
         }
     }
 
-    // The lines of a turn, of which the first that fits is taken.
-    fn lines(&mut self, memory: &mut [u8]) -> Result<Turn, Fatal>
-        requires { IsMemory memory.old }
-        ensures { LinesGo self.old memory.old result self.new memory.new }
+    // Applies the first rule that fits.
+    fn lines(&mut self, memory: &mut [u8], trace: &mut Trace) -> Result<Turn, Fatal>
+        requires memory { IsMemory memory.old }
+        ensures effect { FirstRuleEffect self.old memory.old result self.new memory.new }
+        ensures reports { IfOk result (λ turn. Reports turn trace.new self.old self.new) }
     {
-        match self.fetch(memory) {
+        match self.fetch(memory, trace) {
             Err(cause) => Err(cause),
             Ok(true) => Ok(Turn::Fetched),
             Ok(false) => {
-                self.looking = false;
-                self.rest(memory)
+                self.polling = false;
+                self.rest(memory, trace)
             }
         }
     }
 
-    // The lines behind the first.
+    // Applies the rules after the first.
     #[tactic(auto, using(crate::proofs::TurnLaws::none_first))]
-    fn rest(&mut self, memory: &mut [u8]) -> Result<Turn, Fatal>
-        requires { IsMemory memory.old }
-        ensures { RestGoes self.old memory.old result self.new memory.new }
+    fn rest(&mut self, memory: &mut [u8], trace: &mut Trace) -> Result<Turn, Fatal>
+        requires memory { IsMemory memory.old }
+        ensures effect { LaterRulesEffect self.old memory.old result self.new memory.new }
+        ensures reports { IfOk result (λ turn. Reports turn trace.new self.old self.new) }
     {
-        if self.execute(memory) {
+        if self.execute(memory, trace) {
             return Ok(Turn::Executed);
         }
         let Some(end) = self.waiting.front().copied() else {
             return match self.notify(memory) {
                 Err(cause) => Err(cause),
-                Ok(true) => Ok(Turn::Notified),
-                Ok(false) => Ok(Turn::Idle),
+                Ok(true) => {
+                    *trace = Trace::Notified;
+                    Ok(Turn::Notified)
+                }
+                Ok(false) => {
+                    *trace = Trace::Idle;
+                    Ok(Turn::Idle)
+                }
             };
         };
         match self.deliver(memory, end) {
             Err(cause) => Err(cause),
-            Ok(true) => Ok(Turn::Delivered),
-            Ok(false) => Ok(Turn::Idle),
+            Ok(true) => {
+                *trace = Trace::Delivered(end);
+                Ok(Turn::Delivered)
+            }
+            Ok(false) => {
+                *trace = Trace::Idle;
+                Ok(Turn::Idle)
+            }
         }
     }
 
-    // The first line: fetches a command, where the port looks and one is posted.
-    fn fetch(&mut self, memory: &mut [u8]) -> Result<bool, Fatal>
-        requires { IsMemory memory.old }
-        ensures { FetchLine self.old memory.old result self.new memory.new }
+    // Applies the first rule: fetches a command if the port polls and one is posted.
+    fn fetch(&mut self, memory: &mut [u8], trace: &mut Trace) -> Result<bool, Fatal>
+        requires memory { IsMemory memory.old }
+        ensures effect { FetchRule self.old memory.old result self.new memory.new }
+        ensures reports { IfOk result (λ b. ReportsIf b Fetched trace.new (self.old, self.new)) }
     {
         if !self.may_fetch() {
             return Ok(false);
         }
-        let told = self.commands_told(memory);
+        let indicator = self.command_indicator(memory);
         let fetching = Fetching {
             profile: self.profile,
-            told,
+            indicator,
         };
         let fetched = match self.commands.fetch_by(memory, fetching) {
             Ok(None) => return Ok(false),
@@ -209,65 +248,75 @@ impl<S: BlockStore> Port<S> {
             Err(RingFault::Ring) => return Err(Fatal::RingRead),
             Err(RingFault::Packet) => return Err(Fatal::PacketRead),
         };
-        self.interrupts.note(self.profile, told);
+        self.interrupts.note(self.profile, indicator);
         if self.credits == 0 {
             return Err(Fatal::CreditsExceeded);
         }
         let Some(message) = message_in(self.profile, &fetched) else {
-            return Err(Fatal::WrongEnvelope);
+            return Err(Fatal::InvalidConnection);
         };
         self.credits -= 1;
         self.fetches.add(1);
         keep_flags(&mut self.guest, self.profile, &fetched, &message);
         match message {
-            Ok(asked) => self.exec.accept_guest(asked),
+            Ok(asked) => {
+                self.exec.accept_guest(asked);
+                *trace = Trace::Fetched(asked);
+                Ok(true)
+            }
             Err(reply) => {
-                answer_at_once(self.profile, &mut self.exec, &mut self.waiting, reply);
+                *trace = answer_at_once(self.profile, &mut self.exec, &mut self.waiting, reply);
+                Ok(true)
             }
         }
-        Ok(true)
     }
 
-    // Whether the port may fetch: it looks, and its guest has a credit.
+    // Returns whether the port may fetch: it polls, and its host isn't without credit in the compatible
+    // profile.
     fn may_fetch(&self) -> bool
         ensures { result ≡ may_fetch self.now }
     {
-        self.looking && !self.lacks_credit()
+        self.polling && !self.lacks_credit()
     }
 
-    // Whether a guest has no credit left; strictly that is found when a command was taken.
+    // Returns whether the host has no credit left, in the compatible profile. The strict profile checks that
+    // after a fetch.
     fn lacks_credit(&self) -> bool
         ensures { result ≡ lacks_credit self.now.profile self.now.credits }
     {
         match self.profile {
             Profile::Strict => false,
-            Profile::ForGuests(_) => self.credits == 0,
+            Profile::Compatible(_) => self.credits == 0,
         }
     }
 
-    // The second line: executes a pending command, where there is one.
-    fn execute(&mut self, memory: &mut [u8]) -> bool
-        requires { IsMemory memory.old }
-        ensures { ExecuteLine self.old memory.old result self.new memory.new }
+    // Applies the second rule: executes a pending command, if there is one.
+    fn execute(&mut self, memory: &mut [u8], trace: &mut Trace) -> bool
+        requires memory { IsMemory memory.old }
+        ensures effect { ExecuteRule self.old memory.old result self.new memory.new }
+        ensures reports { ReportsIf result Executed trace.new (self.old, self.new) }
     {
         let pending = self.exec.pending();
         if pending == 0 {
             return false;
         }
-        let Some(end) = execute_for(self.profile, &mut self.exec, memory) else {
+        let Some(end) = self.exec.execute_next_in(memory) else {
             return false;
         };
         self.load.add(pending);
         self.guest.note_end(&end);
         hold(&mut self.waiting, end);
+        *trace = Trace::Executed(end);
         true
     }
 
-    // The third line: delivers the first end that waits, where the response ring takes it.
+    // Applies the third rule: delivers the first queued end message, if the port owns the next response
+    // descriptor.
     fn deliver(&mut self, memory: &mut [u8], end: Reply) -> Result<bool, Fatal>
         requires memory { IsMemory memory.old }
         requires first { slice_get self.old.waiting 0 ≡ Some end }
-        ensures { DeliverLine self.old memory.old result self.new memory.new }
+        ensures effect { DeliverRule self.old memory.old result self.new memory.new }
+        ensures taken { IfOk result (λ b. b ≡ true → self.old.waiting ≡ end ∷ self.new.waiting) }
     {
         let delivery = self.delivery(memory);
         let looks = self.looks_again();
@@ -279,28 +328,28 @@ impl<S: BlockStore> Port<S> {
             Ok(true) => {}
         }
         release(&mut self.waiting, end);
-        self.interrupts.note(self.profile, delivery.told);
-        self.looking = looks;
+        self.interrupts.note(self.profile, delivery.indicator);
+        self.polling = looks;
         self.credits += delivery.credits;
         self.begun = true;
         self.deliveries.add(1);
         Ok(true)
     }
 
-    // Whether the port looks at its command ring after a delivery: it did, or its guest had no credit.
+    // Returns whether the port polls after a delivery: it polled before, or the host had no credit.
     fn looks_again(&self) -> bool
-        ensures { result ≡ (lacks_credit self.now.profile self.now.credits || self.now.looking) }
+        ensures { result ≡ (lacks_credit self.now.profile self.now.credits || self.now.polling) }
     {
-        self.lacks_credit() || self.looking
+        self.lacks_credit() || self.polling
     }
 
-    // Where no end waits: delivers the first attention message that is due, where the response ring takes it. That is
-    // rare, so it isn't inlined.
+    // Delivers the first attention message that is due, if no end message is queued and the port owns the
+    // next response descriptor. That is rare, so the function isn't inlined.
     #[inline(never)]
     fn notify(&mut self, memory: &mut [u8]) -> Result<bool, Fatal>
         requires memory { IsMemory memory.old }
         requires none { self.old.waiting ≡ [] }
-        ensures { NotifyLine self.old memory.old result self.new memory.new }
+        ensures { NotifyRule self.old memory.old result self.new memory.new }
     {
         let Some(notice) = self.notice() else {
             return Ok(false);
@@ -316,18 +365,18 @@ impl<S: BlockStore> Port<S> {
             Ok(true) => {}
         }
         self.guest.set_attention(usize::from(notice.drive), false);
-        self.interrupts.note(self.profile, delivery.told);
+        self.interrupts.note(self.profile, delivery.indicator);
         Ok(true)
     }
 
-    // The attention message that is due next, if one is.
+    // Returns the next attention message that is due, or None.
     fn notice(&self) -> Option<Notice>
         ensures text { option_map (λ n. take n.message.size n.message.text) result ≡ attention_text self.now }
         ensures due { IfSome result (λ n. first_due self.now.guest.attentions ≡ Some n.drive) }
         ensures within { IfSome result (λ n. n.message.size ≤ 48) }
         ensures guests { IfSome result (λ n. self.now.profile ≢ Strict) }
     {
-        let Profile::ForGuests(identity) = self.profile else {
+        let Profile::Compatible(identity) = self.profile else {
             return None;
         };
         let drive = self.guest.first_due()?;
@@ -342,7 +391,7 @@ impl<S: BlockStore> Port<S> {
         })
     }
 
-    // The text of an end message, in as many bytes as the profile gives it.
+    // Returns the text of an end message, with as many bytes as the profile gives it.
     fn end_text(&self, end: &Reply) -> Message
         ensures text { take result.size result.text ≡ end_text self.now end.now }
         ensures within { result.size ≤ 48 }
@@ -354,14 +403,14 @@ impl<S: BlockStore> Port<S> {
                 text: encode_end(&end.strict_end()),
                 size: TEXT,
             },
-            Profile::ForGuests(identity) => Message {
+            Profile::Compatible(identity) => Message {
                 text: encode_guest_end(end, &self.report(identity, end.unit)),
                 size: end.body.length(),
             },
         }
     }
 
-    // What the port reports beside the outcome of a command on this drive.
+    // Returns what the end message reports about the controller and this drive.
     fn report(&self, identity: Identity, drive: u16) -> Report
         ensures report { result ≡ report_of identity self.now.guest self.now.exec.units drive }
     {
@@ -373,75 +422,56 @@ impl<S: BlockStore> Port<S> {
         }
     }
 
-    // Where the host is told of the commands' transition, if it is.
-    fn commands_told(&self, memory: &[u8]) -> Option<u32>
+    // Returns the address of the command interrupt indicator, if the next fetch must set it.
+    fn command_indicator(&self, memory: &[u8]) -> Option<u32>
         requires { IsMemory memory.now }
-        ensures told { result ≡ commands_told self.now memory.now }
+        ensures indicator { result ≡ command_indicator self.now memory.now }
         ensures below { IsBelow result self.now.commands.base }
     {
         match self.profile {
-            Profile::ForGuests(_) if self.commands.transits(memory) => self.responses.word_below(4),
+            Profile::Compatible(_) if self.commands.is_ring_transition(memory) => self
+                .responses
+                .word_below(4),
             _ => None,
         }
     }
 
-    // The same of the responses' transition.
-    fn responses_told(&self, memory: &[u8]) -> Option<u32>
+    // Returns the address of the response interrupt indicator, if the next delivery must set it.
+    fn response_indicator(&self, memory: &[u8]) -> Option<u32>
         requires { IsMemory memory.now }
-        ensures told { result ≡ responses_told self.now memory.now }
+        ensures indicator { result ≡ response_indicator self.now memory.now }
         ensures below { IsBelow result self.now.responses.base }
     {
         match self.profile {
-            Profile::ForGuests(_) if self.responses.transits(memory) => self
+            Profile::Compatible(_) if self.responses.is_ring_transition(memory) => self
                 .responses
                 .word_below(2),
             _ => None,
         }
     }
 
-    // What goes with the next end.
+    // Returns the settings of the next delivery of an end message.
     fn delivery(&self, memory: &[u8]) -> Delivery
         requires { IsMemory memory.now }
         ensures delivery { result ≡ delivery_of self.now memory.now }
-        ensures below { IsBelow result.told self.now.responses.base }
+        ensures below { IsBelow result.indicator self.now.responses.base }
         ensures few { result.credits ≤ PENDING_LIMIT }
         ensures room { self.now.credits + result.credits ≤ PENDING_LIMIT + 1 }
     {
         Delivery {
             profile: self.profile,
             credits: self.next_grant(),
-            told: self.responses_told(memory),
+            indicator: self.response_indicator(memory),
         }
     }
 
-    // The credits that the next end grants.
+    // Returns the number of credits that the next end message grants.
     fn next_grant(&self) -> u8
         ensures grant { result ≡ next_grant self.now.deliveries }
         ensures few { result ≤ PENDING_LIMIT }
         ensures room { self.now.credits + result ≤ PENDING_LIMIT + 1 }
     {
         if self.begun { 1 } else { CREDITS }
-    }
-}
-
-// Executes a pending command, if there is one: in the strict profile as it is, and for a guest as that asks.
-fn execute_for<S: BlockStore>(
-    profile: Profile,
-    exec: &mut Exec<S>,
-    memory: &mut [u8],
-) -> Option<Reply>
-    requires memory { IsMemory memory.old }
-    ensures idle { IsNone result ↔ (exec.old.pending ≡ []) }
-    ensures unchanged { IfNone result ((exec.new ≡ exec.old) × (memory.new ≡ memory.old)) }
-    ensures fewer { IfSome result (λ _. length exec.new.pending + 1 ≡ length exec.old.pending) }
-    ensures four { length exec.new.units ≡ 4 }
-    ensures images { AreImages exec.new.units }
-    ensures executes { IfSome result (λ end.
-        (j : ℕ) × ExecutesFor profile j exec.old memory.old end exec.new memory.new) }
-{
-    match profile {
-        Profile::Strict => Some(Reply::basic(exec.execute_one_in(memory)?)),
-        Profile::ForGuests(_) => exec.execute_next_in(memory),
     }
 }
 
@@ -455,14 +485,14 @@ fn put_message(
 ) -> Result<bool, RingFault>
     requires memory { IsMemory memory.old }
     requires few { delivery.credits ≤ 15 }
-    requires below { IsBelow delivery.told responses.old.base }
+    requires below { IsBelow delivery.indicator responses.old.base }
     requires within { message.now.size ≤ 48 }
     requires whole { delivery.profile ≡ Strict → message.now.size ≡ 48 }
-    ensures goes { PutGoes delivery responses.old memory.old (take message.now.size message.now.text) result
+    ensures effect { DeliveryEffect delivery responses.old memory.old (take message.now.size message.now.text) result
         responses.new memory.new }
     ensures base { responses.new.base ≡ responses.old.base }
 {
-    // A text of 48 bytes is copied by its fixed length.
+    // A text of 48 bytes is copied with a fixed length.
     if message.size == TEXT {
         responses.put(memory, delivery, &message.text)
     } else {
@@ -470,7 +500,7 @@ fn put_message(
     }
 }
 
-// Puts an end last.
+// Appends an end message to the queue.
 pub(crate) fn hold(waiting: &mut HeapCircularBuffer<Reply>, end: Reply)
     requires room { length waiting.old.items < waiting.old.capacity }
     ensures last { waiting.new ≡ buffer (waiting.old.items ++ end ∷ []) waiting.old.capacity }
@@ -480,7 +510,7 @@ pub(crate) fn hold(waiting: &mut HeapCircularBuffer<Reply>, end: Reply)
     waiting.push_back(end);
 }
 
-// Takes the first end out.
+// Removes the first end message from the queue.
 fn release(waiting: &mut HeapCircularBuffer<Reply>, end: Reply)
     requires first { slice_get waiting.old.items 0 ≡ Some end }
     ensures items { waiting.old.items ≡ end ∷ waiting.new.items }

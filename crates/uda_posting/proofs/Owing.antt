@@ -1,4 +1,4 @@
--- What is owed and what is due, as requests are posted and their commands executed.
+-- The unexecuted requests, as requests are posted and their commands executed.
 use Rattle.std.proofs.Common.{◌≡◌, ◌≢◌, ℕ, suc, min, max, ◌+◌, ◌<◌, ◌≤◌, ◌⊎◌, inl, inr, Bool, true, false, List, [], ◌∷◌, ◌++◌, length, set, get_or, Option, None, Some, refl, sym, ap, ap₂, ◌∙◌, arith, subst, subst₂}
 use Rattle.std.specs.Prelude.{slice_get, slice_set, option_map, map, remove, All, AllPairs, nat_eq, ◌&&◌, if◌then◌else◌}
 use Rattle.std.proofs.Math.Bool.{and_comm, or_comm}
@@ -13,28 +13,28 @@ use Rattle.uda_disk.specs.Disk.{Disks}
 use Rattle.uda_disk.specs.Request.{Act, Online, Available, Request, is_moving, is_writing, lbn_of, blocks_named}
 use Rattle.uda_disk.specs.Order.{clash}
 use Rattle.uda_disk.specs.Answer.{Answer, TooLong}
-use Rattle.uda_disk.specs.Plain.{Done, is_lost}
-use Rattle.uda_disk.specs.PlainRun.{too_long, FixedRequest, step_of, step, plain, PlainWithLosses, tells_error, drive_errors}
+use Rattle.uda_disk.specs.RequestEffect.{Done, is_lost}
+use Rattle.uda_disk.specs.InOrderRun.{too_long, FixedRequest, step_of, step, run_in_order, InOrderWithFailures, tells_error, drive_errors}
 use Rattle.uda_disk.specs.Form.{IsAnswerOf}
 use Rattle.uda_disk.proofs.Slots.{slice_get-set_same, slice_get-set_other}
 use Rattle.uda_disk.proofs.Runs.{length-runs}
 use Rattle.uda_disk.proofs.Lists.{put_back, All-remove, All-insert, All-at, All-front, slice_get-last, pairs_others}
 use Rattle.uda_disk.proofs.Errors.{is_error, losses_told, errors-set}
-use Rattle.uda_disk.specs.Units.{disks_of, failures_at, Units, AllFaithful, is_sure}
+use Rattle.uda_disk.specs.Units.{disks_of, failures_at, Units, AllFaithful, is_infallible}
 use Rattle.uda_exec.specs.Execution.{Executes}
-use Rattle.uda_exec.specs.Order.{MayGo}
+use Rattle.uda_exec.specs.Order.{IsEligible}
 use Rattle.uda_exec.proofs.Units.{faithful_stays, sure_stays}
-use Rattle.uda_model.specs.Ledger.{untold, told_by, IsToCome, NoneToCome, GoesBefore}
+use Rattle.uda_model.specs.Ledger.{untold, told_by, IsToCome, NoneToCome, MayExecuteBefore}
 use Rattle.uda_model.proofs.LedgerSteps.{ledger_opens, ledger_carries_out, ledger_closes}
 use Rattle.uda_posting.specs.Posting.{answer_of, Posted, posted_command, commands_in, buffer_of, Ready}
-use Rattle.uda_posting.specs.Keeping.{IsEarlier, IsNotAt, IsDue, AreDue, AreSeparate, Owes}
-use Rattle.uda_posting.specs.Seeming.{bares, is_done, has_begun, outline, outlines, TellsTransfer, GoesAs, AllGoAs, SeemsPlain}
-use Rattle.uda_posting.proofs.Posts.{passes}
+use Rattle.uda_posting.specs.Outstanding.{IsEarlier, IsNotAt, IsUnexecuted, AreUnexecuted, AreSeparate, UnexecutedInvariant}
+use Rattle.uda_posting.specs.UpToData.{bares, is_done, has_begun, outline, outlines, ReportsTransfer, AnswerMatches, AllAnswersMatch, MatchesUpToData}
+use Rattle.uda_posting.proofs.Posts.{may_overtake}
 use Rattle.uda_posting.proofs.Seemings.{look, step_looks, run_looks, plain_each, outline_same, goes_as, IsServed, served}
 
 -- ---- failures
 
--- the failures of a unit grow by one where its drive error is told
+-- the failures of a unit grow by one if its drive error is reported
 one_failure : (u unit : ℕ) (told lost : Bool) (units after : Units) → told ≡ lost
     → ((v : ℕ) → v ≢ unit → slice_get after v ≡ slice_get units v)
     → failures_at (slice_get after unit) ≡ failures_at (slice_get units unit) +
@@ -47,7 +47,7 @@ one_failure u unit told lost units after same stay grows = elim (cases_eq u unit
       rw is_not (ap failures_at (stay u other) ∙ omega arith)
 ]
 
--- and no drive error is told of one that told none
+-- and none is reported of one that has none
 pub none_told : (u unit : ℕ) (told : Bool) → (u ≡ unit → told ≡ false)
     → (let k : ℕ = if nat_eq unit u && told then 1 else 0 in k) ≡ 0
 none_told u unit told none = elim (cases_eq u unit) [
@@ -70,7 +70,7 @@ untold_at : (requests : List Request) (k : ℕ) (r : Request) → slice_get requ
 untold_at requests k r asked = slice_get-map (λ (_ : Request). TooLong) requests k
     ∙ ap (option_map (λ (_ : Request). TooLong)) asked
 
-pub owes_start : (units : Units) (requests : List Request) → Owes units requests (untold requests) units
+pub owes_start : (units : Units) (requests : List Request) → UnexecutedInvariant units requests (untold requests) units
 owes_start units requests = record {
   run = (untold requests, disks_of units);
   ledger = ledger_opens (disks_of units) requests;
@@ -78,16 +78,16 @@ owes_start units requests = record {
   faithful = λ _. record {
     same = refl;
     errors = λ u. omega (arith, told_none u requests);
-    sure = λ u never. refl;
+    infallible = λ u never. refl;
   };
   tell = λ k r a asked at begun.
       let both : Some TooLong ≡ Some a = sym (untold_at requests k r asked) ∙ at in
       let is : TooLong ≡ a = cc in absurd (cc (begun, ap has_begun is));
   counted = length-map requests (λ (_ : Request). TooLong);
-  natures = refl;
+  all_attributes = refl;
 }
 
--- ---- a request is done
+-- ---- a request is executed
 
 outlines-set : (w : List Answer) (i : ℕ) (x : Answer × Disks)
     → outlines (slice_set w i x.0, x.1) ≡ (set (map outline w) i (look x).0, (look x).1)
@@ -111,14 +111,14 @@ to_come_alike requests w v same k r it =
         let look : outline a ≡ outline TooLong = cc in let two = outline_same a TooLong look in
         is ∙ ap Some (two.1 two.0)
 
--- a command is done whose request may go before each older one that is still to come
+-- a command is executed whose request may be executed before each older one that is still to come
 pub owes_done : {start : Units} {requests : List Request} {told : List Answer} {units after : Units}
-    {memory left : List ℕ} {e : End} (owes : Owes start requests told units) (p : Posted)
+    {memory left : List ℕ} {e : End} (owes : UnexecutedInvariant start requests told units) (p : Posted)
     → IsToCome requests told p.place p.request
-    → ((i : ℕ) (older : Request) → i < p.place → IsToCome requests told i older → GoesBefore older p.request)
+    → ((i : ℕ) (older : Request) → i < p.place → IsToCome requests told i older → MayExecuteBefore older p.request)
     → Ready p memory
     → Executes (posted_command p) units memory e after left
-    → Owes start requests (slice_set told p.place (answer_of p.request.act e (buffer_of p left))) after
+    → UnexecutedInvariant start requests (slice_set told p.place (answer_of p.request.act e (buffer_of p left))) after
 owes_done {start} {requests} {told} {units} {after} {memory} {left} {e} owes p own may ready x =
     let r = p.request in let i = p.place in let run = owes.run in
     let now : List Answer × Disks = (told, disks_of units) in
@@ -141,7 +141,7 @@ owes_done {start} {requests} {told} {units} {after} {memory} {left} {e} owes p o
           ∙ sym (outlines-set told i (a, disks_of after));
       faithful = λ trusted.
           let before = owes.faithful trusted in
-          let it = s.faithful (faithful_stays start units owes.natures r.unit ∙ trusted r.unit) in
+          let it = s.faithful (faithful_stays start units owes.all_attributes r.unit ∙ trusted r.unit) in
           record {
             same = ap (told_by i f) before.same ∙ ap (λ x. (set told i x.0, x.1)) (sym it.is);
             errors = λ u. omega (
@@ -150,12 +150,12 @@ owes_done {start} {requests} {told} {units} {after} {memory} {left} {e} owes p o
               more it u,
               errors-set u requests told i r a own.stands own.untold,
             );
-            sure = λ u never.
+            infallible = λ u never.
                 let none : tells_error u r a ≡ 0 = none_told u r.unit (is_error a)
-                (λ own. it.lost ∙ ap is_lost (it.sure
-                (ap (λ v. is_sure (slice_get units v)) (sym own) ∙ sure_stays start units owes.natures u
+                (λ own. it.lost ∙ ap is_lost (it.infallible
+                (ap (λ v. is_infallible (slice_get units v)) (sym own) ∙ sure_stays start units owes.all_attributes u
                 ∙ never))) in
-                omega (arith, before.sure u never, more it u, none);
+                omega (arith, before.infallible u never, more it u, none);
           };
       tell = λ k q b asked at begun. elim (cases_eq k i) [
         | inl same ↦
@@ -164,17 +164,17 @@ owes_done {start} {requests} {told} {units} {after} {memory} {left} {e} owes p o
             (slice_get_within told i TooLong own.untold)) ∙ ap (slice_get (set told i a)) (sym same)
             ∙ at in
             let one_is : r ≡ q = cc in let other_is : a ≡ b = cc in
-            subst₂ (λ (q : Request) (b : Answer). TellsTransfer q.act b) one_is other_is
+            subst₂ (λ (q : Request) (b : Answer). ReportsTransfer q.act b) one_is other_is
             (s.tells (ap has_begun other_is ∙ begun))
         | inr other ↦ owes.tell k q b asked (sym (slice_get-set_other told i k a other) ∙ at) begun
       ];
       counted = length-set told i a ∙ owes.counted;
-      natures = x.natures_stay ∙ owes.natures;
+      all_attributes = x.all_attributes_stay ∙ owes.all_attributes;
     }
 
--- ---- two that are out
+-- ---- two outstanding requests
 
--- two requests clash either way
+-- two requests conflict either way
 pub clash_turned : (r s : Request) → clash r s ≡ false → clash s r ≡ false
 clash_turned r s h =
     let units : nat_eq s.unit r.unit ≡ nat_eq r.unit s.unit = grind (arith, nat_tests) in
@@ -208,7 +208,7 @@ pub is_told : (act : Act) (e : End) (buffer : List ℕ) → answer_of act e buff
 is_told (Online protect) e buffer same = cc
 is_told _ e buffer same = cc
 
--- where another answer is told, the same is still to come
+-- if another answer is written, the same are still to come
 pub told_at : (requests : List Request) (told : List Answer) (i k : ℕ) (a : Answer) (r : Request) → k ≢ i
     → IsToCome requests told k r → IsToCome requests (slice_set told i a) k r
 told_at requests told i k a r other it =
@@ -235,7 +235,7 @@ was_to_come requests told i k a r low new it = elim (cases_eq k i) [
 
 -- ---- what is due
 
--- one of these is at place k
+-- one of these is at index k
 record StandsAt (due : List Posted) (d : Posted) (k : ℕ) : Type 0 where
   index : ℕ
   low : index < length due
@@ -251,16 +251,16 @@ find (p ∷ rest) d k = elim (cases_eq p.place k) [
   ])
 ]
 
-pub due_start : (requests : List Request) → AreDue requests 0 (untold requests) []
+pub due_start : (requests : List Request) → AreUnexecuted requests 0 (untold requests) []
 due_start requests = record {
-  each = All-nil (IsDue requests 0 (untold requests));
+  each = All-nil (IsUnexecuted requests 0 (untold requests));
   in_order = λ i j d before within. absurd (omega arith);
   no_other = λ k r it none. omega arith;
   untold = λ k le low. untold_at requests k _
       (slice_get-get_or requests k (record { unit = 0; act = Available }) low);
 }
 
--- another place than that of one, where none of the others is, is no place of any
+-- an index that differs from that of one, and at which none of the others is, is not the index of any
 pub due_back : (due : List Posted) (j k : ℕ) (d : Posted) → j < length due → (get_or due j d).place ≢ k
     → All (IsNotAt k) (remove due j) → All (IsNotAt k) due
 due_back due j k d low other none =
@@ -269,16 +269,16 @@ due_back due j k d low other none =
     (All-insert (IsNotAt k) (remove due j) j p other none)
 
 module _ {requests : List Request} {n : ℕ} {told : List Answer} {due : List Posted}
-    (D : AreDue requests n told due) where
+    (D : AreUnexecuted requests n told due) where
   -- one of the first n is one of the first n + 1
-  still_due : All (IsDue requests (n + 1) told) due
+  still_due : All (IsUnexecuted requests (n + 1) told) due
   still_due k d l =
       let it = D.each k d l in
       record { before = omega (arith, it.before); to_come = it.to_come }
 
   -- the next request is too long
   pub due_skip : (r : Request) → slice_get requests n ≡ Some r → too_long r ≡ true
-      → AreDue requests (n + 1) told due
+      → AreUnexecuted requests (n + 1) told due
   due_skip r asked long = record {
     each = still_due;
     in_order = D.in_order;
@@ -293,9 +293,9 @@ module _ {requests : List Request} {n : ℕ} {told : List Answer} {due : List Po
 
   -- the next request is posted
   pub due_post : (p : Posted) → p.place ≡ n → slice_get requests p.place ≡ Some p.request
-      → too_long p.request ≡ false → AreDue requests (n + 1) told (due ++ p ∷ [])
+      → too_long p.request ≡ false → AreUnexecuted requests (n + 1) told (due ++ p ∷ [])
   due_post p place asked short = record {
-    each = All-push (IsDue requests (n + 1) told) due p still_due (record {
+    each = All-push (IsUnexecuted requests (n + 1) told) due p still_due (record {
       before = omega (arith, place);
       to_come = record {
         stands = asked;
@@ -319,10 +319,10 @@ module _ {requests : List Request} {n : ℕ} {told : List Answer} {due : List Po
     at_p : slice_get due j ≡ Some p
     at_p = slice_get-get_or due j d low
 
-    -- one that may go goes before each older one that is to come
-    pub due_before : AllPairs AreSeparate due → MayGo (commands_in due) j → (k : ℕ) (older : Request)
+    -- an eligible one may be executed before each older one that is to come
+    pub due_before : AllPairs AreSeparate due → IsEligible (commands_in due) j → (k : ℕ) (older : Request)
         → k < p.place
-        → IsToCome requests told k older → GoesBefore older p.request
+        → IsToCome requests told k older → MayExecuteBefore older p.request
     due_before separate may k older below it = elim (find due d k) [
       | inl found ↦
           (let m = found.index in let q = get_or due m d in
@@ -336,8 +336,8 @@ module _ {requests : List Request} {n : ℕ} {told : List Answer} {due : List Po
           let asked : Some q.request ≡ Some older = sym (D.each m d found.low).to_come.stands
           ∙ ap (slice_get requests) found.place ∙ it.stands in
           let is : q.request ≡ older = cc in
-          subst (λ r. GoesBefore r p.request) is (record {
-            passes = passes q p (may.passes m (posted_command q) (posted_command p) first
+          subst (λ r. MayExecuteBefore r p.request) is (record {
+            may_overtake = may_overtake q p (may.may_overtake m (posted_command q) (posted_command p) first
                 (command_at m found.low) (command_at j low));
             clear = (separate m j d first low).clear;
           }))
@@ -349,15 +349,15 @@ module _ {requests : List Request} {n : ℕ} {told : List Answer} {due : List Po
         command_at m low = slice_get-map posted_command due m
             ∙ ap (option_map posted_command) (slice_get-get_or due m d low)
 
-    -- it is done
+    -- it is executed
     pub due_done : (a : Answer) → a ≢ TooLong → AllPairs AreSeparate due
-        → AreDue requests n (slice_set told p.place a) (remove due j)
+        → AreUnexecuted requests n (slice_set told p.place a) (remove due j)
     due_done a new separate =
         let own = D.each j d low in
         let others = separate_others due j p separate at_p in
         record {
           each = λ k q l.
-              let was = All-remove (IsDue requests n told) due j D.each k q l in
+              let was = All-remove (IsUnexecuted requests n told) due j D.each k q l in
               record {
                 before = was.before;
                 to_come =
@@ -372,67 +372,67 @@ module _ {requests : List Request} {n : ℕ} {told : List Answer} {due : List Po
               (λ same. omega (arith, own.before, same)) ∙ D.untold k le within;
         }
 
--- where nothing is due, no answer is to come
+-- if every command is executed, no answer is to come
 pub due_none : (requests : List Request) (n : ℕ) (told : List Answer) → length requests ≤ n
-    → AreDue requests n told [] → NoneToCome requests told
+    → AreUnexecuted requests n told [] → NoneToCome requests told
 due_none requests n told all D k r it =
     omega (arith, D.no_other k r it (All-nil (IsNotAt k)), slice_get_within requests k r it.stands, all)
 
 -- ---- nothing is still to come
 
 module _ {start : Units} {requests : List Request} {told : List Answer} {units : Units}
-    (owes : Owes start requests told units) (none : NoneToCome requests told) where
-  ran : PlainWithLosses (disks_of start) requests owes.run.0 owes.run.1
+    (owes : UnexecutedInvariant start requests told units) (none : NoneToCome requests told) where
+  ran : InOrderWithFailures (disks_of start) requests owes.run.0 owes.run.1
   ran = ledger_closes (disks_of start) requests owes.run
       (λ k r it. none k r (to_come_alike requests owes.run (told, disks_of units) owes.looks k r it))
       owes.ledger
 
-  pub owes_end : AllFaithful start → PlainWithLosses (disks_of start) requests told (disks_of units)
-  owes_end trusted = subst (λ (w : List Answer × Disks). PlainWithLosses (disks_of start) requests w.0 w.1)
+  pub owes_end : AllFaithful start → InOrderWithFailures (disks_of start) requests told (disks_of units)
+  owes_end trusted = subst (λ (w : List Answer × Disks). InOrderWithFailures (disks_of start) requests w.0 w.1)
       (owes.faithful trusted).same ran
 
-  -- where no answer tells a drive error, it is the plain run
+  -- if no answer reports a drive error, it is the in-order run
   pub owes_untold : AllFaithful start → ((u : ℕ) → drive_errors u requests told ≡ 0)
-      → (told, disks_of units) ≡ plain (disks_of start) requests
+      → (told, disks_of units) ≡ run_in_order (disks_of start) requests
   owes_untold trusted none = losses_told (disks_of start) requests told (disks_of units)
       (owes_end trusted) none
 
-  -- and where no store failed, too
+  -- and if no store failed, too
   pub owes_plain : AllFaithful start → ((u : ℕ)
       → failures_at (slice_get units u) ≡ failures_at (slice_get start u))
-      → (told, disks_of units) ≡ plain (disks_of start) requests
+      → (told, disks_of units) ≡ run_in_order (disks_of start) requests
   owes_plain trusted none = owes_untold trusted (λ u. omega (arith, (owes.faithful trusted).errors u, none u))
 
-  -- whatever the stores, its outlines are the plain run's
-  looks : outlines (told, disks_of units) ≡ outlines (plain (disks_of start) requests)
+  -- over any stores, its outlines are those of the in-order run
+  looks : outlines (told, disks_of units) ≡ outlines (run_in_order (disks_of start) requests)
   looks = sym owes.looks ∙ ap outlines (sym ran.gives)
       ∙ run_looks ran.fixed (disks_of start) (disks_of start) refl
-      ∙ ap (λ rs. outlines (plain (disks_of start) rs)) ran.are_requests
+      ∙ ap (λ rs. outlines (run_in_order (disks_of start) rs)) ran.are_requests
 
-  -- and so each answer goes as its
-  answered : AllGoAs requests (plain (disks_of start) requests).0 told
+  -- and so each answer matches the one there
+  answered : AllAnswersMatch requests (run_in_order (disks_of start) requests).0 told
   answered k r b a asked there here =
       let same : Some (outline a) ≡ Some (outline b) =
       sym (slice_get-map outline told k ∙ ap (option_map outline) here) ∙ ap (λ w. slice_get w.0 k) looks
-      ∙ slice_get-map outline (plain (disks_of start) requests).0 k ∙ ap (option_map outline) there in
+      ∙ slice_get-map outline (run_in_order (disks_of start) requests).0 k ∙ ap (option_map outline) there in
       goes_as r.act b a (let one : outline a ≡ outline b = cc in
       one) (plain_each requests (disks_of start) k r b asked there).clean (owes.tell k r a asked here)
 
-  pub owes_seems : SeemsPlain start requests told units
+  pub owes_seems : MatchesUpToData start requests told units
   owes_seems = record { left = ap (λ w. w.1) looks; answered = answered }
 
   -- and has its request's form
   pub owes_formed : (k : ℕ) (r : Request) (a : Answer) → slice_get requests k ≡ Some r
       → slice_get told k ≡ Some a → IsAnswerOf r a
   owes_formed k r a asked here =
-      let answers = (plain (disks_of start) requests).0 in let b = get_or answers k TooLong in
+      let answers = (run_in_order (disks_of start) requests).0 in let b = get_or answers k TooLong in
       let there = slice_get-get_or answers k TooLong
       (omega (arith, length-runs step requests (disks_of start), slice_get_within requests k r asked)) in
       let goes = answered k r b a asked there here in
       let is = (plain_each requests (disks_of start) k r b asked there).formed in
       by b goes is (is_done b) refl
     where
-      by : (b : Answer) → GoesAs r.act b a → IsAnswerOf r b → (done : Bool) → is_done b ≡ done
+      by : (b : Answer) → AnswerMatches r.act b a → IsAnswerOf r b → (done : Bool) → is_done b ≡ done
           → IsAnswerOf r a
       by b goes is false undone = let same : b ≡ a = sym (goes.same undone) in subst (IsAnswerOf r) same is
       by b goes is true done = record {

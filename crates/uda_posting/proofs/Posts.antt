@@ -5,11 +5,11 @@ use Rattle.uda_mem.specs.Put.{put}
 use Rattle.uda_mem.proofs.PutLaws.{length-put, part-put_at}
 use Rattle.uda_disk.specs.Request.{Act, Online, Read, Write, is_moving, blocks_named}
 use Rattle.uda_disk.specs.Order as disk
-use Rattle.uda_disk.specs.PlainRun.{transfer_limit, too_long}
-use Rattle.uda_exec.specs.Commands.{is_controller, is_transfer, buffer_start, room_of, blocks_asked, act_of}
-use Rattle.uda_exec.specs.Order.{may_pass}
+use Rattle.uda_disk.specs.InOrderRun.{transfer_limit, too_long}
+use Rattle.uda_exec.specs.Commands.{is_controller, is_transfer, buffer_start, buffer_length, blocks_asked, act_of}
+use Rattle.uda_exec.specs.Order.{command_may_overtake}
 use Rattle.uda_exec.proofs.Blocks.{bytes_at-within}
-use Rattle.uda_posting.specs.Posting.{op_of, bytes_brought, Posted, posted_command, Ready}
+use Rattle.uda_posting.specs.Posting.{op_of, write_payload, Posted, posted_command, Ready}
 
 -- what an act names, its command names
 pub record NamesSame (act : Act) (address : ℕ) : Type 0 where
@@ -23,10 +23,10 @@ names_same _ address = record { speaks = refl; moving = refl; count = refl }
 
 -- ---- buffers
 
--- where a command has a buffer, it begins at the address given, and it is small
+-- if a command has a buffer, it begins at the address given, and it is small
 pub record BufferAt (act : Act) (address : ℕ) : Type 0 where
-  pub small : room_of (op_of act address) ≤ transfer_limit
-  pub here : 0 < room_of (op_of act address) → buffer_start (op_of act address) ≡ address
+  pub small : buffer_length (op_of act address) ≤ transfer_limit
+  pub here : 0 < buffer_length (op_of act address) → buffer_start (op_of act address) ≡ address
   pub low : buffer_start (op_of act address) ≤ address
   pub even : address % 2 ≡ 0 → buffer_start (op_of act address) % 2 ≡ 0
 
@@ -45,10 +45,10 @@ buffer-at unit _ address short = record {
 
 -- what a request brings fits its buffer, and once it was put there the command asks the request's act
 pub record BytesFit (act : Act) (address : ℕ) : Type 0 where
-  pub fits : length (bytes_brought act) ≤ room_of (op_of act address)
-  pub asks : (memory : List ℕ) → buffer_start (op_of act address) + room_of
+  pub fits : length (write_payload act) ≤ buffer_length (op_of act address)
+  pub asks : (memory : List ℕ) → buffer_start (op_of act address) + buffer_length
       (op_of act address) ≤ length memory → act_of (op_of act address)
-      (put memory address (bytes_brought act)) ≡ Some act
+      (put memory address (write_payload act)) ≡ Some act
 
 pub bytes_fit : (act : Act) (address : ℕ) → BytesFit act address
 bytes_fit (Write first payload) address = record {
@@ -64,10 +64,10 @@ bytes_fit _ address = record { fits = omega arith; asks = λ _ _. refl }
 
 pub ready-put : (p : Posted) (memory : List ℕ) → too_long p.request ≡ false → p.address % 2 ≡ 0
     → p.address + transfer_limit ≤ length memory
-    → Ready p (put memory p.address (bytes_brought p.request.act))
+    → Ready p (put memory p.address (write_payload p.request.act))
 ready-put p memory short even room =
     let buffer = buffer-at p.request.unit p.request.act p.address short in
-    let size = length-put memory p.address (bytes_brought p.request.act) in
+    let size = length-put memory p.address (write_payload p.request.act) in
     record {
       short = short;
       even = buffer.even even;
@@ -77,9 +77,9 @@ ready-put p memory short even room =
 
 -- ---- passing
 
--- where a command may pass another, its request may pass the other's
-pub passes : (older p : Posted) → may_pass (posted_command older) (posted_command p) ≡ true
-    → disk.passes older.request p.request ≡ true
-passes older p may =
+-- if a command may overtake another, its request may overtake the other's
+pub may_overtake : (older p : Posted) → command_may_overtake (posted_command older) (posted_command p) ≡ true
+    → disk.may_overtake older.request p.request ≡ true
+may_overtake older p may =
     let one = names_same older.request.act older.address in let other = names_same p.request.act p.address in
     rw (one.speaks, other.speaks, one.moving, other.moving) at may

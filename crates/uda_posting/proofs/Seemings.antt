@@ -1,4 +1,4 @@
--- What is so of a run whatever the stores: its outlines are the plain run's.
+-- Facts of a run over any stores: its outlines are those of the in-order run.
 use Rattle.std.proofs.Common.{◌≡◌, ℕ, zero, suc, ◌+◌, ◌≤◌, Bool, true, false, List, [], ◌∷◌, length, set, Option, Some, None, refl, sym, ap, ap₂, ◌∙◌, arith, subst, length-take}
 use Rattle.std.specs.Prelude.{slice_get, slice_set, option_map, nat_lt, nat_eq, ◌&&◌, if◌then◌else◌}
 use Rattle.std.proofs.Math.Bool.{or-false}
@@ -15,21 +15,21 @@ use Rattle.uda_disk.specs.Status.{SUCCESS, DRIVE_ERROR}
 use Rattle.uda_disk.specs.Request.{Act, Online, Available, Status, Read, Access, Write, Erase, Request, is_moving, extent_of, blocks_named}
 use Rattle.uda_disk.specs.Answer.{Answer, TooLong, Moved, Data, blank_answer, status_of}
 use Rattle.uda_disk.specs.Form.{SameForm, IsAnswerOf}
-use Rattle.uda_disk.specs.Plain.{Bar, Barred, Free, bar, bar_at, bar_by, refusal_on, refusal_status, is_free, Outcome, Done, Lost, is_lost, FitsCount, answer_by, answer_on, transfer_status, transfer_bytes, disks_by, disk_after, mode_after, serve_by, serve_as}
-use Rattle.uda_disk.specs.PlainRun.{FixedRequest, requests_of, too_long, step_as, step, plain, plain_as}
-use Rattle.uda_disk.specs.Units.{Units, disks_of, is_faithful, failures_at, is_sure, Nature, nature_of, natures_of, modes_of}
+use Rattle.uda_disk.specs.RequestEffect.{CheckResult, Rejected, Accepted, check_result, check_at, check_by, refusal_on, refusal_status, is_accepted, TransferOutcome, Done, Lost, is_lost, IsWithinRange, answer_by, answer_on, transfer_status, transfer_bytes, disks_by, disk_after, mode_after, serve_by, serve_as}
+use Rattle.uda_disk.specs.InOrderRun.{FixedRequest, requests_of, too_long, step_as, step, run_in_order, run_in_order_as}
+use Rattle.uda_disk.specs.Units.{Units, disks_of, is_faithful, failures_at, is_infallible, FixedAttributes, attributes_of, unit_attributes, modes_of}
 use Rattle.uda_disk.proofs.Slots.{set-itself}
 use Rattle.uda_disk.proofs.Errors.{is_error}
 use Rattle.uda_disk.proofs.Outcomes.{error-lost}
-use Rattle.uda_exec.specs.Commands.{is_transfer, blocks_asked, bytes_asked, buffer_start, room_of, landing_of}
-use Rattle.uda_exec.specs.Effect.{World, acts, plain_body}
+use Rattle.uda_exec.specs.Commands.{is_transfer, blocks_asked, bytes_asked, buffer_start, buffer_length, memory_write_length}
+use Rattle.uda_exec.specs.Effect.{World, passes_checks, plain_body}
 use Rattle.uda_exec.specs.Execution.{world_of, bytes_of, Executes, TakesEffect, EndsTransfer}
 use Rattle.uda_exec.proofs.Changes.{length-changes}
 use Rattle.uda_mem.specs.Put.{part}
 use Rattle.uda_mem.proofs.PutLaws.{length-part-le}
 use Rattle.uda_posting.specs.Posting.{op_of, answer_of, Posted, posted_command, buffer_of, Ready}
-use Rattle.uda_posting.specs.Seeming.{bare, bares, is_done, bytes_told, bytes_named, TellsTransfer, GoesAs, is_begun, has_begun, outline, outlines}
-use Rattle.uda_posting.proofs.Serving.{acts-own, shown_by, serves}
+use Rattle.uda_posting.specs.UpToData.{bare, bares, is_done, bytes_reported, bytes_named, ReportsTransfer, AnswerMatches, is_begun, has_begun, outline, outlines}
+use Rattle.uda_posting.proofs.Serving.{passes_checks-own, shown_by, serves}
 use Rattle.uda_posting.proofs.Posts.{names_same}
 
 -- ---- one request, of which only outlines are seen
@@ -37,21 +37,21 @@ use Rattle.uda_posting.proofs.Posts.{names_same}
 abbrev pub look : Answer × Disks → Option Answer × Disks
 look x = (outline x.0, bares x.1)
 
-abbrev bare_bar : Bar → Bar
-bare_bar (Barred refusal) = Barred refusal
-bare_bar (Free d) = Free (bare d)
+abbrev bare_bar : CheckResult → CheckResult
+bare_bar (Rejected refusal) = Rejected refusal
+bare_bar (Accepted d) = Accepted (bare d)
 
-bar-bare : (act : Act) (slot : Option (Option Disk))
-    → bar_at act (option_map (option_map bare) slot) ≡ bare_bar (bar_at act slot)
-bar-bare act None = refl
-bar-bare act (Some None) = refl
-bar-bare act (Some (Some d)) = by (refusal_on (extent_of act) d.size d.mode)
+check_result-bare : (act : Act) (slot : Option (Option Disk))
+    → check_at act (option_map (option_map bare) slot) ≡ bare_bar (check_at act slot)
+check_result-bare act None = refl
+check_result-bare act (Some None) = refl
+check_result-bare act (Some (Some d)) = by (refusal_on (extent_of act) d.size d.mode)
   where
-    by : (found : Option Refusal) → bar_by found (bare d) ≡ bare_bar (bar_by found d)
+    by : (found : Option Refusal) → check_by found (bare d) ≡ bare_bar (check_by found d)
     by None = refl
     by (Some refusal) = refl
 
-outline-done : (o : Outcome) (act : Act) (d : Disk)
+outline-done : (o : TransferOutcome) (act : Act) (d : Disk)
     → outline (answer_on o act d) ≡ outline (answer_on Done act (bare d))
 outline-done o (Online protect) d = refl
 outline-done o Available d = refl
@@ -60,59 +60,59 @@ outline-done Done _ d = refl
 outline-done (Lost k left) _ d = refl
 
 -- what is seen of it follows from what is seen of the disks
-abbrev glance_by : Request → Bar → Disks → Option Answer × Disks
-glance_by r (Barred refusal) ds = (outline (blank_answer r.act (refusal_status refusal)), ds)
-glance_by r (Free d) ds = (
+abbrev glance_by : Request → CheckResult → Disks → Option Answer × Disks
+glance_by r (Rejected refusal) ds = (outline (blank_answer r.act (refusal_status refusal)), ds)
+glance_by r (Accepted d) ds = (
   outline (answer_on Done r.act d),
   slice_set ds r.unit (Some (bare (disk_after Done r.act d))),
 )
 
-look-by : (o : Outcome) (r : Request) (b : Bar) (disks : Disks)
+look-by : (o : TransferOutcome) (r : Request) (b : CheckResult) (disks : Disks)
     → look (serve_by o r b disks) ≡ glance_by r (bare_bar b) (bares disks)
-look-by o r (Barred refusal) disks = refl
-look-by o r (Free d) disks = ap₂ (λ a ds. (a, ds)) (outline-done o r.act d)
+look-by o r (Rejected refusal) disks = refl
+look-by o r (Accepted d) disks = ap₂ (λ a ds. (a, ds)) (outline-done o r.act d)
     (map-set (option_map bare) disks r.unit (Some (disk_after o r.act d)))
 
-look-step : (o : Outcome) (r : Request) (disks : Disks)
+look-step : (o : TransferOutcome) (r : Request) (disks : Disks)
     → look (step_as o r disks) ≡ (let ds = bares disks in
-    if too_long r then (Some TooLong, ds) else glance_by r (bar ds r) ds)
+    if too_long r then (Some TooLong, ds) else glance_by r (check_result ds r) ds)
 look-step o r disks = by (too_long r)
   where
     by : (b : Bool) → look (if b then (TooLong, disks) else serve_as o r disks) ≡
-        (if b then (Some TooLong, bares disks) else glance_by r (bar (bares disks) r) (bares disks))
+        (if b then (Some TooLong, bares disks) else glance_by r (check_result (bares disks) r) (bares disks))
     by true = refl
-    by false = look-by o r (bar disks r) disks
+    by false = look-by o r (check_result disks r) disks
         ∙ ap (λ b. glance_by r b (bares disks))
-        (sym (ap (bar_at r.act) (slice_get-map (option_map bare) disks r.unit)
-        ∙ bar-bare r.act (slice_get disks r.unit)))
+        (sym (ap (check_at r.act) (slice_get-map (option_map bare) disks r.unit)
+        ∙ check_result-bare r.act (slice_get disks r.unit)))
 
-pub step_looks : (o p : Outcome) (r : Request) (disks others : Disks) → bares disks ≡ bares others
+pub step_looks : (o p : TransferOutcome) (r : Request) (disks others : Disks) → bares disks ≡ bares others
     → look (step_as o r disks) ≡ look (step_as p r others)
 step_looks o p r disks others same =
     let glance : Disks → Option Answer × Disks =
-    λ ds. if too_long r then (Some TooLong, ds) else glance_by r (bar ds r) ds in
+    λ ds. if too_long r then (Some TooLong, ds) else glance_by r (check_result ds r) ds in
     look-step o r disks ∙ ap glance same ∙ sym (look-step p r others)
 
 -- ---- a run
 
 pub run_looks : (fixed : List FixedRequest) (disks others : Disks) → bares disks ≡ bares others
-    → outlines (plain_as disks fixed) ≡ outlines (plain others (requests_of fixed))
+    → outlines (run_in_order_as disks fixed) ≡ outlines (run_in_order others (requests_of fixed))
 run_looks [] disks others same = ap (λ ds. ([], ds)) same
 run_looks (x ∷ xs) disks others same =
     let looks = step_looks x.outcome Done x.request disks others same in
     ap₂ (λ (l : Option Answer × Disks) (later : List (Option Answer) × Disks). (l.0 ∷ later.0, later.1)) looks
     (run_looks xs (step_as x.outcome x.request disks).1 (step x.request others).1 (ap (λ l. l.1) looks))
 
--- an answer of the plain run has its request's form, and tells no drive error
+-- an answer of the in-order run has its request's form, and reports no drive error
 pub record IsPlain (r : Request) (answer : Answer) : Type 0 where
   pub formed : IsAnswerOf r answer
   pub clean : is_error answer ≡ false
 
-form-by : (act : Act) (b : Bar) → SameForm (blank_answer act 0) (answer_by Done act b)
-form-by (Online protect) (Barred refusal) = tt
-form-by _ (Barred refusal) = tt
-form-by (Online protect) (Free d) = tt
-form-by _ (Free d) = tt
+form-by : (act : Act) (b : CheckResult) → SameForm (blank_answer act 0) (answer_by Done act b)
+form-by (Online protect) (Rejected refusal) = tt
+form-by _ (Rejected refusal) = tt
+form-by (Online protect) (Accepted d) = tt
+form-by _ (Accepted d) = tt
 
 step_plain : (r : Request) (disks : Disks) → IsPlain r (step r disks).0
 step_plain r disks = by (too_long r) refl
@@ -124,19 +124,19 @@ step_plain r disks = by (too_long r) refl
     by false short =
         let is : step r disks ≡ serve_as Done r disks = rw short refl in
         record {
-          formed = record { long = λ long. absurd (cc); short = λ _. rw is (form-by r.act (bar disks r)) };
+          formed = record { long = λ long. absurd (cc); short = λ _. rw is (form-by r.act (check_result disks r)) };
           clean = error-lost Done r disks short tt (λ lost. absurd (cc));
         }
 
 pub plain_each : (requests : List Request) (disks : Disks) (k : ℕ) (r : Request) (a : Answer)
-    → slice_get requests k ≡ Some r → slice_get (plain disks requests).0 k ≡ Some a → IsPlain r a
+    → slice_get requests k ≡ Some r → slice_get (run_in_order disks requests).0 k ≡ Some a → IsPlain r a
 plain_each [] disks k r a asked at = absurd (cc)
 plain_each (q ∷ rest) disks zero r a asked at =
     let one : q ≡ r = cc in
     let other : (step q disks).0 ≡ a = cc in rw (← one, ← other) (step_plain q disks)
 plain_each (q ∷ rest) disks (suc k) r a asked at = plain_each rest (step q disks).1 k r a asked at
 
--- ---- what an outline tells
+-- ---- the facts in an outline
 
 pub done-begun : (a : Answer) → is_error a ≡ false → is_done a ≡ has_begun a
 done-begun (Moved status bytes) clean = rw clean (sym (or-false (nat_eq status SUCCESS)))
@@ -155,12 +155,12 @@ outline_same a b same = by (has_begun a) (has_begun b) refl refl same
     by _ _ x y e = absurd (cc)
 
 pub goes_as : (act : Act) (plain told : Answer) → outline told ≡ outline plain → is_error plain ≡ false
-    → (has_begun told ≡ true → TellsTransfer act told) → GoesAs act plain told
+    → (has_begun told ≡ true → ReportsTransfer act told) → AnswerMatches act plain told
 goes_as act plain told same clean tells =
     let two = outline_same told plain same in let is = two.0 ∙ sym (done-begun plain clean) in
     record { same = λ undone. two.1 (is ∙ undone); ends = λ done. tells (is ∙ done) }
 
--- what tells a drive error isn't done
+-- an answer that reports a drive error is not one of a transfer that succeeded
 succeeds : (told : Answer) → status_of told ≡ DRIVE_ERROR → is_done told ≡ true → ⊥
 succeeds (Moved status bytes) is done =
     let wrong : nat_eq DRIVE_ERROR SUCCESS ≡ true = rw is at done in
@@ -170,43 +170,43 @@ succeeds (Data status bytes) is done =
     absurd (cc)
 succeeds _ is done = absurd (cc)
 
--- a transfer that was done has all its bytes
-pub done_is_whole : (act : Act) (plain told : Answer) → GoesAs act plain told → is_done told ≡ true
-    → bytes_told told ≡ bytes_named act
+-- a transfer that succeeded has all its bytes
+pub done_is_whole : (act : Act) (plain told : Answer) → AnswerMatches act plain told → is_done told ≡ true
+    → bytes_reported told ≡ bytes_named act
 done_is_whole act plain told goes done = by (is_done plain) refl
   where
-    tells : (t : TellsTransfer act told) (o : Outcome) → t.outcome ≡ o → bytes_told told ≡ bytes_named act
-    tells t Done is = t.bytes ∙ ap (λ (o : Outcome). transfer_bytes o (bytes_named act)) is
+    tells : (t : ReportsTransfer act told) (o : TransferOutcome) → t.outcome ≡ o → bytes_reported told ≡ bytes_named act
+    tells t Done is = t.bytes ∙ ap (λ (o : TransferOutcome). transfer_bytes o (bytes_named act)) is
     tells t (Lost k left) is = absurd (succeeds told (t.status ∙ ap transfer_status is) done)
 
-    by : (b : Bool) → is_done plain ≡ b → bytes_told told ≡ bytes_named act
+    by : (b : Bool) → is_done plain ≡ b → bytes_reported told ≡ bytes_named act
     by true there = let t = goes.ends there in tells t t.outcome refl
     by false undone = let same : is_done told ≡ is_done plain = ap is_done (goes.same undone) in absurd (cc)
 
 -- ---- one command
 
--- units of the same natures and modes are the same but for their blocks
-pub looks_stay : (after units : Units) → natures_of after ≡ natures_of units → modes_of after ≡ modes_of units
+-- units with the same fixed attributes and modes are the same, except for their blocks
+pub looks_stay : (after units : Units) → unit_attributes after ≡ unit_attributes units → modes_of after ≡ modes_of units
     → bares (disks_of after) ≡ bares (disks_of units)
-looks_stay [] [] natures modes = refl
-looks_stay (None ∷ after) (None ∷ units) natures modes =
-    let rest_natures : natures_of after ≡ natures_of units = cc in
+looks_stay [] [] all_attributes modes = refl
+looks_stay (None ∷ after) (None ∷ units) all_attributes modes =
+    let rest_natures : unit_attributes after ≡ unit_attributes units = cc in
     let rest_modes : modes_of after ≡ modes_of units = cc in
     ap (λ (ds : Disks). None ∷ ds) (looks_stay after units rest_natures rest_modes)
-looks_stay (Some x ∷ after) (Some y ∷ units) natures modes =
-    let rest_natures : natures_of after ≡ natures_of units = cc in
+looks_stay (Some x ∷ after) (Some y ∷ units) all_attributes modes =
+    let rest_natures : unit_attributes after ≡ unit_attributes units = cc in
     let rest_modes : modes_of after ≡ modes_of units = cc in
-    let nature : nature_of x ≡ nature_of y = cc in let mode : x.mode ≡ y.mode = cc in
-    ap₂ (λ d ds. Some d ∷ ds) (ap₂ (λ (n : Nature) (m : Mode). record {
+    let attributes : attributes_of x ≡ attributes_of y = cc in let mode : x.mode ≡ y.mode = cc in
+    ap₂ (λ d ds. Some d ∷ ds) (ap₂ (λ (n : FixedAttributes) (m : Mode). record {
       blocks = [];
       size = n.size;
       mode = m;
-    }) nature mode) (looks_stay after units rest_natures rest_modes)
-looks_stay _ _ natures modes = absurd (cc)
+    }) attributes mode) (looks_stay after units rest_natures rest_modes)
+looks_stay _ _ all_attributes modes = absurd (cc)
 
--- a transfer leaves disks as they were but for blocks
+-- a transfer leaves disks unchanged, except for blocks
 disks-still : (r : Request) (disks : Disks) (slot : Option (Option Disk)) → slice_get disks r.unit ≡ slot
-    → is_moving r.act ≡ true → bares (disks_by Done r (bar_at r.act slot) disks) ≡ bares disks
+    → is_moving r.act ≡ true → bares (disks_by Done r (check_at r.act slot) disks) ≡ bares disks
 disks-still r disks None here moving = refl
 disks-still r disks (Some None) here moving = refl
 disks-still r disks (Some (Some d)) here moving = by (refusal_on (extent_of r.act) d.size d.mode)
@@ -216,7 +216,7 @@ disks-still r disks (Some (Some d)) here moving = by (refusal_on (extent_of r.ac
     mode Available moves = absurd (cc)
     mode _ moves = refl
 
-    by : (found : Option Refusal) → bares (disks_by Done r (bar_by found d) disks) ≡ bares disks
+    by : (found : Option Refusal) → bares (disks_by Done r (check_by found d) disks) ≡ bares disks
     by None =
         map-set (option_map bare) disks r.unit (Some (disk_after Done r.act d))
         ∙ ap (λ (m : Mode). set (bares disks) r.unit (Some (record { blocks = []; size = d.size; mode = m })))
@@ -225,23 +225,23 @@ disks-still r disks (Some (Some d)) here moving = by (refusal_on (extent_of r.ac
         (slice_get-map (option_map bare) disks r.unit ∙ ap (option_map (option_map bare)) here)
     by (Some refusal) = refl
 
--- a transfer was begun where it is free
+-- an accepted transfer began
 refused : (refusal : Refusal) → is_begun (refusal_status refusal) ≡ false
 refused UnitUnknown = refl
 refused _ = refl
 
-begun-by : (o : Outcome) (act : Act) (b : Bar) → has_begun (answer_by o act b) ≡ is_moving act && is_free b
-begun-by o (Online protect) (Barred refusal) = refl
-begun-by o Available (Barred refusal) = refl
-begun-by o Status (Barred refusal) = refl
-begun-by o _ (Barred refusal) = refused refusal
-begun-by o (Online protect) (Free d) = refl
-begun-by o Available (Free d) = refl
-begun-by o Status (Free d) = refl
-begun-by Done _ (Free d) = refl
-begun-by (Lost k left) _ (Free d) = refl
+begun-by : (o : TransferOutcome) (act : Act) (b : CheckResult) → has_begun (answer_by o act b) ≡ is_moving act && is_accepted b
+begun-by o (Online protect) (Rejected refusal) = refl
+begun-by o Available (Rejected refusal) = refl
+begun-by o Status (Rejected refusal) = refl
+begun-by o _ (Rejected refusal) = refused refusal
+begun-by o (Online protect) (Accepted d) = refl
+begun-by o Available (Accepted d) = refl
+begun-by o Status (Accepted d) = refl
+begun-by Done _ (Accepted d) = refl
+begun-by (Lost k left) _ (Accepted d) = refl
 
-begun-told : (o : Outcome) (act : Act) (e : End) (buffer : List ℕ) → e.status ≡ transfer_status o
+begun-told : (o : TransferOutcome) (act : Act) (e : End) (buffer : List ℕ) → e.status ≡ transfer_status o
     → has_begun (answer_of act e buffer) ≡ is_moving act
 begun-told o (Online protect) e buffer is = refl
 begun-told o Available e buffer is = refl
@@ -249,7 +249,7 @@ begun-told o Status e buffer is = refl
 begun-told Done _ e buffer is = rw is refl
 begun-told (Lost k left) _ e buffer is = rw is refl
 
--- an answer has its act's form, and its end's status
+-- an answer has its act's form, and the status of its end message
 pub has_form : (act : Act) (e : End) (buffer : List ℕ)
     → SameForm (blank_answer act 0) (answer_of act e buffer)
 has_form (Online protect) e buffer = tt
@@ -259,12 +259,12 @@ status-told : (act : Act) (e : End) (buffer : List ℕ) → status_of (answer_of
 status-told (Online protect) e buffer = refl
 status-told _ e buffer = refl
 
--- and as many bytes as the end of its transfer
-bytes-told : (act : Act) (a : ℕ) (e : End) (left : List ℕ) (o : Outcome) → is_transfer (op_of act a) ≡ true
+-- and as many bytes as the end message of its transfer
+bytes-told : (act : Act) (a : ℕ) (e : End) (left : List ℕ) (o : TransferOutcome) → is_transfer (op_of act a) ≡ true
     → bytes_of e.body ≡ bytes_of (plain_body (op_of act a) (transfer_bytes o (bytes_asked (op_of act a))))
     → bytes_of e.body ≤ bytes_asked (op_of act a)
-    → buffer_start (op_of act a) + room_of (op_of act a) ≤ length left
-    → bytes_told (answer_of act e (part left (buffer_start (op_of act a)) (room_of (op_of act a))))
+    → buffer_start (op_of act a) + buffer_length (op_of act a) ≤ length left
+    → bytes_reported (answer_of act e (part left (buffer_start (op_of act a)) (buffer_length (op_of act a))))
     ≡ transfer_bytes o (bytes_named act)
 bytes-told (Read lbn n) a e left o moving told within room =
     omega (arith, length-take (bytes_of e.body) (part left a n), length-part-le left a n room, told)
@@ -278,7 +278,7 @@ and_false : (b : Bool) → b && false ≡ true → ⊥
 and_false true h = cc
 and_false false h = cc
 
--- a command that calls a store is a transfer that acts
+-- a command that calls a store is an accepted transfer
 calls-moving : (act : Act) (a : ℕ) (acting : Bool) → nat_lt 0 (blocks_asked (op_of act a)) && acting ≡ true
     → is_transfer (op_of act a) && acting ≡ true
 calls-moving act a false h = absurd (and_false _ h)
@@ -288,20 +288,20 @@ calls-moving Status a true h = absurd (cc)
 calls-moving _ a true h = refl
 
 -- it is as the step of its request, with this outcome
-pub record IsServed (o : Outcome) (p : Posted) (units : Units) (told : Answer) (after : Units) : Type 0 where
+pub record IsServed (o : TransferOutcome) (p : Posted) (units : Units) (told : Answer) (after : Units) : Type 0 where
   pub is : (told, disks_of after) ≡ step_as o p.request (disks_of units)
   pub lost : is_error told ≡ is_lost o
   pub failures_are : failures_at (slice_get after p.request.unit) ≡ failures_at
       (slice_get units p.request.unit) + (if is_lost o then 1 else 0)
-  pub sure : is_sure (slice_get units p.request.unit) ≡ true → o ≡ Done
+  pub infallible : is_infallible (slice_get units p.request.unit) ≡ true → o ≡ Done
 
--- a command was done, and this told: but for what a store may leave, the step of its request, and over a
--- faithful store that step
+-- a command was executed, with this answer: it is the step of its request up to data, and over a faithful
+-- store exactly that step
 pub record Served (p : Posted) (units : Units) (told : Answer) (after : Units) : Type 0 where
-  pub outcome : Outcome
-  pub fits : FitsCount (blocks_named p.request.act) outcome
+  pub outcome : TransferOutcome
+  pub fits : IsWithinRange (blocks_named p.request.act) outcome
   pub looks : look (told, disks_of after) ≡ look (step_as Done p.request (disks_of units))
-  pub tells : has_begun told ≡ true → TellsTransfer p.request.act told
+  pub tells : has_begun told ≡ true → ReportsTransfer p.request.act told
   pub faithful : is_faithful (slice_get units p.request.unit) ≡ true → IsServed outcome p units told after
 
 module _ (p : Posted) (units : Units) (memory : List ℕ) (e : End) (after : Units) (left : List ℕ)
@@ -320,11 +320,11 @@ module _ (p : Posted) (units : Units) (memory : List ℕ) (e : End) (after : Uni
       → (told, disks_of after) ≡ step_as t.outcome p.request (disks_of units)
   step_is t = ap (shown_by p) t.effect_is ∙ serves t.outcome p own ready
 
-  taken : TakesEffect c units memory e after left → (has_begun told ≡ true → TellsTransfer p.request.act told)
+  taken : TakesEffect c units memory e after left → (has_begun told ≡ true → ReportsTransfer p.request.act told)
       → Served p units told after
   taken t begun =
       let r = p.request in let o = t.outcome in let is = step_is t in
-      let fits = subst (λ n. FitsCount n o) (names_same r.act p.address).count t.fits.count in
+      let fits = subst (λ n. IsWithinRange n o) (names_same r.act p.address).count t.fits.count in
       record {
         outcome = o;
         fits = fits;
@@ -334,19 +334,19 @@ module _ (p : Posted) (units : Units) (memory : List ℕ) (e : End) (after : Uni
           is = is;
           lost = ap (λ (y : Answer × Disks). is_error y.0) is
               ∙ error-lost o r (disks_of units) ready.short fits
-              (λ lost. sym (acts-own p own ready) ∙ t.fits.acting lost);
+              (λ lost. sym (passes_checks-own p own ready) ∙ t.fits.acting lost);
           failures_are = t.failures_are;
-          sure = t.sure;
+          infallible = t.infallible;
         };
       }
 
-  -- a transfer is done or lost, and its answer tells that
-  tells : is_transfer c.op ≡ true → EndsTransfer c e → TellsTransfer p.request.act told
+  -- a transfer succeeds or fails, and its answer reports that
+  tells : is_transfer c.op ≡ true → EndsTransfer c e → ReportsTransfer p.request.act told
   tells moving t =
-      let size = length-changes memory left (buffer_start c.op) (landing_of c.op) x.memory_stays in
+      let size = length-changes memory left (buffer_start c.op) (memory_write_length c.op) x.memory_stays in
       record {
         outcome = t.outcome;
-        fits = subst (λ n. FitsCount n t.outcome) (names_same p.request.act p.address).count t.count;
+        fits = subst (λ n. IsWithinRange n t.outcome) (names_same p.request.act p.address).count t.count;
         form = has_form p.request.act e (buffer_of p left);
         status = status-told p.request.act e (buffer_of p left) ∙ ap (λ (y : End). y.status) t.end_is;
         bytes = bytes-told p.request.act p.address e left t.outcome moving
@@ -355,10 +355,10 @@ module _ (p : Posted) (units : Units) (memory : List ℕ) (e : End) (after : Uni
       }
 
   -- whatever its store made of it
-  moved : is_transfer c.op ≡ true → acts c own ≡ true → is_faithful (slice_get units p.request.unit) ≡ false
+  moved : is_transfer c.op ≡ true → passes_checks c own ≡ true → is_faithful (slice_get units p.request.unit) ≡ false
       → Served p units told after
   moved moving acting none =
-      let r = p.request in let ds = disks_of units in let t = x.by_acting.ends moving acting in
+      let r = p.request in let ds = disks_of units in let t = x.by_checks.ends moving acting in
       let is_moved = sym (names_same r.act p.address).moving ∙ moving in
       let now : step_as Done r ds ≡ serve_as Done r ds = rw ready.short refl in
       record {
@@ -366,34 +366,34 @@ module _ (p : Posted) (units : Units) (memory : List ℕ) (e : End) (after : Uni
         fits = tt;
         looks = ap₂ (λ a d. (a, d)) (let one =
             begun-told t.outcome r.act e (buffer_of p left) (ap (λ (y : End). y.status) t.end_is)
-            ∙ is_moved in let other = begun-by Done r.act (bar ds r)
-            ∙ ap₂ (λ m f. m && f) is_moved (sym (acts-own p own ready) ∙ acting) in rw (one, other) refl)
-            (looks_stay after units x.natures_stay (x.modes_stay moving)
+            ∙ is_moved in let other = begun-by Done r.act (check_result ds r)
+            ∙ ap₂ (λ m f. m && f) is_moved (sym (passes_checks-own p own ready) ∙ acting) in rw (one, other) refl)
+            (looks_stay after units x.all_attributes_stay (x.modes_stay moving)
             ∙ sym (disks-still r ds (slice_get ds r.unit) refl is_moved)) ∙ ap look (sym now);
         tells = λ _. tells moving t;
         faithful = λ trusted. absurd (cc);
       }
 
   pub served : Served p units told after
-  served = by (is_transfer c.op && acts c own) (is_faithful (slice_get units p.request.unit)) refl refl
+  served = by (is_transfer c.op && passes_checks c own) (is_faithful (slice_get units p.request.unit)) refl refl
     where
-      still : is_transfer c.op && acts c own ≡ false → Served p units told after
+      still : is_transfer c.op && passes_checks c own ≡ false → Served p units told after
       still idle =
           let t = x.takes_effect (λ calls. absurd
-          (cc (calls-moving p.request.act p.address (acts c own) calls, idle))) in
+          (cc (calls-moving p.request.act p.address (passes_checks c own) calls, idle))) in
           let now : step_as t.outcome p.request (disks_of units) ≡ serve_as t.outcome p.request
           (disks_of units) = rw ready.short refl in
           let none : has_begun told ≡ false =
           ap (λ (y : Answer × Disks). has_begun y.0) (step_is t ∙ now)
-          ∙ begun-by t.outcome p.request.act (bar (disks_of units) p.request)
+          ∙ begun-by t.outcome p.request.act (check_result (disks_of units) p.request)
           ∙ ap₂ (λ m f. m && f) (sym (names_same p.request.act p.address).moving)
-          (sym (acts-own p own ready)) ∙ idle in
+          (sym (passes_checks-own p own ready)) ∙ idle in
           taken t (λ begun. absurd (cc))
 
-      by : (moving faithful : Bool) → is_transfer c.op && acts c own ≡ moving
+      by : (moving faithful : Bool) → is_transfer c.op && passes_checks c own ≡ moving
           → is_faithful (slice_get units p.request.unit) ≡ faithful → Served p units told after
       by false faithful idle is = still idle
       by true true goes is =
-          let two = and_parts (is_transfer c.op) (acts c own) goes in
-          taken (x.takes_effect (λ _. is)) (λ _. tells two.0 (x.by_acting.ends two.0 two.1))
-      by true false goes is = let two = and_parts (is_transfer c.op) (acts c own) goes in moved two.0 two.1 is
+          let two = and_parts (is_transfer c.op) (passes_checks c own) goes in
+          taken (x.takes_effect (λ _. is)) (λ _. tells two.0 (x.by_checks.ends two.0 two.1))
+      by true false goes is = let two = and_parts (is_transfer c.op) (passes_checks c own) goes in moved two.0 two.1 is

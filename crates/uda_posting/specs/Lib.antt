@@ -1,3 +1,3 @@
 pub mod Posting
-pub mod Seeming
-pub mod Keeping
+pub mod UpToData
+pub mod Outstanding

@@ -1,13 +1,13 @@
-//! The command that does a request, and the bytes that it brings.
+//! The command of a request, and the payload for its buffer.
 ghost use Rattle.std.specs.Prelude.{◌≡◌, false};
-ghost use Rattle.uda_disk.specs.PlainRun.{too_long};
+ghost use Rattle.uda_disk.specs.InOrderRun.{too_long};
 ghost use Rattle.uda_disk.specs.Values.{request_value};
-ghost use Rattle.uda_posting.specs.Posting.{command_of, bytes_brought};
+ghost use Rattle.uda_posting.specs.Posting.{command_of, write_payload};
 
 use uda_disk::Request;
 use uda_packet::{Command, Op};
 
-/// The command that does the request, with this reference and its buffer at this address.
+/// Returns the command of the request, with this reference and its buffer at this address.
 pub fn command_of(request: &Request, reference: u32, address: u32) -> Command
     requires short { too_long (request_value request.now) ≡ false }
     ensures command { result ≡ command_of (request_value request.now) reference address }
@@ -44,9 +44,9 @@ pub fn command_of(request: &Request, reference: u32, address: u32) -> Command
     }
 }
 
-/// The bytes that a request brings to its command's buffer: a Write's payload, and else none.
-pub fn bytes_brought(request: &Request) -> &[u8]
-    ensures bytes { result.now ≡ bytes_brought (request_value request.now).act }
+/// Returns the bytes that a request puts in its command's buffer: the payload of a Write, or none.
+pub fn write_payload(request: &Request) -> &[u8]
+    ensures bytes { result.now ≡ write_payload (request_value request.now).act }
 {
     match request {
         Request::Write { payload, .. } => payload,

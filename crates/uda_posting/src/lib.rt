@@ -1,8 +1,8 @@
-//! How requests are had done by commands.
+//! The translation of requests into commands, and of end messages into answers.
 //!
-//! A request is posted as a command, with a buffer in host memory for the bytes that it moves, and its answer
-//! is read from the command's end message and the buffer (`specs/Posting.antt`). `specs/Keeping.antt` has the
-//! invariant while commands are outstanding. It rests on the ledger of `uda_model`, so commands may end in
+//! A request is posted as a command, with a buffer in host memory for the bytes that it moves. Its answer
+//! is made from the command's end message and the buffer (`specs/Posting.antt`). `specs/Outstanding.antt` has
+//! the invariant while commands are outstanding. It uses the ledger of `uda_model`, so commands may end in
 //! any order.
 //!
 //! MSCP Basic Disk Functions Manual: commands and end messages.
@@ -10,4 +10,4 @@
 
 mod command;
 
-pub use command::{bytes_brought, command_of};
+pub use command::{command_of, write_payload};

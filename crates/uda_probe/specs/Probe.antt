@@ -5,8 +5,8 @@ use Rattle.uda_packet.specs.declared.end.EndBody.TheVariants.{Status}
 use Rattle.uda_disk.specs.Status.{AVAILABLE}
 use Rattle.uda_packet.specs.Written.{written_end}
 
--- the end of a Get Unit Status of unit 0 with reference 1, where that unit is available and no protection is
--- on
+-- the end message of a Get Unit Status of unit 0 with reference 1: the unit is available, and has no write
+-- protection
 abbrev pub probe_end : End
 probe_end = record { reference = 1; unit = 0; status = AVAILABLE; body = Status 0 }
 

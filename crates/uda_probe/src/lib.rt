@@ -1,4 +1,4 @@
-//! One Get Unit Status by a host.
+//! A probe: one Get Unit Status by a host.
 #![tactic(auto)]
 
 ghost use Rattle.std.specs.Prelude.{◌≡◌, IfOk};
@@ -11,8 +11,8 @@ use uda_image::{Drive, MemImage};
 use uda_mem::NoMemory;
 use uda_packet::{Command, Op, encode_end};
 
-/// Starts a host over a unit 0 of eight zero blocks, has one Get Unit Status of unit 0 with reference 1
-/// done, and answers the text of its end.
+/// Starts a host over a unit 0 of eight zero blocks, and executes one Get Unit Status of unit 0 with
+/// reference 1. Returns the text of its end message.
 ///
 /// MSCP Basic Disk Functions Manual: Get Unit Status.
 pub fn probe(alloc: Global) -> Result<[u8; 48], NoMemory>
@@ -25,7 +25,7 @@ pub fn probe(alloc: Global) -> Result<[u8; 48], NoMemory>
     let Ok(mut host) = Host::start(alloc, Exec::new([Some(drive), None, None, None])) else {
         return Err(NoMemory);
     };
-    let end = host.ask(&Command {
+    let end = host.execute(&Command {
         reference: 1,
         unit: 0,
         op: Op::Status,

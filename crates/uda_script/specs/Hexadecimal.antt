@@ -1,4 +1,4 @@
--- Bytes as the program prints them: 16 a line, each as two lower-case hexadecimal digits, parted by single
+-- The printed form of bytes: 16 a line, each as two lower-case hexadecimal digits, separated by single
 -- spaces.
 use Rattle.std.specs.Prelude.{ℕ, suc, ◌+◌, ◌/◌, ◌%◌, nat_lt, nat_eq, List, [], ◌∷◌, ◌++◌, if◌then◌else◌}
 
@@ -6,11 +6,11 @@ use Rattle.std.specs.Prelude.{ℕ, suc, ◌+◌, ◌/◌, ◌%◌, nat_lt, nat_e
 abbrev pub digit : ℕ → ℕ
 digit n = if nat_lt n 10 then 48 + n else 87 + n
 
--- the byte at a place: its two digits, and behind them the end of the line or a space
-abbrev pub byte_at : ℕ → ℕ → List ℕ
-byte_at place byte = digit (byte / 16) ∷ digit (byte % 16) ∷ (if nat_eq (place % 16) 15 then 10 else 32) ∷ []
+-- the byte at an index: its two digits, and a line feed or a space
+abbrev pub byte_text_at : ℕ → ℕ → List ℕ
+byte_text_at place byte = digit (byte / 16) ∷ digit (byte % 16) ∷ (if nat_eq (place % 16) 15 then 10 else 32) ∷ []
 
--- the bytes from a place on
+-- the bytes from an index
 abbrev pub bytes_from : ℕ → List ℕ → List ℕ
 bytes_from place [] = []
-bytes_from place (byte ∷ rest) = byte_at place byte ++ bytes_from (suc place) rest
+bytes_from place (byte ∷ rest) = byte_text_at place byte ++ bytes_from (suc place) rest

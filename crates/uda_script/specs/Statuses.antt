@@ -3,7 +3,7 @@ use Rattle.std.specs.Prelude.{ℕ}
 use Rattle.uda_script.specs.declared.fault.Fault.{Fault}
 use Rattle.uda_script.specs.declared.fault.Fault.TheVariants.{Usage}
 
--- words that are none of the program's end it with 2, and every other fault with 1
+-- invalid arguments end the program with 2, and every other fault with 1
 abbrev pub exit_status_of : Fault → ℕ
 exit_status_of Usage = 2
 exit_status_of _ = 1

@@ -16,12 +16,14 @@ use std::io;
 use std::io::{ErrorKind, Read, Write};
 use uda_probe::probe;
 
-/// Does what the words ask for, those that follow the program's name, with these three for the
-/// standard streams, and answers the exit status: 0, 1 after a fault, or 2 where the words are none
-/// of the program's. A fault's line goes to `report`.
+/// Executes the task of the arguments, which follow the program's name, with these three as the standard
+/// streams.
+///
+/// Returns the exit status: 0 for success, 1 after a fault, or 2 if the arguments are invalid. Writes a
+/// fault's line to `report`.
 ///
 /// `probe` writes the end message of one Get Unit Status to `out`, 16 bytes a line. `run` runs a script
-/// over images in files, with data from `input`, of which just what the script takes is read.
+/// over images in files, with data from `input`. It reads exactly the data that the script needs.
 pub fn program<R: Read + Drop, W: Write + Drop, V: Write + Drop>(
     rt: &HostRuntime,
     words: &[&str],
@@ -39,13 +41,13 @@ pub fn program<R: Read + Drop, W: Write + Drop, V: Write + Drop>(
     };
     match done {
         Ok(()) => 0,
-        Err(fault) => tell(&fault, &mut streams.report),
+        Err(fault) => report_fault(&fault, &mut streams.report),
     }
 }
 
-/// Ends a program whose words could not be read: out of memory where a growth was refused, and else
-/// the usage case, as for words that are none of the program's. Answers the exit status.
-pub fn unreadable_words<V: Write + Drop>(error: &io::Error, mut report: V) -> u8
+/// Ends a program that could not read its arguments, and returns the exit status. The fault is out of
+/// memory if memory allocation failed, and otherwise usage, as for invalid arguments.
+pub fn unreadable_arguments<V: Write + Drop>(error: &io::Error, mut report: V) -> u8
     ensures memory { error_kind error.now ≡ ErrorKind.OutOfMemory → result ≡ exit_status_of Fault.NoMemory }
     ensures usage { error_kind error.now ≢ ErrorKind.OutOfMemory → result ≡ exit_status_of Fault.Usage }
 {
@@ -53,12 +55,12 @@ pub fn unreadable_words<V: Write + Drop>(error: &io::Error, mut report: V) -> u8
         ErrorKind::OutOfMemory => Fault::NoMemory,
         _ => Fault::Usage,
     };
-    tell(&fault, &mut report)
+    report_fault(&fault, &mut report)
 }
 
-// Prints a fault's line, once, and answers its exit status, which stands also where the line can't
-// be written.
-fn tell<V: Write>(fault: &Fault, report: &mut V) -> u8
+// Prints a fault's line, once, and returns its exit status. The status is the same if the line can't be
+// written.
+fn report_fault<V: Write>(fault: &Fault, report: &mut V) -> u8
     ensures { result ≡ exit_status_of fault.now }
 {
     fault.print(report);

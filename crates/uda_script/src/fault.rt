@@ -1,4 +1,4 @@
-//! The faults of the program, whose texts are the lines that it prints.
+//! The faults of the program. Their texts are the lines that it prints.
 
 use std::alloc::AllocError;
 use std::io::Write;
@@ -7,25 +7,25 @@ use uda_grammar::ScriptError;
 use uda_image::ImageError;
 use uda_mem::NoMemory;
 
-/// Why the program ended without doing what it was asked.
+/// The reason why the program ended without completing its task.
 #[derive(Debug, Drop, Error)]
 pub enum Fault {
-    /// The words are none of the program's.
+    /// The arguments are invalid.
     #[error("uda: usage")]
     Usage,
-    /// A growth was refused.
+    /// Memory allocation failed.
     #[error("uda: out of memory")]
     NoMemory,
-    /// Nothing can be opened that would stand in a closed standard stream's place.
+    /// No file can be opened to replace a closed standard stream.
     #[error("uda: standard streams: cannot open")]
     Streams,
-    /// A unit's image can't be used: it can't be opened, its length is no multiple of 512, or it has
+    /// A unit's image can't be used: it can't be opened, its length is not a multiple of 512, or it has
     /// more than 891,072 blocks.
     #[error("uda: unit {unit}: {error}")]
     Image {
         /// The unit's number.
         unit: usize,
-        /// Why.
+        /// The reason.
         error: ImageError,
     },
     /// The script's file can't be read.
@@ -34,7 +34,7 @@ pub enum Fault {
     /// The script has more than 1,048,576 bytes.
     #[error("uda: script: too long")]
     ScriptTooLong,
-    /// A line of the script is none of its forms.
+    /// A line of the script has none of the forms.
     #[error("uda: line {line}: syntax")]
     Syntax {
         /// The line's number, from 1.
@@ -43,7 +43,7 @@ pub enum Fault {
     /// The script makes more than 4,096 requests.
     #[error("uda: more than 4096 requests")]
     TooManyLines,
-    /// The data ended inside what a line takes.
+    /// The data ended before a line had all its bytes.
     #[error("uda: line {line}: data ended")]
     ShortData {
         /// The line's number, from 1.
@@ -55,9 +55,9 @@ pub enum Fault {
     /// Standard output or standard error could not be written.
     #[error("uda: write failed")]
     Write,
-    /// What was written to a unit's image isn't on its medium.
+    /// Writes to a unit's image could not be synced to its medium.
     #[error("uda: unit {unit}: cannot be written out")]
-    NotWrittenOut {
+    SyncFailed {
         /// The unit's number.
         unit: usize,
     },
@@ -67,7 +67,7 @@ impl Fault {
     ghost use Rattle.std.specs.Prelude.{◌≡◌};
     ghost use Rattle.uda_script.specs.Statuses.{exit_status_of};
 
-    /// A unit's image that can't be used.
+    /// Returns the fault of a unit's image that can't be used.
     pub fn image(unit: usize, error: ImageError) -> Fault {
         match error {
             ImageError::NoMemory => Fault::NoMemory,
@@ -75,12 +75,12 @@ impl Fault {
         }
     }
 
-    /// Prints the fault's line, once; one that can't be written is left out.
+    /// Prints the fault's line, once. Ignores a write error.
     pub fn print<V: Write>(&self, report: &mut V) {
         let _ = writeln!(report, "{self}");
     }
 
-    /// The program's exit status.
+    /// Returns the program's exit status.
     pub fn status(&self) -> u8
         ensures status { result ≡ exit_status_of self.now }
     {

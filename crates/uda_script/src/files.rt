@@ -1,4 +1,4 @@
-//! The files that the program's words name.
+//! The files in the program's arguments.
 
 use crate::fault::Fault;
 use std::fs::{File, OpenFile};
@@ -8,13 +8,15 @@ use uda_image::{Drive, FileImage, ImageError};
 /// The most bytes of a script's file.
 pub const SCRIPT_SIZE: u64 = 1_048_576;
 
-/// Files that stand where a standard stream was closed, and are to be kept while others are open. Without
-/// them an image could be opened in a closed stream's place, and what is printed would be written to it.
+/// Opens files that replace closed standard streams. The caller keeps them open while it uses other files.
+/// Without them an image could be opened in place of a closed stream, and printed text would be written to
+/// it.
 pub fn fill_closed_streams(rt: &HostRuntime) -> Result<[File; 3], Fault> {
     Ok([nothing(rt)?, nothing(rt)?, nothing(rt)?])
 }
 
-// A file that gives no bytes and takes none: where there are no devices, the root folder.
+// Opens a file that has no bytes to read and accepts none: `/dev/null`, or the root folder if there are no
+// devices.
 fn nothing(rt: &HostRuntime) -> Result<File, Fault> {
     for path in ["/dev/null", "/"] {
         if let Ok(file) = File::open(rt, path) {
@@ -24,9 +26,13 @@ fn nothing(rt: &HostRuntime) -> Result<File, Fault> {
     Err(Fault::Streams)
 }
 
-/// The images of units 0 to 3, opened in this order: each of these words is `-` for no drive, `lock:FILE`
-/// for a file that is opened for reading alone and has hardware protection, or a file. A unit without a
-/// word has no drive.
+/// Opens the images of units 0 to 3, in this order. Each argument is one of these:
+///
+/// - `-` for no drive;
+/// - `lock:FILE` for a file that is opened for reading only, and has hardware protection;
+/// - `FILE` for a file.
+///
+/// A unit without an argument has no drive.
 pub fn open_units(
     rt: &HostRuntime,
     words: &[&str],
@@ -46,15 +52,15 @@ fn open_unit(
 ) -> Result<Option<Drive<FileImage>>, Fault> {
     match words.get(unit) {
         None | Some(&"-") => Ok(None),
-        Some(word) => match open(rt, word) {
+        Some(word) => match open_image(rt, word) {
             Ok(drive) => Ok(Some(drive)),
             Err(error) => Err(Fault::image(unit, error)),
         },
     }
 }
 
-// The image that a word names.
-fn open(rt: &HostRuntime, word: &str) -> Result<Drive<FileImage>, ImageError> {
+// Opens the image of an argument.
+fn open_image(rt: &HostRuntime, word: &str) -> Result<Drive<FileImage>, ImageError> {
     let (path, hard) = match word.strip_prefix("lock:") {
         Some(path) => (path, true),
         None => (word, false),
@@ -63,8 +69,8 @@ fn open(rt: &HostRuntime, word: &str) -> Result<Drive<FileImage>, ImageError> {
     Ok(Drive { store, hard })
 }
 
-/// The bytes of the script's file. Memory is taken apart from the file's reads: a kernel's want of it at a
-/// read is an error of the file's.
+/// Returns the bytes of the script's file. Memory is allocated separately from the reads of the file. If
+/// the kernel has no memory for a read, that is a read error of the file.
 pub fn read_script(rt: &HostRuntime, path: &str) -> Result<Vec<u8>, Fault> {
     let Ok(file) = File::open(rt, path) else {
         return Err(Fault::ScriptUnreadable);
@@ -83,7 +89,7 @@ pub fn read_script(rt: &HostRuntime, path: &str) -> Result<Vec<u8>, Fault> {
     Err(Fault::ScriptUnreadable)
 }
 
-// A script's text, unless it is too long.
+// Returns a script's text, or an error if it is too long.
 fn whole_script(text: Vec<u8>) -> Result<Vec<u8>, Fault> {
     if text.len() as u64 > SCRIPT_SIZE {
         return Err(Fault::ScriptTooLong);

@@ -1,13 +1,13 @@
-//! Bytes as text.
+//! Bytes as hexadecimal text.
 
 ghost use Rattle.std.specs.Prelude.{◌≡◌, ◌++◌, ◌<◌, ◌≤◌, OnOk, IfOk};
 ghost use Rattle.std.specs.String.{string_bytes};
-ghost use Rattle.uda_script.specs.Hexadecimal.{digit, byte_at, bytes_from};
+ghost use Rattle.uda_script.specs.Hexadecimal.{digit, byte_text_at, bytes_from};
 
 use std::alloc::{AllocError, Global};
 
-/// Bytes as lines of 16, each byte two lower-case hexadecimal digits, parted by
-/// single spaces.
+/// Returns bytes as lines of 16. Each byte is two lower-case hexadecimal digits, followed by a line feed
+/// after each 16th byte and by a space after any other.
 pub fn hexadecimal(alloc: Global, bytes: &[u8]) -> Result<String, AllocError>
     ensures { IfOk result (λ lines. string_bytes lines ≡ bytes_from 0 bytes.now) }
 {
@@ -18,9 +18,9 @@ pub fn hexadecimal(alloc: Global, bytes: &[u8]) -> Result<String, AllocError>
     Ok(lines)
 }
 
-// The byte at a place, and what parts it from the next.
+// Appends the byte at an index, with the space or line feed after it.
 fn push_byte(lines: &mut String, place: usize, byte: u8) -> Result<(), AllocError>
-    ensures { OnOk result (string_bytes lines.new ≡ string_bytes lines.old ++ byte_at place byte) }
+    ensures { OnOk result (string_bytes lines.new ≡ string_bytes lines.old ++ byte_text_at place byte) }
 {
     lines.push(digit(byte / 16))?;
     lines.push(digit(byte % 16))?;

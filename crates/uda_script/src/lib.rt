@@ -1,6 +1,6 @@
 //! The program `uda`: scripts of block requests over disk images, and a probe of the controller.
 //!
-//! Its tests are in the crate `script_tests`.
+//! The tests of this crate are in `script_tests`.
 #![tactic(auto)]
 
 mod entry;
@@ -10,7 +10,7 @@ mod hexadecimal;
 mod run;
 mod words;
 
-pub use entry::{program, unreadable_words};
+pub use entry::{program, unreadable_arguments};
 pub use fault::Fault;
 pub use uda_grammar::{Script, ScriptError, parse};
 pub use uda_script_run::run_script;

@@ -1,4 +1,4 @@
-//! A script run over images in files.
+//! The run of a script over images in files.
 
 use crate::fault::Fault;
 use crate::files::{fill_closed_streams, open_units, read_script};
@@ -9,26 +9,25 @@ use uda_grammar::{Script, parse};
 use uda_image::{Drive, FileImage};
 use uda_script_run::run_script;
 
-/// How many bytes are gathered before they are written. What is as long or longer goes past the gatherer, in
-/// a write of its own.
+/// The capacity of a write buffer in bytes. A text of that length or more is written directly, without the
+/// buffer.
 const GATHERED: usize = 4_096;
 
-/// Where a run's data come from, and where its texts go.
+/// The streams of a run: the source of its data, and the destinations of its texts.
 #[derive(Drop)]
 pub(crate) struct StandardStreams<R, W, V> {
     /// The data of the script's writes.
     pub(crate) input: R,
-    /// Gets what is read of the images.
+    /// The destination of the bytes that are read from the images.
     pub(crate) out: W,
-    /// Gets a line a request.
+    /// The destination of the report, which has a line for each request.
     pub(crate) report: V,
 }
 
 /// Opens the images, reads the script and runs it over the streams.
 ///
-/// `out` is written and flushed before the first byte of `report`. Where a write fails, what was gathered
-/// and not written is dropped. Each image that was written is synced last, and a line of `report` tells of
-/// one that can't be.
+/// It writes and flushes `out` before the first byte of `report`. If a write fails, buffered bytes are
+/// dropped. At the end it syncs each image that was written. If that fails, a line of `report` says so.
 pub(crate) fn run<R: Read, W: Write + Drop, V: Write + Drop>(
     rt: &HostRuntime,
     script: &str,
@@ -43,7 +42,7 @@ pub(crate) fn run<R: Read, W: Write + Drop, V: Write + Drop>(
     done
 }
 
-// The script of a file.
+// Reads and parses the script of a file.
 fn script_in(rt: &HostRuntime, path: &str) -> Result<Script, Fault> {
     let text = read_script(rt, path)?;
     Ok(parse(rt.alloc(), &text)?)
@@ -65,8 +64,8 @@ fn run_over<R: Read, W: Write + Drop, V: Write + Drop>(
     }
 }
 
-// Syncs each image that was written. Of the faults, the run's and then those of the units, the last is
-// answered, and those before it have their lines.
+// Syncs each image that was written. It returns the last of the faults: the run's, and then those of the
+// units. It prints the lines of the others.
 fn sync<V: Write>(
     mut drives: [Option<Drive<FileImage>>; 4],
     mut done: Result<(), Fault>,
@@ -80,13 +79,13 @@ fn sync<V: Write>(
             if let Err(earlier) = &done {
                 earlier.print(report);
             }
-            done = Err(Fault::NotWrittenOut { unit });
+            done = Err(Fault::SyncFailed { unit });
         }
     }
     done
 }
 
-// Runs a script, its texts gathered before they are written.
+// Runs a script with buffered output.
 fn gather<R: Read, W: Write + Drop, V: Write + Drop>(
     alloc: Global,
     script: &Script,

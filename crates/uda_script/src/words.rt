@@ -1,31 +1,32 @@
-//! The words of the program.
+//! The arguments of the program.
 
 use crate::fault::Fault;
 use clap::error::ErrorKind;
 use clap::{Arg, ArgAction, Command, Error};
 use std::alloc::Global;
 
-/// What the words ask for.
+/// The task of the arguments.
 #[derive(Debug, Drop, PartialEq, Eq)]
 pub enum Task<'w> {
-    /// One Get Unit Status from ring to ring.
+    /// One Get Unit Status through the rings.
     Probe,
     /// A script over images.
     Run {
         /// The script's file.
         script: &'w str,
-        /// The words of units 0 to 3, or of the first of them.
+        /// The arguments of units 0 to 3, or of the first of them.
         units: Vec<&'w str>,
     },
 }
 
-/// Reads the words that follow the program's name.
+/// Reads the arguments that follow the program's name.
 ///
 /// # Errors
 ///
-/// `Usage` for all but the word `probe` alone, and `run` with a script's file and at most four images; a
-/// word with more than one letter that begins with `-` is refused before any grammar of options is asked.
-/// `NoMemory` where the grammar finds no memory.
+/// - `Usage` for anything except `probe` without more, or `run` with a script's file and at most four
+///   images. An argument that begins with `-`, except `-` itself, is rejected before the grammar of options
+///   reads it.
+/// - `NoMemory` if memory allocation fails.
 pub fn read_words<'w>(alloc: Global, words: &'w [&'w str]) -> Result<Task<'w>, Fault> {
     if words
         .iter()
@@ -40,7 +41,7 @@ pub fn read_words<'w>(alloc: Global, words: &'w [&'w str]) -> Result<Task<'w>, F
     }
 }
 
-// The command line's grammar: `probe`, or `run SCRIPT [UNIT0 [UNIT1 [UNIT2 [UNIT3]]]]`.
+// Returns the command line's grammar: `probe`, or `run SCRIPT [UNIT0 [UNIT1 [UNIT2 [UNIT3]]]]`.
 fn grammar<'w>(alloc: Global) -> Result<Command<'w>, Error> {
     let script = Arg::new(alloc, "script")
         .required(true)
@@ -59,7 +60,7 @@ fn grammar<'w>(alloc: Global) -> Result<Command<'w>, Error> {
     )
 }
 
-// What the words ask for by the grammar.
+// Returns the task of the arguments by the grammar.
 fn asked<'w>(alloc: Global, words: &'w [&'w str]) -> Result<Option<Task<'w>>, Error> {
     let matches = grammar(alloc)?.try_get_matches_from(words)?;
     Ok(match matches.subcommand() {

@@ -10,7 +10,7 @@ use Rattle.uda_disk.specs.Request.{Request}
 use Rattle.uda_disk.specs.Answer.{Answer}
 use Rattle.uda_disk.specs.Form.{IsAnswerOf}
 use Rattle.uda_disk.specs.Runs.{runs}
-use Rattle.uda_disk.specs.PlainRun.{FixedRequest, FitsRequest, step, plain, step_of, PlainWithLosses, drive_errors, is_short, posted_count}
+use Rattle.uda_disk.specs.InOrderRun.{FixedRequest, FitsRequest, step, run_in_order, step_of, InOrderWithFailures, drive_errors, is_short, posted_count}
 
 pub runs-append : {X E W : Type 0} (step : X → W → E × W) (xs ys : List X) (w : W)
     → runs step (xs ++ ys) w ≡ (
@@ -22,7 +22,7 @@ runs-append {E = E} {W} step (first ∷ rest) ys w =
     let after : List E × W → List E × W = λ r. ((step first w).0 ∷ r.0, r.1) in
     ap after (runs-append step rest ys (step first w).1)
 
--- what the first run told and left, and then the second
+-- the answers and the state after the first run, and then after the second
 pub runs-both : {X E W : Type 0} (step : X → W → E × W) (xs ys : List X) (w v u : W) (es fs : List E)
     → runs step xs w ≡ (es, v) → runs step ys v ≡ (fs, u) → runs step (xs ++ ys) w ≡ (es ++ fs, u)
 runs-both {E = E} {W} step xs ys w v u es fs one two =
@@ -31,15 +31,15 @@ runs-both {E = E} {W} step xs ys w v u es fs one two =
     runs-append step xs ys w ∙ ap after one ∙ ap joined two
 
 pub plain-both : (a b : List Request) (told later : List Answer) (disks between left : Disks)
-    → (told, between) ≡ plain disks a → (later, left) ≡ plain between b
-    → (told ++ later, left) ≡ plain disks (a ++ b)
+    → (told, between) ≡ run_in_order disks a → (later, left) ≡ run_in_order between b
+    → (told ++ later, left) ≡ run_in_order disks (a ++ b)
 plain-both a b told later disks between left one two = sym
     (runs-both step a b disks between left told later (sym one) (sym two))
 
-pub losses-both : (a b : List Request) (told later : List Answer) (disks between left : Disks)
-    → PlainWithLosses disks a told between → PlainWithLosses between b later left
-    → PlainWithLosses disks (a ++ b) (told ++ later) left
-losses-both a b told later disks between left one two = record {
+pub failures-both : (a b : List Request) (told later : List Answer) (disks between left : Disks)
+    → InOrderWithFailures disks a told between → InOrderWithFailures between b later left
+    → InOrderWithFailures disks (a ++ b) (told ++ later) left
+failures-both a b told later disks between left one two = record {
   fixed = one.fixed ++ two.fixed;
   are_requests = map-append (λ (x : FixedRequest). x.request) one.fixed two.fixed
       ∙ ap₂ (λ (xs : List Request) (ys : List Request). xs ++ ys) one.are_requests two.are_requests;

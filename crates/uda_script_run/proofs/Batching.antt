@@ -10,13 +10,13 @@ use Rattle.std.specs.Io.KnownBytes.{Appends, Consumes}
 use Rattle.std.proofs.KnownBytes.{Appends-nil, Appends-trans, Consumes-nil, Consumes-trans}
 use Rattle.uda_disk.specs.Request.{Request}
 use Rattle.uda_disk.specs.Answer.{Answer}
-use Rattle.uda_disk.specs.PlainRun.{FitsRequest}
-use Rattle.uda_disk.specs.Units.{AllFaithful, natures_of, disks_of}
+use Rattle.uda_disk.specs.InOrderRun.{FitsRequest}
+use Rattle.uda_disk.specs.Units.{AllFaithful, unit_attributes, disks_of}
 use Rattle.uda_exec.proofs.Units.{faithful_stays, sure_stays}
 use Rattle.uda_disk.specs.Values.{request_value, request_values, answer_value, answer_values}
 use Rattle.uda_disk.specs.declared.answer.Answer.{Answer as Told}
 use Rattle.uda_disk.specs.declared.request.Request.{Request as Made}
-use Rattle.uda_driver.specs.Run.{DriverState, units_of, IsPlainRun, NoneFailed, TellsLosses, tells_drive_error, is_drive_error}
+use Rattle.uda_driver.specs.Run.{DriverState, units_of, IsInOrderRun, NoStoreFailed, ReportsEveryFailure, any_drive_error, is_drive_error}
 use Rattle.uda_grammar.specs.declared.error.ScriptError.{ScriptError}
 use Rattle.uda_grammar.specs.declared.error.ScriptError.TheVariants.{NoMemory, Syntax, TooManyLines, ShortData, Read, Write}
 use Rattle.uda_grammar.specs.declared.script.Line.{Line}
@@ -25,10 +25,10 @@ use Rattle.uda_script_run.specs.Reading.{ReadsRequests, AreUnread}
 use Rattle.uda_script_run.specs.declared.style.ReportPart.{ReportPart}
 use Rattle.uda_script_run.specs.declared.style.ReportStyle.{ReportStyle}
 use Rattle.uda_script_run.specs.Texts.{answer_bytes, out_text, styled_line, report_lines, part_text, part_after}
-use Rattle.uda_script_run.specs.Script.{Serves, writers, TextsBegin}
+use Rattle.uda_script_run.specs.Script.{DriverRunHolds, writers, TextsBegin}
 use Rattle.uda_script_run.specs.Batches.{Served, Setting, setting, RanLines, Ran, StopsBefore, StopsWithin, StopsInError}
-use Rattle.uda_script_run.proofs.Appends.{plain-both, losses-both, errors-both, posted-both, formed-both}
-use Rattle.uda_script_run.proofs.Alikes.{seems-both}
+use Rattle.uda_script_run.proofs.Appends.{plain-both, failures-both, errors-both, posted-both, formed-both}
+use Rattle.uda_script_run.proofs.Alikes.{in_order_run_up_to_data-both}
 use Rattle.uda_script_run.proofs.Endings.{length-requests, requests_counted}
 use Rattle.uda_script_run.proofs.Readings.{short_later}
 
@@ -98,100 +98,100 @@ short_stays (line ∷ rest) b held number is = by (nat_lt held (bytes_taken line
 
 pub served_none : (driver : DriverState) → Served [] [] driver driver
 served_none driver = record {
-  shape = record { counted = refl; formed = λ k r answer at told. absurd (cc) };
-  headline = λ faithful none. refl;
-  headline_untold = λ faithful untold. refl;
-  losses = λ faithful. record {
+  answer_forms = record { counted = refl; formed = λ k r answer at told. absurd (cc) };
+  in_order_run = λ faithful none. refl;
+  in_order_run_if_no_error = λ faithful untold. refl;
+  in_order_run_with_failures = λ faithful. record {
     run = record { fixed = []; are_requests = refl; fit = All-nil FitsRequest; gives = refl };
     told = λ u. omega arith;
-    sure = λ u sure. refl;
+    infallible = λ u infallible. refl;
   };
-  seems = record { left = refl; answered = λ k r done now at_r at_done at_now. absurd (cc) };
+  in_order_run_up_to_data = record { left = refl; answered = λ k r done now at_r at_done at_now. absurd (cc) };
   turns = omega arith;
   fetches = omega arith;
   deliveries = omega arith;
-  natures = refl;
+  all_attributes = refl;
   rest = λ rest. rest;
 }
 
 pub served_once : (asked : List Request) (told : List Answer) (driver after : DriverState)
-    → natures_of (units_of after) ≡ natures_of (units_of driver) → Serves asked told driver after
+    → unit_attributes (units_of after) ≡ unit_attributes (units_of driver) → DriverRunHolds asked told driver after
     → Served asked told driver after
-served_once asked told driver after natures served = record {
-  shape = served.shape;
-  headline = served.headline;
-  headline_untold = served.headline_untold;
-  losses = served.losses;
-  seems = served.seems;
-  turns = served.counts.turns;
-  fetches = served.counts.fetches;
-  deliveries = served.counts.deliveries;
-  natures = natures;
+served_once asked told driver after all_attributes served = record {
+  answer_forms = served.answer_forms;
+  in_order_run = served.in_order_run;
+  in_order_run_if_no_error = served.in_order_run_if_no_error;
+  in_order_run_with_failures = served.in_order_run_with_failures;
+  in_order_run_up_to_data = served.in_order_run_up_to_data;
+  turns = served.turn_counts.turns;
+  fetches = served.turn_counts.fetches;
+  deliveries = served.turn_counts.deliveries;
+  all_attributes = all_attributes;
   rest = λ _. served.rest;
 }
 
 module _ (a b : List Request) (told later : List Answer) (driver between after : DriverState)
     (one : Served a told driver between) (two : Served b later between after) where
   still_faithful : AllFaithful (units_of driver) → AllFaithful (units_of between)
-  still_faithful faithful = λ u. faithful_stays (units_of driver) (units_of between) one.natures u
+  still_faithful faithful = λ u. faithful_stays (units_of driver) (units_of between) one.all_attributes u
       ∙ faithful u
 
-  losses_more : AllFaithful (units_of driver) → TellsLosses (units_of driver) (a ++ b) (told ++ later)
+  losses_more : AllFaithful (units_of driver) → ReportsEveryFailure (units_of driver) (a ++ b) (told ++ later)
       (units_of after)
   losses_more faithful =
-      let first = one.losses faithful in let second = two.losses (still_faithful faithful) in
+      let first = one.in_order_run_with_failures faithful in let second = two.in_order_run_with_failures (still_faithful faithful) in
       record {
-        run = losses-both a b told later _ _ _ first.run second.run;
+        run = failures-both a b told later _ _ _ first.run second.run;
         told = λ u. omega (
           arith,
           first.told u,
           second.told u,
           errors-both u a b told later
-              one.shape.counted,
+              one.answer_forms.counted,
         );
-        sure = λ u sure. second.sure u (sure_stays (units_of driver) (units_of between) one.natures u ∙ sure)
-            ∙ first.sure u sure;
+        infallible = λ u infallible. second.infallible u (sure_stays (units_of driver) (units_of between) one.all_attributes u ∙ infallible)
+            ∙ first.infallible u infallible;
       }
 
-  headline_more : AllFaithful (units_of driver) → NoneFailed (units_of driver) (units_of after)
-      → IsPlainRun (units_of driver) (a ++ b) (told ++ later) (units_of after)
+  headline_more : AllFaithful (units_of driver) → NoStoreFailed (units_of driver) (units_of after)
+      → IsInOrderRun (units_of driver) (a ++ b) (told ++ later) (units_of after)
   headline_more faithful none =
-      let first = one.losses faithful in let second = two.losses (still_faithful faithful) in
+      let first = one.in_order_run_with_failures faithful in let second = two.in_order_run_with_failures (still_faithful faithful) in
       plain-both a b told later (disks_of (units_of driver)) (disks_of (units_of between))
       (disks_of (units_of after))
-      (one.headline faithful (λ u. omega (arith, none u, first.told u, second.told u)))
-      (two.headline (still_faithful faithful) (λ u. omega (arith, none u, first.told u, second.told u)))
+      (one.in_order_run faithful (λ u. omega (arith, none u, first.told u, second.told u)))
+      (two.in_order_run (still_faithful faithful) (λ u. omega (arith, none u, first.told u, second.told u)))
 
-  untold_more : AllFaithful (units_of driver) → tells_drive_error (told ++ later) ≡ false
-      → IsPlainRun (units_of driver) (a ++ b) (told ++ later) (units_of after)
+  untold_more : AllFaithful (units_of driver) → any_drive_error (told ++ later) ≡ false
+      → IsInOrderRun (units_of driver) (a ++ b) (told ++ later) (units_of after)
   untold_more faithful untold =
-      let parts = or_parts (tells_drive_error told) (tells_drive_error later)
+      let parts = or_parts (any_drive_error told) (any_drive_error later)
       (sym (list_any-append is_drive_error told later) ∙ untold) in
       plain-both a b told later (disks_of (units_of driver)) (disks_of (units_of between))
       (disks_of (units_of after))
-      (one.headline_untold faithful parts.0) (two.headline_untold (still_faithful faithful) parts.1)
+      (one.in_order_run_if_no_error faithful parts.0) (two.in_order_run_if_no_error (still_faithful faithful) parts.1)
 
   pub served_more : Served (a ++ b) (told ++ later) driver after
   served_more = record {
-    shape = record {
+    answer_forms = record {
       counted = length-append told later ∙ omega (
         arith,
-        one.shape.counted,
-        two.shape.counted,
+        one.answer_forms.counted,
+        two.answer_forms.counted,
         length-append
             a b,
       );
-      formed = formed-both a b told later one.shape.counted one.shape.formed two.shape.formed;
+      formed = formed-both a b told later one.answer_forms.counted one.answer_forms.formed two.answer_forms.formed;
     };
-    headline = headline_more;
-    headline_untold = untold_more;
-    losses = losses_more;
-    seems = seems-both (units_of driver) (units_of between)
-        (units_of after) a b told later one.shape.counted one.seems two.seems;
+    in_order_run = headline_more;
+    in_order_run_if_no_error = untold_more;
+    in_order_run_with_failures = losses_more;
+    in_order_run_up_to_data = in_order_run_up_to_data-both (units_of driver) (units_of between)
+        (units_of after) a b told later one.answer_forms.counted one.in_order_run_up_to_data two.in_order_run_up_to_data;
     turns = omega (arith, one.turns, two.turns, posted-both a b);
     fetches = omega (arith, one.fetches, two.fetches, posted-both a b);
     deliveries = omega (arith, one.deliveries, two.deliveries, posted-both a b);
-    natures = two.natures ∙ one.natures;
+    all_attributes = two.all_attributes ∙ one.all_attributes;
     rest = λ rest. two.rest (one.rest rest);
   }
 
@@ -227,7 +227,7 @@ ran_more a b told later s t u one two = record {
 pub told_counted : (lines : List Line) (told : List Answer) (s t : Setting) → RanLines lines told s t
     → length told ≡ length lines
 told_counted lines told s t ran =
-    (ran.served []).shape.counted ∙ length-requests lines (ran.bytes ++ [])
+    (ran.served []).answer_forms.counted ∙ length-requests lines (ran.bytes ++ [])
 
 pub from_none : (part : ReportPart) (s : Setting) → Ran part [] [] s s
 from_none part s = record {
@@ -329,7 +329,7 @@ module _ (part : ReportPart) (a b more : List Line) (told : List Answer) (s t u 
   stops_later (Syntax number) h = absurd h
   stops_later TooManyLines h = absurd h
 
-  -- nothing more was done of the lines that follow
+  -- none of the lines that follow was executed
   pub stops_there : StopsBefore part (a ++ b) s t
   stops_there = record {
     done = a;
@@ -343,19 +343,19 @@ module _ (part : ReportPart) (a b more : List Line) (told : List Answer) (s t u 
 -- ---- one batch
 
 pub ran_once : (lines : List Line) (asked : List Request) (told : List Answer) (s t : Setting)
-    → natures_of (units_of t.driver) ≡ natures_of (units_of s.driver)
-    → ReadsRequests lines s.streams.input t.streams.input asked → Serves asked told s.driver t.driver
+    → unit_attributes (units_of t.driver) ≡ unit_attributes (units_of s.driver)
+    → ReadsRequests lines s.streams.input t.streams.input asked → DriverRunHolds asked told s.driver t.driver
     → RanLines lines told s t
-ran_once lines asked told s t natures read served = record {
+ran_once lines asked told s t all_attributes read served = record {
   bytes = read.bytes;
   counted = read.counted;
   consumed = read.consumed;
   served = λ later.
       subst (λ (rs : List Request). Served rs told s.driver t.driver) (sym (read.is_made later))
-      (served_once asked told s.driver t.driver natures served);
+      (served_once asked told s.driver t.driver all_attributes served);
 }
 
--- nothing was done except that data may have been read
+-- nothing was executed, but data may have been read
 pub none_done : (part : ReportPart) (lines : List Line) (s : Setting) (now : Option (List ℕ))
     → StopsBefore part lines s (setting now s.streams.out s.streams.report s.driver)
 none_done part lines s now = record {
@@ -421,20 +421,20 @@ stops_written part lines told s t x is ran begun =
 pub answers_counted : (lines : List Line) (left after : Option (List ℕ)) (made lent : List Made)
     (told shown : List Told) (d e : DriverState)
     → ReadsRequests lines left after (request_values made) → lent ≡ made → shown ≡ told
-    → Serves (request_values lent) (answer_values told) d e → length shown ≡ length lines
+    → DriverRunHolds (request_values lent) (answer_values told) d e → length shown ≡ length lines
 answers_counted lines left after made lent told shown d e read same seen served =
     let counted = requests_counted lines left after made read in
     let lent_are = ap length same in
     let shown_are = ap length seen in
     let told_are = length-map told answer_value in
     let asked_are = length-map lent request_value in
-    omega (arith, counted, lent_are, shown_are, told_are, asked_are, served.shape.counted)
+    omega (arith, counted, lent_are, shown_are, told_are, asked_are, served.answer_forms.counted)
 
 -- and numbers for them
 pub answers_few : (first : ℕ) (lines : List Line) (left after : Option (List ℕ)) (made lent : List Made)
     (told shown : List Told) (d e : DriverState)
     → ReadsRequests lines left after (request_values made) → lent ≡ made → shown ≡ told
-    → Serves (request_values lent) (answer_values told) d e → first + length lines < 2 ^ 64
+    → DriverRunHolds (request_values lent) (answer_values told) d e → first + length lines < 2 ^ 64
     → first + length shown < 2 ^ 64
 answers_few first lines left after made lent told shown d e read same seen served few =
     omega (arith, answers_counted lines left after made lent told shown d e read same seen served, few)

@@ -15,8 +15,8 @@ use Rattle.uda_disk.specs.declared.request.Request.{Request as Made}
 use Rattle.uda_driver.specs.Run.{DriverState, request_limit}
 use Rattle.uda_script_run.specs.Requests.{bytes_taken, requests}
 use Rattle.uda_script_run.specs.Reading.{ReadsRequests}
-use Rattle.uda_script_run.specs.Texts.{out_text, report_text, plain, whole_report}
-use Rattle.uda_script_run.specs.Script.{Serves, Runs, Streams, writers_of, EndsWhole, EndsInError, NothingDone, TextsBegin}
+use Rattle.uda_script_run.specs.Texts.{out_text, report_text, plain_style, whole_report}
+use Rattle.uda_script_run.specs.Script.{DriverRunHolds, Runs, Streams, writers_of, EndsWhole, EndsInError, NothingDone, TextsBegin}
 
 -- a request a line
 pub length-requests : (lines : List Line) (bytes : List ℕ) → length (requests lines bytes) ≡ length lines
@@ -43,19 +43,19 @@ requests_few lines script left after made lent read same all few =
 
 pub runs_of : (lines : List Line) (input input_after : Option (List ℕ)) (asked : List Request)
     (told : List Answer) (driver driver_after : DriverState)
-    → (read : ReadsRequests lines input input_after asked) → Serves asked told driver driver_after
+    → (read : ReadsRequests lines input input_after asked) → DriverRunHolds asked told driver driver_after
     → Runs lines input input_after read.bytes told driver driver_after
 runs_of lines input input_after asked told driver driver_after read served = record {
   counted = read.counted;
   consumed = read.consumed;
-  serves = λ later. subst (λ (r : List Request). Serves r told driver driver_after)
+  serves = λ later. subst (λ (r : List Request). DriverRunHolds r told driver driver_after)
       (sym (read.is_made later)) served;
 }
 
 -- both texts were written, or not
 pub ends_whole : (r : Result (Unit {0}) ScriptError) (lines : List Line) (before after : Streams)
     (asked : List Request) (told : List Answer) (driver driver_after : DriverState)
-    → ReadsRequests lines before.input after.input asked → Serves asked told driver driver_after
+    → ReadsRequests lines before.input after.input asked → DriverRunHolds asked told driver driver_after
     → OnOk r (Appends before.out after.out (out_text told))
     → OnOk r (Appends before.report after.report (report_text told))
     → OnOk r (EndsWhole lines before after driver driver_after)
@@ -70,8 +70,8 @@ ends_whole (Err e) lines before after asked told driver driver_after read served
 
 pub ends_broken : (r : Result (Unit {0}) ScriptError) (lines : List Line) (before after : Streams)
     (asked : List Request) (told : List Answer) (driver driver_after : DriverState)
-    → ReadsRequests lines before.input after.input asked → Serves asked told driver driver_after
-    → OnErr r (TextsBegin (whole_report plain) told (writers_of before) (writers_of after))
+    → ReadsRequests lines before.input after.input asked → DriverRunHolds asked told driver driver_after
+    → OnErr r (TextsBegin (whole_report plain_style) told (writers_of before) (writers_of after))
     → IfErr r (λ e. e ≡ Write)
     → IfErr r (EndsInError lines before after driver driver_after)
 ends_broken (Ok u) lines before after asked told driver driver_after read served begun error = tt
@@ -83,7 +83,7 @@ ends_broken (Err e) lines before after asked told driver driver_after read serve
       texts = begun;
     })
 
--- no memory for the answers: nothing was done
+-- no memory for the answers: nothing was executed
 pub ends_unserved : (lines : List Line) (before after : Streams) (driver driver_after : DriverState)
     (e : ScriptError) → e ≡ NoMemory → driver_after ≡ driver → after.out ≡ before.out
     → after.report ≡ before.report
@@ -103,9 +103,9 @@ reads_script lines script left after asked all read =
     subst (λ (xs : List Line). ReadsRequests xs left after asked) all read
 
 pub serves_lent : (made lent : List Made) (told shown : List Told) (driver driver_after : DriverState)
-    → lent ≡ made → shown ≡ told → Serves (request_values lent) (answer_values told) driver driver_after
-    → Serves (request_values made) (answer_values shown) driver driver_after
+    → lent ≡ made → shown ≡ told → DriverRunHolds (request_values lent) (answer_values told) driver driver_after
+    → DriverRunHolds (request_values made) (answer_values shown) driver driver_after
 serves_lent made lent told shown driver driver_after same seen served =
-    subst (λ (xs : List Told). Serves (request_values made) (answer_values xs) driver driver_after) (sym seen)
-    (subst (λ (xs : List Made). Serves (request_values xs) (answer_values told) driver driver_after) same
+    subst (λ (xs : List Told). DriverRunHolds (request_values made) (answer_values xs) driver driver_after) (sym seen)
+    (subst (λ (xs : List Made). DriverRunHolds (request_values xs) (answer_values told) driver driver_after) same
     served)

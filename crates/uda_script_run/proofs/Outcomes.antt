@@ -4,7 +4,7 @@ use Rattle.std.specs.Prelude.{◌&&◌, if◌then◌else◌}
 use Rattle.std.specs.List.{list_all}
 use Rattle.uda_disk.specs.Values.{answer_value, answer_values}
 use Rattle.uda_disk.specs.declared.answer.Answer.{Answer}
-use Rattle.uda_script_run.specs.declared.style.Outcome.TheVariants.{AllSucceeded, SomeFailed}
+use Rattle.uda_script_run.specs.declared.style.ScriptOutcome.TheVariants.{AllSucceeded, SomeFailed}
 use Rattle.uda_script_run.specs.Texts.{succeeded, outcome_of}
 
 all_values : (answers : List Answer) → list_all succeeded (answer_values answers) ≡ list_all

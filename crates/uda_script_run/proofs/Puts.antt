@@ -48,7 +48,7 @@ leaves_none a b bytes rest so_far none =
     subst (λ (t : List ℕ). Appends a b t) (sym (append-nil so_far.begun)
     ∙ ap (λ (t : List ℕ). so_far.begun ++ t) (sym none) ∙ so_far.is_all) so_far.appended
 
--- ---- a text that goes part by part
+-- ---- a text that is written part by part
 
 pub leaves_later : (a b c : Option (List ℕ)) (all part rest : List ℕ) → LeavesRest a b all (part ++ rest)
     → Appends b c part → LeavesRest a c all rest

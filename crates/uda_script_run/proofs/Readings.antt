@@ -14,7 +14,8 @@ use Rattle.uda_disk.specs.Request.{Request}
 use Rattle.uda_script_run.specs.Requests.{bytes_taken, taken, request_made, requests, first_short}
 use Rattle.uda_script_run.specs.Reading.{ReadsAs, ReadsBytes, ReadsRequest, ReadsRequests, IsUnread, AreUnread}
 
--- so many bytes were read; of what f makes these items are made, and `rest` makes the others of what follows
+-- this many bytes were read; f makes these items of them, and `rest` makes the others of the bytes that
+-- follow
 pub record ReadsPart {A : Type 0} (f rest : List ℕ → List A) (count : ℕ) (left now : Option (List ℕ))
     (made : List A) : Type 0 where
   pub bytes : List ℕ
@@ -138,7 +139,7 @@ lines_from : (lines : List Line) (k : ℕ) (line other : Line) → k < length li
 lines_from lines k line other h is = drop-cons lines k other h ∙ ap (λ (l : Line). l ∷ drop (suc k) lines)
     (sym is)
 
--- the request of a line, and those of the lines behind it
+-- the request of a line, and those of the lines after it
 line_makes : (line : Line) (rest : List Line) (request : Request) (piece : List ℕ)
     → length piece ≡ bytes_taken line → ((later : List ℕ) → request_made line.statement (piece ++ later)
     ≡ request)
@@ -202,7 +203,7 @@ lines_unread lines k line other left now made (Syntax number) h is so_far unread
 lines_unread lines k line other left now made TooManyLines h is so_far unread = absurd unread
 lines_unread lines k line other left now made Write h is so_far unread = absurd unread
 
--- lines that take no data are lines of which none takes any
+-- lines that use no data are lines of which none uses any
 pub lines_idle : (lines : List Line) (k : ℕ) (other : Line) (left now : Option (List ℕ)) (made : List Request)
     → k < length lines → ReadsLines lines k left now made → taken lines ≡ 0
     → bytes_taken (get_or lines k other)

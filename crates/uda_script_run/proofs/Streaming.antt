@@ -18,8 +18,8 @@ use Rattle.uda_grammar.specs.Reading.{is_fault, request_in, requests_from, fault
 use Rattle.uda_grammar.proofs.Lines.{cut_line, leads_none, leads_more, leads_line, last_line, fault_line, last_fault}
 use Rattle.uda_script_run.specs.declared.style.ReportStyle.{ReportStyle}
 use Rattle.uda_script_run.specs.declared.style.ReportPart.{ReportPart}
-use Rattle.uda_script_run.specs.declared.style.Outcome.{Outcome}
-use Rattle.uda_script_run.specs.declared.style.Outcome.TheVariants.{AllSucceeded, SomeFailed}
+use Rattle.uda_script_run.specs.declared.style.ScriptOutcome.{ScriptOutcome}
+use Rattle.uda_script_run.specs.declared.style.ScriptOutcome.TheVariants.{AllSucceeded, SomeFailed}
 use Rattle.uda_script_run.specs.declared.source.Next.{Next}
 use Rattle.uda_script_run.specs.declared.source.Next.TheVariants.{More, End, Fault}
 use Rattle.uda_script_run.specs.declared.text_error.TextError.{TextError}
@@ -250,7 +250,7 @@ batch_more a b c made later (Fault line expected) one two = ends_later a b made 
 -- Before a batch: the lines that were read were run.
 pub record HasRun (style : ReportStyle) (text : Option (List ℕ)) (start : Setting) (at : TextAt)
     (part : ReportPart)
-    (outcome : Outcome) (now : Setting) : Type 0 where
+    (outcome : ScriptOutcome) (now : Setting) : Type 0 where
   pub made : List Line
   pub told : List Answer
   pub reads : ReadsOn (text_at 0 text) at made
@@ -259,7 +259,7 @@ pub record HasRun (style : ReportStyle) (text : Option (List ℕ)) (start : Sett
   pub outcome_is : outcome ≡ outcome_of told
 
 pub run_none : (style : ReportStyle) (text : Option (List ℕ)) (start : Setting) (part : ReportPart)
-    (outcome : Outcome)
+    (outcome : ScriptOutcome)
     → part ≡ whole_report style → outcome ≡ outcome_of []
     → HasRun style text start (text_at 0 text) part outcome start
 run_none style text start part outcome is all = record {
@@ -283,7 +283,7 @@ outcome-both (answer ∷ rest) later = by (succeeded answer) (outcome-both rest 
     by false h = refl
 
 module _ (style : ReportStyle) (text : Option (List ℕ)) (start : Setting) (at : TextAt) (part : ReportPart)
-    (outcome : Outcome) (now : Setting) (so_far : HasRun style text start at part outcome now) where
+    (outcome : ScriptOutcome) (now : Setting) (so_far : HasRun style text start at part outcome now) where
   -- the next lines, run as the next part of the report
   run_next : (lines : List Line) (told : List Answer) (after : Setting) → Ran part lines told now after
       → Ran (whole_report style) (so_far.made ++ lines) (so_far.told ++ told) start after
@@ -291,10 +291,10 @@ module _ (style : ReportStyle) (text : Option (List ℕ)) (start : Setting) (at 
       from_more (whole_report style) so_far.made lines so_far.told told start now after so_far.ran
       (subst (λ (p : ReportPart). Ran p lines told now after) so_far.part_is ran)
 
-  outcome_next : (told : List Answer) (next : Outcome) → next ≡ both outcome (outcome_of told)
+  outcome_next : (told : List Answer) (next : ScriptOutcome) → next ≡ both outcome (outcome_of told)
       → next ≡ outcome_of (so_far.told ++ told)
   outcome_next told next is =
-      is ∙ ap (λ (o : Outcome). both o (outcome_of told)) so_far.outcome_is
+      is ∙ ap (λ (o : ScriptOutcome). both o (outcome_of told)) so_far.outcome_is
       ∙ sym (outcome-both so_far.told told)
 
   -- the whole script, if these bytes follow what was read
@@ -314,7 +314,7 @@ module _ (style : ReportStyle) (text : Option (List ℕ)) (start : Setting) (at 
   script_fault rest = so_far.reads.leads.fault rest
 
   pub run_more : (next_at : TextAt) (lines : List Line) (told : List Answer) (after : Setting)
-      (next_part : ReportPart) (next : Outcome)
+      (next_part : ReportPart) (next : ScriptOutcome)
       → ReadsOn at next_at lines → Ran part lines told now after
       → next_part ≡ part_after part (length lines) → next ≡ both outcome (outcome_of told)
       → HasRun style text start next_at next_part next after
@@ -330,7 +330,7 @@ module _ (style : ReportStyle) (text : Option (List ℕ)) (start : Setting) (at 
     outcome_is = outcome_next told next outcome_is;
   }
 
-  pub run_whole : (lines : List Line) (told : List Answer) (after : Setting) (next : Outcome)
+  pub run_whole : (lines : List Line) (told : List Answer) (after : Setting) (next : ScriptOutcome)
       → EndsWith at lines None → Ran part lines told now after → next ≡ both outcome (outcome_of told)
       → RanText style text next start after
   run_whole lines told after next ended ran outcome_is = record {

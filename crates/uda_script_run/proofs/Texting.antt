@@ -8,7 +8,7 @@ use Rattle.uda_script_run.specs.declared.style.ReportPart.{ReportPart}
 use Rattle.uda_script_run.specs.Texts.{answer_bytes, out_text, styled_line, report_lines, part_text, AppendsBeginning}
 use Rattle.uda_script_run.proofs.Puts.{LeavesRest, leaves_later, leaves_broken}
 
--- the answers from the k-th on are it and those behind it
+-- the answers from the k-th: it and those after it
 answers_from : (answers : List Answer) (k : ℕ) (answer : Answer) → k < length answers
     → answer ≡ get_or answers k answer → drop k answers ≡ answer ∷ drop (suc k) answers
 answers_from answers k answer h is = drop-cons answers k answer h

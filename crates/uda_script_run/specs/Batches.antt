@@ -1,12 +1,12 @@
--- What lines leave that were run batch by batch.
+-- The result of lines that were run batch by batch.
 use Rattle.std.specs.Prelude.{◌≡◌, ℕ, ◌+◌, ◌*◌, false, List, ◌++◌, length, Option, Some, IfSome}
 use Rattle.std.specs.Io.KnownBytes.{Appends, Consumes}
-use Rattle.uda_disk.specs.Units.{AllFaithful, natures_of}
+use Rattle.uda_disk.specs.Units.{AllFaithful, unit_attributes}
 use Rattle.uda_disk.specs.Answer.{Answer}
 use Rattle.uda_disk.specs.Request.{Request}
-use Rattle.uda_disk.specs.PlainRun.{posted_count}
-use Rattle.uda_driver.specs.Run.{DriverState, units_of, AreAnswersOf, IsPlainRun, NoneFailed, TellsLosses}
-use Rattle.uda_driver.specs.Run.{tells_drive_error, SeemsPlain}
+use Rattle.uda_disk.specs.InOrderRun.{posted_count}
+use Rattle.uda_driver.specs.Run.{DriverState, units_of, AreAnswersOf, IsInOrderRun, NoStoreFailed, ReportsEveryFailure}
+use Rattle.uda_driver.specs.Run.{any_drive_error, MatchesUpToData}
 use Rattle.uda_driver.specs.Driver.{IsAtRest}
 use Rattle.uda_grammar.specs.declared.error.ScriptError.{ScriptError}
 use Rattle.uda_grammar.specs.declared.error.ScriptError.TheVariants.{NoMemory, ShortData, Read, Write}
@@ -16,25 +16,25 @@ use Rattle.uda_script_run.specs.Requests.{requests, taken, first_short}
 use Rattle.uda_script_run.specs.Texts.{out_text, part_text, part_after}
 use Rattle.uda_script_run.specs.Script.{Streams, streams, writers_of, TextsBegin}
 
--- The driver executed these requests with these answers, in however many runs. Each fact is about the whole
--- list: answers and disks are those of one in-order run of it.
+-- The driver executed these requests with these answers, in any number of runs. Each fact is about the
+-- whole list: answers and disks are related to one in-order run of it.
 pub record Served (asked : List Request) (told : List Answer)
     (driver driver_after : DriverState) : Type 0 where
-  pub shape : AreAnswersOf asked told
-  pub headline : AllFaithful (units_of driver) → NoneFailed (units_of driver) (units_of driver_after)
-      → IsPlainRun (units_of driver) asked told (units_of driver_after)
-  pub headline_untold : AllFaithful (units_of driver) → tells_drive_error told ≡ false
-      → IsPlainRun (units_of driver) asked told (units_of driver_after)
-  pub losses : AllFaithful (units_of driver)
-      → TellsLosses (units_of driver) asked told (units_of driver_after)
-  pub seems : SeemsPlain (units_of driver) asked told (units_of driver_after)
+  pub answer_forms : AreAnswersOf asked told
+  pub in_order_run : AllFaithful (units_of driver) → NoStoreFailed (units_of driver) (units_of driver_after)
+      → IsInOrderRun (units_of driver) asked told (units_of driver_after)
+  pub in_order_run_if_no_error : AllFaithful (units_of driver) → any_drive_error told ≡ false
+      → IsInOrderRun (units_of driver) asked told (units_of driver_after)
+  pub in_order_run_with_failures : AllFaithful (units_of driver)
+      → ReportsEveryFailure (units_of driver) asked told (units_of driver_after)
+  pub in_order_run_up_to_data : MatchesUpToData (units_of driver) asked told (units_of driver_after)
   pub turns : driver_after.turns ≡ driver.turns + 3 * posted_count asked
   pub fetches : driver_after.fetches ≡ driver.fetches + posted_count asked
   pub deliveries : driver_after.taken ≡ driver.taken + posted_count asked
-  pub natures : natures_of (units_of driver_after) ≡ natures_of (units_of driver)
+  pub all_attributes : unit_attributes (units_of driver_after) ≡ unit_attributes (units_of driver)
   pub rest : IsAtRest driver → IsAtRest driver_after
 
--- what a run works on: its streams, and the driver
+-- the state of a run: its streams, and the driver
 pub record Setting : Type 0 where
   pub streams : Streams
   pub driver : DriverState
@@ -42,22 +42,22 @@ pub record Setting : Type 0 where
 abbrev pub setting : Option (List ℕ) → Option (List ℕ) → Option (List ℕ) → DriverState → Setting
 setting input out report driver = record { streams = streams input out report; driver = driver }
 
--- The data of these lines was read and no more, and the driver executed the requests that they make of it,
--- whatever data follows.
+-- Exactly the data of these lines was read. The driver executed the requests made of it, whatever data
+-- follows.
 pub record RanLines (lines : List Line) (told : List Answer) (before after : Setting) : Type 0 where
   pub bytes : List ℕ
   pub counted : length bytes ≡ taken lines
   pub consumed : Consumes before.streams.input after.streams.input bytes
   pub served : (later : List ℕ) → Served (requests lines (bytes ++ later)) told before.driver after.driver
 
--- these lines were run, and both texts of their answers were written whole
+-- these lines were run, and both texts of their answers were written completely
 pub record Ran (part : ReportPart) (lines : List Line) (told : List Answer)
     (before after : Setting) : Type 0 where
   pub lines_ran : RanLines lines told before after
   pub out : Appends before.streams.out after.streams.out (out_text told)
   pub report : Appends before.streams.report after.streams.report (part_text part told)
 
--- the first of the lines were run, and then nothing more was done except that data may have been read
+-- the first of the lines were run, and then nothing more was executed, but data may have been read
 pub record StopsBefore (part : ReportPart) (lines : List Line) (before after : Setting) : Type 0 where
   pub done : List Line
   pub left : List Line
@@ -66,8 +66,8 @@ pub record StopsBefore (part : ReportPart) (lines : List Line) (before after : S
   pub input : Option (List ℕ)
   pub ran : Ran part done told before (setting input after.streams.out after.streams.report after.driver)
 
--- the first of the lines were run; then one more batch of them was executed, and a beginning of its texts was
--- written
+-- the first of the lines were run; then one more batch of them was executed, and a beginning of its texts
+-- was written
 pub record StopsWithin (part : ReportPart) (lines : List Line) (before after : Setting) : Type 0 where
   pub done : List Line
   pub batch : List Line
@@ -82,8 +82,8 @@ pub record StopsWithin (part : ReportPart) (lines : List Line) (before after : S
       TextsBegin (part_after part (length done)) last_told
       (writers_of between.streams) (writers_of after.streams)
 
--- what an error says of lines that were run batch by batch. ShortData names the first line whose bytes the
--- data does not hold
+-- the meaning of an error for lines that were run batch by batch; ShortData has the number of the first
+-- line whose bytes the data does not contain
 abbrev pub StopsInError : ReportPart → List Line → Setting → Setting → ScriptError → Type 0
 StopsInError part lines before after NoMemory = StopsBefore part lines before after
 StopsInError part lines before after (ShortData line) =

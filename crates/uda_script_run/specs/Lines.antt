@@ -1,4 +1,4 @@
--- What a line and a batch of lines are of a text that is read from a stream.
+-- Lines and batches of lines of a text that is read from a stream.
 use Rattle.std.specs.Prelude.{◌≡◌, ℕ, ◌+◌, Bool, false, if◌then◌else◌, List, [], ◌∷◌, ◌++◌, take, Option, Some, None, IfSome}
 use Rattle.std.specs.Io.KnownBytes.{Consumes, IsAtEnd}
 use Rattle.uda_grammar.specs.declared.script.Line.{Line}
@@ -10,11 +10,11 @@ use Rattle.uda_script_run.specs.declared.text_error.TextError.TheVariants as err
 use Rattle.uda_script_run.specs.declared.source.Next.{Next}
 use Rattle.uda_script_run.specs.declared.source.Next.TheVariants.{More, End, Fault}
 
--- how many bytes of a line are kept
+-- the number of bytes of a line that are kept
 abbrev pub line_room : ℕ
 line_room = 64
 
--- a line was read, of which the first bytes are kept: up to its line feed, or to the end of the text
+-- a line was read, up to its line feed or to the end of the text, and its first bytes are kept
 pub record ReadsLine (text text_after : Option (List ℕ)) (kept : List ℕ) (ended : Bool) : Type 0 where
   pub line : List ℕ
   pub one : IsOneLine line
@@ -22,7 +22,7 @@ pub record ReadsLine (text text_after : Option (List ℕ)) (kept : List ℕ) (en
   pub consumed : Consumes text text_after (line ++ (if ended then 10 ∷ [] else []))
   pub at_end : ended ≡ false → IsAtEnd text_after
 
--- a place in a text: how many lines were read, and the bytes that are left, if they are known
+-- a position in a text: the number of lines read, and the bytes that are left, if they are known
 pub record TextAt : Type 0 where
   pub lines_read : ℕ
   pub left : Option (List ℕ)
@@ -43,13 +43,13 @@ pub record EndsWith (before : TextAt) (made : List Line) (first_fault : Option �
   pub requests : requests_from (before.lines_read + 1) (lines_of rest) ≡ made
   pub fault : fault_from (before.lines_read + 1) (lines_of rest) ≡ first_fault
 
--- what was read, by what follows it
+-- the lines that were read, by the item that follows them
 abbrev pub ReadsBatch : TextAt → TextAt → List Line → Next → Type 0
 ReadsBatch before after made More = ReadsOn before after made
 ReadsBatch before after made End = EndsWith before made None
 ReadsBatch before after made (Fault line expected) = EndsWith before made (Some line)
 
--- why a text was not read to its end: it can't be read, or memory ran out
+-- the reason why a text was not read to its end: it can't be read, or memory allocation failed
 abbrev pub IsUnreadText : TextError → Type 0
 IsUnreadText error.Unreadable = Unit {0}
 IsUnreadText (error.Script NoMemory) = Unit {0}

@@ -9,7 +9,7 @@ ghost use Rattle.uda_script_run.specs.Batches.{setting, Ran, StopsInError};
 use crate::channels::Channels;
 use crate::requests::read_requests;
 use crate::script::{print, serve};
-use crate::style::{Outcome, ReportPart, ReportStyle};
+use crate::style::{ReportPart, ReportStyle, ScriptOutcome};
 use std::alloc::Global;
 use std::io::{Read, Write};
 use uda_disk::Answer;
@@ -17,26 +17,26 @@ use uda_driver::{Driver, Watch};
 use uda_grammar::{Line, ScriptError};
 use uda_image::BlockStore;
 
-/// How far a script was run.
+/// The progress of a script's run.
 #[derive(Drop)]
-pub(crate) struct Progress {
-    /// The part of the report that comes next.
+pub(crate) struct ScriptProgress {
+    /// The next part of the report.
     pub(crate) part: ReportPart,
     /// Whether all requests so far succeeded.
-    pub(crate) outcome: Outcome,
+    pub(crate) outcome: ScriptOutcome,
     /// The answers of the last batch, whose memory the next batch reuses.
     pub(crate) answers: Vec<Answer>,
 }
 
-impl Progress {
+impl ScriptProgress {
     /// Returns the progress before the first request.
-    pub(crate) fn start(alloc: Global, style: ReportStyle) -> Progress
+    pub(crate) fn start(alloc: Global, style: ReportStyle) -> ScriptProgress
         ensures part { result.part ≡ whole_report style }
         ensures outcome { result.outcome ≡ outcome_of [] }
     {
-        Progress {
+        ScriptProgress {
             part: ReportPart { style, first: 1 },
-            outcome: Outcome::AllSucceeded,
+            outcome: ScriptOutcome::AllSucceeded,
             answers: Vec::new(alloc),
         }
     }
@@ -46,10 +46,10 @@ impl Progress {
 pub(crate) fn run_batch<S: BlockStore, R: Read, W: Write, V: Write, H: Watch>(
     alloc: Global,
     lines: &[Line],
-    progress: Progress,
+    progress: ScriptProgress,
     channels: &mut Channels<R, W, V, H>,
     driver: &mut Driver<S>,
-) -> Result<Progress, ScriptError>
+) -> Result<ScriptProgress, ScriptError>
     requires few { length lines.now ≤ request_limit }
     requires countable { progress.part.first + length lines.now < 2 ^ 64 }
     ensures ran { IfOk result (λ next. Ran progress.part lines.now (answer_values next.answers.items)
@@ -66,7 +66,7 @@ pub(crate) fn run_batch<S: BlockStore, R: Read, W: Write, V: Write, H: Watch>(
         (setting (R.remaining channels.new.input) (W.contents channels.new.out)
         (V.contents channels.new.report) driver.new)) }
 {
-    let Progress {
+    let ScriptProgress {
         part,
         outcome,
         answers,
@@ -74,9 +74,9 @@ pub(crate) fn run_batch<S: BlockStore, R: Read, W: Write, V: Write, H: Watch>(
     let requests = read_requests(alloc, lines, &mut channels.input)?;
     let answers = serve(driver, &requests, answers, &mut channels.watch)?;
     print(&mut channels.out, &mut channels.report, part, &answers)?;
-    Ok(Progress {
+    Ok(ScriptProgress {
         part: part.after(answers.len()),
-        outcome: outcome.and(Outcome::of_answers(&answers)),
+        outcome: outcome.and(ScriptOutcome::of_answers(&answers)),
         answers,
     })
 }

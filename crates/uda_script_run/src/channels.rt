@@ -1,14 +1,14 @@
 //! The streams that a run reads and writes.
 
-/// The streams of a run. Each is at first as its owner made it, and afterwards has what the run left.
+/// The streams of a run. At first each is as its owner made it. Afterwards it is as the run left it.
 #[derive(Debug, Drop)]
 pub struct Channels<R, W, V, H> {
-    /// The data that `write` and `writeb` lines take.
+    /// The data for `write` and `writeb` lines.
     pub input: R,
-    /// The writer that gets the bytes of `read` and `readb` lines.
+    /// The writer for the bytes of `read` and `readb` lines.
     pub out: W,
-    /// The writer that gets the report.
+    /// The writer for the report.
     pub report: V,
-    /// Who sees each turn of the port.
+    /// The observer of each turn of the port.
     pub watch: H,
 }

@@ -1,11 +1,11 @@
-//! Growth that may be refused.
+//! Allocations that may fail.
 
 ghost use Rattle.std.specs.Prelude.{◌≡◌, ◌≤◌, [], ◌∷◌, ◌++◌, OnOk, IfOk, IfErr, vec_capacity};
 
 use std::alloc::Global;
 use uda_grammar::ScriptError;
 
-/// An empty list with room for so many items, or [`ScriptError::NoMemory`].
+/// Returns an empty list with capacity for `count` items. Fails with [`ScriptError::NoMemory`].
 pub fn with_room<T>(alloc: Global, count: usize) -> Result<Vec<T>, ScriptError>
     ensures items { IfOk result (λ list. list.items ≡ []) }
     ensures room { IfOk result (λ list. count ≤ vec_capacity list) }
@@ -14,7 +14,7 @@ pub fn with_room<T>(alloc: Global, count: usize) -> Result<Vec<T>, ScriptError>
     Vec::with_capacity(alloc, count).map_err(|_| ScriptError::NoMemory)
 }
 
-/// Puts an item at a list's end, or answers [`ScriptError::NoMemory`].
+/// Appends an item to a list. Fails with [`ScriptError::NoMemory`].
 pub fn push<T: Drop>(list: &mut Vec<T>, item: T) -> Result<(), ScriptError>
     ensures items { OnOk result (list.new.items ≡ list.old.items ++ item ∷ []) }
     ensures error { IfErr result (λ e. e ≡ ScriptError.NoMemory) }

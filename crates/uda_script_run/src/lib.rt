@@ -1,6 +1,6 @@
 //! Scripts of block requests, run by a driver.
 //!
-//! Its tests are in the crate `script_tests`.
+//! The tests of this crate are in `script_tests`.
 #![tactic(auto)]
 
 mod batch;
@@ -19,5 +19,5 @@ pub use channels::Channels;
 pub use requests::read_requests;
 pub use script::run_script;
 pub use stream::run_text;
-pub use style::{Outcome, ReportStyle};
+pub use style::{ReportStyle, ScriptOutcome};
 pub use text_error::TextError;

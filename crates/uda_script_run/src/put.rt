@@ -1,4 +1,4 @@
-//! Bytes that go to a writer, of which it is known how many went where it fails.
+//! Writes of bytes of which a known number is written if the write fails.
 
 ghost use Rattle.std.specs.Prelude.{◌≡◌, OnOk, OnErr, IfErr};
 ghost use Rattle.std.specs.Io.KnownBytes.{Appends};
@@ -7,8 +7,10 @@ ghost use Rattle.uda_script_run.specs.Texts.{AppendsBeginning};
 use std::io::{ErrorKind, Write};
 use uda_grammar::ScriptError;
 
-/// Writes all of the bytes. Where the writer fails, or takes no byte, a beginning of them was
-/// written and the answer is [`ScriptError::Write`]. A write that is interrupted is tried again.
+/// Writes all of the bytes, and repeats an interrupted write.
+///
+/// Fails with [`ScriptError::Write`] if the writer fails, or writes no byte. A beginning of the bytes is
+/// written then.
 pub fn put_all<W: Write>(writer: &mut W, bytes: &[u8]) -> Result<(), ScriptError>
     ensures whole { OnOk result (Appends (W.contents writer.old) (W.contents writer.new) bytes.now) }
     ensures begun { OnErr result

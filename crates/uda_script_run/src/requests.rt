@@ -1,4 +1,4 @@
-//! The requests that a script makes of its data.
+//! The requests of a script and its data.
 
 ghost use Rattle.std.specs.Prelude.{◌≡◌, ◌*◌, length, replicate, OnOk, IfOk, IfErr};
 ghost use Rattle.std.specs.Io.KnownBytes.{Consumes};
@@ -13,12 +13,14 @@ use std::io::{ErrorKind, Read};
 use uda_disk::Request;
 use uda_grammar::{Amount, Line, ScriptError, Statement};
 
-/// Makes the requests of the lines, in order. Each `write` and `writeb` takes its bytes from `input`, and
-/// nothing else does.
+/// Makes the requests of the lines, in order. Only `write` and `writeb` lines read bytes from `input`. An
+/// interrupted read is repeated.
 ///
-/// Where the data ends before a line has its bytes the answer is [`ScriptError::ShortData`] with
-/// that line's number; where a read fails, [`ScriptError::Read`]; and where a growth is refused,
-/// [`ScriptError::NoMemory`]. A read that is interrupted is tried again.
+/// It fails with:
+///
+/// - [`ScriptError::ShortData`] and a line's number if the data ends before that line has its bytes;
+/// - [`ScriptError::Read`] if a read fails;
+/// - [`ScriptError::NoMemory`] if memory allocation fails.
 pub fn read_requests<R: Read>(
     alloc: Global,
     lines: &[Line],
@@ -37,7 +39,7 @@ pub fn read_requests<R: Read>(
     Ok(requests)
 }
 
-// What a line asks for.
+// Makes the request of a line.
 fn read_request<R: Read>(alloc: Global, line: &Line, input: &mut R) -> Result<Request, ScriptError>
     ensures made { IfOk result (λ request. ReadsRequest line.now (R.remaining input.old)
         (R.remaining input.new) (request_value request)) }
@@ -79,7 +81,7 @@ fn read_request<R: Read>(alloc: Global, line: &Line, input: &mut R) -> Result<Re
     }
 }
 
-// So many bytes, all this one.
+// Returns `count` bytes of this value.
 fn repeat_byte(alloc: Global, byte: u8, count: u64) -> Result<Vec<u8>, ScriptError>
     ensures bytes { IfOk result (λ bytes. bytes.items ≡ replicate count byte) }
     ensures error { IfErr result (λ e. e ≡ ScriptError.NoMemory) }
@@ -87,7 +89,7 @@ fn repeat_byte(alloc: Global, byte: u8, count: u64) -> Result<Vec<u8>, ScriptErr
     Vec::from_elem(alloc, byte, count as usize).map_err(|_| ScriptError::NoMemory)
 }
 
-// The next bytes of the data, so many, for a line.
+// Reads the next bytes of the data for a line.
 fn read_bytes<R: Read>(
     alloc: Global,
     line: &Line,

@@ -15,31 +15,31 @@ use uda_grammar::{Expected, Line, ScriptError, explain, parse_line};
 /// The most requests that are executed in one batch.
 pub(crate) const BATCH: usize = 64;
 
-/// The most bytes of a line that are kept. No statement is as long.
+/// The most bytes of a line that are kept. Every statement is shorter.
 const LINE_ROOM: usize = 64;
 
 /// The first bytes of a line.
 type LineStart = ArrayVec<u8, LINE_ROOM>;
 
-/// What follows the lines that were read.
+/// The item that follows the lines that were read.
 #[derive(Clone, Copy)]
 pub(crate) enum Next {
     /// More of the text.
     More,
-    /// Nothing, since the text ended.
+    /// Nothing: the text ended.
     End,
-    /// A line that is no statement. Its number counts from 1.
+    /// A line that is not a statement. Its number counts from 1.
     Fault { line: u64, expected: Expected },
 }
 
-/// A stream that gives the text of a script, and how many of its lines were read.
+/// A stream with the text of a script, and the number of its lines that were read.
 #[derive(Drop)]
 pub(crate) struct Source<T> {
     pub(crate) text: T,
     pub(crate) lines_read: u64,
 }
 
-// Reads the next byte, and returns None at the end of the text. Tries an interrupted read again.
+// Reads the next byte, and returns `None` at the end of the text. Repeats an interrupted read.
 fn read_byte<T: Read>(text: &mut T) -> Result<Option<u8>, TextError>
     ensures byte { IfOk result (λ byte.
         Consumes (T.remaining text.old) (T.remaining text.new) (option_to_list byte)) }
@@ -61,7 +61,8 @@ fn read_byte<T: Read>(text: &mut T) -> Result<Option<u8>, TextError>
     Err(TextError::Unreadable)
 }
 
-// Reads the next line, and returns whether a line feed ended it. Of a long line only the beginning is kept.
+// Reads the next line, and returns whether a line feed ended it. It keeps only the beginning of a long
+// line.
 fn read_line<T: Read>(text: &mut T, line: &mut LineStart) -> Result<bool, TextError>
     ensures line { IfOk result (λ ended.
         ReadsLine (T.remaining text.old) (T.remaining text.new) line.new.items ended) }
@@ -124,8 +125,8 @@ impl<T: Read> Source<T> {
         }
     }
 
-    /// Reads lines until they make [`BATCH`] requests, the text ends or a line is no statement, and puts the
-    /// requests into `lines`.
+    /// Reads lines until they make [`BATCH`] requests, the text ends, or a line is not a statement. Puts
+    /// the requests into `lines`.
     pub(crate) fn read_batch(&mut self, lines: &mut Vec<Line>) -> Result<Next, TextError>
         ensures read { IfOk result (λ next.
             ReadsBatch (text_at self.old.lines_read (T.remaining self.old.text))

@@ -1,39 +1,43 @@
-//! A script that is read from a stream while it runs.
+//! The run of a script whose text is read from a stream.
 
 ghost use Rattle.std.specs.Prelude.{IfOk, IfErr};
 ghost use Rattle.uda_script_run.specs.Batches.{setting};
 ghost use Rattle.uda_script_run.specs.Stream.{RanText, StopsInText};
 
-use crate::batch::{Progress, run_batch};
+use crate::batch::{ScriptProgress, run_batch};
 use crate::channels::Channels;
 use crate::source::{Next, Source};
-use crate::style::{Outcome, ReportStyle};
+use crate::style::{ReportStyle, ScriptOutcome};
 use crate::text_error::TextError;
 use std::alloc::Global;
 use std::io::{BufRead, Read, Write};
 use uda_driver::{Driver, Watch};
 use uda_image::BlockStore;
 
-/// More batches than any text has. So the numbers of requests stay within 64 bits.
+/// More batches than any text has. It bounds the numbers of requests to 64 bits.
 const MOST_BATCHES: u64 = 1 << 56;
 
 /// Runs a script of any length while its text is read from a stream, in bounded memory.
 ///
 /// The lines have the forms that [`parse`](uda_grammar::parse) reads, and there may be any number of them.
 /// Their requests are executed in batches of 64. After each batch `out` gets the bytes that it read, and
-/// `report` its lines. In the plain style both get, over all batches, the bytes that
-/// [`run_script`](crate::run_script) writes for the same requests. Answers and disks are those of one in-order
-/// run of all of them. `watch` sees each turn of the port. The text is read byte by byte, so it should be a
-/// buffered reader.
+/// `report` its lines.
+///
+/// In the plain style both get, over all batches, the bytes that [`run_script`](crate::run_script) writes
+/// for the same requests. Answers and disks are related to the in-order run of all requests as those of
+/// [`Driver::run`](uda_driver::Driver::run) are.
+///
+/// `watch` receives each turn of the port. The text is read byte by byte, so it should be a buffered
+/// reader.
 ///
 /// # Errors
 ///
 /// An error stops the run. The batches before it were executed, and their texts were written.
 ///
-/// - `Unreadable`: the text can't be read. Nothing else was done, except that data may have been read.
-/// - `Syntax`: this is the first line that is no statement. All requests before it were executed.
-/// - `Script(ShortData)`, `Script(Read)` and `Script(NoMemory)`: as `Unreadable`. `ShortData` names the first
-///   line whose bytes the data does not hold.
+/// - `Unreadable`: the text can't be read. Nothing else was executed, but data may have been read.
+/// - `Syntax`: this is the first line that is not a statement. All requests before it were executed.
+/// - `Script(ShortData)`, `Script(Read)` and `Script(NoMemory)`: as `Unreadable`. `ShortData` has the
+///   number of the first line whose bytes the data does not contain.
 /// - `Script(Write)`: one more batch was executed, and only a beginning of its texts was written.
 pub fn run_text<S: BlockStore, T: BufRead + Drop, R: Read, W: Write, V: Write, H: Watch>(
     alloc: Global,
@@ -41,7 +45,7 @@ pub fn run_text<S: BlockStore, T: BufRead + Drop, R: Read, W: Write, V: Write, H
     text: T,
     channels: &mut Channels<R, W, V, H>,
     driver: &mut Driver<S>,
-) -> Result<Outcome, TextError>
+) -> Result<ScriptOutcome, TextError>
     ensures whole { IfOk result (λ outcome. RanText style (T.remaining text) outcome
         (setting (R.remaining channels.old.input) (W.contents channels.old.out)
         (V.contents channels.old.report) driver.old)
@@ -58,7 +62,7 @@ pub fn run_text<S: BlockStore, T: BufRead + Drop, R: Read, W: Write, V: Write, H
         lines_read: 0,
     };
     let mut lines = Vec::new(alloc);
-    let mut progress = Progress::start(alloc, style);
+    let mut progress = ScriptProgress::start(alloc, style);
     for _ in 0..MOST_BATCHES {
         let next = source.read_batch(&mut lines)?;
         progress = run_batch(alloc, &lines, progress, channels, driver)?;

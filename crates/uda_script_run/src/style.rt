@@ -1,4 +1,4 @@
-//! What a report says, and whether all requests succeeded.
+//! The contents of a report, and the outcome of a run.
 
 ghost use Rattle.std.specs.Prelude.{◌≡◌, ◌+◌, ◌<◌, ◌^◌};
 ghost use Rattle.std.specs.List.{list_all};
@@ -7,7 +7,7 @@ ghost use Rattle.uda_script_run.specs.Texts.{succeeded, outcome_of, both, status
 
 use uda_disk::{Answer, status};
 
-/// Which requests have a line in the report, and what it says.
+/// The requests that have a line in the report, and the contents of that line.
 #[derive(Clone, Copy, Debug, PartialEq, Eq)]
 pub struct ReportStyle {
     /// Whether a line ends with the name of its status, in parentheses.
@@ -48,15 +48,15 @@ impl ReportPart {
 ///
 /// A request succeeded if its status is `SUCCESS` or `ALREADY_ONLINE`.
 #[derive(Clone, Copy, Debug, PartialEq, Eq)]
-pub enum Outcome {
-    /// All of them did.
+pub enum ScriptOutcome {
+    /// All of them succeeded.
     AllSucceeded,
-    /// At least one did not.
+    /// At least one failed.
     SomeFailed,
 }
 
-// Returns the status of an answer, and None of one that was too long for a command.
-fn status_of(answer: &Answer) -> Option<u16>
+// Returns the status of an answer, or `None` for one to a request that was too long for a command.
+fn reported_status(answer: &Answer) -> Option<u16>
     ensures status { result ≡ status_told (answer_value answer.now) }
 {
     match answer {
@@ -69,17 +69,17 @@ fn status_of(answer: &Answer) -> Option<u16>
     }
 }
 
-/// Returns whether the request was executed, or the unit was online already.
+/// Returns whether the request succeeded: it was executed, or the unit was online already.
 pub(crate) fn has_succeeded(answer: &Answer) -> bool
     ensures succeeded { result ≡ succeeded (answer_value answer.now) }
 {
     matches!(
-        status_of(answer),
+        reported_status(answer),
         Some(status::SUCCESS | status::ALREADY_ONLINE)
     )
 }
 
-// Returns whether all did.
+// Returns whether all succeeded.
 fn have_succeeded(answers: &[Answer]) -> bool
     ensures { result ≡ list_all (λ answer. succeeded (answer_value answer)) answers.now }
 {
@@ -87,34 +87,34 @@ fn have_succeeded(answers: &[Answer]) -> bool
 }
 
 /// Returns the name of an answer's status.
-pub(crate) fn status_name(answer: &Answer) -> &'static str
+pub(crate) fn answer_name(answer: &Answer) -> &'static str
     ensures name { result.now ≡ answer_name (answer_value answer.now) }
 {
-    match status_of(answer) {
+    match reported_status(answer) {
         None => "too long",
         Some(status) => status::name(status),
     }
 }
 
-impl Outcome {
+impl ScriptOutcome {
     /// Returns the outcome of both runs.
-    pub(crate) fn and(self, other: Outcome) -> Outcome
+    pub(crate) fn and(self, other: ScriptOutcome) -> ScriptOutcome
         ensures both { result ≡ both self other }
     {
         match self {
-            Outcome::AllSucceeded => other,
-            Outcome::SomeFailed => Outcome::SomeFailed,
+            ScriptOutcome::AllSucceeded => other,
+            ScriptOutcome::SomeFailed => ScriptOutcome::SomeFailed,
         }
     }
 
     /// Returns the outcome of requests with these answers.
-    pub(crate) fn of_answers(answers: &[Answer]) -> Outcome
+    pub(crate) fn of_answers(answers: &[Answer]) -> ScriptOutcome
         ensures outcome { result ≡ outcome_of (answer_values answers.now) }
     {
         if have_succeeded(answers) {
-            Outcome::AllSucceeded
+            ScriptOutcome::AllSucceeded
         } else {
-            Outcome::SomeFailed
+            ScriptOutcome::SomeFailed
         }
     }
 }

@@ -1,22 +1,22 @@
-//! Why a script that is read from a stream stopped.
+//! The errors of a script that is read from a stream.
 
 use std::error::Error;
 use std::fmt;
 use uda_grammar::{Expected, ScriptError};
 
-/// Why a script that is read from a stream stopped.
+/// The reason why a script that is read from a stream stopped.
 #[derive(Clone, Copy, Debug, PartialEq, Eq)]
 pub enum TextError {
     /// The script's text can't be read.
     Unreadable,
-    /// A line is no statement.
+    /// A line is not a statement.
     Syntax {
         /// The line's number, from 1.
         line: u64,
-        /// What it should have had.
+        /// The part that is expected in the line.
         expected: Expected,
     },
-    /// What a script's run may fail with. It is never `Syntax` or `TooManyLines`.
+    /// An error of a script's run. It is never `Syntax` or `TooManyLines`.
     Script(ScriptError),
 }
 

@@ -1,4 +1,4 @@
-//! What a script's run prints of its answers.
+//! The texts that a script's run prints.
 
 ghost use Rattle.std.specs.Prelude.{◌≡◌, ◌+◌, ◌<◌, ◌^◌, length, OnOk, OnErr, IfErr};
 ghost use Rattle.std.specs.Io.KnownBytes.{Appends, Keeps};
@@ -8,20 +8,20 @@ ghost use Rattle.uda_script_run.specs.Texts.{part_text};
 ghost use Rattle.uda_script_run.specs.Texts.{AppendsBeginning};
 
 use crate::put::put_all;
-use crate::style::{ReportPart, ReportStyle, has_succeeded, status_name};
+use crate::style::{ReportPart, ReportStyle, answer_name, has_succeeded};
 use arrayvec::ArrayString;
 use std::fmt::Write as _;
 use std::io::Write;
 use uda_disk::Answer;
 use uda_grammar::ScriptError;
 
-/// The room for a line of the report. A number, two words, a number of 32 bits and the spaces are 42 bytes at
-/// most, and a name in parentheses 34.
-const LINE_ROOM: usize = 128;
+/// The capacity of a line of the report in bytes. A number, two words, a number of 32 bits and the spaces
+/// are 42 bytes at most, and a name in parentheses 34.
+const REPORT_LINE_ROOM: usize = 128;
 
-/// Writes the bytes of all `Data` answers, in the order of their requests, and flushes `out`. Where a
-/// write fails, or the flush, the answer is [`ScriptError::Write`].
-pub fn put_out<W: Write>(out: &mut W, answers: &[Answer]) -> Result<(), ScriptError>
+/// Writes the bytes of all `Data` answers, in the order of their requests, and flushes `out`. Fails with
+/// [`ScriptError::Write`] if a write or the flush fails.
+pub fn put_all_data<W: Write>(out: &mut W, answers: &[Answer]) -> Result<(), ScriptError>
     ensures whole { OnOk result
         (Appends (W.contents out.old) (W.contents out.new) (out_text (answer_values answers.now))) }
     ensures begun { OnErr result (AppendsBeginning (W.contents out.old) (W.contents out.new)
@@ -34,8 +34,8 @@ pub fn put_out<W: Write>(out: &mut W, answers: &[Answer]) -> Result<(), ScriptEr
     flush(out)
 }
 
-/// Writes the lines of these answers, and flushes `report`. If a write or the flush fails, returns
-/// [`ScriptError::Write`].
+/// Writes the lines of these answers, and flushes `report`. Fails with [`ScriptError::Write`] if a write or
+/// the flush fails.
 pub fn put_report<V: Write>(
     report: &mut V,
     part: ReportPart,
@@ -54,7 +54,7 @@ pub fn put_report<V: Write>(
     flush(report)
 }
 
-// Writes what the report has of one answer in this style.
+// Writes the line of one answer in this style, if it has one.
 fn put_styled<V: Write>(
     report: &mut V,
     style: ReportStyle,
@@ -76,7 +76,7 @@ fn put_styled<V: Write>(
     }
 }
 
-// The bytes that an answer brings, if it brings any.
+// Writes the bytes of an answer, if it has any.
 fn put_data<W: Write>(out: &mut W, answer: &Answer) -> Result<(), ScriptError>
     ensures whole { OnOk result (Appends (W.contents out.old) (W.contents out.new)
         (answer_bytes (answer_value answer.now))) }
@@ -90,7 +90,7 @@ fn put_data<W: Write>(out: &mut W, answer: &Answer) -> Result<(), ScriptError>
     }
 }
 
-// A line of the report. It is made whole in a buffer of its own before any of it is written.
+// Writes a line of the report. It makes the whole line in a buffer before it writes any of it.
 fn put_line<V: Write>(report: &mut V, number: usize, answer: &Answer) -> Result<(), ScriptError>
     ensures whole { OnOk result (Appends (V.contents report.old) (V.contents report.new)
         (report_line number (answer_value answer.now))) }
@@ -98,14 +98,14 @@ fn put_line<V: Write>(report: &mut V, number: usize, answer: &Answer) -> Result<
         (report_line number (answer_value answer.now))) }
     ensures error { IfErr result (λ e. e ≡ ScriptError.Write) }
 {
-    let mut line = ArrayString::<LINE_ROOM>::new();
+    let mut line = ArrayString::<REPORT_LINE_ROOM>::new();
     match writeln!(line, "{number} {answer}") {
         Ok(()) => put_all(report, line.as_bytes()),
         Err(_) => Err(ScriptError::Write),
     }
 }
 
-// A line with the name of the answer's status, made whole before any of it is written.
+// Writes a line with the name of the answer's status. It makes the whole line before it writes any of it.
 fn put_named<V: Write>(report: &mut V, number: usize, answer: &Answer) -> Result<(), ScriptError>
     ensures whole { OnOk result (Appends (V.contents report.old) (V.contents report.new)
         (named_line number (answer_value answer.now))) }
@@ -113,8 +113,8 @@ fn put_named<V: Write>(report: &mut V, number: usize, answer: &Answer) -> Result
         (named_line number (answer_value answer.now))) }
     ensures error { IfErr result (λ e. e ≡ ScriptError.Write) }
 {
-    let mut line = ArrayString::<LINE_ROOM>::new();
-    let name = status_name(answer);
+    let mut line = ArrayString::<REPORT_LINE_ROOM>::new();
+    let name = answer_name(answer);
     match writeln!(line, "{number} {answer} ({name})") {
         Ok(()) => put_all(report, line.as_bytes()),
         Err(_) => Err(ScriptError::Write),

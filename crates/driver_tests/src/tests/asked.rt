@@ -1,23 +1,23 @@
-//! Requests and answers as a table has them.
+//! Requests and answers in the form of the tables.
 use std::alloc::{AllocError, Global};
 use uda_disk::{Answer, Request};
 
-/// A request, of unit 0 where it names none.
+/// A request, for unit 0 if it has no unit.
 #[derive(Clone, Copy)]
 pub enum Ask {
     /// Brings the unit online.
     Online,
-    /// Brings the unit online, protected.
+    /// Brings the unit online, with software protection.
     Protect,
     /// Makes the unit available.
     Available,
     /// Asks for a unit's state.
     Status(u16),
-    /// Reads bytes from a block on.
+    /// Reads bytes, starting at a block.
     Read(u32, u64),
-    /// Reads bytes from block 0 on, which go nowhere.
+    /// Reads bytes, starting at block 0, without returning them.
     Access(u64),
-    /// Writes a byte, a number of times, from a block on.
+    /// Writes a byte, a number of times, starting at a block.
     Write(u32, u8, usize),
     /// Clears block 0.
     Erase,
@@ -62,9 +62,9 @@ pub enum Reply {
     Online(u16, u16, u32),
     /// A status, without flags.
     Status(u16),
-    /// A status, and how many bytes were moved.
+    /// A status, and the number of bytes moved.
     Moved(u16, u32),
-    /// Success, with bytes: a byte, how often it comes, and how many zeros follow.
+    /// Success, with bytes: a byte, how many times it occurs, and how many zeros follow.
     Data(u8, usize, usize),
     /// A status, without bytes.
     NoData(u16),

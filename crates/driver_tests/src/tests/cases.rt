@@ -1,8 +1,9 @@
-//! What a driver answers, by the state of its unit, the order of its requests, and what its store does.
+//! The answers of a driver, by the state of its unit, the order of its requests, and the behaviour of its
+//! store.
 use super::asked::{Ask, Reply};
 use super::stores::{Case, Over};
 
-/// Eight blocks, of which the last isn't zeros.
+/// Eight blocks, of which only the last isn't zeros.
 const LAST_OF_EIGHT: &[u16] = &[0, 0, 0, 0, 0, 0, 0, 0x3737];
 
 /// Ten blocks that differ.

@@ -1,4 +1,4 @@
-//! The stores that cases are over, and what a driver does over them.
+//! The stores of the cases, and the execution of a case over them.
 use super::asked::{Ask, Reply};
 use arrayvec::ArrayVec;
 use std::alloc::{AllocError, Global};
@@ -9,7 +9,7 @@ use std::{env, fs, io, process};
 use uda_driver::Driver;
 use uda_image::{BlockStore, Drive, FailingImage, FileImage, MemImage, StoreError};
 
-/// A store over an image, faithful as that is, that keeps the first block of each call.
+/// A store over an image, which is faithful. It keeps the first block of each call.
 #[derive(Drop)]
 struct Recorder {
     image: MemImage,
@@ -18,13 +18,13 @@ struct Recorder {
 
 impl BlockStore for Recorder {
     ghost use Rattle.uda_image.specs.Image.{image_state};
-    ghost use Rattle.uda_image.specs.StoreLaws.{block_count-le, IsImage-blocks_of};
+    ghost use Rattle.uda_image.specs.StoreLaws.{block_count-le, HasWholeBlocks-blocks_of};
 
     ghost state = { λ recorder. image_state recorder.image };
 
     ghost within_limit = { λ recorder. block_count-le recorder.image };
 
-    ghost is_image = { λ recorder _. IsImage-blocks_of recorder.image };
+    ghost is_image = { λ recorder _. HasWholeBlocks-blocks_of recorder.image };
 
     fn size(&self) -> u32 {
         self.image.size()
@@ -41,18 +41,18 @@ impl BlockStore for Recorder {
     }
 }
 
-/// What the image of unit 0 is; there is no other unit.
+/// The kind of image of unit 0. There is no other unit.
 #[derive(Clone, Copy)]
 pub enum Over {
     /// Memory.
     Memory,
     /// Memory with hardware protection.
     Protected,
-    /// Memory, of which the call of this number fails.
+    /// Memory. The call of this number fails.
     Failing(u32),
     /// Memory, called at these blocks in this order.
     Calls(&'static [u32]),
-    /// A file that has four blocks left, since it was opened.
+    /// A file that was shortened to four blocks after it was opened.
     ShortenedFile,
 }
 
@@ -61,11 +61,11 @@ pub enum Over {
 pub struct Case {
     pub name: &'static str,
     pub over: Over,
-    /// Each block by the byte of its first half and that of its second.
+    /// Each block, given by the byte of its first half and that of its second.
     pub blocks: &'static [u16],
     /// The requests of each run, with their answers.
     pub runs: &'static [&'static [(Ask, Reply)]],
-    /// The blocks afterwards, where they are compared.
+    /// The blocks afterwards, if they are compared.
     pub left: Option<&'static [u16]>,
 }
 
@@ -80,7 +80,7 @@ fn bytes_of(alloc: Global, blocks: &[u16]) -> Result<Vec<u8>, AllocError> {
     Ok(bytes)
 }
 
-// Returns drives of which this store is unit 0, and there is no other.
+// Returns drives of which only unit 0 exists, with this store.
 fn alone<S>(store: S, hard: bool) -> [Option<Drive<S>>; 4] {
     [Some(Drive { store, hard }), None, None, None]
 }
@@ -123,7 +123,7 @@ fn first_of<S: Drop>(drives: [Option<Drive<S>>; 4]) -> Option<S> {
     }
 }
 
-// Has the requests of a run done, and returns whether each has its answer.
+// Executes the requests of a run, and returns whether each has its answer.
 fn is_answered<S: BlockStore>(
     alloc: Global,
     driver: &mut Driver<S>,
@@ -145,8 +145,8 @@ fn is_answered<S: BlockStore>(
 }
 
 impl Case {
-    /// Has the runs done, and returns the index of the first with a wrong answer: their count where the blocks
-    /// afterwards or the store's calls are wrong, and None where nothing is.
+    /// Executes the runs, and returns the index of the first with a wrong answer. Returns the number of
+    /// runs if the blocks afterwards or the store's calls are wrong, and `None` if nothing is.
     pub fn first_wrong(&self, rt: &HostRuntime) -> Result<Option<usize>, Fail> {
         let alloc = rt.alloc();
         let image = MemImage::from_bytes(alloc, &bytes_of(alloc, self.blocks)?)?;
@@ -159,7 +159,7 @@ impl Case {
         }
     }
 
-    // Has the runs done, and returns the index of the first with a wrong answer.
+    // Executes the runs, and returns the index of the first with a wrong answer.
     fn run<S: BlockStore>(
         &self,
         alloc: Global,
@@ -196,7 +196,7 @@ impl Case {
         }
     }
 
-    // Returns what was found wrong, and else the count of runs where these aren't the bytes afterwards.
+    // Returns the wrong run that was found, or the number of runs if these aren't the bytes afterwards.
     fn judge(
         &self,
         alloc: Global,
@@ -242,7 +242,7 @@ impl Case {
     }
 }
 
-// Makes a file of these bytes, with a name of this process's own.
+// Makes a file of these bytes, with a name that only this process uses.
 fn scratch_file(rt: &HostRuntime, bytes: &[u8]) -> io::Result<PathBuf> {
     let alloc = rt.alloc();
     let name = format!(in alloc; "uda-driver-{}", process::id(rt.process()))?;

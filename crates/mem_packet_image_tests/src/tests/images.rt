@@ -1,6 +1,6 @@
-//! What no clause says: errors' texts, files, and the images' calls at concrete values.
+//! Facts that no clause states: the errors' texts, files, and the images' calls with concrete values.
 ghost use Rattle.std.specs.Prelude.{◌≡◌, ◌+◌, ◌<◌, true, IfOk, IsOk, slice_set, is_ok, if◌then◌else◌};
-ghost use Rattle.uda_image.specs.Store.{IsImage, KeepsNature};
+ghost use Rattle.uda_image.specs.Store.{HasWholeBlocks, KeepsAttributes};
 
 use std::alloc::{AllocError, Global};
 use std::fs::File;
@@ -9,7 +9,7 @@ use std::test::Fail;
 use std::{env, fs, io, process};
 use uda_image::{BlockStore, FailingImage, FileImage, ImageError, MemImage, StoreError};
 
-// Generic code over a store has only what the trait says.
+// Writes and reads a block. Generic code over a store knows only the clauses of the trait.
 fn write_then_read<S: BlockStore>(
     store: &mut S,
     n: u32,
@@ -17,8 +17,8 @@ fn write_then_read<S: BlockStore>(
     to: &mut [u8; 512],
 ) -> Result<(), StoreError>
     requires { n < (S.state store.old).size }
-    ensures nature { KeepsNature (S.state store.old) (S.state store.new) }
-    ensures sure { (S.state store.old).never_fails ≡ true → IsOk result }
+    ensures attributes { KeepsAttributes (S.state store.old) (S.state store.new) }
+    ensures infallible { (S.state store.old).never_fails ≡ true → IsOk result }
     ensures same { (S.state store.old).faithful ≡ true → IfOk result (λ _. to.new ≡ from.now) }
     ensures written { (S.state store.old).faithful ≡ true
         → IfOk result (λ _.
@@ -27,13 +27,13 @@ fn write_then_read<S: BlockStore>(
         → (S.state store.new).failures
         ≡ (S.state store.old).failures + (if is_ok result then 0 else 1) }
     ensures image { (S.state store.old).faithful ≡ true
-        → IsImage (S.state store.old).size (S.state store.new).blocks }
+        → HasWholeBlocks (S.state store.old).size (S.state store.new).blocks }
 {
     store.write(n, from)?;
     store.read(n, to)
 }
 
-/// Returns a block by the bytes of its first half and its second: 0x4400 is 256 times 0x44, then zeros.
+/// Returns a block by the bytes of its halves: 0x4400 is 256 times 0x44, then zeros.
 fn block_of(halves: u16) -> [u8; 512] {
     let [first, last] = halves.to_be_bytes();
     let mut block = [first; 512];
@@ -41,7 +41,7 @@ fn block_of(halves: u16) -> [u8; 512] {
     block
 }
 
-// Returns the bytes of these blocks, one after the other.
+// Returns the bytes of these blocks, one after another.
 fn bytes_of(alloc: Global, blocks: &[u16]) -> Result<Vec<u8>, AllocError> {
     let mut bytes = Vec::new(alloc);
     for halves in blocks {
@@ -50,14 +50,14 @@ fn bytes_of(alloc: Global, blocks: &[u16]) -> Result<Vec<u8>, AllocError> {
     Ok(bytes)
 }
 
-/// A call of a store, with what comes of it.
+/// A call of a store, with its result.
 #[derive(Clone, Copy)]
 enum Call {
-    /// How many blocks there are.
+    /// The number of blocks.
     Size(u32),
     /// A block is read.
     Read(u32, u16),
-    /// A block can't be read, and nothing is written where it was to go.
+    /// A block can't be read, and its buffer is unchanged.
     FailRead(u32),
     /// A block is written.
     Write(u32, u16),
@@ -65,14 +65,15 @@ enum Call {
     FailWrite(u32),
     /// A block is written and then read again.
     WriteThenRead(u32, u16),
-    /// Two blocks are read at once, or the store declines; and what is then where they were to go, where it is known.
+    /// Two blocks are read at once, or the store declines. The buffer then holds these blocks, if they are
+    /// given.
     ReadTwo(u32, bool, Option<(u16, u16)>),
     /// Three blocks of one byte are written at once, or the store declines.
     WriteThree(u32, u8, bool),
 }
 
 impl Call {
-    /// Makes the call, and returns whether that comes of it.
+    /// Makes the call, and returns whether it has that result.
     fn is_answered<S: BlockStore>(self, store: &mut S) -> bool {
         let size = store.size();
         let mut block = [0x77; 512];
@@ -94,17 +95,17 @@ impl Call {
             }
             Call::ReadTwo(n, wanted, blocks) if n < size && size - n >= 2 => {
                 let mut two = [0x77; 1024];
-                store.read_at_once(n, 2, &mut two) == wanted && are_two(&two, blocks)
+                store.try_read_blocks(n, 2, &mut two) == wanted && are_two(&two, blocks)
             }
             Call::WriteThree(n, byte, wanted) if n < size && size - n >= 3 => {
-                store.write_at_once(n, 3, &[byte; 1536]) == wanted
+                store.try_write_blocks(n, 3, &[byte; 1536]) == wanted
             }
             _ => false,
         }
     }
 }
 
-// Returns whether these are two blocks, where they are known.
+// Returns whether these are two blocks, if they are given.
 fn are_two(bytes: &[u8; 1024], blocks: Option<(u16, u16)>) -> bool {
     let Some((one, other)) = blocks else {
         return true;
@@ -123,18 +124,18 @@ fn first_wrong<S: BlockStore>(store: &mut S, calls: &[Call]) -> Option<usize> {
     None
 }
 
-/// What an image is made of, and which of its calls fails.
+/// The kind of an image, and the call of it that fails.
 #[derive(Clone, Copy)]
 enum Over {
     /// Memory.
     Memory,
-    /// Memory, of which the call of this number fails.
+    /// Memory. The call of this number fails.
     Failing(u32),
-    /// A file that may be written.
+    /// A file that is writable.
     File,
-    /// A file that may not be written.
+    /// A file that is not writable.
     LockedFile,
-    /// A file that has four blocks left, since it was opened.
+    /// A file that was shortened to four blocks after it was opened.
     ShortenedFile,
 }
 
@@ -153,7 +154,7 @@ const EIGHT: &[u16] = &[
     0x3030, 0x3131, 0x3232, 0x3333, 0x3434, 0x3535, 0x3636, 0x3737,
 ];
 
-/// The same after three blocks were written at once from block 5 on.
+/// The same after a write of three blocks at once from block 5.
 const EIGHT_WRITTEN: &[u16] = &[
     0x3030, 0x3131, 0x3232, 0x3333, 0x3434, 0x4444, 0x4444, 0x4444,
 ];
@@ -271,7 +272,7 @@ const CASES: [Case; 14] = [
         ],
         left: EIGHT,
     },
-    // four blocks are left of the eight, of which a call that goes beyond them reads too few
+    // four blocks of the eight are left; a call for more of them reads too few
     Case {
         name: "a shortened file declines reads",
         over: Over::ShortenedFile,
@@ -284,7 +285,7 @@ const CASES: [Case; 14] = [
         ],
         left: &[0x3030, 0x3131, 0x3232, 0x3333],
     },
-    // a store of single blocks declines, which is none of its calls
+    // a store of single blocks declines, which doesn't count as a call
     Case {
         name: "single blocks decline",
         over: Over::Failing(1),
@@ -301,8 +302,8 @@ const CASES: [Case; 14] = [
 ];
 
 impl Case {
-    /// Makes the calls, and returns the index of the first with a wrong answer: their count where the blocks
-    /// afterwards are wrong, and None where nothing is.
+    /// Makes the calls, and returns the index of the first with a wrong answer. Returns the number of calls
+    /// if the blocks afterwards are wrong, and `None` if nothing is.
     fn first_wrong(&self, rt: &HostRuntime) -> Result<Option<usize>, Fail> {
         let blocks = bytes_of(rt.alloc(), self.blocks)?;
         match self.over {
@@ -323,7 +324,7 @@ impl Case {
         }
     }
 
-    // Over a file that has this length once it is open.
+    // Makes the calls over a file that has this length once it is open.
     fn over_file(
         &self,
         rt: &HostRuntime,
@@ -340,7 +341,7 @@ impl Case {
         self.judge(rt.alloc(), wrong, &left)
     }
 
-    // Returns what was found wrong, and else the count of calls where these aren't the bytes afterwards.
+    // Returns the wrong call that was found, or the number of calls if these aren't the bytes afterwards.
     fn judge(
         &self,
         alloc: Global,
@@ -394,7 +395,7 @@ fn errors(rt: HostRuntime) -> Result<(), Fail> {
     Ok(())
 }
 
-// Returns the path of a file of this process's own, by a word.
+// Returns a path that only this process uses, ending in a word.
 fn path_of(rt: &HostRuntime, word: &str) -> io::Result<PathBuf> {
     let name = format!(in rt.alloc(); "uda-image-{}-{word}", process::id(rt.process()))?;
     Ok(env::temp_dir(rt)?.join(rt.alloc(), name.as_str())?)
@@ -414,7 +415,7 @@ fn take_file(rt: &HostRuntime, path: &PathBuf) -> io::Result<Vec<u8>> {
     Ok(bytes)
 }
 
-// Gives a file this length.
+// Sets the length of a file.
 fn set_len(rt: &HostRuntime, path: &PathBuf, len: u64) -> io::Result<()> {
     File::options()
         .write(true)
@@ -422,7 +423,8 @@ fn set_len(rt: &HostRuntime, path: &PathBuf, len: u64) -> io::Result<()> {
         .set_len(len)
 }
 
-// Opens a file of `len` zeros as an image, which may be large or not, and removes it. Returns the image's size.
+// Opens a file of `len` zeros as an image, which may be large or not, and removes it. Returns the image's
+// size.
 fn open_of(rt: &HostRuntime, len: u64, large: bool) -> io::Result<Result<u32, ImageError>> {
     let path = file_of(rt, "long", &[])?;
     set_len(rt, &path, len)?;
@@ -463,9 +465,9 @@ fn is_closed(rt: &HostRuntime, path: &str, writable: bool) -> bool {
     FileImage::open(rt, path, writable).err() == Some(ImageError::Open)
 }
 
-// To open a running program to be written fails, whoever does it: what may not be written is opened for reading alone.
+// A running program can't be opened for writing. An image that isn't writable is opened for reading only.
 #[test]
-fn no_plain_file(rt: HostRuntime) -> Result<(), Fail> {
+fn non_regular_file_is_rejected(rt: HostRuntime) -> Result<(), Fail> {
     let missing = path_of(&rt, "missing")?;
     let folder = path_of(&rt, "folder")?;
     fs::create_dir(&rt, folder.as_path())?;
@@ -479,8 +481,8 @@ fn no_plain_file(rt: HostRuntime) -> Result<(), Fail> {
     Ok(())
 }
 
-// Returns whether a file can be opened as an image that may be written, and as one that may not, while
-// it is open as this one.
+// Returns whether a file that is open as this image can be opened as another: as a writable one, and as one
+// that is not.
 fn beside(rt: &HostRuntime, path: &PathBuf, writable: bool) -> Result<(bool, bool), ImageError> {
     let held = FileImage::open(rt, path.as_str(), writable)?;
     let is_writable = !is_closed(rt, path.as_str(), true);

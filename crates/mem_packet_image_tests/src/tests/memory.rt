@@ -1,4 +1,4 @@
-//! Host memory by its calls: a table of memories, with the calls of each and their answers.
+//! Host memory by its calls: a table of memories, with the calls of each and their results.
 ghost use Rattle.std.specs.Prelude.{◌≡◌, if◌then◌else◌};
 ghost use Rattle.uda_mem.specs.Put.{put};
 
@@ -6,10 +6,10 @@ use std::alloc::{AllocError, Global};
 use std::test::Fail;
 use uda_mem::{HostMemory, MEMORY_LIMIT, NoMemory};
 
-/// A call that leaves a memory as it is, and its answer.
+/// A call that leaves a memory unchanged, and its result.
 #[derive(Clone, Copy)]
 enum Look {
-    /// How many bytes there are.
+    /// The number of bytes.
     Len(u32),
     /// Whether an address has this many bytes.
     Has(u32, u32, bool),
@@ -19,16 +19,16 @@ enum Look {
     Bytes(u32, &'static [u8]),
     /// Whether an address has a window of this many bytes.
     Window(u32, u32, bool),
-    /// The block at an address: all of a byte, or none.
+    /// The block at an address, filled with a byte, or none.
     Block(u32, Option<u8>),
-    /// The block at an address that has one: all of a byte.
+    /// The block at an address that has one, filled with a byte.
     BlockAt(u32, u8),
     /// Whether an address has a block.
     HasBlock(u32, bool),
 }
 
 impl Look {
-    /// Returns whether a memory answers so.
+    /// Returns whether a memory gives this result.
     fn is_true_of(self, memory: &HostMemory) -> bool {
         match self {
             Look::Len(wanted) => memory.len() == wanted,
@@ -49,29 +49,29 @@ impl Look {
     }
 }
 
-/// A call that lends a memory to be written, and what comes of it.
+/// A call that borrows a memory for writing, and its result.
 #[derive(Clone, Copy)]
 enum Change {
     /// A word is written, or isn't.
     Word(u32, u16, bool),
-    /// A word is put where there is one.
+    /// A word is put at an address that has one.
     PutWord(u32, u16),
     /// Bytes are written through a window.
     Window(u32, &'static [u8]),
-    /// Bytes are written through a window that is known to be there.
+    /// Bytes are written through a window that is known to exist.
     Within(u32, &'static [u8]),
-    /// No window of this many bytes is lent.
+    /// There is no window of this many bytes.
     NoWindow(u32, u32),
-    /// A block is lent.
+    /// There is a block.
     HasBlock(u32),
     /// A block is filled with a byte, or isn't.
     Block(u32, u8, bool),
-    /// A block that is known to be there is filled with a byte.
+    /// A block that is known to exist is filled with a byte.
     BlockWithin(u32, u8),
 }
 
 impl Change {
-    /// Makes the change, and returns whether that came of it.
+    /// Makes the change, and returns whether it has that result.
     fn is_made(self, memory: &mut HostMemory) -> bool {
         match self {
             Change::Word(addr, word, wanted) => memory.write_word(addr, word) == wanted,
@@ -107,7 +107,7 @@ impl Change {
     }
 }
 
-// What `block_mut` says of its loan is enough for a caller to say what it wrote.
+// Fills a block. The contract of `block_mut` is enough to prove what the caller wrote.
 fn fill_block(memory: &mut HostMemory, addr: u32, block: &[u8; 512]) -> bool
     ensures { memory.new ≡ (if result then put memory.old addr block.now else memory.old) }
 {
@@ -129,7 +129,7 @@ enum Call {
 
 use Call::{Do, See};
 
-/// Memories by their lengths, each with what is seen of it and done to it.
+/// Memories by their lengths, each with the calls of it.
 const MEMORIES: [(u32, &[Call]); 6] = [
     // an empty memory has no word
     (
@@ -162,7 +162,7 @@ const MEMORIES: [(u32, &[Call]); 6] = [
             See(Look::Bytes(0, &[0x34, 0x12])),
         ],
     ),
-    // the largest memory ends at the I/O page; an address and a length are whole numbers, whose sum never wraps
+    // the largest memory ends at the I/O page; the sum of an address and a length never wraps
     (
         MEMORY_LIMIT,
         &[
@@ -201,7 +201,7 @@ const MEMORIES: [(u32, &[Call]); 6] = [
             See(Look::Bytes(253_948, &[0, 0, 0xcd, 0xab])),
         ],
     ),
-    // what is written through a window lands in it
+    // bytes written through a window change only that window
     (
         8,
         &[
@@ -234,7 +234,7 @@ const MEMORIES: [(u32, &[Call]); 6] = [
             Do(Change::Block(u32::MAX, 9, false)),
         ],
     ),
-    // what is known to be there is written
+    // words, bytes and blocks that are known to exist are written
     (
         514,
         &[

@@ -1,4 +1,4 @@
-//! Memory in slices by its calls: a table of slices, with the calls of each and their answers.
+//! Memory in slices by its calls: a table of slices, with the calls of each and their results.
 
 use std::test::Fail;
 use uda_mem::{
@@ -6,7 +6,7 @@ use uda_mem::{
     read_word, window, write_word,
 };
 
-/// A call of a slice, with what comes of it.
+/// A call of a slice, with its result.
 #[derive(Clone, Copy)]
 enum Call {
     /// Whether an address has this many bytes.
@@ -17,20 +17,20 @@ enum Call {
     Bytes(u32, &'static [u8]),
     /// The last byte of the block at an address.
     EndOfBlock(u32, u8),
-    /// Bytes are put where there are as many.
+    /// Bytes are put at an address that has that many.
     Put(u32, &'static [u8]),
-    /// A word is put where there is one.
+    /// A word is put at an address that has one.
     PutWord(u32, u16),
-    /// This many zeros are put where there are as many bytes.
+    /// This many zeros are put at an address that has that many bytes.
     PutZeros(u32, u32),
     /// Whether this many bytes can be a memory.
     IsMemory(usize, bool),
-    /// How many bytes a memory has.
+    /// The number of bytes of a memory.
     Len(u32),
 }
 
 impl Call {
-    /// Makes the call, and returns whether that comes of it.
+    /// Makes the call, and returns whether it has that result.
     fn is_answered(self, bytes: &mut [u8]) -> bool {
         match self {
             Call::Has(addr, len, wanted) => has(bytes, addr, len) == wanted,
@@ -122,7 +122,7 @@ const SLICES: [(usize, u8, &[Call]); 3] = [
     ),
 ];
 
-/// The calls of the bytes that a host memory of 8 lends.
+/// The calls of the bytes of a host memory of 8 bytes.
 const LENT: [Call; 3] = [
     Call::Len(8),
     Call::Has(4, 2, true),

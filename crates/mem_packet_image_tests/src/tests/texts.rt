@@ -1,4 +1,4 @@
-//! What no clause says: the worked examples' bytes, and the texts that a person reads.
+//! Facts that no clause states: the bytes of the worked examples, and the printed texts.
 
 ghost use Rattle.std.specs.Prelude.{◌≡◌};
 
@@ -8,21 +8,21 @@ use uda_packet::{
     encode_command, encode_end,
 };
 
-// A command that is written and read again. The clause is the round trip, whatever the command.
+// Encodes a command and decodes it again. The clause is the round trip, for any command.
 fn command_again(command: &Command) -> Result<Command, Bad>
     ensures { result ≡ Ok command.now }
 {
     decode_command(&encode_command(command))
 }
 
-// An end message that is written and read again.
+// Encodes an end message and decodes it again.
 fn end_again(end: &End) -> Option<End>
     ensures { result ≡ Some end.now }
 {
     decode_end(&encode_end(end))
 }
 
-// Returns a text that begins with these bytes, and is 0 from there on.
+// Returns a text that begins with these bytes, and is 0 after them.
 fn text_of(front: &[u8]) -> [u8; 48] {
     let mut text = [0; 48];
     let count = front.len().min(48);
@@ -161,12 +161,12 @@ fn ends_are_written_and_read(rt: HostRuntime) {
         assert_eq!(rt; decode_end(&text), Some(end));
         assert_eq!(rt; end_again(&end), Some(end));
     }
-    // a packet of another length
-    let other = End::of_other_length(&text_of(&UNKNOWN_END));
+    // a packet of invalid length
+    let other = End::for_invalid_length(&text_of(&UNKNOWN_END));
     assert_eq!(rt; other, end(7, 2, 0x0001, EndBody::Invalid));
 }
 
-/// Commands that are refused: the fault, its end message's body and status, and its text.
+/// Commands that are rejected: the invalid field, the end message's body and status, and the printed text.
 const REFUSED: [(&[u8], BadKind, EndBody, u16, &str); 4] = [
     (
         &[7, 0, 0, 0, 2, 0, 0, 0, 0x0b],
@@ -175,7 +175,7 @@ const REFUSED: [(&[u8], BadKind, EndBody, u16, &str); 4] = [
         0x0801,
         "reference 7, unit 2: no command has this opcode",
     ),
-    // an unknown opcode goes before a stray modifier
+    // an unknown opcode is checked before a stray modifier
     (
         &[7, 0, 0, 0, 2, 0, 0, 0, 0x0b, 0, 1, 0],
         BadKind::Opcode,
@@ -183,7 +183,7 @@ const REFUSED: [(&[u8], BadKind, EndBody, u16, &str); 4] = [
         0x0801,
         "reference 7, unit 2: no command has this opcode",
     ),
-    // a stray modifier of a Set Controller Characteristics goes before its version
+    // a stray modifier of a Set Controller Characteristics is checked before its version
     (
         &[9, 0, 0, 0, 0, 0, 0, 0, 4, 0, 1, 0, 1, 0],
         BadKind::Modifiers,
@@ -248,19 +248,19 @@ fn ends_as_texts(rt: HostRuntime) -> Result<(), Fail> {
 
 #[test]
 fn other_bytes_are_ignored(rt: HostRuntime) {
-    // a Read names its reference, unit, opcode, modifiers, count, address and block
+    // a Read uses its reference, unit, opcode, modifiers, count, address and block
     let read = text_of(&READ);
     let named = [
         0, 1, 2, 3, 4, 5, 8, 10, 11, 12, 13, 14, 15, 16, 17, 18, 19, 28, 29, 30, 31,
     ];
     assert_eq!(rt; decode_command(&with_noise(read, &named)), Ok(READ_COMMAND));
 
-    // an end message of Online tells nothing more by its flags, identifier and media type
+    // the end flags, identifier and media type of an Online's end message are not decoded
     let named = [0, 1, 2, 3, 4, 5, 8, 10, 11, 14, 15, 36, 37, 38, 39];
     let wanted = end(2, 3, 0, BROUGHT_ONLINE);
     assert_eq!(rt; decode_end(&with_noise(ONLINE_END, &named)), Some(wanted));
 
-    // opcodes and end codes are apart
+    // opcodes and end codes are distinct
     assert_eq!(rt; decode_end(&read), None);
     assert!(rt; decode_command(&text_of(&READ_END)).is_err());
 }

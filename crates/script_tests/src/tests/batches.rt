@@ -6,21 +6,21 @@ use uda_driver::Driver;
 use uda_image::{Drive, MemImage};
 use uda_script::{ScriptError, parse, run_script};
 
-/// A script over a drive of eight blocks as unit 0, its streams, and what comes of it. Its data is all of 7.
+/// A script over a drive of eight blocks as unit 0, its streams, and its result. Its data is all of 7.
 #[derive(Clone, Copy)]
 struct Batch {
     script: &'static str,
-    /// The blocks, each of one byte.
+    /// The blocks, each filled with one byte.
     blocks: [u8; 8],
-    /// How many bytes of data there are.
+    /// The number of bytes of data.
     held: usize,
     input: Manner,
     out: Manner,
     done: Result<(), ScriptError>,
-    /// What is written: a byte, and how often.
+    /// The written bytes: a byte, and how many times it occurs.
     written: (u8, usize),
     report: &'static str,
-    /// How many bytes of data are left.
+    /// The number of bytes of data that are left.
     unread: usize,
     /// The blocks afterwards.
     left: [u8; 8],
@@ -51,7 +51,7 @@ const ONE_READ: Batch = Batch {
 };
 
 const BATCHES: [Batch; 13] = [
-    // exactly what the lines take is read
+    // the data of the lines is read, and no more
     Batch {
         script: "online 0\nwrite 0 0 0\nwrite 0 3 1\nread 0 3 1\n",
         held: 600,
@@ -104,7 +104,7 @@ const BATCHES: [Batch; 13] = [
         left: [0xa5, 0xa5, 0, 0, 0, 0, 0, 0],
         ..EMPTY
     },
-    // parts of blocks
+    // partial blocks
     Batch {
         script: "online 0\neraseb 0 1 2\nwriteb 0 2 3\nreadb 0 1 4\n",
         blocks: [0x11; 8],
@@ -142,7 +142,7 @@ const BATCHES: [Batch; 13] = [
     },
 ];
 
-// Returns the bytes of blocks, each of one byte.
+// Returns the bytes of blocks, each filled with one byte.
 fn bytes_of(alloc: Global, blocks: &[u8; 8]) -> Result<Vec<u8>, AllocError> {
     let mut bytes = Vec::new(alloc);
     for byte in blocks {
@@ -171,7 +171,7 @@ fn are_all(bytes: &[u8], byte: u8) -> bool {
     true
 }
 
-// What comes of a batch.
+// The result of a batch.
 #[derive(Drop)]
 struct Outcome {
     done: Result<(), ScriptError>,
@@ -198,7 +198,7 @@ impl Batch {
         })
     }
 
-    // Returns whether an outcome is the one that is wanted.
+    // Returns whether an outcome is the expected one.
     fn is_outcome(&self, outcome: &Outcome) -> bool {
         let (byte, count) = self.written;
         outcome.done == self.done

@@ -1,9 +1,9 @@
-//! What the lines of a script ask for, by their texts.
+//! The requests of a script's lines, by their texts.
 use std::alloc::{AllocError, Global};
 use std::test::Fail;
 use uda_grammar::{Amount, Line, ScriptError, Statement, parse};
 
-/// Texts of one line, each with what it asks for.
+/// Texts of one line, each with its statement.
 const LINES: [(&str, Statement); 13] = [
     (
         "online 65535 protect\n",
@@ -96,7 +96,7 @@ const LINES: [(&str, Statement); 13] = [
     ),
 ];
 
-/// Texts with a line of no form, and that line's number.
+/// Texts with a line that has none of the forms, and that line's number.
 const BAD: [(&str, u64); 22] = [
     ("writeb 1 20 16385", 1),
     ("readb 1 20 02", 1),
@@ -122,7 +122,7 @@ const BAD: [(&str, u64); 22] = [
     (" # x", 1),
 ];
 
-/// Lines that ask for the state of two units, among lines that ask for nothing.
+/// Lines that request the state of two units, among lines without requests.
 const TWO: &[u8] = b"# x\r\n\nstatus 2\n#\nstatus 3";
 
 /// The two lines.
@@ -160,7 +160,7 @@ fn lines(rt: HostRuntime) {
     assert!(rt; are_lines(rt.alloc(), b"", &[]));
 }
 
-// Returns a text of this many requests, and then this end.
+// Returns a text of this many requests, followed by this end.
 fn many(alloc: Global, count: usize, end: &str) -> Result<Vec<u8>, AllocError> {
     let mut text = Vec::new(alloc);
     for _ in 0..count {

@@ -1,21 +1,21 @@
-//! The program by its words, over streams that fail.
+//! The program by its arguments, over streams that fail.
 use super::streams::{Manner, Sink, Source};
 use std::alloc::{AllocError, Global};
 use std::path::PathBuf;
 use std::test::Fail;
 use std::{env, fs, io, process};
-use uda_script::{program, unreadable_words};
+use uda_script::{program, unreadable_arguments};
 
-/// What the program is to do.
+/// The arguments of the program.
 #[derive(Clone, Copy)]
 enum Words {
-    /// One word alone.
+    /// Only this argument.
     One(&'static str),
-    /// To run this script over an image of these blocks, each of one byte.
+    /// The run of this script over an image of these blocks, each filled with one byte.
     Run(&'static str, &'static [u8]),
 }
 
-/// A run of the program, its streams, and what comes of it. Its data is all of 0x42.
+/// A run of the program, its streams, and its result. Its data is all of 0x42.
 #[derive(Clone, Copy)]
 struct Case {
     words: Words,
@@ -23,9 +23,9 @@ struct Case {
     out: Manner,
     report: Manner,
     status: u8,
-    /// How many bytes are written, where it is compared.
+    /// The number of bytes that are written, if it is compared.
     written: Option<usize>,
-    /// What is reported, where it is compared.
+    /// The report, if it is compared.
     reported: Option<&'static str>,
     /// The image's blocks afterwards.
     left: &'static [u8],
@@ -92,7 +92,7 @@ const CASES: [Case; 15] = [
         reported: Some("1 0000 0000 1\n2 0000 512\n"),
         ..READ
     },
-    // what can't be handed on isn't written
+    // what can't be flushed isn't written
     Case {
         out: Manner::Stuck,
         ..PROBE
@@ -112,7 +112,7 @@ const CASES: [Case; 15] = [
         reported: None,
         ..READ
     },
-    // nothing that was gathered before a write failed comes after it
+    // nothing that was buffered before a write failed is written after it
     Case {
         out: Manner::Recovering,
         written: Some(0),
@@ -135,7 +135,7 @@ const CASES: [Case; 15] = [
     },
 ];
 
-// Returns the path of a file of this process's own, by a word.
+// Returns a path that only this process uses, ending in a word.
 fn path_of(rt: &HostRuntime, word: &str) -> io::Result<PathBuf> {
     let name = format!(in rt.alloc(); "uda-script-{}-{word}", process::id(rt.process()))?;
     Ok(env::temp_dir(rt)?.join(rt.alloc(), name.as_str())?)
@@ -148,7 +148,7 @@ fn file_of(rt: &HostRuntime, word: &str, bytes: &[u8]) -> io::Result<PathBuf> {
     Ok(path)
 }
 
-// Returns the bytes of blocks, each of one byte.
+// Returns the bytes of blocks, each filled with one byte.
 fn bytes_of(alloc: Global, blocks: &[u8]) -> Result<Vec<u8>, AllocError> {
     let mut bytes = Vec::new(alloc);
     for byte in blocks {
@@ -157,7 +157,7 @@ fn bytes_of(alloc: Global, blocks: &[u8]) -> Result<Vec<u8>, AllocError> {
     Ok(bytes)
 }
 
-// What comes of a run: its status, and the image's bytes afterwards.
+// The result of a run: its status, and the image's bytes afterwards.
 #[derive(Drop)]
 struct Outcome {
     status: u8,
@@ -186,7 +186,7 @@ impl Case {
         }
     }
 
-    // Returns whether these streams took what they were to take.
+    // Returns whether these streams have the expected bytes.
     fn are_written(&self, out: &Sink, report: &Sink) -> bool {
         (out.was_called() || !matches!(self.out, Manner::Recovering))
             && self.written.unwrap_or(out.taken.len()) == out.taken.len()
@@ -212,14 +212,14 @@ fn streams_that_fail(rt: HostRuntime) -> Result<(), Fail> {
 }
 
 #[test]
-fn words_that_cannot_be_read(rt: HostRuntime) -> Result<(), Fail> {
+fn unreadable_arguments_are_reported(rt: HostRuntime) -> Result<(), Fail> {
     for (kind, status, text) in [
         (io::ErrorKind::InvalidData, 2, "uda: usage\n"),
         (io::ErrorKind::OutOfMemory, 1, "uda: out of memory\n"),
     ] {
         let mut report = Vec::new(rt.alloc());
         assert_eq!(rt;
-            unreadable_words(&io::Error::from(kind), &mut report),
+            unreadable_arguments(&io::Error::from(kind), &mut report),
             status
         );
         assert_eq!(rt; report.as_slice(), text.as_bytes());

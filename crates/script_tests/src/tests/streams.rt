@@ -1,30 +1,31 @@
-//! Streams that fail, and streams that move bytes by parts.
+//! Streams that fail, and streams that move bytes in parts.
 use std::alloc::Global;
 use std::io;
 use std::io::{Read, Write};
 
-/// How a stream moves bytes.
+/// The way in which a stream moves bytes.
 #[derive(Clone, Copy)]
 pub enum Manner {
-    /// All bytes of a call.
+    /// It moves all bytes of a call.
     Whole,
-    /// A byte a call.
+    /// It moves one byte in each call.
     Single,
-    /// A byte a call, and none once there are as many.
+    /// It moves one byte in each call, and none after this many.
     Narrow(usize),
-    /// As many, and then each call fails.
+    /// It moves this many bytes, and then each call fails.
     Room(usize),
-    /// At most this many bytes a call; the first call is interrupted, and then each second one.
+    /// It moves at most this many bytes in each call. The first call is interrupted, and then each second
+    /// one.
     Halting(usize),
-    /// All bytes of a call, but the first call fails.
+    /// It moves all bytes of a call, but the first call fails.
     Recovering,
-    /// None: each call fails.
+    /// It moves none: each call fails.
     Broken,
-    /// All bytes of a call, of which none can be handed on.
+    /// It takes all bytes of a call, but can't flush any.
     Stuck,
 }
 
-/// How often a stream was called, and how many bytes it moved.
+/// The number of calls of a stream, and the number of bytes that it moved.
 #[derive(Clone, Copy)]
 struct Pace {
     manner: Manner,
@@ -43,7 +44,7 @@ impl Pace {
         }
     }
 
-    // Returns how many bytes a call moves that could move this many.
+    // Returns how many bytes a call moves if it could move `most`.
     fn next(&mut self, most: usize) -> io::Result<usize> {
         self.calls = self.calls.saturating_add(1);
         let count = match self.manner {
@@ -87,7 +88,7 @@ impl Read for Source<'_> {
     }
 }
 
-/// A writer, and what it took.
+/// A writer, and the bytes that it received.
 #[derive(Drop)]
 pub struct Sink {
     pace: Pace,

@@ -1,4 +1,4 @@
-//! Scripts that are read from a stream while they run: batches and their borders.
+//! Scripts that are read from a stream while they run: batches and their boundaries.
 use super::batches::{driver_of, left_in};
 use super::streams::{Manner, Sink, Source};
 use std::alloc::Global;
@@ -6,27 +6,27 @@ use std::test::Fail;
 use uda_driver::{Driver, Unwatched};
 use uda_grammar::{Expected, Part, ScriptError, explain};
 use uda_image::MemImage;
-use uda_script_run::{Channels, Outcome, ReportStyle, TextError, run_text};
+use uda_script_run::{Channels, ReportStyle, ScriptOutcome, TextError, run_text};
 
-/// A script over a drive of eight blocks as unit 0: it brings the unit online, repeats a line, and then has a
-/// tail.
+/// A script over a drive of eight blocks as unit 0. It brings the unit online, repeats a line, and then has
+/// a tail.
 #[derive(Clone, Copy)]
 struct Text {
     line: &'static str,
-    /// How often the line comes.
+    /// The number of times that the line occurs.
     count: usize,
     tail: &'static str,
     style: ReportStyle,
-    /// How many bytes of data there are. All are 7.
+    /// The number of bytes of data. All are 7.
     held: usize,
     out: Manner,
-    done: Result<Outcome, TextError>,
-    /// How many bytes are written.
+    done: Result<ScriptOutcome, TextError>,
+    /// The number of bytes that are written.
     written: usize,
-    /// How many lines the report has, and how it ends.
+    /// The number of lines of the report, and its last line.
     lines: usize,
     last: &'static str,
-    /// How many bytes of data are left, if the run succeeds.
+    /// The number of bytes of data that are left, if the run succeeds.
     unread: usize,
 }
 
@@ -41,7 +41,7 @@ const ONLINE: Text = Text {
     },
     held: 0,
     out: Manner::Whole,
-    done: Ok(Outcome::AllSucceeded),
+    done: Ok(ScriptOutcome::AllSucceeded),
     written: 0,
     lines: 1,
     last: "1 0000 0000 8\n",
@@ -75,7 +75,7 @@ const TEXTS: [Text; 14] = [
         last: "\n65 0000 512\n",
         ..READS
     },
-    // more requests than a script of run_script may have
+    // more requests than a script of run_script can have
     Text {
         line: "status 0\n",
         count: 4_200,
@@ -83,7 +83,7 @@ const TEXTS: [Text; 14] = [
         last: "\n4201 0000 0000\n",
         ..ONLINE
     },
-    // data is taken over batches, and no more than the lines take
+    // several batches read the data of their lines, and no more
     Text {
         count: 100,
         held: 51_300,
@@ -111,7 +111,7 @@ const TEXTS: [Text; 14] = [
         last: "\n64 0000 512\n",
         ..READS
     },
-    // a line that is no statement: all requests before it are executed
+    // a line that is not a statement: all requests before it are executed
     Text {
         count: 100,
         tail: "read 0 0 1 \nread 0 0 1\n",
@@ -142,7 +142,7 @@ const TEXTS: [Text; 14] = [
         last: "\n4201 0000 0000\n",
         ..ONLINE
     },
-    // long lines: a comment, and one that is no statement
+    // long lines: a comment, and one that is not a statement
     Text {
         tail: "# a comment may have more bytes than any statement: all after the first are ignored\nstatus 0",
         lines: 2,
@@ -163,7 +163,7 @@ const TEXTS: [Text; 14] = [
     // failures
     Text {
         tail: "read 0 8 1\nstatus 0\n",
-        done: Ok(Outcome::SomeFailed),
+        done: Ok(ScriptOutcome::SomeFailed),
         lines: 3,
         last: "\n2 1c01 0\n3 0000 0000\n",
         ..ONLINE
@@ -174,7 +174,7 @@ const TEXTS: [Text; 14] = [
             names: true,
             failures_only: true,
         },
-        done: Ok(Outcome::SomeFailed),
+        done: Ok(ScriptOutcome::SomeFailed),
         last: "2 1c01 0 (invalid block number)\n",
         ..ONLINE
     },
@@ -184,17 +184,17 @@ const TEXTS: [Text; 14] = [
             names: true,
             failures_only: false,
         },
-        done: Ok(Outcome::SomeFailed),
+        done: Ok(ScriptOutcome::SomeFailed),
         lines: 2,
         last: "1 0000 0000 8 (success)\n2 long (too long)\n",
         ..ONLINE
     },
 ];
 
-// What comes of a text.
+// The result of a text.
 #[derive(Drop)]
 struct Ran {
-    done: Result<Outcome, TextError>,
+    done: Result<ScriptOutcome, TextError>,
     written: usize,
     report: Vec<u8>,
     unread: usize,
@@ -232,7 +232,7 @@ impl Text {
         })
     }
 
-    // Returns whether this is what is wanted.
+    // Returns whether this is the expected result.
     fn is_result(&self, got: &Ran) -> bool {
         got.done == self.done
             && got.written == self.written
@@ -258,7 +258,7 @@ fn texts(rt: HostRuntime) -> Result<(), Fail> {
     Ok(())
 }
 
-// Lines that are no statements, and what each should have had.
+// Lines that are not statements, with the expected parts.
 const EXPECTED: [(&str, &str); 9] = [
     (
         "raed 0 0 1",

@@ -1,4 +1,4 @@
-//! Units and requests drawn at random.
+//! Random units and requests.
 
 use rand_core::{Rng, SeedableRng};
 use rand_pcg::Pcg32;
@@ -6,32 +6,32 @@ use std::alloc::Global;
 use uda_disk::Request;
 use uda_mem::NoMemory;
 
-/// Draws units and requests at random: the same for the same seed.
+/// A source of random units and requests. The same seed gives the same ones.
 #[derive(Drop)]
 pub struct Draw {
     rng: Pcg32,
 }
 
 impl Draw {
-    /// A drawing from this seed.
+    /// Makes a source from this seed.
     pub fn new(seed: u64) -> Draw {
         Draw {
             rng: Pcg32::seed_from_u64(seed),
         }
     }
 
-    /// Whether something that comes once in so many times comes now.
+    /// Returns true once in `times` times, on average.
     pub fn once_in(&mut self, times: u32) -> bool {
         self.rng.next_u32() % times.max(1) == 0
     }
 
-    /// Up to a dozen blocks, each of one byte.
+    /// Returns up to a dozen blocks, each filled with one byte.
     pub fn blocks(&mut self, alloc: Global) -> Result<Vec<[u8; 512]>, NoMemory> {
         let count = self.rng.next_u32() % 13;
         self.filled(alloc, count)
     }
 
-    /// So many requests that a script can ask for: none writes more than a command may.
+    /// Returns `count` requests that a script can make: none writes more than one command can.
     pub fn script(&mut self, alloc: Global, count: u32) -> Result<Vec<Request>, NoMemory> {
         let mut requests = self.requests(alloc, count)?;
         for request in requests.iter_mut() {
@@ -42,7 +42,7 @@ impl Draw {
         Ok(requests)
     }
 
-    /// So many requests.
+    /// Returns `count` requests.
     pub fn requests(&mut self, alloc: Global, count: u32) -> Result<Vec<Request>, NoMemory> {
         let mut requests = Vec::new(alloc);
         for _ in 0..count {
@@ -54,7 +54,7 @@ impl Draw {
         Ok(requests)
     }
 
-    /// A request, as a rule of a unit that is there and of blocks near its end.
+    /// Returns a request, usually for a unit that exists and for blocks near its end.
     pub fn request(&mut self, alloc: Global) -> Result<Request, NoMemory> {
         let unit = self.unit();
         let lbn = self.rng.next_u32() % 13;
@@ -85,7 +85,7 @@ impl Draw {
         })
     }
 
-    // Unit 0 half of the time, and now and then one that no controller has.
+    // Returns a unit: most often 0, and sometimes one that no controller has.
     fn unit(&mut self) -> u16 {
         match self.rng.next_u32() % 32 {
             0..20 => 0,
@@ -97,8 +97,8 @@ impl Draw {
         }
     }
 
-    // The bytes of a few blocks, often with a part of one more, and now and then as many as a request may
-    // have, or one more.
+    // Returns a byte count: a few blocks, often with a part of one more. Sometimes it is the most that a
+    // request can have, or one more.
     fn count(&mut self, most: u32) -> u64 {
         let part = match self.rng.next_u32() % 16 {
             0 => 511,
@@ -111,7 +111,7 @@ impl Draw {
         }
     }
 
-    // So many bytes, those of a block of one byte.
+    // Returns `count` bytes, made of blocks that are each filled with one byte.
     fn payload(&mut self, alloc: Global, count: u64) -> Result<Vec<u8>, NoMemory> {
         let mut payload = Vec::new(alloc);
         for _ in 0..count.div_ceil(512) {
@@ -124,7 +124,7 @@ impl Draw {
         Ok(payload)
     }
 
-    // So many blocks, each of a byte of its own.
+    // Returns `count` blocks, each filled with a byte of its own.
     fn filled(&mut self, alloc: Global, count: u32) -> Result<Vec<[u8; 512]>, NoMemory> {
         let mut blocks = Vec::new(alloc);
         for _ in 0..count {

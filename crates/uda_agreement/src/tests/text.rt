@@ -3,17 +3,17 @@
 use std::alloc::{AllocError, Global};
 use uda_disk::Request;
 
-/// A script, and the data that its `write` and `writeb` lines take.
+/// A script, and the data for its `write` and `writeb` lines.
 #[derive(Drop)]
 pub struct Text {
     /// The script's lines.
     pub script: String,
-    /// The bytes of these lines, one after the other.
+    /// The bytes of these lines, one after another.
     pub data: Vec<u8>,
 }
 
-/// The script that asks for these requests: a Write of whole blocks is a `fill` where all its bytes are the
-/// same, and any other a `write` or a `writeb`.
+/// Returns the script that makes these requests. A Write of whole blocks is a `fill` if all its bytes are
+/// the same. Any other Write is a `write` or a `writeb`.
 pub fn text_of(alloc: Global, requests: &[Request]) -> Result<Text, AllocError> {
     let mut text = Text {
         script: String::new(alloc),
@@ -63,8 +63,8 @@ impl Text {
     }
 }
 
-// What stands behind the first word of a line for so many bytes, and how many it counts: blocks, or bytes
-// where the last is a part block.
+// Returns the end of a line's verb for this many bytes, and the count that the line has. It counts blocks,
+// or bytes if the last block is a partial one.
 fn counted(bytes: u64) -> (&'static str, u64) {
     if bytes % 512 == 0 {
         ("", bytes / 512)
@@ -73,7 +73,7 @@ fn counted(bytes: u64) -> (&'static str, u64) {
     }
 }
 
-// The one byte that whole blocks are made of.
+// Returns the byte that fills whole blocks, if there is one.
 fn uniform(payload: &[u8]) -> Option<u8> {
     let (first, rest) = payload.split_first()?;
     if payload.len() % 512 == 0 && rest.iter().all(|byte| byte == first) {

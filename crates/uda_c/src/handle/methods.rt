@@ -1,4 +1,4 @@
-//! What Rattle code does with a handle.
+//! Methods of a handle.
 ghost use Rattle.uda_c.specs.LendsController.{handle_follows};
 ghost use Rattle.std.specs.Option.{option_copied_mut, option_map};
 ghost use Rattle.std.specs.Prelude.{None, Some, ◌≡◌};
@@ -45,7 +45,7 @@ impl Handle {
     }
 }
 
-/// States that a handle may go from one thread to another, with the controller that it has. It does nothing.
+/// States that a handle may move to another thread, with its controller. It does nothing.
 pub fn handle_crosses_threads()
     ensures law { IsSend the_row }
 {}

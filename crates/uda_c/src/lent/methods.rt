@@ -1,11 +1,11 @@
-//! Reaching the bytes.
+//! Access to the bytes.
 ghost use Rattle.uda_c.specs.LendsBytes.{lent_follows};
 ghost use Rattle.std.specs.Prelude.{length, ◌≡◌};
 ghost use types.Logic.{sem};
 
-use super::Lent;
+use super::BorrowedBytes;
 
-impl Lent {
+impl BorrowedBytes {
     pub fn bytes_mut(&mut self) -> &mut [u8]
         ensures* writes_back { sem 𝓛 (lent_follows self.entry result) }
         ensures value { result.now ≡ self.old.held }

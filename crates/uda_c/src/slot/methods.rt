@@ -1,13 +1,13 @@
-//! What Rattle code does with a slot.
-ghost use Rattle.uda_c.specs.Slots.{Took, slot_of, is_empty};
+//! Methods of a slot.
+ghost use Rattle.uda_c.specs.Slots.{TakesSlot, slot_of, is_empty};
 ghost use Rattle.std.specs.Prelude.{◌≡◌};
 
 use super::Slot;
-use crate::lent::Lent;
+use crate::lent::BorrowedBytes;
 use std::ptr::null_mut;
 
 impl Slot {
-    /// Returns whether it has no bytes.
+    /// Returns whether the slot has no bytes.
     #[tactic(auto, using(crate::proofs::Lending::empty, crate::proofs::Lending::full))]
     pub fn is_empty(&mut self) -> bool
         ensures value { result ≡ is_empty self.old }
@@ -22,9 +22,9 @@ impl Slot {
         }
     }
 
-    /// Takes the bytes out, if there are any.
-    pub fn take(&mut self) -> Option<Lent>
-        ensures took { Took result self.old self.new }
+    /// Takes the bytes out of the slot, if there are any.
+    pub fn take(&mut self) -> Option<BorrowedBytes>
+        ensures took { TakesSlot result self.old self.new }
     {
         let len = self.len;
         if len == 0 {
@@ -33,14 +33,14 @@ impl Slot {
         let at = self.at;
         self.at = null_mut();
         self.len = 0;
-        Some(Lent { at, len })
+        Some(BorrowedBytes { at, len })
     }
 
-    /// Puts bytes in, over what there was.
-    pub fn put(&mut self, lent: Lent)
+    /// Puts bytes into the slot, over any former ones.
+    pub fn put(&mut self, lent: BorrowedBytes)
         ensures value { self.new ≡ slot_of lent }
     {
-        let Lent { at, len } = lent;
+        let BorrowedBytes { at, len } = lent;
         self.at = at;
         self.len = len;
     }

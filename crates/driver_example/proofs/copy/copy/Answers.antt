@@ -6,7 +6,7 @@ use Rattle.uda_disk.specs.Units.{AllFaithful}
 use Rattle.uda_disk.specs.Values.{answer_value, answer_values}
 use Rattle.uda_disk.specs.declared.answer.Answer.{Answer}
 use Rattle.uda_exec.proofs.Units.{faithful_stays}
-use Rattle.uda_driver.specs.Run.{units_of, tells_drive_error, IsPlainRun}
+use Rattle.uda_driver.specs.Run.{units_of, any_drive_error, IsInOrderRun}
 use Rattle.driver_example.proofs.Copies.{asked, bytes_read, is_copied}
 use Rattle.driver_example.proofs.copy.copy.Goals as goal
 
@@ -19,27 +19,27 @@ returns g c = record {
   copied = λ done.
       let units = units_of c.args.driver.now in
       let between = units_of c.run.new.self in let n : ℕ = c.args.blocks in
-      let untold : tells_drive_error (answer_values c.in_ok-read.read.items) ≡ false =
-      ap (λ (xs : List Answer). tells_drive_error (answer_values xs)) (sym c.deref.ensures.value)
-      ∙ sym c.tells_drive_error.ensures.told ∙ c.if-tells_drive_error.false in
-      let ran : IsPlainRun units (asked n) (answer_values c.in_ok-read.read.items) between =
-      subst (λ (k : ℕ). IsPlainRun units (asked k) (answer_values c.in_ok-read.read.items) between)
-      c.from.ensures (c.in_ok-read.ensures.headline_untold c.requires.faithful untold) in
+      let untold : any_drive_error (answer_values c.in_ok-read.read.items) ≡ false =
+      ap (λ (xs : List Answer). any_drive_error (answer_values xs)) (sym c.deref.ensures.value)
+      ∙ sym c.any_drive_error.ensures.found ∙ c.if-any_drive_error.false in
+      let ran : IsInOrderRun units (asked n) (answer_values c.in_ok-read.read.items) between =
+      subst (λ (k : ℕ). IsInOrderRun units (asked k) (answer_values c.in_ok-read.read.items) between)
+      c.from.ensures (c.in_ok-read.ensures.in_order_run_if_no_error c.requires.faithful untold) in
       let front = c.pop.new.self.items in
       let told : answer_values c.in_ok-read.read.items
       ≡ answer_values front ++ Data c.in-Some-Data.field-0-0 c.in-Some-Data.bytes.items ∷ [] =
       ap answer_values (c.pop.ensures.items ∙ ap (λ (r : Option Answer). front ++ option_to_list r)
       (c.in-Some-Data.is ∙ ap Some c.in-Some-Data.field-0-is)) ∙ map_push answer_value front _ in
-      let read = subst (λ (xs : List tell.Answer). IsPlainRun units (asked n) xs between) told ran in
-      let images = c.run.ensures.images.0 in
-      let are = bytes_read units n c.requires.faithful images c.requires.able between
+      let read = subst (λ (xs : List tell.Answer). IsInOrderRun units (asked n) xs between) told ran in
+      let well_formed = c.run.ensures.well_formed.0 in
+      let are = bytes_read units n c.requires.faithful well_formed c.requires.able between
       (answer_values front) _ _ read in
-      let faithful : AllFaithful between = λ u. faithful_stays units between c.run.ensures.natures u
+      let faithful : AllFaithful between = λ u. faithful_stays units between c.run.ensures.all_attributes u
       ∙ c.requires.faithful u in
-      let untold_too : tells_drive_error (answer_values c.in_ok-written.written.items) ≡ false =
-      ap (λ (xs : List Answer). tells_drive_error (answer_values xs)) (sym c.deref-2.ensures.value)
-      ∙ sym c.tells_drive_error-2.ensures.told ∙ none _ done in
-      is_copied units n c.requires.faithful images c.requires.able between
+      let untold_too : any_drive_error (answer_values c.in_ok-written.written.items) ≡ false =
+      ap (λ (xs : List Answer). any_drive_error (answer_values xs)) (sym c.deref-2.ensures.value)
+      ∙ sym c.any_drive_error-2.ensures.found ∙ none _ done in
+      is_copied units n c.requires.faithful well_formed c.requires.able between
       (units_of c.run-2.new.self) _ _ _ read are
-      (c.in_ok-written.ensures.headline_untold faithful untold_too);
+      (c.in_ok-written.ensures.in_order_run_if_no_error faithful untold_too);
 }

@@ -16,6 +16,6 @@ returns-in-Some-Data-eq0-default g c =
     (found.is ∙ ap Some found.field-0-is)) ∙ map_push answer_value front _
     ∙ ap (λ (status : ℕ). answer_values front ++ Data status block ∷ []) found.field-0-0-test in
     record {
-      whole = read_whole _ _ told (answer_values front) block c.in_ok-answers.ensures.seems
-          c.in_ok-answers.ensures.shape.counted last;
+      whole = read_whole _ _ told (answer_values front) block c.in_ok-answers.ensures.in_order_run_up_to_data
+          c.in_ok-answers.ensures.answer_forms.counted last;
     }

@@ -5,7 +5,7 @@ use Rattle.std.proofs.lemmas.List.Sums.{sum_by_push}
 use Rattle.uda50_show.specs.Block.{words}
 use Rattle.uda50_show.proofs.checksum.word_sum.Goals as goal
 
--- One word more adds to the sum, whose carries are left out before or after.
+-- One word more adds to the sum. Carries are left out before or after.
 sum_more : (s w : ℕ) (xs : List ℕ) → s ≡ sum xs % 65536 → (s + w) % 65536 ≡ sum (xs ++ w ∷ []) % 65536
 sum_more s w xs e = rw (e, sum_by_push (λ x. x) xs w) (mod-add-mod (sum xs) 65536 w)
 

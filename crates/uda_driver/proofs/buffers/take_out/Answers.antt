@@ -1,6 +1,6 @@
 use Rattle.std.proofs.Common.{◌+◌, Some, None, refl, sym, ◌∙◌, arith}
 use Rattle.std.proofs.lemmas.Bool.{eq-eqb, eqb-true}
-use Rattle.uda_driver.specs.Out.{refers}
+use Rattle.uda_driver.specs.Outstanding.{refers}
 use Rattle.uda_driver.proofs.Slots.{never_missed, is_found}
 use Rattle.uda_driver.proofs.buffers.take_out.Goals as goal
 
@@ -15,7 +15,7 @@ pub unreachable-requires : goal.unreachable-requires
 unreachable-requires c =
     let it = c.requires.referred in
     never_missed (refers c.args.reference) c.args.out.now it.number (Some it.one) it.stands
-    (eq-eqb (it.one.place + 1) c.args.reference it.refers) (sym c.in_default.is ∙ c.buffer_of.ensures)
+    (eq-eqb (it.one.place + 1) c.args.reference it.refers) (sym c.in_default.is ∙ c.buffer_number.ensures)
 
 pub unreachable-requires-in_default-take : goal.unreachable-requires-in_default-take
 unreachable-requires-in_default-take c =

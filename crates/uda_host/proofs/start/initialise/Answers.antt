@@ -5,6 +5,6 @@ use Rattle.uda_host.proofs.start.initialise.Goals as goal
 pub returns : goal.returns
 returns g c =
     let all = four_words c.args.port.now _ _ _ _ c.args.memory.now _ _ _ _ c.requires.strict c.requires.step
-    c.requires.size c.write_sa.ensures.steps c.write_sa-2.ensures.steps c.write_sa-3.ensures.steps
-    c.write_sa-4.ensures.steps in
+    c.requires.size c.write_sa.ensures.effect c.write_sa-2.ensures.effect c.write_sa-3.ensures.effect
+    c.write_sa-4.ensures.effect in
     record { port = ap (λ x. x.0) all; memory = ap (λ x. x.1) all }

@@ -4,19 +4,19 @@ use Rattle.std.specs.Result.{IfOk}
 use Rattle.std.proofs.lemmas.Option.{slice_get-get_or}
 use Rattle.uda_mem.specs.declared.memory.NoMemory.{NoMemory}
 use Rattle.uda_disk.specs.Disk.{Disk, Disks}
-use Rattle.uda_disk.specs.Plain.{Done, answer_by, bar_at, disk_by}
+use Rattle.uda_disk.specs.RequestEffect.{Done, answer_by, check_at, disk_by}
 use Rattle.uda_disk.specs.declared.answer.Answer.{Answer}
 use Rattle.uda_disk.specs.Answer as tell
 use Rattle.uda_disk.specs.Request.{Request}
-use Rattle.uda_disk.specs.PlainRun.{too_long, step}
+use Rattle.uda_disk.specs.InOrderRun.{too_long, step}
 use Rattle.uda_disk.specs.Values.{request_value, answer_value}
 use Rattle.uda_plain.proofs.Steps.{step-slot}
 use Rattle.uda_plain.proofs.units.step.Goals as goal
 
 step_ok : (disks : Disks) (r : Request) (slot slot_after : Option Disk) (result : Result Answer NoMemory)
     → too_long r ≡ false → slice_get disks r.unit ≡ Some slot
-    → IfOk result (λ answer. answer_value answer ≡ answer_by Done r.act (bar_at r.act (Some slot)))
-    → IfOk result (λ _. slot_after ≡ option_map (disk_by Done r.act (bar_at r.act (Some slot))) slot)
+    → IfOk result (λ answer. answer_value answer ≡ answer_by Done r.act (check_at r.act (Some slot)))
+    → IfOk result (λ _. slot_after ≡ option_map (disk_by Done r.act (check_at r.act (Some slot))) slot)
     → IfOk result (λ answer. ◌≡◌ {A = tell.Answer × Disks} (answer_value answer, set disks r.unit slot_after)
     (step r disks))
 step_ok disks r slot slot_after (Ok answer) short here told left = step-slot disks r slot slot_after

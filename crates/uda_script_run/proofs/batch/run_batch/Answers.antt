@@ -53,7 +53,7 @@ returns-in_err-print-clause-error g c =
     rw exit.1 (stops_written c.args.progress.part c.args.lines.now
     (answer_values c.deref-2.result.now) before after
     _ (exit.2 ∙ c.in_err-print.ensures.error)
-    (ran_once c.args.lines.now _ _ before after c.serve.ensures.natures c.in_ok-requests.ensures.made
+    (ran_once c.args.lines.now _ _ before after c.serve.ensures.all_attributes c.in_ok-requests.ensures.made
     (serves_lent _ c.deref.result.now _ c.deref-2.result.now _ _ c.deref.ensures.value
     c.deref-2.ensures.value c.in_ok-answers.ensures.answers))
     c.in_err-print.ensures.begun)
@@ -75,7 +75,7 @@ returns-clause-ran g c =
     let ran : Ran c.args.progress.part c.args.lines.now
     (answer_values c.deref-2.result.now) before after = record {
       lines_ran =
-          ran_once c.args.lines.now _ _ before after c.serve.ensures.natures c.in_ok-requests.ensures.made
+          ran_once c.args.lines.now _ _ before after c.serve.ensures.all_attributes c.in_ok-requests.ensures.made
           (serves_lent _ c.deref.result.now _ c.deref-2.result.now _ _ c.deref.ensures.value
           c.deref-2.ensures.value c.in_ok-answers.ensures.answers);
       out = c.in_ok-print.ensures.out;

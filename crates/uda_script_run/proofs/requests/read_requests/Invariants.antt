@@ -4,8 +4,7 @@ use Rattle.uda_script_run.specs.Requests.{taken}
 use Rattle.uda_script_run.proofs.Readings.{ReadsLines}
 use Rattle.uda_script_run.proofs.requests.read_requests.Given as goal
 
--- the requests of the lines before this one were made, and the reader isn't called where the lines take no
--- data
+-- the requests of the lines before this one were made, and the reader isn't called if the lines use no data
 abbrev pub invariant-loop-line : goal.invariant-loop-line
 invariant-loop-line g l =
     (taken l.lines ≡ 0 → l.input ≡ l.initial.input)

@@ -7,7 +7,7 @@ use Rattle.uda_script_run.specs.Texts.{report_line, AppendsBeginning}
 use Rattle.uda_script_run.proofs.texts.put_line.Goals as goal
 use Rattle.uda_script_run.proofs.texts.put_line.Given as given
 
--- what stands in the buffer is the line
+-- the buffer contains the line
 told : (g : given.Over) (c : goal.After-put_all g) → c.as_bytes.result.now ≡ report_line c.args.number
     (answer_value c.args.answer.now)
 told g c =

@@ -19,12 +19,12 @@ line_with g c name =
 told : (g : given.Over) (c : goal.After-put_all g) → c.as_bytes.result.now ≡ named_line c.args.number
     (answer_value c.args.answer.now)
 told g c =
-    let line = line_with g c c.status_name-name.result.now in
+    let line = line_with g c c.answer_name-name.result.now in
     let made : c.writeln.new.self.bytes ≡ c.new-line.result.bytes ++ line =
     contents_after_writes _ (λ s. s.bytes) (λ w bs v h. h) c.new-line.result line c.writeln.new.self
     c.in-Ok.ensures.writes in
     c.as_bytes.ensures.value ∙ c.deref.ensures.0 ∙ made ∙ ap (λ (t : List ℕ). t ++ line) c.new-line.ensures
-    ∙ ap (line_with g c) c.status_name-name.ensures.name
+    ∙ ap (line_with g c) c.answer_name-name.ensures.name
 
 pub returns-in-Ok-clause-whole : goal.returns-in-Ok-clause-whole
 returns-in-Ok-clause-whole g c = on_ok_weaker c.put_all.result

@@ -17,6 +17,6 @@ returns-in-Ok c =
           c.self.view_is
           (attaches was c.args.unit c.args.image.now c.take_image.new.slot c.args.hard
           c.in-Ok.lent.held c.new-store.result c.set_drive.new.self c.if-unit-gt3.false
-          (ap is_some (sym c.unit.ensures.look) ∙ sym c.is_some.ensures ∙ c.if-is_some.false)
-          ok.0 ok.1 ok.2 ok.3 c.new-store.ensures.image c.set_drive.ensures.set c.set_drive.ensures.four);
+          (ap is_some (sym c.unit.ensures.info) ∙ sym c.is_some.ensures ∙ c.if-is_some.false)
+          ok.0 ok.1 ok.2 ok.3 c.new-store.ensures.image c.set_drive.ensures.set c.set_drive.ensures.four_units);
     }

@@ -3,7 +3,7 @@ use Rattle.uda_exec.specs.Drives.{drive_state}
 use Rattle.uda_c.specs.declared.call_status.CallStatus.TheVariants.{Done, NotEmpty}
 use Rattle.uda_c.specs.ControllerState.{ControllerState}
 use Rattle.uda_c.specs.Controllers.{Detaches}
-use Rattle.uda_c.specs.LentImage.{lent_state}
+use Rattle.uda_c.specs.BorrowedImage.{borrowed_state}
 use Rattle.uda_c.proofs.FaithfulUnits.{put_faithful}
 use Rattle.uda_c.proofs.FailingUnits.{is_handed}
 use Rattle.uda_c.proofs.Lending.{not_put, detaches}
@@ -19,7 +19,7 @@ returns-in-Some-take c =
       detaches = subst (λ (old : ControllerState).
           Detaches (old, c.args.image.now) c.args.unit NotEmpty (old, after)) c.self.view_is
           (not_put was c.args.unit c.in-Some._look c.args.image.now after c.in-Some-take.lent
-          c.if-unit-gt3.false (sym c.in-Some.ensures.look) took.1 took.0 c.put.ensures.value);
+          c.if-unit-gt3.false (sym c.in-Some.ensures.info) took.1 took.0 c.put.ensures.value);
     }
 
 pub invariant_of-self : goal.invariant_of-self
@@ -32,17 +32,17 @@ returns c =
     let was : ControllerState = record { port = c.self.inside.port; last = c.self.inside.last } in
     let new : ControllerState = record { port = c.set_drive.new.self; last = c.self.inside.last } in
     let after = c.match-set_drive.image in
-    let look = sym c.in-Some.ensures.look in
+    let look = sym c.in-Some.ensures.info in
     elim c.match-set_drive.branch [
       | in-Some-set_drive w ↦ record {
         detaches = subst (λ (old : ControllerState).
             Detaches (old, c.args.image.now) c.args.unit Done (new, after)) c.self.view_is
             (detaches was c.args.unit c.in-Some._look c.args.image.now after w.into_lent.result
-            (drive_state lent_state w.in-Some-set_drive.drive) new.port c.if-unit-gt3.false look
-            c.in_default-take.ensures.took.0 w.in-Some-set_drive.ensures.handed_back
+            (drive_state borrowed_state w.in-Some-set_drive.drive) new.port c.if-unit-gt3.false look
+            c.in_default-take.ensures.took.0 w.in-Some-set_drive.ensures.returned_drive
             w.into_lent.ensures.blocks (w.image-is ∙ w.put-in-Some-set_drive.ensures.value)
             c.set_drive.ensures.set);
       }
       | in_default-set_drive w ↦ absurd (is_handed was.port.exec.units c.args.unit c.in-Some._look look
-          w.in_default-set_drive.ensures.handed_back)
+          w.in_default-set_drive.ensures.returned_drive)
     ]

@@ -4,7 +4,7 @@ use Rattle.uda_exec.specs.Drives.{drive_state}
 use Rattle.uda_c.specs.declared.call_status.CallStatus.TheVariants.{Done}
 use Rattle.uda_c.specs.ControllerState.{ControllerState}
 use Rattle.uda_c.specs.Controllers.{FailsAt}
-use Rattle.uda_c.specs.LentImage.{lent_state}
+use Rattle.uda_c.specs.BorrowedImage.{borrowed_state}
 use Rattle.uda_c.proofs.FailingUnits.{fails_at, is_handed}
 use Rattle.uda_c.proofs.FaithfulUnits.{drive_faithful, mode_faithful}
 use Rattle.uda_c.proofs.controller.Controller.fail_at.Goals as goal
@@ -14,7 +14,7 @@ invariant_of-self c =
     let was = c.self.inside.port in
     let out = c.exchange_drive.new.self in
     let back = c.exchange_drive-in-Some-exchange_drive.new.self in
-    let failing = drive_state lent_state c.failing.result in
+    let failing = drive_state borrowed_state c.failing.result in
     mode_faithful back c.restore_mode.new.self c.args.unit c.in-Some.look.mode c.restore_mode.ensures.mode
     (drive_faithful out back c.args.unit (Some failing) refl
     c.exchange_drive-in-Some-exchange_drive.ensures.set
@@ -30,18 +30,18 @@ pub returns-in-Some-exchange_drive : goal.returns-in-Some-exchange_drive
 returns-in-Some-exchange_drive c =
     let was : ControllerState = record { port = c.self.inside.port; last = c.self.inside.last } in
     let new : ControllerState = record { port = c.restore_mode.new.self; last = c.self.inside.last } in
-    let drive = drive_state lent_state c.in-Some-exchange_drive.drive in
-    let failing = drive_state lent_state c.failing.result in
+    let drive = drive_state borrowed_state c.in-Some-exchange_drive.drive in
+    let failing = drive_state borrowed_state c.failing.result in
     record {
       fails = subst (λ (old : ControllerState). FailsAt old c.args.unit c.args.call Done new) c.self.view_is
           (fails_at was c.args.unit c.args.call c.in-Some.look drive failing c.exchange_drive.new.self
           c.exchange_drive-in-Some-exchange_drive.new.self new.port (le-ltb 3 c.args.unit c.if-unit-gt3.false)
-          (sym c.in-Some.ensures.look) c.in-Some-exchange_drive.ensures.handed_back c.failing.ensures.store
+          (sym c.in-Some.ensures.info) c.in-Some-exchange_drive.ensures.returned_drive c.failing.ensures.store
           c.exchange_drive.ensures.set c.exchange_drive-in-Some-exchange_drive.ensures.set
           c.restore_mode.ensures.mode);
     }
 
 pub returns-in_default-exchange_drive : goal.returns-in_default-exchange_drive
 returns-in_default-exchange_drive c =
-    absurd (is_handed c.self.inside.port.exec.units c.args.unit c.in-Some.look (sym c.in-Some.ensures.look)
-    c.in_default-exchange_drive.ensures.handed_back)
+    absurd (is_handed c.self.inside.port.exec.units c.args.unit c.in-Some.look (sym c.in-Some.ensures.info)
+    c.in_default-exchange_drive.ensures.returned_drive)

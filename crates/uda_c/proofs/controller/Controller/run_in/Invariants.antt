@@ -4,7 +4,7 @@ use Rattle.uda_c.specs.declared.call_status.CallStatus.TheVariants.{Done}
 use Rattle.uda_c.specs.Runs.{Machine, TakesTurns}
 use Rattle.uda_c.proofs.controller.Controller.run_in.Given as goal
 
--- whatever the turns still to come lead to, all turns lead to
+-- the effect of the remaining turns completes the effect of all turns
 abbrev pub invariant-loop : goal.invariant-loop
 invariant-loop l = (answer : CallStatus) (new : Machine) → TakesTurns (l.limit - l.counter) l.answer
     (l.self, l.memory) answer new

@@ -3,4 +3,4 @@ use Rattle.uda_c.proofs.controller.Controller.write_ip.Goals as goal
 
 pub invariant_of-self : goal.invariant_of-self
 invariant_of-self c =
-    start_faithful c.self.inside.port c.write_ip.new.self c.write_ip.ensures.starts c.self.invariant
+    start_faithful c.self.inside.port c.write_ip.new.self c.write_ip.ensures.restarts c.self.invariant

@@ -68,7 +68,7 @@ module _ {M : Type 1} {𝓤 : Ura M} (𝓛 : Logic 𝓤) (at_mem : Memory → SP
   Had p m = ‵ (fobs γ (R.coded.code (self p m).now)) ∷ ‵ (fbor κ (Borrowed (mem R) b o γ)) ∷ ‵ (flft κ q) ∷ []
 
   module _ (p : Ptr) (pb po : ℕ) (e : p ≡ block_ptr pb po) where
-    -- all but the controller
+    -- all except the controller
     abbrev Rest : Fml
     Rest = fsep (right pb po) (cell b o p)
 
@@ -83,7 +83,7 @@ module _ {M : Type 1} {𝓤 : Ura M} (𝓛 : Logic 𝓤) (at_mem : Memory → SP
         fpack ! (List Val) (λ vs. fsep (cell_at full_share R.mir vs b o) (R.own_val (handle p (Some w)) vs))
         (word p ∷ []) $ done !
 
-  -- what is lent, or none, and what the handle ends with
+  -- the lent controller or none, and the final value of the handle
   exits : (p : Ptr) (m : Option ControllerState) (v : Val) (r : Option (MutBor ControllerState))
       → option_copied_mut r ≡ m
       → ent 𝓤 (sep 𝓤 (sem 𝓛 ((Opt.the_row Lent).own_val r (v ∷ [])))

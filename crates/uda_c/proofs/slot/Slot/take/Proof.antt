@@ -1,4 +1,4 @@
--- `take` hands out the bytes of a slot, and leaves none.
+-- `take` returns the bytes of a slot, and leaves none.
 use Rattle.std.proofs.Common.{◌≡◌, ℕ, suc, ◌<◌, ◌^◌, List, [], ◌∷◌, ◌++◌, refl, sym, ap, ◌∙◌, subst, lit<, arith}
 use Rattle.std.proofs.raw_atomic.Walks.{proved_at, leaves}
 use lib.Dec.{eqb→eq}
@@ -24,10 +24,10 @@ use Rattle.core.specs.contracts.option.Option as Opt
 use Rattle.core.specs.declared.option.Option.{Option}
 use Rattle.core.specs.declared.option.Option.TheVariants.{None, Some}
 use Rattle.uda_c.specs.SlotOwns.{slot_owns}
-use Rattle.uda_c.specs.Slots.{Took, lent_in}
-use Rattle.uda_c.specs.declared.lent.Lent.{Lent}
+use Rattle.uda_c.specs.Slots.{TakesSlot, lent_in}
+use Rattle.uda_c.specs.declared.lent.BorrowedBytes.{BorrowedBytes}
 use Rattle.uda_c.specs.declared.slot.Slot.{Slot}
-use Rattle.uda_c.specs.contracts.lent.Lent.{the_row as L}
+use Rattle.uda_c.specs.contracts.lent.BorrowedBytes.{the_row as L}
 use Rattle.uda_c.specs.contracts.slot.Slot.{the_row as R}
 use Rattle.uda_c.proofs.SlotSteps.{slot, word, cell, slot_opens, slot_closes, lent_made, holds}
 use Rattle.uda_c.specs.contracts.slot.Slot.take as f
@@ -37,7 +37,7 @@ use Rattle.uda_c.proofs.slot.Slot.take.Code as code
 abbrev stayed : Stays f.ended.signature.params f.ended.kept
 stayed = (stay_ref (0 ∷ []) tt (plain (λ _. R)), tt)
 
-abbrev none : Option Lent
+abbrev none : Option BorrowedBytes
 none = None
 
 pub take_spec : {M : Type 1} → statement M
@@ -72,13 +72,13 @@ take_spec 𝓤 𝓛 𝓜 𝓡 wired =
     returns_within ! Post refl (look_at ! 0 refl) $ free_all ! refl $ keep ! (1 ∷ 2 ∷ 0 ∷ 3 ∷ []) $
     feq_i ! (List Val) z.0.4.0 (vptr b o ∷ []) are.0.0 $ fjoin3 ! $ nothing ! $ move ! (1 ∷ 0 ∷ []) $
     fjoin ! $ nothing ! $ move ! (3 ∷ 0 ∷ []) $ join ! $
-    use0 𝓛 (raw (fact 𝓤 (Took none s s))) (fact_i 𝓤 (Took none s s) (emp 𝓤) (ex, refl)) $
+    use0 𝓛 (raw (fact 𝓤 (TakesSlot none s s))) (fact_i 𝓤 (TakesSlot none s s) (emp 𝓤) (ex, refl)) $
     keep ! (1 ∷ 2 ∷ 3 ∷ 0 ∷ []) $
     by ! (leaves 𝓛 f.ended stayed c z (live 0 vnil) None (s, tt) (tt, tt)))
     (λ wrong. absurd wrong))
     (λ m pb po e long ep.
     let fm : suc m < 2 ^ 64 = subst (λ (k : ℕ). k < 2 ^ 64) e fn in
-    let d : Lent = record { at = block_ptr pb po; len = suc m; held = xs } in
+    let d : BorrowedBytes = record { at = block_ptr pb po; len = suc m; held = xs } in
     let v = word (block_ptr pb po) (suc m) in let w : Val = live 1 (vcons v vnil) in
     let Empty : Slot = slot null_ptr 0 [] in let same : slot (block_ptr pb po) (suc m) xs ≡ s = ap (λ (a :
     Ptr). slot a (suc m) xs) (sym ep) ∙ ap (λ (k : ℕ). slot p k xs) (sym e) in
@@ -125,7 +125,7 @@ take_spec 𝓤 𝓛 𝓜 𝓡 wired =
     returns ! (look_at ! 0 refl) $ free_all ! refl $ keep ! (1 ∷ 2 ∷ 0 ∷ 3 ∷ []) $
     feq_i ! (List Val) z.0.4.0 (vptr b o ∷ []) are.0.0 $ fjoin3 ! $ nothing ! $ move ! (1 ∷ 0 ∷ []) $
     fjoin ! $ nothing ! $ move ! (3 ∷ 0 ∷ []) $ join ! $
-    use0 𝓛 (raw (fact 𝓤 (Took (Some d) s Empty))) (fact_i 𝓤 (Took (Some d) s Empty) (emp 𝓤) (
+    use0 𝓛 (raw (fact 𝓤 (TakesSlot (Some d) s Empty))) (fact_i 𝓤 (TakesSlot (Some d) s Empty) (emp 𝓤) (
       ap lent_in
           same,
       (λ no. absurd (omega (arith, long, no))),

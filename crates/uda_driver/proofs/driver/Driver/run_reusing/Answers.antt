@@ -14,35 +14,35 @@ drive-requires g c =
     let ready = c.in_ok-answers.ensures in
     (search rules, (c.self.invariant, (ready.few, (ready.counted, ready.blank))))
 
-pub returns-clause-shape : goal.returns-clause-shape
-returns-clause-shape g c = record {
+pub returns-clause-answer_forms : goal.returns-clause-answer_forms
+returns-clause-answer_forms g c = record {
   counted = length-map c.drive.result.items answer_value ∙ c.drive.ensures.counted
       ∙ sym (length-map c.args.requests.now request_value);
   formed = owes_formed c.drive.ensures.owes c.drive.ensures.none_to_come;
 }
 
-pub returns-clause-headline : goal.returns-clause-headline
-returns-clause-headline g c = rw (← c.self.view_is)
+pub returns-clause-in_order_run : goal.returns-clause-in_order_run
+returns-clause-in_order_run g c = rw (← c.self.view_is)
     (λ faithful none. owes_plain c.drive.ensures.owes c.drive.ensures.none_to_come faithful none)
 
-pub returns-clause-losses : goal.returns-clause-losses
-returns-clause-losses g c = rw (← c.self.view_is) (λ faithful. record {
+pub returns-clause-in_order_run_with_failures : goal.returns-clause-in_order_run_with_failures
+returns-clause-in_order_run_with_failures g c = rw (← c.self.view_is) (λ faithful. record {
   run = owes_end c.drive.ensures.owes c.drive.ensures.none_to_come faithful;
   told = (c.drive.ensures.owes.faithful faithful).errors;
-  sure = (c.drive.ensures.owes.faithful faithful).sure;
+  infallible = (c.drive.ensures.owes.faithful faithful).infallible;
 })
 
-pub returns-clause-headline_untold : goal.returns-clause-headline_untold
-returns-clause-headline_untold g c = rw (← c.self.view_is)
+pub returns-clause-in_order_run_if_no_error : goal.returns-clause-in_order_run_if_no_error
+returns-clause-in_order_run_if_no_error g c = rw (← c.self.view_is)
     (λ faithful none. owes_untold c.drive.ensures.owes c.drive.ensures.none_to_come faithful
     (λ u. untold_errors u _ _ none))
 
-pub returns-clause-sure : goal.returns-clause-sure
-returns-clause-sure g c = rw (← c.self.view_is) (λ faithful.
-    (c.drive.ensures.owes.faithful faithful).sure)
+pub returns-clause-infallible : goal.returns-clause-infallible
+returns-clause-infallible g c = rw (← c.self.view_is) (λ faithful.
+    (c.drive.ensures.owes.faithful faithful).infallible)
 
-pub returns-clause-seems : goal.returns-clause-seems
-returns-clause-seems g c = rw (← c.self.view_is)
+pub returns-clause-in_order_run_up_to_data : goal.returns-clause-in_order_run_up_to_data
+returns-clause-in_order_run_up_to_data g c = rw (← c.self.view_is)
     (owes_seems c.drive.ensures.owes c.drive.ensures.none_to_come)
 
 pub returns-in_err-answers-clause-too_many : goal.returns-in_err-answers-clause-too_many
@@ -50,9 +50,9 @@ returns-in_err-answers-clause-too_many g c =
     let exit = err_from_is_err_and c.from_residual.result c.from_residual.ensures.1 in
     rw (exit.1, exit.2) c.in_err-answers.ensures.too_many
 
-pub returns-in_err-answers-clause-images : goal.returns-in_err-answers-clause-images
-returns-in_err-answers-clause-images g c = rw (← c.self.view_is)
-    (c.self.invariant.images, c.self.invariant.images)
+pub returns-in_err-answers-clause-well_formed : goal.returns-in_err-answers-clause-well_formed
+returns-in_err-answers-clause-well_formed g c = rw (← c.self.view_is)
+    (c.self.invariant.well_formed, c.self.invariant.well_formed)
 
-pub returns-clause-images : goal.returns-clause-images
-returns-clause-images g c = rw (← c.self.view_is) (c.self.invariant.images, c.drive.ensures.ready.images)
+pub returns-clause-well_formed : goal.returns-clause-well_formed
+returns-clause-well_formed g c = rw (← c.self.view_is) (c.self.invariant.well_formed, c.drive.ensures.ready.well_formed)

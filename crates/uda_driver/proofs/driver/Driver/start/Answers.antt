@@ -20,9 +20,9 @@ returns-in-Ok-clause-units g c =
 pub invariant_of-result : goal.invariant_of-result
 invariant_of-result g c = record {
   rest = search rules;
-  four =
+  four_units =
       ap (λ (units : List (Option UnitState)). length units) c.in-Ok.ensures.started.units_are
-      ∙ length-map _ reset_unit ∙ c.new.ensures.four;
-  images = c.in-Ok.ensures.images;
-  adds_up = c.in-Ok.ensures.adds_up;
+      ∙ length-map _ reset_unit ∙ c.new.ensures.four_units;
+  well_formed = c.in-Ok.ensures.well_formed;
+  consistent = c.in-Ok.ensures.consistent;
 }

@@ -30,16 +30,16 @@ returns-clause-serves g c =
     let ensured = c.move_blocks.ensures in
     rw (← is, c.reply.ensures, c.plain_body.ensures) (elim c.match-move_blocks.branch [
       | in-Ok w ↦ rw w.status-is (serves_moved c.args.command c.args.t unit c.args.memory.now
-          c.requires.transfer passed _ _ ensured.nature ensured.changes _ _ (omega arith)
+          c.requires.transfer passed _ _ ensured.attributes ensured.changes _ _ (omega arith)
           (ends_done c.args.command c.args.t unit c.args.memory.now c.requires.transfer)
           (λ called. takes_done c.args.command c.args.t unit c.args.memory.now c.requires.transfer passed
-          (λ some. image (called some)) _ _ ensured.nature (w.in-Ok.ensures.moves called)))
+          (λ some. image (called some)) _ _ ensured.attributes (w.in-Ok.ensures.moves called)))
       | in-Err w ↦ rw w.status-is
           (serves_moved c.args.command c.args.t unit c.args.memory.now c.requires.transfer passed _ _
-          ensured.nature ensured.changes _ _ (let inside = w.in-Err.ensures.within in omega arith)
+          ensured.attributes ensured.changes _ _ (let inside = w.in-Err.ensures.within in omega arith)
           (ends_lost c.args.command c.args.t unit c.args.memory.now c.requires.transfer _
           w.in-Err.ensures.within)
           (λ called. takes_lost c.args.command c.args.t unit c.args.memory.now c.requires.transfer passed
-          (λ some. image (called some)) _ _ ensured.nature _ w.in-Err.ensures.within
-          (λ never. false≢true (w.in-Err.ensures.sure never)) (w.in-Err.ensures.moves called)))
+          (λ some. image (called some)) _ _ ensured.attributes _ w.in-Err.ensures.within
+          (λ never. false≢true (w.in-Err.ensures.infallible never)) (w.in-Err.ensures.moves called)))
     ])

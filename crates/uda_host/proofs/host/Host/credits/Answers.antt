@@ -1,7 +1,7 @@
 use Rattle.std.proofs.Common.{subst}
-use Rattle.uda_host.specs.Host.{AddsUp}
-use Rattle.uda_host.proofs.Hosts.{adds_up}
+use Rattle.uda_host.specs.Host.{IsConsistent}
+use Rattle.uda_host.proofs.Hosts.{consistent}
 use Rattle.uda_host.proofs.host.Host.credits.Goals as goal
 
-pub returns-clause-adds_up : goal.returns-clause-adds_up
-returns-clause-adds_up g c = subst AddsUp c.self.view_is (adds_up c.self.invariant)
+pub returns-clause-consistent : goal.returns-clause-consistent
+returns-clause-consistent g c = subst IsConsistent c.self.view_is (consistent c.self.invariant)

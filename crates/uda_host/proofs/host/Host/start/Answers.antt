@@ -16,4 +16,4 @@ pub returns-in-Ok-new-clause-started : goal.returns-in-Ok-new-clause-started
 returns-in-Ok-new-clause-started g c =
     let is = c.initialise.ensures.port ∙ ap port_running c.in-Ok-new.ensures.ok in
     started (ap (λ (p : PortState). p.exec.units) is) refl
-    (ap (λ (p : PortState). p.deliveries) is) c.ask.ensures.asked
+    (ap (λ (p : PortState). p.deliveries) is) c.execute.ensures.executed_alone

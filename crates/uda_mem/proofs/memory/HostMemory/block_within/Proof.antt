@@ -1,7 +1,6 @@
 -- `block_within` lends the window of a block as an array, and the memory follows it. It is a walk by hand,
--- since two loans stand one in the other: `within`'s, and `as_block`'s on what `within` lent.
--- `self` is given up to `within` and its window to `as_block`; what each says of its loan is joined by
--- `follows_then`.
+-- since one of the two loans is in the other: `as_block`'s is on what `within` lent.
+-- `self` is moved into `within` and its window into `as_block`; `follows_then` joins the facts of both loans.
 -- Assumes `Logic`.
 use mathlib.Core.Path.{◌≡◌, refl, ap, ◌∙◌}
 use mathlib.Core.List.{List, [], ◌∷◌}

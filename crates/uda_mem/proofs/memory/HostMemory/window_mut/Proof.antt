@@ -1,8 +1,8 @@
--- `window_mut` lends the window where there is one, and the memory follows it. It is a walk by hand, since
--- the borrow checker follows no loan inside an `Option`.
--- `self` is lent to `has_mut` for a lifetime of its own and comes back unchanged. Where the window is there
--- `self` is given up to `within`, and what `within` says of the loan is handed on; else the last value of
--- `self` is the one it came with.
+-- `window_mut` lends the window if there is one, and the memory follows it. It is a walk by hand, since the
+-- borrow checker follows no loan inside an `Option`.
+-- `self` is lent to `has_mut` for a lifetime of its own and comes back unchanged. If there is a window,
+-- `self` is moved into `within`, and its facts of the loan are passed on. Otherwise the last value of `self`
+-- is its first.
 -- Assumes `Logic`.
 use mathlib.Core.Path.{◌≡◌, refl, ap}
 use mathlib.Core.Logic.{◌↔◌}

@@ -1,5 +1,5 @@
 use Rattle.std.proofs.Common.{refl, sym, ap, ◌∙◌}
-use Rattle.uda_disk.specs.Plain.{Done, answer_on, disk_after}
+use Rattle.uda_disk.specs.RequestEffect.{Done, answer_on, disk_after}
 use Rattle.uda_disk.specs.Status.{SUCCESS}
 use Rattle.uda_disk.specs.Request as ask
 use Rattle.uda_disk.specs.Answer.{Moved}

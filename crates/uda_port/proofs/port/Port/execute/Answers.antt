@@ -1,13 +1,16 @@
-use Rattle.std.proofs.Common.{refl, arith}
+use Rattle.std.proofs.Common.{List, refl, arith, ap, ◌∙◌}
+use Rattle.std.specs.Prelude.{remove}
+use Rattle.uda_packet.specs.declared.guest_command.GuestOp.{GuestOp}
+use Rattle.uda_port.proofs.TurnLaws.{executes_for, remove_none}
 use Rattle.uda_port.proofs.port.Port.execute.Goals as goal
 
 pub invariant_of-self : goal.invariant_of-self
 invariant_of-self g c = rw c.in_default.ensures.unchanged.0 c.self.invariant
 
-pub returns-in_default : goal.returns-in_default
-returns-in_default g c =
+pub returns-in_default-clause-effect : goal.returns-in_default-clause-effect
+returns-in_default-clause-effect g c =
     rw (← c.self.view_is) (
-      c.in_default.ensures.idle.0 refl,
+      c.in_default.ensures.none_iff_empty.0 refl,
       record {
         state = rw c.in_default.ensures.unchanged.0 refl;
         memory_stays =
@@ -26,19 +29,24 @@ invariant_of-self-2 g c =
       room = omega (arith, capacity, room);
       credits = c.self.invariant.credits;
       conserved = omega (arith, conserved, fewer, longer);
-      four = c.in-Some.ensures.four;
-      images = c.in-Some.ensures.images;
+      four_units = c.in-Some.ensures.four_units;
+      well_formed = c.in-Some.ensures.well_formed;
       ordered = c.self.invariant.ordered;
       begun = c.self.invariant.begun;
+      strict = λ is. c.in-Some.ensures.executes.1.ops_left
+          ∙ ap (λ (ops : List GuestOp). remove ops c.in-Some.ensures.executes.0) (c.self.invariant.strict is)
+          ∙ remove_none c.in-Some.ensures.executes.0;
     }
 
-pub returns : goal.returns
-returns g c =
+pub returns-clause-effect : goal.returns-clause-effect
+returns-clause-effect g c =
+    let executes = executes_for c.self.inside.profile _ _ _ _ _ _ c.self.invariant.strict
+    c.in-Some.ensures.executes.1 in
     rw (← c.self.view_is) (
       c.in-Some.ensures.executes.0,
       record {
         end = c.in-Some.end;
-        executes = c.in-Some.ensures.executes.1;
+        executes = executes;
         others = rw (
           c.hold.ensures.last,
           c.add.ensures,

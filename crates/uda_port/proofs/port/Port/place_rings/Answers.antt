@@ -10,8 +10,9 @@ invariant_of-self g c =
       room = c.self.invariant.room;
       credits = c.self.invariant.credits;
       conserved = c.self.invariant.conserved;
-      four = c.self.invariant.four;
-      images = c.self.invariant.images;
+      four_units = c.self.invariant.four_units;
+      well_formed = c.self.invariant.well_formed;
       ordered = omega (arith, responses, commands);
       begun = c.self.invariant.begun;
+      strict = c.self.invariant.strict;
     }

@@ -12,10 +12,11 @@ invariant_of-self g c = record {
   room = c.self.invariant.room;
   credits = c.self.invariant.credits;
   conserved = rw c.set_drive-old.ensures.set c.self.invariant.conserved;
-  four = c.set_drive-old.ensures.four;
-  images = c.set_drive-old.ensures.images;
+  four_units = c.set_drive-old.ensures.four_units;
+  well_formed = c.set_drive-old.ensures.well_formed;
   ordered = c.self.invariant.ordered;
   begun = c.self.invariant.begun;
+  strict = rw c.set_drive-old.ensures.set c.self.invariant.strict;
 }
 
 pub returns-clause-set : goal.returns-clause-set

@@ -1,0 +1,37 @@
+-- Images in memory that a C program lends, as stores of blocks.
+use Rattle.std.specs.Prelude.{◌≡◌, ◌≤◌, ◌/◌, ◌%◌, ℕ, true, false, List, length, Option, Some, None, is_none}
+use Rattle.uda_image.specs.Store.{StoreState}
+use Rattle.uda_image.specs.Image.{block_count_of, blocks_of, failures_by}
+use Rattle.uda_image.specs.Limits.{store_limit}
+
+-- Bytes that are lent as an image, and the number of calls up to and including the failing one. The number is
+-- 0 after that call, and None if no call was set to fail.
+pub record BorrowedBlocks : Type 0 where
+  pub bytes : List ℕ
+  pub left : Option ℕ
+
+-- bytes that are whole blocks, at most as many as a store may have
+abbrev pub IsWhole : List ℕ → Type 0
+IsWhole bytes = (length bytes % 512 ≡ 0) × (length bytes / 512 ≤ store_limit)
+
+-- the number of calls that have failed
+abbrev pub failures_of : Option ℕ → ℕ
+failures_of None = 0
+failures_of (Some left) = failures_by left
+
+-- The image as a store. It is faithful. It is infallible if no call was set to fail, and otherwise only that
+-- call fails.
+abbrev pub borrowed_state : BorrowedBlocks → StoreState
+borrowed_state image = record {
+  blocks = blocks_of image.bytes;
+  size = block_count_of image.bytes;
+  faithful = true;
+  never_fails = is_none image.left;
+  failures = failures_of image.left;
+  failing_call = image.left;
+}
+
+-- the store whose call of this number from now on fails, and no other
+abbrev pub failing_from_now : ℕ → StoreState → StoreState
+failing_from_now call store =
+    record store { never_fails = false; failures = failures_by call; failing_call = Some call }

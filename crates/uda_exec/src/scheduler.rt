@@ -1,0 +1,110 @@
+//! The choice of the next pending command. The oldest eligible command that isn't a transfer comes first. If
+//! there is none, the next eligible transfer in unit and block order follows the last one, around the end.
+//!
+//! MSCP Basic Disk Functions Manual: command ordering, which leaves this open.
+ghost use Rattle.std.specs.Prelude.{◌≡◌, ◌↔◌, ◌<◌, [], length, true, IsTrue, IsNone, IfSome, slice_get};
+ghost use Rattle.std.specs.Prelude.{slice_index};
+ghost use Rattle.uda_exec.specs.Order.{IsEligible, command_may_overtake, same_unit};
+ghost use Rattle.uda_exec.specs.Commands.{is_controller, is_transfer};
+
+use uda_packet::{Command, Op};
+
+/// The start of a transfer's range. Positions are ordered by unit, and within a unit by block.
+#[derive(Clone, Copy, Debug, PartialEq, Eq, PartialOrd, Ord)]
+pub struct Position {
+    unit: u16,
+    lbn: u32,
+}
+
+impl Position {
+    /// The first position: block 0 of unit 0.
+    pub const START: Position = Position { unit: 0, lbn: 0 };
+
+    // Returns the position of a transfer, or None for any other command.
+    fn of(command: Command) -> Option<Position> {
+        let t = command.op.transfer()?;
+        Some(Position {
+            unit: command.unit,
+            lbn: t.lbn,
+        })
+    }
+
+    /// Returns the position after a command was executed: that of a transfer, or this one after any other
+    /// command.
+    pub fn after(self, command: Command) -> Position {
+        Position::of(command).unwrap_or(self)
+    }
+}
+
+// An eligible transfer. The least candidate is chosen: positions before the last one come last, and of equal
+// positions the oldest command comes first.
+#[derive(Clone, Copy, PartialEq, Eq, PartialOrd, Ord)]
+struct Candidate {
+    is_behind: bool,
+    position: Position,
+    place: usize,
+}
+
+// Returns whether the two commands are for one unit. Set Controller Characteristics commands count as
+// commands for a unit of their own.
+fn same_unit(c: Command, d: Command) -> bool
+    ensures { result ≡ same_unit c d }
+{
+    match (c.op, d.op) {
+        (Op::Controller, Op::Controller) => true,
+        (Op::Controller, _) | (_, Op::Controller) => false,
+        _ => c.unit == d.unit,
+    }
+}
+
+// Returns whether a command may overtake an older one.
+fn command_may_overtake(older: Command, command: Command) -> bool
+    ensures { result ≡ command_may_overtake older command }
+{
+    let both_transfer = older.op.transfer().is_some() && command.op.transfer().is_some();
+    !same_unit(older, command) || both_transfer
+}
+
+// Returns whether the command at this index is eligible: it may overtake every older one.
+fn is_eligible(pending: &[Command], place: usize) -> bool
+    requires { place < length pending.now }
+    ensures { IsTrue result ↔ IsEligible pending.now place }
+{
+    let command = pending[place];
+    for older in &pending[..place] {
+        if !command_may_overtake(*older, command) {
+            return false;
+        }
+    }
+    true
+}
+
+/// Returns the index of the next command to execute, or None if nothing is pending. `position` is that of the
+/// last transfer.
+pub fn next_place(pending: &[Command], position: Position) -> Option<usize>
+    ensures none { IsNone result ↔ (pending.now ≡ []) }
+    ensures may { IfSome result (λ place. IsEligible pending.now place) }
+{
+    if pending.len() == 1 {
+        return Some(0);
+    }
+    let mut least: Option<Candidate> = None;
+    for (place, command) in pending.iter().enumerate() {
+        if !is_eligible(pending, place) {
+            continue;
+        }
+        let Some(reached) = Position::of(*command) else {
+            return Some(place);
+        };
+        let candidate = Candidate {
+            is_behind: reached < position,
+            position: reached,
+            place,
+        };
+        least = match least {
+            Some(other) if other <= candidate => Some(other),
+            _ => Some(candidate),
+        };
+    }
+    Some(least?.place)
+}

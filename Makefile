@@ -2,12 +2,12 @@
 #   make            the program uda as out/uda, without proofs: about a minute
 #   make uda50      the program uda50 as out/uda50, without proofs: about a minute
 #   make install    installs both programs and the man page below PREFIX, /usr/local, and below DESTDIR
-#   make scenarios  the program that carries out scenarios, as out/scenarios, without proofs: about a minute
+#   make scenarios  the program that executes scenarios, as out/scenarios, without proofs: about a minute
 #   make library    the library for C as out/libuda50.a, without proofs: half a minute
-#   make test       every test, without proofs: a few minutes
+#   make test       the tests, without proofs: four minutes
 #   make proofs     the full check: every proof from nothing, tests, must-fail edits, library for C: two hours
 #   make clean      removes out/
-# `make -C c` builds the proved library for C. All of it needs the Rattle kit's command rt on the path.
+# `make -C c` builds the proved library for C. All of it needs the command rt of the Rattle toolchain on the path.
 sources := $(shell find crates -name '*.rt') crates.txt
 
 PREFIX ?= /usr/local

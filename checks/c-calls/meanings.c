@@ -192,9 +192,12 @@ static void identity(void)
     EXPECT(status_of(&other, (command){ GET_UNIT_STATUS, 6, 3, 0, 0 }), 0x0004);
     EXPECT(get16(response_at(2) + 14), 0xa080); /* an RRD40 is write-protected */
     EXPECT(uda50_detach(&other, 2, &images[2]), UDA50_OK);
+    EXPECT(state_of(&other).attentions, 0);
     EXPECT(uda50_attach(&other, 0, &images[2], false), UDA50_OK);
+    EXPECT(state_of(&other).attentions, 1);
     give_response(3);
     EXPECT(uda50_turn(&other, memory, SIZE), UDA50_NOTIFIED);
+    EXPECT(state_of(&other).attentions, 0);
     EXPECT(get16(response_at(3) + 4), 4);
     EXPECT(memory[response_at(3) + 8], 0x40);
     EXPECT(uda50_free(&other, images), UDA50_OK);

@@ -9,8 +9,8 @@
    status.
 
    Pass no null pointer; only the `at` of an empty image may be null. The handle, image structs, images, guest memory
-   and what a call fills must not overlap. The library can't detect an overlap. One array for two units is one, and
-   so is an image inside guest memory.
+   and what a call fills must not overlap. The library can't detect an overlap. One array for two units is an
+   overlap, and so is an image inside guest memory.
 
    Guest memory is passed to each call that uses it, as a pointer and a number of bytes. Byte n is what the guest's
    bus shows at address n: pass no more bytes than the bus has memory. The library reads and writes it in place, only
@@ -81,7 +81,7 @@ enum {
 
 /* Further kinds of a uda50_turn_record. For the three that fetch, uda50_turn and uda50_run return UDA50_FETCHED. */
 enum {
-    UDA50_INVALID_COMMAND = 6, /* it fetched a packet that is no command, and queued its end message */
+    UDA50_INVALID_COMMAND = 6, /* it fetched an invalid command, and queued its end message */
     UDA50_NO_TURN = 7,         /* there was no turn yet */
     UDA50_ANSWERED = 8,        /* it fetched a command that is answered at once, and queued its end message */
     UDA50_ABORTED = 9          /* it fetched an Abort that removed a pending command: both end messages are queued */
@@ -165,8 +165,8 @@ uint32_t uda50_detach(uda50 *handle, uint32_t unit, uda50_image *image);
 /* ---- Registers ---- */
 
 /* Writes IP for the guest, whatever the word: the initialization begins anew. The controller drops commands, end and
-   attention messages and an interrupt request, clears its flags, and makes its units available, without software
-   protection. Images and drive types stay. Call it for a reset of the guest's bus too. */
+   attention messages and an interrupt request, clears the controller flags, and makes its units available, without
+   software protection. Images, drive types and an injected failure stay. Call it for a reset of the guest's bus too. */
 void uda50_write_ip(uda50 *handle, uint16_t word);
 
 /* Reads IP for the guest: a running port begins to poll its command ring, and a port in the poll test goes on to
@@ -175,7 +175,8 @@ uint16_t uda50_read_ip(uda50 *handle);
 
 /* Writes SA for the guest: one step of the initialization. Step 3 sets the communication area in guest memory, which
    is the rings and the words before them, to zero. If the area isn't entirely within `length` bytes, the port fails
-   with code 7, and memory is as it was. Any length is accepted, also an odd one. */
+   with code 7, and memory is as it was. Any length is accepted, also an odd one. A running or dead port and
+   the poll test ignore the word. In wrap mode SA shows it. */
 void uda50_write_sa(uda50 *handle, uint16_t word, uint8_t *memory, size_t length);
 
 /* Reads SA for the guest. Returns the word of the step; 0 in the purge and poll tests and while the port runs; the
@@ -213,7 +214,7 @@ typedef struct {
 } uda50_ring;
 
 /* The state of a port. Until the initialization has set the rings, each is one descriptor at 0. In UDA50_PHASE_DEAD
-   `pending`, `queued`, `polling` and `attentions` are as they were at the fatal error, and mean no work. */
+   `pending`, `queued`, `polling` and `attentions` are left from before the fatal error, and mean no work. */
 typedef struct {
     uint32_t phase;       /* UDA50_PHASE_STEP_1 to UDA50_PHASE_WRAP */
     uda50_ring responses;
@@ -243,7 +244,8 @@ typedef struct {
     uint16_t status;      /* the status of an end message */
 } uda50_turn_record;
 
-/* Fills *turn with what the last turn did. Returns UDA50_OK; or UDA50_NO_CONTROLLER, and then *turn is as it was. */
+/* Fills *turn with what the last turn did; after uda50_run that is the last of its turns. Returns UDA50_OK; or
+   UDA50_NO_CONTROLLER, and then *turn is as it was. */
 uint32_t uda50_get_last_turn(uda50 *handle, uda50_turn_record *turn);
 
 /* Writes what the last turn did as a line of text, such as "executed 3 Read unit 0 status 0x0000 bytes 512", with a 0

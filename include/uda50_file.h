@@ -8,7 +8,7 @@
 extern "C" {
 #endif
 
-/* A file as an image. It is closed if it is set to zero, after uda50_file_close, and after a failed uda50_file_open.
+/* A file as an image. A struct of zeros is closed, and so is one after uda50_file_close or a failed uda50_file_open.
    The program uses `image`, and doesn't write the other fields. */
 typedef struct {
     uda50_image image; /* empty while a unit has it */
@@ -31,13 +31,13 @@ enum {
 };
 
 /* Opens a file and maps it: for reading only, if `read_only` is set, or else for reading and writing. While it is
-   open nobody may shorten it: an access to the missing part ends the program by SIGBUS. A file without bytes opens,
-   with an empty image.
+   open nobody may shorten it: an access to a page that is missing ends the program by SIGBUS. A file without bytes
+   opens, with an empty image.
 
    It takes the advisory lock (flock) that `uda run` takes: a shared one for reading only, or else an exclusive one.
-   On a file system without locks it opens the file without one. It never blocks. It overwrites what *file holds, so
-   close an open one first. Returns UDA50_FILE_OK; or the first that holds of UDA50_FILE_OPEN, UDA50_FILE_LOCKED,
-   UDA50_FILE_LENGTH, UDA50_FILE_TOO_LARGE and UDA50_FILE_MAP, and then *file is closed. */
+   On a file system without locks it opens the file without one. It never waits for a lock. It overwrites what *file
+   holds, so close an open one first. Returns UDA50_FILE_OK; or the first that holds of UDA50_FILE_OPEN,
+   UDA50_FILE_LOCKED, UDA50_FILE_LENGTH, UDA50_FILE_TOO_LARGE and UDA50_FILE_MAP, and then *file is closed. */
 int uda50_file_open(uda50_file *file, const char *path, bool read_only);
 
 /* Attaches the file's image to a unit, write-protected if the file was opened for reading only: a Write to a

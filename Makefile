@@ -5,7 +5,7 @@
 #   make scenarios  the program that executes scenarios, as out/scenarios, without proofs: about a minute
 #   make library    the library for C as out/libuda50.a, without proofs: half a minute
 #   make test       the tests, without proofs: four minutes
-#   make proofs     the full check: every proof from nothing, tests, must-fail edits, library for C: two hours
+#   make proofs     the full check: every proof from nothing, tests, must-fail edits, library for C: 2 to 3 hours
 #   make clean      removes out/
 # `make -C c` builds the proved library for C. All of it needs the command rt of the Rattle toolchain on the path.
 sources := $(shell find crates -name '*.rt') crates.txt

@@ -17,12 +17,12 @@ impl CaseMachine {
         match change {
             Change::Unit => self.new_drive(words),
             Change::Remove => {
-                self.shelf = self.exchange(words.unit()?, None)?;
+                self.shelf = self.set_drive(words.unit()?, None)?;
                 Ok(())
             }
             Change::Insert => {
                 let drive = self.shelf.take();
-                self.shelf = self.exchange(words.unit()?, drive)?;
+                self.shelf = self.set_drive(words.unit()?, drive)?;
                 Ok(())
             }
             Change::Restore => self.restore(words),
@@ -39,7 +39,7 @@ impl CaseMachine {
     fn new_drive(&mut self, words: &mut Words<'_>) -> Result<(), Fault> {
         let unit = words.unit()?;
         let drive = parse_drive(self.alloc, words)?;
-        self.shelf = self.exchange(unit, Some(drive))?;
+        self.shelf = self.set_drive(unit, Some(drive))?;
         Ok(())
     }
 

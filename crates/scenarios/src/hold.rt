@@ -46,14 +46,14 @@ impl CaseMachine {
     // Writes the drive of a unit or its calls. It removes the drive, reads it, and puts it back unchanged.
     fn opened(&mut self, unit: usize, calls: bool, came: &mut String) -> Result<(), Fault> {
         let look = self.look(unit);
-        let drive = self.exchange(unit, None)?;
+        let drive = self.exchange_drive(unit, None)?;
         let drive = if calls {
             with_calls(drive, came)?
         } else {
             write_drive(&drive, came)?;
             drive
         };
-        self.exchange(unit, drive)?;
+        self.exchange_drive(unit, drive)?;
         match look {
             Some(look) => self.restore_mode(unit, look.mode),
             None => Ok(()),
@@ -109,5 +109,5 @@ fn write_runs(block: &[u8], came: &mut String) -> Result<(), Fault> {
         write!(came, "{joint}{byte:x}*{count}")?;
         rest = rest.get(count..).unwrap_or(&[]);
     }
-    Ok(came.push_str("..")?)
+    Ok(came.push_str(if rest.is_empty() { "" } else { ".." })?)
 }

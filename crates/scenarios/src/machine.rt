@@ -142,14 +142,28 @@ impl CaseMachine {
         Ok(())
     }
 
-    /// Replaces the drive of a unit, and returns the old one.
-    pub fn exchange(
+    /// Replaces the drive of a unit, and returns the old one. A port may then owe its host an attention
+    /// message.
+    pub fn set_drive(
         &mut self,
         unit: usize,
         drive: Option<Drive<RecordingImage>>,
     ) -> Result<Option<Drive<RecordingImage>>, Fault> {
         match &mut self.subject {
             Subject::Port(port) => Ok(port.set_drive(unit, drive)),
+            Subject::Executor(exec) => Ok(exec.set_drive(unit, drive)),
+            _ => Err(NO_UNITS),
+        }
+    }
+
+    /// Does the same unseen by the host.
+    pub fn exchange_drive(
+        &mut self,
+        unit: usize,
+        drive: Option<Drive<RecordingImage>>,
+    ) -> Result<Option<Drive<RecordingImage>>, Fault> {
+        match &mut self.subject {
+            Subject::Port(port) => Ok(port.exchange_drive(unit, drive)),
             Subject::Executor(exec) => Ok(exec.set_drive(unit, drive)),
             _ => Err(NO_UNITS),
         }

@@ -109,7 +109,7 @@ impl CaseMachine {
                 write!(came, "event {number} is unlawful")?;
                 return Ok(());
             }
-            if after != before && after.sa() >= 0x8000 {
+            if after != before && matches!(after, Phase::Dead { .. }) {
                 deaths = deaths.saturating_add(1);
             }
             if event == HostEvent::Turn && self.is_busy()? {

@@ -246,9 +246,8 @@ impl Controller {
         requires memory { IsMemory memory.old }
         ensures { TakesTurn self.old memory.old (RanTurn result) self.new memory.new }
     {
-        let trace = self.port.turn_traced_in(memory);
-        self.last = Some(trace);
-        trace.turn()
+        let trace = self.last.get_or_insert(Trace::Idle);
+        self.port.turn_traced_into(memory, trace)
     }
 }
 

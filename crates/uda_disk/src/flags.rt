@@ -6,8 +6,8 @@ ghost use Rattle.std.specs.Prelude.{⊤, [], ◌∷◌, codes};
 
 use bitflags::{Flag, Flags, bitflag_items};
 
-/// The unit flags: how a unit is protected against writing. Their methods are those of the trait [`Flags`],
-/// which this crate re-exports.
+/// The unit flags: how a unit is protected against writing. Their methods are those of the trait [`Flags`] of
+/// the crate `bitflags`.
 #[derive(Clone, Copy, PartialEq, Eq, Debug)]
 pub struct UnitFlags(u16);
 

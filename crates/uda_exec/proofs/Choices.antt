@@ -4,6 +4,7 @@ use Rattle.std.specs.Prelude.{slice_get}
 use Rattle.std.proofs.lemmas.Bool.{cases_lt}
 use Rattle.std.proofs.lemmas.List.{get_or-take}
 use Rattle.std.proofs.lemmas.Option.{get_or_from_slice_get}
+use Rattle.uda_exec.specs.Commands.{is_transfer}
 use Rattle.uda_exec.proofs.Words.{Command, command_may_overtake, IsEligible}
 
 -- a command may overtake each of the first n
@@ -34,3 +35,7 @@ goes_if pending place n d within whole may_overtake = record {
       let one : get_or pending place d ≡ younger = get_or_from_slice_get pending place younger d at_place in
       rw (← one) (may_overtake i older (omega (arith, length-take place pending)) at_i);
 }
+
+-- the first n commands are transfers
+abbrev pub TransfersFirst : List Command → ℕ → Type 0
+TransfersFirst pending n = (i : ℕ) (c : Command) → i < n → slice_get pending i ≡ Some c → is_transfer c.op ≡ true

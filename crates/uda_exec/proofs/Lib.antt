@@ -15,3 +15,4 @@ pub mod OrderExamples
 pub mod NamedLaws
 pub mod Comparisons
 pub mod OnlyOne
+pub mod Removals

@@ -55,6 +55,10 @@ abbrev pub info_at : Option (Option UnitState) → Option UnitInfo
 info_at (Some (Some unit)) = Some (info_of unit)
 info_at _ = None
 
+-- the mode and the size that a unit without a drive has for a host
+abbrev pub ABSENT : UnitInfo
+ABSENT = record { mode = record { online = false; hard = false; soft = false }; size = 0 }
+
 -- a unit in this mode; its store is unchanged
 abbrev pub in_mode : Mode → Option UnitState → Option UnitState
 in_mode m unit = option_map (λ u. record { store = u.store; mode = m }) unit

@@ -41,6 +41,18 @@ pub struct UnitInfo {
     pub size: u32,
 }
 
+impl UnitInfo {
+    /// The mode and the size that a unit without a drive has for a host: no protection and no blocks.
+    pub const ABSENT: UnitInfo = UnitInfo {
+        mode: Mode {
+            online: false,
+            hard: false,
+            soft: false,
+        },
+        size: 0,
+    };
+}
+
 impl<S: BlockStore> Model for DriveUnit<S> {
     ghost use Rattle.uda_disk.specs.Units.{UnitState};
 

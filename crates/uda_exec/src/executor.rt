@@ -8,7 +8,7 @@ ghost use Rattle.uda_disk.specs.Units.{IsWellFormed, AreWellFormed, is_faithful,
 ghost use Rattle.uda_exec.specs.Disks.{PENDING_LIMIT};
 ghost use Rattle.uda_exec.specs.Commands.{is_controller};
 ghost use Rattle.uda_exec.specs.Drives.{drive_state, drive_states, drive_in, fresh_unit, fresh_units};
-ghost use Rattle.uda_exec.specs.Drives.{drives_in, returned_drive, reset_unit, with_drive, info_at};
+ghost use Rattle.uda_exec.specs.Drives.{drives_in, returned_drive, reset_unit, with_drive, info_at, ABSENT};
 ghost use Rattle.uda_exec.specs.Drives.{in_mode, with_mode};
 ghost use Rattle.uda_exec.specs.Execution.{Executes, ExecutesAt};
 ghost use Rattle.uda_exec.specs.Named.{oldest_named, guest_op_named, taken_out, aborted, progress_of};
@@ -123,6 +123,7 @@ impl<S: BlockStore> Exec<S> {
     /// Queues a command of the compatible profile after the pending ones, with its additional operation.
     /// Otherwise it is as [`accept`](Exec::accept). The end message comes from
     /// [`execute_next_in`](Exec::execute_next_in).
+    #[inline(always)]
     pub fn accept_guest(&mut self, asked: GuestCommand)
         requires room { length self.old.pending < PENDING_LIMIT }
         ensures last { self.new ≡ with_accepted self.old asked }
@@ -147,6 +148,16 @@ impl<S: BlockStore> Exec<S> {
     {
         let unit = self.units.get(unit)?.as_ref()?;
         Some(unit.look())
+    }
+
+    /// Returns the mode and the size of a unit, or [`UnitInfo::ABSENT`] if it has no drive or doesn't exist.
+    pub fn unit_or_absent(&self, unit: usize) -> UnitInfo
+        ensures info { result ≡ unwrap_or (info_at (slice_get self.now.units unit)) ABSENT }
+    {
+        match self.units.get(unit) {
+            Some(Some(unit)) => unit.look(),
+            _ => UnitInfo::ABSENT,
+        }
     }
 
     /// Returns the pending command that was accepted last, or None.
@@ -179,7 +190,7 @@ impl<S: BlockStore> Exec<S> {
     {
         let place = place_named(self.pending.as_slice(), unit, reference)?;
         let op = op_at(self.guest_ops.as_slice(), place);
-        let named = self.pending.remove(place);
+        let named = remove_pending(&mut self.pending, place);
         drop_op(&mut self.guest_ops, place);
         Some(guest_reply(named, status::ABORTED, op.blank_reply(named.op)))
     }
@@ -276,7 +287,7 @@ impl<S: BlockStore> Exec<S> {
         let place = next_place(self.pending.as_slice(), self.position)?;
         let command = remove_pending(&mut self.pending, place);
         drop_op(&mut self.guest_ops, place);
-        self.position = self.position.after(command);
+        self.position.move_to(command);
         Some(execute(&mut self.units, command, memory))
     }
 
@@ -313,7 +324,7 @@ impl<S: BlockStore> Exec<S> {
         let op = op_at(self.guest_ops.as_slice(), place);
         let taken = remove_pending(&mut self.pending, place);
         drop_op(&mut self.guest_ops, place);
-        self.position = self.position.after(taken);
+        self.position.move_to(taken);
         let asked = GuestCommand { command: taken, op };
         Some(execute_as(&mut self.units, asked, memory))
     }
@@ -460,18 +471,18 @@ fn reset<S: BlockStore>(units: &mut [Option<DriveUnit<S>>])
     }
 }
 
-// Removes and returns the command at an index. The last one, which is often the only one, leaves the others where
-// they are.
+// Removes and returns the command at an index. The later ones move down by a copy, which costs less than
+// `ArrayVec::remove`.
 fn remove_pending(pending: &mut ArrayVec<Command, PENDING>, place: usize) -> Command
     requires there { place < length pending.old.items }
     ensures value { slice_get pending.old.items place ≡ Some result }
     ensures left { pending.new.items ≡ remove pending.old.items place }
     ensures fewer { length pending.new.items + 1 ≡ length pending.old.items }
 {
-    if pending.len() - place == 1 {
-        return pending.pop().unwrap();
-    }
-    pending.remove(place)
+    let command = pending[place];
+    pending.as_mut_slice().copy_within(place + 1.., place);
+    pending.pop();
+    command
 }
 
 // Returns whether a command is Set Controller Characteristics, which concerns no unit.

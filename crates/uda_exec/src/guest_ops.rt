@@ -4,7 +4,8 @@
 //! port never fills the list.
 //!
 //! MSCP Basic Disk Functions Manual: Set Unit Characteristics, Compare Host Data.
-ghost use Rattle.std.specs.Prelude.{◌≡◌, ◌+◌, ◌<◌, ◌≤◌, length, remove};
+ghost use Rattle.std.specs.Prelude.{◌≡◌, ◌≢◌, ◌+◌, ◌<◌, ◌≤◌, length, remove};
+ghost use Rattle.uda_packet.specs.declared.guest_command.GuestOp.TheVariants.{Basic};
 ghost use Rattle.uda_exec.specs.GuestOps.{op_at, with_op};
 
 use crate::executor::PENDING;
@@ -22,15 +23,29 @@ pub(crate) fn op_at(ops: &[GuestOp], place: usize) -> GuestOp
 }
 
 // Stores the additional operation of a command that is appended at this index.
+#[inline(always)]
 pub(crate) fn note_op(ops: &mut GuestOps, place: usize, op: GuestOp)
     requires past { length ops.old.items ≤ place }
     requires room { place < 15 }
     ensures noted { ops.new.items ≡ with_op op place ops.old.items }
     ensures within { length ops.new.items ≤ place + 1 }
 {
-    if op == GuestOp::Basic {
-        return;
+    match op {
+        GuestOp::Basic => {}
+        GuestOp::SetUnit | GuestOp::Compare => append_op(ops, place, op),
     }
+}
+
+// Appends the additional operation of a command that has one. That is rare, so the function isn't inlined.
+#[cold]
+#[inline(never)]
+fn append_op(ops: &mut GuestOps, place: usize, op: GuestOp)
+    requires past { length ops.old.items ≤ place }
+    requires room { place < 15 }
+    requires additional { op ≢ Basic }
+    ensures noted { ops.new.items ≡ with_op op place ops.old.items }
+    ensures within { length ops.new.items ≤ place + 1 }
+{
     while ops.len() < place {
         ops.push(GuestOp::Basic);
     }

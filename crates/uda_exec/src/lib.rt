@@ -2,7 +2,7 @@
 //! host memory and the stores of the units.
 //!
 //! Each command corresponds to a request of `uda_disk`, whose effect defines that of the command
-//! (`specs/Effect.antt`). `specs/Execution.antt` defines the effect of one execution. The module `choice`
+//! (`specs/Effect.antt`). `specs/Execution.antt` defines the effect of one execution. The module `scheduler`
 //! chooses the next pending command, and no contract depends on the choice. The module `order` has the laws
 //! of execution in another order. Tests are in the crate `exec_tests`.
 //!

@@ -29,10 +29,11 @@ impl Position {
         })
     }
 
-    /// Returns the position after a command was executed: that of a transfer, or this one after any other
-    /// command.
-    pub fn after(self, command: Command) -> Position {
-        Position::of(command).unwrap_or(self)
+    /// Moves to the range of a command that is executed, if it is a transfer.
+    pub fn move_to(&mut self, command: Command) {
+        if let Some(reached) = Position::of(command) {
+            *self = reached;
+        }
     }
 }
 
@@ -57,12 +58,18 @@ fn same_unit(c: Command, d: Command) -> bool
     }
 }
 
+// Returns whether a command is a transfer.
+fn is_transfer(command: Command) -> bool
+    ensures { result ≡ is_transfer command.op }
+{
+    command.op.transfer().is_some()
+}
+
 // Returns whether a command may overtake an older one.
 fn command_may_overtake(older: Command, command: Command) -> bool
     ensures { result ≡ command_may_overtake older command }
 {
-    let both_transfer = older.op.transfer().is_some() && command.op.transfer().is_some();
-    !same_unit(older, command) || both_transfer
+    !same_unit(older, command) || (is_transfer(older) && is_transfer(command))
 }
 
 // Returns whether the command at this index is eligible: it may overtake every older one.
@@ -85,12 +92,16 @@ pub fn next_place(pending: &[Command], position: Position) -> Option<usize>
     ensures none { IsNone result ↔ (pending.now ≡ []) }
     ensures may { IfSome result (λ place. IsEligible pending.now place) }
 {
-    if pending.len() == 1 {
+    let oldest = pending.first()?;
+    if pending.len() == 1 || !is_transfer(*oldest) {
         return Some(0);
     }
     let mut least: Option<Candidate> = None;
+    // Transfers may overtake each other, so the first ones need no comparison in pairs.
+    let mut only_transfers = true;
     for (place, command) in pending.iter().enumerate() {
-        if !is_eligible(pending, place) {
+        only_transfers = only_transfers && is_transfer(*command);
+        if !only_transfers && !is_eligible(pending, place) {
             continue;
         }
         let Some(reached) = Position::of(*command) else {

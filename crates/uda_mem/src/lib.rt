@@ -14,5 +14,5 @@ pub use block::as_block;
 pub use memory::{HostMemory, MEMORY_LIMIT, NoMemory};
 pub use slice::{
     SLICE_LIMIT, block_at, has, is_memory, len, put_bytes, put_word, put_zeros, read_word, window,
-    write_word,
+    word_at, write_word,
 };

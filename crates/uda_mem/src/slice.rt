@@ -51,6 +51,17 @@ pub fn read_word(memory: &[u8], addr: u32) -> Option<u16>
     Some(LittleEndian::read_u16(bytes))
 }
 
+/// Returns the word at the even address `addr`, low byte first. The caller knows that the two bytes lie in the
+/// memory.
+#[tactic(auto, unfolding(crate::specs::Put::part, crate::specs::Words::word_at))]
+pub fn word_at(memory: &[u8], addr: u32) -> u16
+    requires word { HasWord memory.now addr }
+    ensures value { result ≡ word_at memory.now addr }
+{
+    let start = addr as usize;
+    LittleEndian::read_u16(&memory[start..start + 2])
+}
+
 /// Writes `word` at the even address `addr`, low byte first, and changes no other byte. Returns false and
 /// changes nothing if `addr` is odd or the two bytes don't both lie in the memory.
 #[tactic(auto, unfolding(crate::specs::Put::put, crate::specs::Words::word_bytes))]
@@ -61,18 +72,19 @@ pub fn write_word(memory: &mut [u8], addr: u32, word: u16) -> bool
     if addr % 2 != 0 || !has(memory, addr, 2) {
         return false;
     }
-    let start = addr as usize;
-    LittleEndian::write_u16(&mut memory[start..start + 2], word);
+    put_word(memory, addr, word);
     true
 }
 
 /// Writes `word` at the even address `addr`, low byte first, and changes no other byte. The caller knows
 /// that the two bytes lie in the memory.
+#[tactic(auto, unfolding(crate::specs::Put::put, crate::specs::Words::word_bytes))]
 pub fn put_word(memory: &mut [u8], addr: u32, word: u16)
     requires word { HasWord memory.old addr }
     ensures memory { memory.new ≡ put memory.old addr (word_bytes word) }
 {
-    write_word(memory, addr, word);
+    let start = addr as usize;
+    LittleEndian::write_u16(&mut memory[start..start + 2], word);
 }
 
 /// Writes these bytes from address `addr`, and changes no other byte. The caller knows that they fit in the

@@ -94,6 +94,10 @@ abbrev pub reply_to_bad : Result Command Bad → Result Command Reply
 reply_to_bad (Ok c) = Ok c
 reply_to_bad (Err bad) = Err (basic_reply (bad_end bad))
 
+-- the command of a text as the strict profile reads it, or the end message of an invalid one
+abbrev pub read_plain : Identity → List ℕ → Result Command Reply
+read_plain identity bytes = reply_to_bad (read_command (plain_text identity bytes))
+
 abbrev pub asked_by : Identity → List ℕ → Option ReplyBody → Result Command Reply
 asked_by identity bytes (Some answer) =
     Err (record {
@@ -102,7 +106,7 @@ asked_by identity bytes (Some answer) =
       status = SUCCESS;
       body = answer;
     })
-asked_by identity bytes None = reply_to_bad (read_command (plain_text identity bytes))
+asked_by identity bytes None = read_plain identity bytes
 
 -- the command of a text that the strict profile knows, or the end message of one that is invalid or
 -- executed at once; its unit is the drive that the guest means

@@ -2,11 +2,12 @@
 //!
 //! MSCP Basic Disk Functions Manual: command messages, opcodes, command modifiers.
 
-ghost use Rattle.std.specs.Prelude.{◌≡◌};
+ghost use Rattle.std.specs.Prelude.{◌≡◌, ℕ, List, None, false};
 ghost use Rattle.uda_packet.specs.Guest.{body_at_once, next_from, asks_next, unit_meant, modifiers_meant};
 ghost use Rattle.uda_packet.specs.Guest.{plain_text, read_guest, other_connection_reply};
-ghost use Rattle.uda_packet.specs.Guest.{resembled_text, read_resembled};
+ghost use Rattle.uda_packet.specs.Guest.{resembled_text, read_resembled, read_plain, asked_as};
 ghost use Rattle.uda_packet.specs.GuestCommands.{guest_op};
+ghost use Rattle.uda_packet.specs.declared.guest_command.GuestOp.TheVariants.{Basic};
 ghost use Rattle.uda_packet.specs.Field.{number_in, code_field};
 
 use crate::command::{Command, Op};
@@ -44,15 +45,42 @@ const UNITS: u16 = 4;
 /// - For an invalid command: the end message of [`Bad::end`](crate::Bad::end).
 ///
 /// MSCP Basic Disk Functions Manual: command messages, command modifiers.
+#[inline(always)]
 pub fn decode_for_guests(text: &[u8; 48], identity: Identity) -> Result<GuestCommand, Reply>
     ensures asked { result ≡ read_guest identity text.now }
 {
-    let op = guest_op(code_in(text));
-    let command = match op {
-        GuestOp::Basic => decode_resembled(text, identity)?,
-        GuestOp::SetUnit | GuestOp::Compare => decode_resembled(&resembled_text(text), identity)?,
-    };
-    Ok(GuestCommand { command, op })
+    let code = code_in(text);
+    if is_additional(code) {
+        let op = guest_op(code);
+        let command = decode_additional(text, identity)?;
+        return Ok(GuestCommand { command, op });
+    }
+    let command = decode_plain(text, identity)?;
+    Ok(GuestCommand {
+        command,
+        op: GuestOp::Basic,
+    })
+}
+
+// Returns whether only the compatible profile knows the opcode.
+fn is_additional(code: u8) -> bool
+    ensures operation { result ≡ false → guest_op code ≡ Basic }
+    ensures at_once { (text : List ℕ) → result ≡ false → body_at_once code text ≡ None }
+{
+    matches!(code, 1 | 2 | 10 | 11 | 17 | 19 | 32)
+}
+
+// Returns the command of any text, without its operation, or the end message. Few hosts post an additional
+// command, so the function isn't inlined.
+#[cold]
+#[inline(never)]
+fn decode_additional(text: &Text, identity: Identity) -> Result<Command, Reply>
+    ensures { asked_as (guest_op (number_in code_field text.now)) result ≡ read_guest identity text.now }
+{
+    match guest_op(code_in(text)) {
+        GuestOp::Basic => decode_resembled(text, identity),
+        GuestOp::SetUnit | GuestOp::Compare => decode_resembled(&resembled_text(text), identity),
+    }
 }
 
 // Returns the operation of an opcode in the compatible profile.
@@ -79,12 +107,12 @@ fn resembled_text(text: &Text) -> Text
     resembled
 }
 
-// Returns the command of a text that the strict profile knows.
+// Returns the command of a text that the strict profile knows, or the end message.
 fn decode_resembled(text: &Text, identity: Identity) -> Result<Command, Reply>
     ensures { result ≡ read_resembled identity text.now }
 {
     match body_at_once(text) {
-        None => decode_command(&plain_text(text, identity)).map_err(|bad| Reply::basic(bad.end())),
+        None => decode_plain(text, identity),
         Some(body) => Err(Reply {
             reference: REFERENCE.get(text),
             unit: identity.drive_number(UNIT.get(text)),
@@ -92,6 +120,14 @@ fn decode_resembled(text: &Text, identity: Identity) -> Result<Command, Reply>
             body,
         }),
     }
+}
+
+// Returns the command of a text as the strict profile reads it, or the end message of an invalid command.
+#[inline(always)]
+fn decode_plain(text: &Text, identity: Identity) -> Result<Command, Reply>
+    ensures { result ≡ read_plain identity text.now }
+{
+    decode_command(&plain_text(text, identity)).map_err(|bad| Reply::basic(bad.end()))
 }
 
 /// Returns the end message of a command on a connection that isn't MSCP's: that of an unknown opcode. It

@@ -14,9 +14,7 @@ use Rattle.uda_port.specs.declared.packet.Fetched.{Fetched}
 use Rattle.uda_port.specs.declared.packet.Fetching.{Fetching}
 use Rattle.uda_port.specs.Ring.{is_owned, returned_word, descriptor_at, ring, owned_front, posted, RingState, descriptor_address, next_descriptor, ring_advanced, memory_returned, posted_in}
 use Rattle.uda_port.specs.Interrupt.{memory_with_indicator, IsBelow}
-use Rattle.uda_port.specs.declared.ring.RingFault.{RingFault}
-use Rattle.uda_port.specs.declared.ring.RingFault.TheVariants.{Ring as RingLost, Packet as PacketLost}
-use Rattle.uda_port.specs.Fetch.{Takes, TakesFirst, FetchEffect, OrderKept}
+use Rattle.uda_port.specs.Fetch.{IsNext, Takes, TakesFirst, FirstStays}
 
 length-ring : (memory : List ℕ) (base n : ℕ) → length (ring memory base n) ≡ n
 length-ring memory base n = length-map-range_with_len _ 0 n
@@ -235,20 +233,12 @@ takes_first f old memory p new memory_after below within t =
           ∙ ap (λ (ds : List Descriptor). t.first ∷ ds) (sym (ap₂ posted_in t.written t.advanced));
     }
 
--- the effect of a fetch at the next descriptor is that on what is posted: ring order
-pub order_kept : (f : Fetching) (old : RingState) (memory : List ℕ)
-    (result : Result (Option Fetched) RingFault) (new : RingState) (memory_after : List ℕ)
-    → IsBelow f.indicator old.base → old.place < old.count → FetchEffect f old memory result new memory_after
-    → OrderKept old memory result new memory_after
-order_kept f old memory (Ok (Some p)) new memory_after below within goes =
-    takes_first f old memory p new memory_after below within goes
-order_kept f old memory (Ok None) new memory_after below within goes =
-    not_owned_posted memory old goes.0.next within goes.0.is_next goes.0.not_owned
-order_kept f old memory (Err PacketLost) new memory_after below within goes = record {
-  first = goes.0.next;
-  rest = owned_front (behind memory old);
-  is_next = goes.0.is_next;
-  is_first = owned_posted memory old goes.0.next within goes.0.is_next goes.0.owned;
+-- the next descriptor stays the first that is posted
+pub first_stays : (memory : List ℕ) (r : RingState) (d : Descriptor) → r.place < r.count → IsNext r memory d
+    → FirstStays r memory
+first_stays memory r d within next = record {
+  first = d;
+  rest = owned_front (behind memory r);
+  is_next = next.is_next;
+  is_first = owned_posted memory r d within next.is_next next.owned;
 }
-order_kept f old memory (Err RingLost) new memory_after below within goes =
-    none_posted memory old within goes.0

@@ -1,6 +1,6 @@
 -- The effect of a turn from the effects of its rules.
 use Rattle.std.proofs.Common.{◌≡◌, ℕ, zero, suc, Bool, true, false, List, [], ◌∷◌, length, None, refl, sym, ap, ◌∙◌, subst}
-use Rattle.std.specs.Prelude.{slice_get, remove, Result, Ok, Err, ◌==◌, if◌then◌else◌}
+use Rattle.std.specs.Prelude.{slice_get, remove, Result, Ok, Err, ◌==◌, ◌&&◌, not, if◌then◌else◌}
 use Rattle.uda_packet.specs.Bad.{invalid_length_end}
 use Rattle.uda_packet.specs.Guest.{asked_as, reply_to_bad}
 use Rattle.uda_packet.specs.Reading.{read_command}
@@ -20,7 +20,7 @@ use Rattle.uda_port.specs.Message.{message_in}
 use Rattle.uda_port.specs.declared.phase.Fatal.{Fatal}
 use Rattle.uda_port.specs.declared.turn.Turn.{Turn}
 use Rattle.uda_port.specs.declared.turn.Turn.TheVariants.{Fetched, Executed, Delivered, Notified, Idle, Dead}
-use Rattle.uda_port.specs.Port.{PortState}
+use Rattle.uda_port.specs.Port.{PortState, lacks_credit}
 use Rattle.uda_port.specs.Turn.{port_turn_on, GoesOn, InRest, FirstRuleEffect, RunningTurn, ExecutesFor, ExecutesStrictly}
 
 pub running_turn : (old : PortState) (memory : List ℕ) (turn : Turn) (new : PortState) (memory_after : List ℕ)
@@ -48,6 +48,15 @@ goes_on old memory (Err cause) new memory_after goes = InRest goes
 pub none_first : {A : Type 0} (xs : List A) → slice_get xs 0 ≡ None → xs ≡ []
 none_first [] none = refl
 none_first (x ∷ xs) none = absurd (cc)
+
+-- a port that may fetch although its host has no credit is strict
+pub only_strict : (polling : Bool) (profile : Profile) (credits : ℕ)
+    → (polling && not (lacks_credit profile credits)) ≡ true → credits ≡ 0 → profile ≡ Strict
+only_strict false profile credits may none = absurd (cc)
+only_strict true Strict credits may none = refl
+only_strict true (Compatible identity) credits may none =
+    let no : not (0 == 0) ≡ true = subst (λ (n : ℕ). not (n == 0) ≡ true) none may in
+    absurd (cc)
 
 -- ---- the strict profile has no additional operations
 

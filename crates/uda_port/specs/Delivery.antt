@@ -1,16 +1,14 @@
 -- What a delivery to a response ring does.
 -- UDA50 Programmer's Documentation Kit: response ring, message envelopes.
-use Rattle.std.specs.Prelude.{◌≡◌, ℕ, Bool, true, false, List, length, Some, Result, Ok, Err}
+use Rattle.std.specs.Prelude.{◌≡◌, ℕ, Bool, true, false, List, length, Some}
 use Rattle.uda_port.specs.declared.descriptor.Descriptor.{Descriptor}
 use Rattle.uda_port.specs.declared.profile.Profile.{Profile}
-use Rattle.uda_port.specs.declared.ring.RingFault.{RingFault}
-use Rattle.uda_port.specs.declared.ring.RingFault.TheVariants.{Ring as RingLost, Packet as PacketLost}
 use Rattle.uda_port.specs.Ring.{is_owned, RingState, next_descriptor, ring_advanced}
 use Rattle.uda_port.specs.Ring.{memory_returned}
 use Rattle.uda_port.specs.Interrupt.{memory_with_indicator}
 use Rattle.uda_port.specs.declared.packet.Delivery.{Delivery}
 use Rattle.uda_port.specs.Packet.{HasRoom, packet_put, text_address}
-use Rattle.uda_port.specs.Fetch.{Stays, HostOwnsNext, DescriptorOutsideMemory}
+use Rattle.uda_port.specs.Fetch.{Stays}
 
 -- the packet is written to the buffer of the next descriptor, an interrupt indicator is set if needed, and
 -- the descriptor is returned
@@ -33,13 +31,9 @@ pub record BufferUnusable (profile : Profile) (old : RingState) (memory : List �
   pub owned : is_owned next ≡ true
   pub no_room : HasRoom profile memory (text_address profile next) n → ⊥
 
--- the complete effect of a delivery
+-- the effect of a delivery to the next descriptor, which the port owns: whether the text fits its buffer
 abbrev pub DeliveryEffect :
-    Delivery → RingState → List ℕ → List ℕ → Result Bool RingFault → RingState → List ℕ → Type 0
-DeliveryEffect d old memory text (Ok true) new memory_after = Puts d old memory text new memory_after
-DeliveryEffect d old memory text (Ok false) new memory_after =
-    HostOwnsNext old memory × Stays old memory new memory_after
-DeliveryEffect d old memory text (Err PacketLost) new memory_after =
+    Delivery → RingState → List ℕ → List ℕ → Bool → RingState → List ℕ → Type 0
+DeliveryEffect d old memory text true new memory_after = Puts d old memory text new memory_after
+DeliveryEffect d old memory text false new memory_after =
     BufferUnusable d.profile old memory (length text) × Stays old memory new memory_after
-DeliveryEffect d old memory text (Err RingLost) new memory_after =
-    DescriptorOutsideMemory old memory × Stays old memory new memory_after

@@ -6,6 +6,8 @@ use Rattle.uda_port.specs.declared.packet.Fetched.{Fetched}
 use Rattle.uda_port.specs.declared.packet.Fetching.{Fetching}
 use Rattle.uda_port.specs.declared.profile.Profile.{Profile}
 use Rattle.uda_port.specs.declared.profile.Profile.TheVariants.{Strict}
+use Rattle.uda_port.specs.declared.ring.NextDescriptor.{NextDescriptor}
+use Rattle.uda_port.specs.declared.ring.NextDescriptor.TheVariants.{OutsideMemory, OwnedByHost, OwnedByPort}
 use Rattle.uda_port.specs.declared.ring.RingFault.{RingFault}
 use Rattle.uda_port.specs.declared.ring.RingFault.TheVariants.{Ring as RingLost, Packet as PacketLost}
 use Rattle.uda_port.specs.Ring.{is_owned, RingState, next_descriptor, ring_advanced}
@@ -36,12 +38,11 @@ pub record HostOwnsNext (r : RingState) (memory : List ℕ) : Type 0 where
 abbrev pub DescriptorOutsideMemory : RingState → List ℕ → Type 0
 DescriptorOutsideMemory r memory = next_descriptor memory r ≡ None
 
--- the next descriptor, if the port owns it
-abbrev pub ReadsNext : RingState → List ℕ → Result (Option Descriptor) RingFault → Type 0
-ReadsNext r memory (Ok (Some next)) = IsNext r memory next
-ReadsNext r memory (Ok None) = HostOwnsNext r memory
-ReadsNext r memory (Err RingLost) = DescriptorOutsideMemory r memory
-ReadsNext r memory (Err PacketLost) = ⊥
+-- where the next descriptor is, and who owns it
+abbrev pub ReadsNext : RingState → List ℕ → NextDescriptor → Type 0
+ReadsNext r memory OutsideMemory = DescriptorOutsideMemory r memory
+ReadsNext r memory OwnedByHost = HostOwnsNext r memory
+ReadsNext r memory (OwnedByPort next) = IsNext r memory next
 
 -- the packet of the next descriptor is read, an interrupt indicator is set if needed, the descriptor is
 -- returned, and the index advances around the ring

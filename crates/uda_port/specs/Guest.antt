@@ -57,8 +57,6 @@ is_online_now e = ends_online e.body && (e.status == SUCCESS || e.status == ALRE
 abbrev pub guest_after : Reply → Guest → Guest
 guest_after e g = if is_online_now e then attention_set g e.unit false else g
 
--- the report of a unit of this type; without a volume its size is 0
-abbrev pub unit_reported : DriveType → Option UnitInfo → UnitReport
-unit_reported kind None = record { kind = kind; hard = false; soft = false; size = 0 }
-unit_reported kind (Some look) =
-    record { kind = kind; hard = look.mode.hard; soft = look.mode.soft; size = look.size }
+-- the report of a unit of this type
+abbrev pub unit_reported : DriveType → UnitInfo → UnitReport
+unit_reported kind look = record { kind = kind; hard = look.mode.hard; soft = look.mode.soft; size = look.size }

@@ -1,6 +1,6 @@
 -- The texts of the messages that a port delivers.
 -- MSCP Basic Disk Functions Manual: end messages.
-use Rattle.std.specs.Prelude.{ℕ, List, take, Option, Some, None, option_map, slice_get}
+use Rattle.std.specs.Prelude.{ℕ, List, take, Option, Some, None, option_map, slice_get, unwrap_or}
 use Rattle.uda_packet.specs.declared.reply.Reply.{Reply}
 use Rattle.uda_packet.specs.declared.guest_end.Identity.{Identity}
 use Rattle.uda_packet.specs.declared.guest_end.Report.{Report}
@@ -9,7 +9,7 @@ use Rattle.uda_packet.specs.GuestEnd.{written_guest_end, written_unit_available,
 use Rattle.uda_packet.specs.Reply.{reply_length, strict_end}
 use Rattle.uda_packet.specs.Written.{written_end}
 use Rattle.uda_disk.specs.Units.{Units}
-use Rattle.uda_exec.specs.Drives.{info_at}
+use Rattle.uda_exec.specs.Drives.{info_at, ABSENT}
 use Rattle.uda_port.specs.declared.profile.Profile.{Profile}
 use Rattle.uda_port.specs.declared.profile.Profile.TheVariants.{Strict, Compatible}
 use Rattle.uda_port.specs.declared.guest.Guest.{Guest}
@@ -19,7 +19,8 @@ use Rattle.uda_port.specs.Port.{PortState}
 -- what a port reports about a drive, if it is one of its four
 abbrev pub unit_report : Guest → Units → ℕ → Option UnitReport
 unit_report guest units drive =
-    option_map (λ kind. unit_reported kind (info_at (slice_get units drive))) (slice_get guest.types drive)
+    let look = unwrap_or (info_at (slice_get units drive)) ABSENT in
+    option_map (λ kind. unit_reported kind look) (slice_get guest.types drive)
 
 -- what an end message about that drive reports in addition to the outcome of the command
 abbrev pub report_of : Identity → Guest → Units → ℕ → Report

@@ -14,14 +14,18 @@ use uda_exec::Exec;
 use uda_image::BlockStore;
 use uda_packet::{Reply, ReplyBody};
 
-// Queues the end message of an invalid command. For a command that is answered at once, executes it and
-// queues its end message. The strict profile has no such commands.
+// Queues the end message of an invalid command, and reports it in `trace`. For a command that is answered at once,
+// executes it and queues its end message. The strict profile has no such commands. All these are rare, so the
+// function isn't inlined.
+#[cold]
+#[inline(never)]
 pub(crate) fn answer_at_once<S: BlockStore>(
     profile: Profile,
     exec: &mut Exec<S>,
     waiting: &mut HeapCircularBuffer<Reply>,
     reply: Reply,
-) -> Trace
+    trace: &mut Trace,
+)
     requires room { length exec.old.pending + length waiting.old.items < waiting.old.capacity }
     ensures exec { exec.new ≡ exec_at_once profile reply exec.old }
     ensures replies { waiting.new
@@ -30,11 +34,11 @@ pub(crate) fn answer_at_once<S: BlockStore>(
         ≡ length exec.old.pending + length waiting.old.items + 1 }
     ensures units { exec.new.units ≡ exec.old.units }
     ensures capacity { waiting.new.capacity ≡ waiting.old.capacity }
-    ensures accurate { TracesAnswer result waiting.old.items waiting.new.items }
+    ensures accurate { TracesAnswer trace.new waiting.old.items waiting.new.items }
 {
     match profile {
-        Profile::Strict => answer(waiting, reply),
-        Profile::Compatible(_) => answer_guest(exec, waiting, reply),
+        Profile::Strict => answer(waiting, reply, trace),
+        Profile::Compatible(_) => answer_guest(exec, waiting, reply, trace),
     }
 }
 
@@ -43,7 +47,8 @@ fn answer_guest<S: BlockStore>(
     exec: &mut Exec<S>,
     waiting: &mut HeapCircularBuffer<Reply>,
     reply: Reply,
-) -> Trace
+    trace: &mut Trace,
+)
     requires room { length exec.old.pending + length waiting.old.items < waiting.old.capacity }
     ensures exec { exec.new ≡ exec_for reply.body reply exec.old }
     ensures replies { waiting.new
@@ -52,41 +57,41 @@ fn answer_guest<S: BlockStore>(
         ≡ length exec.old.pending + length waiting.old.items + 1 }
     ensures units { exec.new.units ≡ exec.old.units }
     ensures capacity { waiting.new.capacity ≡ waiting.old.capacity }
-    ensures accurate { TracesAnswer result waiting.old.items waiting.new.items }
+    ensures accurate { TracesAnswer trace.new waiting.old.items waiting.new.items }
 {
     match reply.body {
         ReplyBody::Abort { named } => match exec.abort(reply.unit, named) {
             Some(aborted) => {
                 hold(waiting, aborted);
                 hold(waiting, reply);
-                Trace::Aborted(reply)
+                *trace = Trace::Aborted(reply);
             }
-            None => answer(waiting, reply),
+            None => answer(waiting, reply, trace),
         },
         ReplyBody::CommandStatus { named, .. } => {
             let progress = exec.progress(reply.unit, named);
             let body = ReplyBody::CommandStatus { named, progress };
-            answer(waiting, Reply { body, ..reply })
+            answer(waiting, Reply { body, ..reply }, trace);
         }
-        ReplyBody::Basic(_) => answer(waiting, reply),
-        ReplyBody::AccessPaths => answer(waiting, reply),
-        ReplyBody::CompareController => answer(waiting, reply),
-        ReplyBody::Flush => answer(waiting, reply),
-        ReplyBody::SetUnit { .. } => answer(waiting, reply),
-        ReplyBody::Compare { .. } => answer(waiting, reply),
+        ReplyBody::Basic(_) => answer(waiting, reply, trace),
+        ReplyBody::AccessPaths => answer(waiting, reply, trace),
+        ReplyBody::CompareController => answer(waiting, reply, trace),
+        ReplyBody::Flush => answer(waiting, reply, trace),
+        ReplyBody::SetUnit { .. } => answer(waiting, reply, trace),
+        ReplyBody::Compare { .. } => answer(waiting, reply, trace),
     }
 }
 
-// Queues an end message, and returns the trace of the command that is answered by it.
-fn answer(waiting: &mut HeapCircularBuffer<Reply>, reply: Reply) -> Trace
+// Queues an end message, and reports it in `trace`.
+fn answer(waiting: &mut HeapCircularBuffer<Reply>, reply: Reply, trace: &mut Trace)
     requires room { length waiting.old.items < waiting.old.capacity }
     ensures last { waiting.new ≡ buffer (waiting.old.items ++ reply ∷ []) waiting.old.capacity }
     ensures longer { length waiting.new.items ≡ length waiting.old.items + 1 }
     ensures capacity { waiting.new.capacity ≡ waiting.old.capacity }
-    ensures accurate { TracesAnswer result waiting.old.items waiting.new.items }
+    ensures accurate { TracesAnswer trace.new waiting.old.items waiting.new.items }
 {
     hold(waiting, reply);
-    match reply.body {
+    *trace = match reply.body {
         ReplyBody::Basic(_) => Trace::InvalidCommand(reply),
         ReplyBody::Abort { .. } => Trace::Answered(reply),
         ReplyBody::CommandStatus { .. } => Trace::Answered(reply),
@@ -95,5 +100,5 @@ fn answer(waiting: &mut HeapCircularBuffer<Reply>, reply: Reply) -> Trace
         ReplyBody::Flush => Trace::Answered(reply),
         ReplyBody::SetUnit { .. } => Trace::Answered(reply),
         ReplyBody::Compare { .. } => Trace::Answered(reply),
-    }
+    };
 }

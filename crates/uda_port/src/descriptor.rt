@@ -62,9 +62,10 @@ impl Descriptor {
         if u64::from(at) + 4 > u64::from(uda_mem::len(memory)) {
             return None;
         }
-        let low = uda_mem::read_word(memory, at)?;
-        let high = uda_mem::read_word(memory, at + 2)?;
-        Some(Descriptor { low, high })
+        Some(Descriptor {
+            low: uda_mem::word_at(memory, at),
+            high: uda_mem::word_at(memory, at + 2),
+        })
     }
 
     /// Returns whether the port owns the descriptor: bit 15 of the second word is set. The flag bit doesn't

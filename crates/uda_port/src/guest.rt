@@ -95,25 +95,15 @@ impl Guest {
         self.attentions.get(drive).copied().unwrap_or(false)
     }
 
-    /// Returns the report of a unit with this mode and size, or None if there is no such unit. A unit without
-    /// a volume has size 0 and no protection.
-    pub(crate) fn unit(&self, unit: usize, look: Option<UnitInfo>) -> Option<UnitReport>
+    /// Returns the report of a unit with this mode and size, or None if there is no such unit.
+    pub(crate) fn unit(&self, unit: usize, look: UnitInfo) -> Option<UnitReport>
         ensures { result ≡ option_map (λ kind. unit_reported kind look) (slice_get self.now.types unit) }
     {
-        let kind = *self.types.get(unit)?;
-        Some(match look {
-            None => UnitReport {
-                kind,
-                hard: false,
-                soft: false,
-                size: 0,
-            },
-            Some(look) => UnitReport {
-                kind,
-                hard: look.mode.hard,
-                soft: look.mode.soft,
-                size: look.size,
-            },
+        Some(UnitReport {
+            kind: *self.types.get(unit)?,
+            hard: look.mode.hard,
+            soft: look.mode.soft,
+            size: look.size,
         })
     }
 }

@@ -2,19 +2,16 @@
 //!
 //! UDA50 Programmer's Documentation Kit: message envelopes.
 ghost use Rattle.std.specs.Prelude.{◌≡◌, ◌↔◌, IsTrue, MatchOption, length};
-ghost use Rattle.uda_port.specs.Message.{IsSequential, is_length, message_in, text_by_length, text_read};
-ghost use Rattle.uda_port.specs.Message.{text_asks, length_reply, flags_kept};
+ghost use Rattle.uda_port.specs.Message.{IsSequential, message_in, text_by_length, flags_kept};
 ghost use Rattle.uda_exec.specs.Commands.{is_controller};
-ghost use Rattle.uda_port.specs.Message.{mscp_message, HasConnection};
-ghost use Rattle.uda_port.specs.declared.profile.Profile.TheVariants.{Strict};
-ghost use Rattle.uda_packet.specs.Envelope.{envelope_of};
-ghost use Rattle.uda_mem.specs.Words.{word_at};
+ghost use Rattle.uda_port.specs.Message.{mscp_message};
+ghost use Rattle.uda_port.specs.declared.profile.Profile.TheVariants.{Strict, Compatible};
 
 use crate::guest::Guest;
 use crate::packet::{Fetched, TEXT};
 use crate::profile::Profile;
 use uda_packet::{
-    End, Envelope, GuestCommand, GuestOp, Op, Reply, decode_command, decode_for_guests,
+    End, Envelope, GuestCommand, GuestOp, Identity, Op, Reply, decode_command, decode_for_guests,
     other_connection_reply,
 };
 
@@ -31,32 +28,17 @@ pub(crate) fn message_in(profile: Profile, packet: &Fetched) -> Option<Result<Gu
         (λ message. IsSequential profile packet.now × (message ≡ message_in profile packet.now)) }
 {
     let envelope = Envelope::of_words(packet.words.0, packet.words.1);
-    if envelope.kind != 0 || !has_connection(profile, envelope.connection) {
+    if envelope.kind != 0 {
         return None;
     }
-    Some(message_of(profile, envelope.connection, packet))
-}
-
-// Returns whether a host may use a connection: 0 is MSCP's. The compatible profile also allows DUP's.
-fn has_connection(profile: Profile, connection: u8) -> bool
-    ensures { IsTrue result ↔ HasConnection profile connection }
-{
-    match profile {
-        Profile::Strict => connection == 0,
-        Profile::Compatible(_) => connection == 0 || connection == DUP,
+    if envelope.connection == 0 {
+        return Some(mscp_message(profile, packet));
     }
-}
-
-// Returns the command or end message of a packet with a valid envelope.
-fn message_of(profile: Profile, connection: u8, packet: &Fetched) -> Result<GuestCommand, Reply>
-    requires { connection ≡ (envelope_of packet.now.words.0 packet.now.words.1).connection }
-    ensures { result ≡ message_in profile packet.now }
-{
     match profile {
-        Profile::Compatible(identity) if connection == DUP => {
-            Err(other_connection_reply(&text_by_length(packet), identity))
-        }
-        Profile::Strict | Profile::Compatible(_) => mscp_message(profile, packet),
+        Profile::Compatible(identity) if envelope.connection == DUP => Some(Err(
+            other_connection_reply(&text_by_length(packet), identity),
+        )),
+        Profile::Strict | Profile::Compatible(_) => None,
     }
 }
 
@@ -64,25 +46,54 @@ fn message_of(profile: Profile, connection: u8, packet: &Fetched) -> Result<Gues
 fn mscp_message(profile: Profile, packet: &Fetched) -> Result<GuestCommand, Reply>
     ensures { result ≡ mscp_message profile packet.now }
 {
-    let text = text_read(profile, packet);
-    if !is_length(profile, packet.words.0) {
-        return Err(length_reply(profile, &text));
+    match profile {
+        Profile::Strict => strict_message(packet),
+        Profile::Compatible(identity) => guest_message(identity, packet),
     }
-    text_asks(profile, &text)
 }
 
-// Returns the end message of a packet whose length is invalid.
-fn length_reply(profile: Profile, text: &[u8; 48]) -> Reply
-    ensures { result ≡ length_reply profile text.now }
+// Returns the command or end message of a packet in the strict profile, which reads all 48 bytes.
+fn strict_message(packet: &Fetched) -> Result<GuestCommand, Reply>
+    ensures { result ≡ mscp_message Strict packet.now }
 {
-    let end = End::for_invalid_length(text);
-    match profile {
-        Profile::Strict => Reply::basic(end),
-        Profile::Compatible(identity) => Reply {
+    if packet.words.0 != TEXT {
+        return Err(Reply::basic(End::for_invalid_length(&packet.text)));
+    }
+    match decode_command(&packet.text) {
+        Ok(command) => Ok(GuestCommand {
+            command,
+            op: GuestOp::Basic,
+        }),
+        Err(bad) => Err(Reply::basic(bad.end())),
+    }
+}
+
+// Returns the command or end message of a packet in the compatible profile, which reads as many bytes as the
+// length word says, and at most 48.
+fn guest_message(identity: Identity, packet: &Fetched) -> Result<GuestCommand, Reply>
+    ensures { result ≡ mscp_message (Compatible identity) packet.now }
+{
+    if packet.words.0 < TEXT {
+        return short_message(identity, packet);
+    }
+    decode_for_guests(&packet.text, identity)
+}
+
+// Does the same for a packet of fewer than 48 bytes. Few hosts post one, so the function isn't inlined.
+#[cold]
+#[inline(never)]
+fn short_message(identity: Identity, packet: &Fetched) -> Result<GuestCommand, Reply>
+    ensures { result ≡ mscp_message (Compatible identity) packet.now }
+{
+    let text = text_by_length(packet);
+    if packet.words.0 < HEAD {
+        let end = End::for_invalid_length(&text);
+        return Err(Reply {
             unit: identity.drive_number(end.unit),
             ..Reply::basic(end)
-        },
+        });
     }
+    decode_for_guests(&text, identity)
 }
 
 /// Stores the controller flags of a Set Controller Characteristics command, in the compatible profile.
@@ -98,7 +109,7 @@ pub(crate) fn keep_flags(
         return;
     };
     if is_controller(&asked.command.op) {
-        guest.flags = flags_in(&text_by_length(packet));
+        guest.flags = uda_mem::word_at(&text_by_length(packet), 14);
     }
 }
 
@@ -109,61 +120,9 @@ fn is_controller(op: &Op) -> bool
     matches!(op, Op::Controller)
 }
 
-// Returns the controller flags of a text.
-fn flags_in(text: &[u8; 48]) -> u16
-    ensures { result ≡ word_at text.now 14 }
-{
-    let Some(flags) = uda_mem::read_word(text, 14) else {
-        unreachable!()
-    };
-    flags
-}
-
-// Returns the command of a text, or its end message.
-fn text_asks(profile: Profile, text: &[u8; 48]) -> Result<GuestCommand, Reply>
-    ensures { result ≡ text_asks profile text.now }
-{
-    match profile {
-        Profile::Strict => decode_strictly(text),
-        Profile::Compatible(identity) => decode_for_guests(text, identity),
-    }
-}
-
-// Returns the command of a text, or its end message, in the strict profile.
-fn decode_strictly(text: &[u8; 48]) -> Result<GuestCommand, Reply>
-    ensures { result ≡ text_asks Strict text.now }
-{
-    match decode_command(text) {
-        Ok(command) => Ok(GuestCommand {
-            command,
-            op: GuestOp::Basic,
-        }),
-        Err(bad) => Err(Reply::basic(bad.end())),
-    }
-}
-
-// Returns whether a command may have this length in bytes. The strict profile allows only 48.
-fn is_length(profile: Profile, length: u16) -> bool
-    ensures { result ≡ is_length profile length }
-{
-    match profile {
-        Profile::Strict => length == TEXT,
-        Profile::Compatible(_) => length >= HEAD,
-    }
-}
-
-// Returns the text of a packet as the profile reads it. The strict profile reads all 48 bytes; the compatible
-// profile reads as many as the length word says.
-fn text_read(profile: Profile, packet: &Fetched) -> [u8; 48]
-    ensures { result ≡ text_read profile packet.now }
-{
-    match profile {
-        Profile::Strict => packet.text,
-        Profile::Compatible(_) => text_by_length(packet),
-    }
-}
-
-// Returns the text of a packet, with zeros past its length.
+// Returns the text of a packet, with zeros past its length. Few commands need it, so the function isn't inlined.
+#[cold]
+#[inline(never)]
 fn text_by_length(packet: &Fetched) -> [u8; 48]
     ensures { result ≡ text_by_length packet.now }
 {

@@ -71,14 +71,12 @@ pub(crate) fn packet_at(memory: &[u8], address: u32) -> Option<Fetched>
     if address % 2 != 0 || address < 4 {
         return None;
     }
-    let bytes = uda_mem::window(memory, address, 48)?;
-    let first = uda_mem::read_word(memory, address - 4)?;
-    let second = uda_mem::read_word(memory, address - 2)?;
-    let mut text = [0; 48];
-    text.copy_from_slice(bytes);
+    let text = uda_mem::window(memory, address, 48)?.as_array()?;
+    let first = uda_mem::word_at(memory, address - 4);
+    let second = uda_mem::word_at(memory, address - 2);
     Some(Fetched {
         words: (first, second),
-        text,
+        text: *text,
     })
 }
 
@@ -107,10 +105,7 @@ fn tells_room(memory: &[u8], address: u32) -> bool
     if address % 2 != 0 || address < 4 || !uda_mem::has(memory, address, u32::from(TEXT)) {
         return false;
     }
-    match uda_mem::read_word(memory, address - 4) {
-        Some(length) => length >= TEXT,
-        None => false,
-    }
+    uda_mem::word_at(memory, address - 4) >= TEXT
 }
 
 /// Writes a text, and then the envelope below it, which grants `credits` credits.

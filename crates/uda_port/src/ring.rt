@@ -58,6 +58,17 @@ pub struct Ring {
     place: u16,
 }
 
+/// The next descriptor of a ring.
+#[derive(Clone, Copy)]
+pub(crate) enum NextDescriptor {
+    /// It isn't wholly in memory.
+    OutsideMemory,
+    /// The host owns it.
+    OwnedByHost,
+    /// The port owns it.
+    OwnedByPort(Descriptor),
+}
+
 impl Model for Ring {
     ghost use Rattle.std.specs.Prelude.{◌≡◌, ◌+◌, ◌%◌, ◌^◌, ◌<◌, ◌≤◌};
     ghost use Rattle.uda_port.specs.Ring.{RingState};
@@ -74,12 +85,15 @@ impl Model for Ring {
 }
 
 impl Ring {
-    ghost use Rattle.std.specs.Prelude.{◌≡◌, ◌+◌, ◌%◌, ◌^◌, ◌<◌, ◌≤◌, ◌↔◌, IsTrue, length, OnOk, None};
+    ghost use Rattle.std.specs.Prelude.{◌≡◌, ◌+◌, ◌%◌, ◌^◌, ◌<◌, ◌≤◌, ◌↔◌, IsTrue, length, OnOk, IfSome, MatchOption, Some, None};
     ghost use Rattle.uda_mem.specs.Slices.{IsMemory};
     ghost use Rattle.uda_port.specs.Ring.{IsRingBase, is_ring_length, descriptor_address, ring_advanced};
     ghost use Rattle.uda_port.specs.Ring.{memory_returned, next_descriptor};
     ghost use Rattle.uda_port.specs.Interrupt.{is_ring_transition, ring_before, any_owned, word_below};
     ghost use Rattle.uda_port.specs.Fetch.{FetchEffect, ReadsNext, OrderKept, STRICT_FETCHING};
+    ghost use Rattle.uda_port.specs.Fetch.{IsNext, Stays, Takes, TakesFirst, PacketUnreadable};
+    ghost use Rattle.uda_port.specs.declared.descriptor.Descriptor.{Descriptor as DescriptorValue};
+    ghost use Rattle.uda_port.specs.declared.ring.NextDescriptor.TheVariants.{OwnedByPort};
     ghost use Rattle.uda_port.specs.Delivery.{DeliveryEffect};
     ghost use Rattle.uda_port.specs.declared.profile.Profile.TheVariants.{Strict};
 
@@ -148,7 +162,7 @@ impl Ring {
     /// each once. Fails with [`RingFault::Ring`] if the descriptor isn't wholly in memory, and with
     /// [`RingFault::Packet`] if the port owns it and can't read its packet. After None or an error, ring and
     /// memory are unchanged. Otherwise only the second word of the descriptor changes
-    /// ([`Descriptor::given_back`]), and the result is the packet as it was before.
+    /// ([`Descriptor::returned_word`]), and the result is the packet as it was before.
     ///
     /// UDA50 Programmer's Documentation Kit: command ring, message envelopes.
     #[tactic(auto, using(crate::proofs::Length::wholes))]
@@ -165,55 +179,54 @@ impl Ring {
         ensures effect { FetchEffect STRICT_FETCHING self.old memory.old result self.new memory.new }
         ensures order { OrderKept self.old memory.old result self.new memory.new }
     {
+        let descriptor = match self.next(memory) {
+            NextDescriptor::OwnedByPort(descriptor) => descriptor,
+            NextDescriptor::OwnedByHost => return Ok(None),
+            NextDescriptor::OutsideMemory => return Err(RingFault::Ring),
+        };
         let fetching = Fetching {
             profile: Profile::Strict,
             indicator: None,
         };
-        self.fetch_by(memory, fetching)
+        match self.take(memory, descriptor, fetching) {
+            Some(packet) => Ok(Some(packet)),
+            None => Err(RingFault::Packet),
+        }
     }
 
-    /// Does the same in either profile. At a ring transition it sets the interrupt indicator before it
-    /// returns the descriptor.
-    pub(crate) fn fetch_by(
+    /// Fetches the packet of the next descriptor, which the port owns, in either profile. Sets the interrupt
+    /// indicator if there is one to set, returns the descriptor to the host, and advances the index around the
+    /// ring. Returns None if the packet isn't readable, and then nothing changes.
+    pub(crate) fn take(
         &mut self,
         memory: &mut [u8],
+        descriptor: Descriptor,
         fetching: Fetching,
-    ) -> Result<Option<Fetched>, RingFault>
+    ) -> Option<Fetched>
         requires memory { IsMemory memory.old }
+        requires next { IsNext self.old memory.old descriptor }
+        requires there { descriptor_address self.old + 4 ≤ length memory.old }
+        requires place { self.old.place < self.old.count }
         requires below { IsBelow fetching.indicator self.old.base }
-        ensures effect { FetchEffect fetching self.old memory.old result self.new memory.new }
-        ensures order { OrderKept self.old memory.old result self.new memory.new }
+        ensures effect { MatchOption result
+            (PacketUnreadable fetching.profile self.old memory.old × Stays self.old memory.old self.new memory.new)
+            (λ packet. Takes fetching self.old memory.old packet self.new memory.new) }
+        ensures order { IfSome result (λ packet. TakesFirst self.old memory.old self.new memory.new) }
         ensures base { self.new.base ≡ self.old.base }
     {
-        self.take(memory, fetching)
-    }
-
-    // Fetches the packet of the next descriptor.
-    fn take(&mut self, memory: &mut [u8], fetching: Fetching) -> Result<Option<Fetched>, RingFault>
-        requires memory { IsMemory memory.old }
-        requires below { IsBelow fetching.indicator self.old.base }
-        ensures effect { FetchEffect fetching self.old memory.old result self.new memory.new }
-        ensures place { self.old.place < self.old.count }
-        ensures base { self.new.base ≡ self.old.base }
-    {
-        let Some(descriptor) = self.next(memory)? else {
-            return Ok(None);
-        };
-        let Some(fetched) = packet_at(memory, descriptor.text_address(fetching.profile)) else {
-            return Err(RingFault::Packet);
-        };
+        let fetched = packet_at(memory, descriptor.text_address(fetching.profile))?;
         set_indicator(memory, fetching.indicator);
         self.give_back(memory, descriptor);
-        Ok(Some(fetched))
+        Some(fetched)
     }
 
-    /// Delivers a text with an envelope to the buffer of the next descriptor. Returns the descriptor to the
-    /// host, and advances the index around the ring. The envelope grants `delivery.credits` credits.
+    /// Delivers a text with an envelope to the buffer of the next descriptor, which the port owns. Returns the
+    /// descriptor to the host, and advances the index around the ring. The envelope grants `delivery.credits`
+    /// credits.
     ///
-    /// The writes come in this order: text, envelope, the interrupt indicator if there is a ring transition,
-    /// and the second word of the descriptor. Returns false if the host owns the descriptor. Fails with
-    /// [`RingFault::Ring`] if the descriptor isn't wholly in memory, and with [`RingFault::Packet`] if the
-    /// port owns it and the text doesn't fit its buffer. After false or an error nothing has changed.
+    /// The writes come in this order: text, envelope, the interrupt indicator if there is one to set, and the
+    /// second word of the descriptor. Returns false if the text doesn't fit its buffer, and then nothing
+    /// changes.
     ///
     /// UDA50 Programmer's Documentation Kit: response ring, message envelopes.
     // Inlined, it copies a strict port's texts with a fixed length.
@@ -221,10 +234,13 @@ impl Ring {
     pub(crate) fn put(
         &mut self,
         memory: &mut [u8],
+        descriptor: Descriptor,
         delivery: Delivery,
         text: &[u8],
-    ) -> Result<bool, RingFault>
+    ) -> bool
         requires memory { IsMemory memory.old }
+        requires next { IsNext self.old memory.old descriptor }
+        requires there { descriptor_address self.old + 4 ≤ length memory.old }
         requires few { delivery.credits ≤ 15 }
         requires below { IsBelow delivery.indicator self.old.base }
         requires long { delivery.profile ≡ Strict → length text.now ≡ 48 }
@@ -232,32 +248,31 @@ impl Ring {
         ensures effect { DeliveryEffect delivery self.old memory.old text.now result self.new memory.new }
         ensures base { self.new.base ≡ self.old.base }
     {
-        let Some(descriptor) = self.next(memory)? else {
-            return Ok(false);
-        };
         let address = descriptor.text_address(delivery.profile);
         if !has_room(delivery.profile, memory, address, text.len() as u16) {
-            return Err(RingFault::Packet);
+            return false;
         }
         put_packet(memory, address, delivery.credits, text);
         set_indicator(memory, delivery.indicator);
         self.give_back(memory, descriptor);
-        Ok(true)
+        true
     }
 
     /// Returns whether the return of the next descriptor is a ring transition that the host asks about. The
     /// flag bit of the descriptor is set, and the port owns the descriptor before it around the ring.
-    pub(crate) fn is_ring_transition(&self, memory: &[u8]) -> bool
+    #[inline(always)]
+    pub(crate) fn is_ring_transition(&self, memory: &[u8], descriptor: Descriptor) -> bool
         requires memory { IsMemory memory.now }
+        requires next { next_descriptor memory.now self.now ≡ Some descriptor }
         ensures is_ring_transition { result ≡ is_ring_transition memory.now self.now }
     {
-        match Descriptor::read_in(memory, self.address()) {
-            Some(descriptor) if descriptor.is_flagged() => self.owns_before(memory),
-            _ => false,
-        }
+        descriptor.is_flagged() && self.owns_before(memory)
     }
 
-    // Returns whether the port owns the descriptor before the next one.
+    // Returns whether the port owns the descriptor before the next one. Few hosts set the flag, so the function
+    // isn't inlined.
+    #[cold]
+    #[inline(never)]
     fn owns_before(&self, memory: &[u8]) -> bool
         requires memory { IsMemory memory.now }
         ensures owns { result ≡ any_owned (next_descriptor memory.now (ring_before self.now)) }
@@ -283,21 +298,19 @@ impl Ring {
         }
     }
 
-    // Returns the next descriptor, or None if the host owns it.
-    fn next(&self, memory: &[u8]) -> Result<Option<Descriptor>, RingFault>
+    /// Reads the next descriptor.
+    pub(crate) fn next(&self, memory: &[u8]) -> NextDescriptor
         requires memory { IsMemory memory.now }
         ensures next { ReadsNext self.now memory.now result }
-        ensures there { OnOk result (descriptor_address self.now + 4 ≤ length memory.now) }
+        ensures there { (next : DescriptorValue) → result ≡ OwnedByPort next
+            → descriptor_address self.now + 4 ≤ length memory.now }
         ensures place { self.now.place < self.now.count }
     {
-        let at = self.address();
-        let Some(descriptor) = Descriptor::read_in(memory, at) else {
-            return Err(RingFault::Ring);
-        };
-        if !descriptor.is_owned() {
-            return Ok(None);
+        match Descriptor::read_in(memory, self.address()) {
+            None => NextDescriptor::OutsideMemory,
+            Some(descriptor) if descriptor.is_owned() => NextDescriptor::OwnedByPort(descriptor),
+            Some(_) => NextDescriptor::OwnedByHost,
         }
-        Ok(Some(descriptor))
     }
 
     // Returns the next descriptor to the host, and advances the index.

@@ -143,4 +143,20 @@ impl<S: BlockStore> Port<S> {
         self.keep();
         trace
     }
+
+    /// Does the same, and stores the record in `trace`. Returns what the turn did. It is for callers that keep
+    /// the record of the last turn: nothing is copied.
+    pub fn turn_traced_into(&mut self, memory: &mut [u8], trace: &mut Trace) -> Turn
+        requires memory { IsMemory memory.old }
+        ensures effect { TurnEffect self.old.phase self.old memory.old result self.new memory.new }
+        ensures turn { result ≡ turn_of trace.new }
+        ensures accurate { Traces trace.new self.old self.new }
+        ensures credits { CreditsAgree self.new }
+        ensures four_units { length self.new.exec.units ≡ 4 }
+        ensures well_formed { AreWellFormed self.new.exec.units }
+    {
+        let turn = self.take_turn(memory, trace);
+        self.keep();
+        turn
+    }
 }

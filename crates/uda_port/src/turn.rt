@@ -12,21 +12,25 @@ ghost use Rattle.uda_port.specs.Interrupt.{IsBelow};
 ghost use Rattle.uda_port.specs.Turn.{FetchRule, ExecuteRule, DeliverRule, NotifyRule, LaterRulesEffect, FirstRuleEffect, RunningTurn};
 ghost use Rattle.uda_port.specs.Turn.{TurnEffect, delivery_of, may_fetch};
 ghost use Rattle.uda_port.specs.Trace.{Reports, ReportsIf};
-ghost use Rattle.uda_port.specs.declared.turn.Turn.TheVariants.{Fetched, Executed};
+ghost use Rattle.uda_port.specs.declared.turn.Turn.TheVariants.{Fetched, Executed, Idle as IdleTurn};
+ghost use Rattle.uda_port.specs.declared.trace.Trace.TheVariants.{Idle, Dead as TraceDead};
 ghost use Rattle.uda_port.specs.Port.{lacks_credit};
 ghost use Rattle.uda_port.specs.Report.{end_text, report_of, attention_text};
 ghost use Rattle.uda_port.specs.Guest.{first_due};
 ghost use Rattle.uda_port.specs.declared.profile.Profile.TheVariants.{Strict};
 ghost use Rattle.uda_port.specs.Packet.{IsLegible};
+ghost use Rattle.uda_port.specs.Ring.{next_descriptor, descriptor_address};
+ghost use Rattle.uda_port.specs.Fetch.{IsNext};
 ghost use Rattle.uda_port.specs.Delivery.{DeliveryEffect};
 
 use crate::at_once::answer_at_once;
+use crate::descriptor::Descriptor;
 use crate::message::{keep_flags, message_in};
 use crate::packet::{Delivery, Fetching, Message, Notice, TEXT};
 use crate::phase::{Fatal, Phase};
 use crate::port::Port;
 use crate::profile::Profile;
-use crate::ring::{Ring, RingFault};
+use crate::ring::{NextDescriptor, Ring};
 use crate::trace::Trace;
 use circular_buffer::HeapCircularBuffer;
 use uda_exec::PENDING;
@@ -135,26 +139,27 @@ impl<S: BlockStore> Port<S> {
         let _ = &self.credits;
     }
 
-    // Runs a turn, by the phase, and reports it in `trace`.
+    // Runs a turn, by the phase, and reports it in `trace`. It isn't inlined, so that it writes the record only
+    // once, where it is.
+    #[inline(never)]
     pub(crate) fn take_turn(&mut self, memory: &mut [u8], trace: &mut Trace) -> Turn
         requires memory { IsMemory memory.old }
         ensures effect { TurnEffect self.old.phase self.old memory.old result self.new memory.new }
         ensures reports { Reports result trace.new self.old self.new }
     {
-        *trace = Trace::Idle;
         match self.phase {
             Phase::Running => self.run(memory, trace),
             Phase::Dead { cause } => {
-                *trace = Trace::Dead(cause);
+                report_dead(trace, cause);
                 Turn::Dead
             }
-            Phase::Step1 => Turn::Idle,
-            Phase::Step2 { .. } => Turn::Idle,
-            Phase::Step3 { .. } => Turn::Idle,
-            Phase::Wrap { .. } => Turn::Idle,
-            Phase::PurgeTest => Turn::Idle,
-            Phase::PollTest => Turn::Idle,
-            Phase::Step4 => Turn::Idle,
+            Phase::Step1 => initializing(trace),
+            Phase::Step2 { .. } => initializing(trace),
+            Phase::Step3 { .. } => initializing(trace),
+            Phase::Wrap { .. } => initializing(trace),
+            Phase::PurgeTest => initializing(trace),
+            Phase::PollTest => initializing(trace),
+            Phase::Step4 => initializing(trace),
         }
     }
 
@@ -170,7 +175,7 @@ impl<S: BlockStore> Port<S> {
             Ok(turn) => turn,
             Err(cause) => {
                 self.die(cause);
-                *trace = Trace::Dead(cause);
+                report_dead(trace, cause);
                 Turn::Dead
             }
         }
@@ -209,10 +214,7 @@ impl<S: BlockStore> Port<S> {
                     *trace = Trace::Notified;
                     Ok(Turn::Notified)
                 }
-                Ok(false) => {
-                    *trace = Trace::Idle;
-                    Ok(Turn::Idle)
-                }
+                Ok(false) => Ok(idle(trace)),
             };
         };
         match self.deliver(memory, end) {
@@ -221,10 +223,7 @@ impl<S: BlockStore> Port<S> {
                 *trace = Trace::Delivered(end);
                 Ok(Turn::Delivered)
             }
-            Ok(false) => {
-                *trace = Trace::Idle;
-                Ok(Turn::Idle)
-            }
+            Ok(false) => Ok(idle(trace)),
         }
     }
 
@@ -237,16 +236,18 @@ impl<S: BlockStore> Port<S> {
         if !self.may_fetch() {
             return Ok(false);
         }
-        let indicator = self.command_indicator(memory);
+        let descriptor = match self.commands.next(memory) {
+            NextDescriptor::OwnedByPort(descriptor) => descriptor,
+            NextDescriptor::OwnedByHost => return Ok(false),
+            NextDescriptor::OutsideMemory => return Err(Fatal::RingRead),
+        };
+        let indicator = self.command_indicator(memory, descriptor);
         let fetching = Fetching {
             profile: self.profile,
             indicator,
         };
-        let fetched = match self.commands.fetch_by(memory, fetching) {
-            Ok(None) => return Ok(false),
-            Ok(Some(fetched)) => fetched,
-            Err(RingFault::Ring) => return Err(Fatal::RingRead),
-            Err(RingFault::Packet) => return Err(Fatal::PacketRead),
+        let Some(fetched) = self.commands.take(memory, descriptor, fetching) else {
+            return Err(Fatal::PacketRead);
         };
         self.interrupts.note(self.profile, indicator);
         if self.credits == 0 {
@@ -265,7 +266,13 @@ impl<S: BlockStore> Port<S> {
                 Ok(true)
             }
             Err(reply) => {
-                *trace = answer_at_once(self.profile, &mut self.exec, &mut self.waiting, reply);
+                answer_at_once(
+                    self.profile,
+                    &mut self.exec,
+                    &mut self.waiting,
+                    reply,
+                    trace,
+                );
                 Ok(true)
             }
         }
@@ -318,14 +325,16 @@ impl<S: BlockStore> Port<S> {
         ensures effect { DeliverRule self.old memory.old result self.new memory.new }
         ensures taken { IfOk result (λ b. b ≡ true → self.old.waiting ≡ end ∷ self.new.waiting) }
     {
-        let delivery = self.delivery(memory);
+        let descriptor = match self.responses.next(memory) {
+            NextDescriptor::OwnedByPort(descriptor) => descriptor,
+            NextDescriptor::OwnedByHost => return Ok(false),
+            NextDescriptor::OutsideMemory => return Err(Fatal::RingRead),
+        };
+        let delivery = self.delivery(memory, descriptor);
         let looks = self.looks_again();
         let message = self.end_text(&end);
-        match put_message(&mut self.responses, memory, delivery, &message) {
-            Err(RingFault::Ring) => return Err(Fatal::RingRead),
-            Err(RingFault::Packet) => return Err(Fatal::PacketWrite),
-            Ok(false) => return Ok(false),
-            Ok(true) => {}
+        if !put_message(&mut self.responses, memory, descriptor, delivery, &message) {
+            return Err(Fatal::PacketWrite);
         }
         release(&mut self.waiting, end);
         self.interrupts.note(self.profile, delivery.indicator);
@@ -354,15 +363,18 @@ impl<S: BlockStore> Port<S> {
         let Some(notice) = self.notice() else {
             return Ok(false);
         };
+        let descriptor = match self.responses.next(memory) {
+            NextDescriptor::OwnedByPort(descriptor) => descriptor,
+            NextDescriptor::OwnedByHost => return Ok(false),
+            NextDescriptor::OutsideMemory => return Err(Fatal::RingRead),
+        };
         let delivery = Delivery {
             credits: 0,
-            ..self.delivery(memory)
+            ..self.delivery(memory, descriptor)
         };
-        match put_message(&mut self.responses, memory, delivery, &notice.message) {
-            Err(RingFault::Ring) => return Err(Fatal::RingRead),
-            Err(RingFault::Packet) => return Err(Fatal::PacketWrite),
-            Ok(false) => return Ok(false),
-            Ok(true) => {}
+        let message = &notice.message;
+        if !put_message(&mut self.responses, memory, descriptor, delivery, message) {
+            return Err(Fatal::PacketWrite);
         }
         self.guest.set_attention(usize::from(notice.drive), false);
         self.interrupts.note(self.profile, delivery.indicator);
@@ -381,7 +393,7 @@ impl<S: BlockStore> Port<S> {
         };
         let drive = self.guest.first_due()?;
         let at = usize::from(drive);
-        let unit = self.guest.unit(at, self.exec.unit(at))?;
+        let unit = self.guest.unit(at, self.exec.unit_or_absent(at))?;
         Some(Notice {
             drive,
             message: Message {
@@ -418,18 +430,19 @@ impl<S: BlockStore> Port<S> {
         Report {
             identity,
             controller_flags: self.guest.flags,
-            unit: self.guest.unit(unit, self.exec.unit(unit)),
+            unit: self.guest.unit(unit, self.exec.unit_or_absent(unit)),
         }
     }
 
     // Returns the address of the command interrupt indicator, if the next fetch must set it.
-    fn command_indicator(&self, memory: &[u8]) -> Option<u32>
-        requires { IsMemory memory.now }
+    fn command_indicator(&self, memory: &[u8], next: Descriptor) -> Option<u32>
+        requires memory { IsMemory memory.now }
+        requires next { next_descriptor memory.now self.now.commands ≡ Some next }
         ensures indicator { result ≡ command_indicator self.now memory.now }
         ensures below { IsBelow result self.now.commands.base }
     {
         match self.profile {
-            Profile::Compatible(_) if self.commands.is_ring_transition(memory) => self
+            Profile::Compatible(_) if self.commands.is_ring_transition(memory, next) => self
                 .responses
                 .word_below(4),
             _ => None,
@@ -437,13 +450,14 @@ impl<S: BlockStore> Port<S> {
     }
 
     // Returns the address of the response interrupt indicator, if the next delivery must set it.
-    fn response_indicator(&self, memory: &[u8]) -> Option<u32>
-        requires { IsMemory memory.now }
+    fn response_indicator(&self, memory: &[u8], next: Descriptor) -> Option<u32>
+        requires memory { IsMemory memory.now }
+        requires next { next_descriptor memory.now self.now.responses ≡ Some next }
         ensures indicator { result ≡ response_indicator self.now memory.now }
         ensures below { IsBelow result self.now.responses.base }
     {
         match self.profile {
-            Profile::Compatible(_) if self.responses.is_ring_transition(memory) => self
+            Profile::Compatible(_) if self.responses.is_ring_transition(memory, next) => self
                 .responses
                 .word_below(2),
             _ => None,
@@ -451,8 +465,9 @@ impl<S: BlockStore> Port<S> {
     }
 
     // Returns the settings of the next delivery of an end message.
-    fn delivery(&self, memory: &[u8]) -> Delivery
-        requires { IsMemory memory.now }
+    fn delivery(&self, memory: &[u8], next: Descriptor) -> Delivery
+        requires memory { IsMemory memory.now }
+        requires next { next_descriptor memory.now self.now.responses ≡ Some next }
         ensures delivery { result ≡ delivery_of self.now memory.now }
         ensures below { IsBelow result.indicator self.now.responses.base }
         ensures few { result.credits ≤ PENDING_LIMIT }
@@ -461,7 +476,7 @@ impl<S: BlockStore> Port<S> {
         Delivery {
             profile: self.profile,
             credits: self.next_grant(),
-            indicator: self.response_indicator(memory),
+            indicator: self.response_indicator(memory, next),
         }
     }
 
@@ -475,29 +490,66 @@ impl<S: BlockStore> Port<S> {
     }
 }
 
-// Delivers a message to a response ring.
+// Delivers a message to the next descriptor of a response ring, which the port owns. Returns false if the message
+// doesn't fit its buffer.
 #[inline(always)]
 fn put_message(
     responses: &mut Ring,
     memory: &mut [u8],
+    next: Descriptor,
     delivery: Delivery,
     message: &Message,
-) -> Result<bool, RingFault>
+) -> bool
     requires memory { IsMemory memory.old }
+    requires next { IsNext responses.old memory.old next }
+    requires there { descriptor_address responses.old + 4 ≤ length memory.old }
     requires few { delivery.credits ≤ 15 }
     requires below { IsBelow delivery.indicator responses.old.base }
     requires within { message.now.size ≤ 48 }
     requires whole { delivery.profile ≡ Strict → message.now.size ≡ 48 }
-    ensures effect { DeliveryEffect delivery responses.old memory.old (take message.now.size message.now.text) result
-        responses.new memory.new }
+    ensures effect { DeliveryEffect delivery responses.old memory.old (take message.now.size message.now.text)
+        result responses.new memory.new }
     ensures base { responses.new.base ≡ responses.old.base }
 {
     // A text of 48 bytes is copied with a fixed length.
     if message.size == TEXT {
-        responses.put(memory, delivery, &message.text)
+        responses.put(memory, next, delivery, &message.text)
     } else {
-        responses.put(memory, delivery, &message.text[..usize::from(message.size)])
+        responses.put(
+            memory,
+            next,
+            delivery,
+            &message.text[..usize::from(message.size)],
+        )
     }
+}
+
+// Stores the trace record of a turn that did nothing, and returns that turn.
+fn idle(trace: &mut Trace) -> Turn
+    ensures trace { trace.new ≡ Idle }
+    ensures turn { result ≡ IdleTurn }
+{
+    *trace = Trace::Idle;
+    Turn::Idle
+}
+
+// Does the same for a port in initialization. That is rare, so the function isn't inlined.
+#[cold]
+#[inline(never)]
+fn initializing(trace: &mut Trace) -> Turn
+    ensures trace { trace.new ≡ Idle }
+    ensures turn { result ≡ IdleTurn }
+{
+    idle(trace)
+}
+
+// Stores the trace record of a dead port. That is rare, so the function isn't inlined.
+#[cold]
+#[inline(never)]
+fn report_dead(trace: &mut Trace, cause: Fatal)
+    ensures { trace.new ≡ TraceDead cause }
+{
+    *trace = Trace::Dead(cause);
 }
 
 // Appends an end message to the queue.

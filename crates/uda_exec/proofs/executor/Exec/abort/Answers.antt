@@ -29,15 +29,15 @@ returns-clause-end g c =
     let at : Some c.in_ok-place.place ≡ position p items =
     rw c.as_slice.ensures.value at c.in_ok-place.ensures in
     let first = (is_at p items (Some c.in_ok-place.place) at).0 in
-    let here : slice_get items c.in_ok-place.place ≡ Some c.remove-named.result =
-    slice_get_read items _ _ _ refl (place_within p items _ at) c.remove-named.ensures.value in
+    let here : slice_get items c.in_ok-place.place ≡ Some c.remove_pending-named.result =
+    c.remove_pending-named.ensures.value in
     let ops : List GuestOp = c.self.inside.guest_ops.items in
     let op : c.op_at-op.result ≡ op_at ops c.in_ok-place.place =
     rw c.as_slice-2.ensures.value at c.op_at-op.ensures in
     rw (← c.self.view_is)
     (aborted_at p items ops _ _ _ at (first ∙ here) (c.guest_reply.ensures
-    ∙ ap (λ (b : ReplyBody). guest_reply c.remove-named.result ABORTED b) (c.blank_reply.ensures.blank
-    ∙ ap (λ (o : GuestOp). blank_reply o c.remove-named.result.op) op)))
+    ∙ ap (λ (b : ReplyBody). guest_reply c.remove_pending-named.result ABORTED b) (c.blank_reply.ensures.blank
+    ∙ ap (λ (o : GuestOp). blank_reply o c.remove_pending-named.result.op) op)))
 
 pub returns-clause-taken : goal.returns-clause-taken
 returns-clause-taken g c =
@@ -52,5 +52,5 @@ returns-clause-taken g c =
       pending = remove items c.in_ok-place.place;
       guest_ops = ops;
     } in
-    rw (← c.self.view_is, c.remove-named.ensures.items, (is_at p items (Some c.in_ok-place.place) at).1)
+    rw (← c.self.view_is, c.remove_pending-named.ensures.left, (is_at p items (Some c.in_ok-place.place) at).1)
     (ap make left)

@@ -1,6 +1,6 @@
 use Rattle.std.proofs.Common.{◌-◌, length}
 use Rattle.uda_exec.proofs.Comparisons.{Padded}
-use Rattle.uda_exec.proofs.guest_ops.note_op.Given as goal
+use Rattle.uda_exec.proofs.guest_ops.append_op.Given as goal
 
 abbrev pub invariant-loop-ops : goal.invariant-loop-ops
 invariant-loop-ops l = Padded l.initial.ops.items l.place l.ops.items

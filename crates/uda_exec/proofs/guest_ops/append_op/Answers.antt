@@ -1,6 +1,6 @@
 use Rattle.std.proofs.Common.{arith}
 use Rattle.uda_exec.proofs.Comparisons.{padded_first, padded_next}
-use Rattle.uda_exec.proofs.guest_ops.note_op.Goals as goal
+use Rattle.uda_exec.proofs.guest_ops.append_op.Goals as goal
 
 pub loop-ops-init : goal.loop-ops-init
 loop-ops-init c = padded_first _ _ c.requires.past

@@ -6,6 +6,7 @@ use Rattle.std.specs.List.{concat}
 use Rattle.uda_mem.specs.Slices.{IsMemory}
 use Rattle.uda_image.specs.Limits.{store_limit}
 use Rattle.uda_disk.specs.Units.{UnitState, AllFaithful, AreWellFormed}
+use Rattle.uda_exec.specs.Disks.{basic_exec}
 use Rattle.uda_exec.specs.Drives.{DriveState, info_at}
 use Rattle.uda_port.specs.declared.profile.Profile.{Profile}
 use Rattle.uda_port.specs.declared.profile.Profile.TheVariants.{Strict, Compatible}
@@ -59,8 +60,7 @@ profile_of compatible = if compatible then Compatible usual_identity else Strict
 -- a new controller: no unit has an image, and the port is in step 1
 abbrev pub controller_at_start : Profile → ControllerState
 controller_at_start profile = record {
-  port = port_at_start profile
-      (record { units = None ∷ None ∷ None ∷ None ∷ []; pending = []; guest_ops = [] });
+  port = port_at_start profile (basic_exec (None ∷ None ∷ None ∷ None ∷ []) []);
   last = None;
 }
 

@@ -1,8 +1,8 @@
-//! The numbers of buses and drive types in C.
+//! The numbers of buses in C.
 ghost use Rattle.std.specs.Prelude.{◌≡◌};
-ghost use Rattle.uda_c.specs.Choices.{bus_of, type_of};
+ghost use Rattle.uda_c.specs.Choices.{bus_of};
 
-use uda_packet::{Bus, DriveType};
+use uda_packet::Bus;
 
 /// Returns the bus of a number, or None if there is none.
 pub fn bus_of(code: u32) -> Option<Bus>
@@ -13,28 +13,4 @@ pub fn bus_of(code: u32) -> Option<Bus>
         1 => Some(Bus::Qbus),
         _ => None,
     }
-}
-
-/// Returns the drive type of a number, or None if there is none.
-pub fn type_of(code: u32) -> Option<DriveType>
-    ensures { result ≡ type_of code }
-{
-    Some(match code {
-        0 => DriveType::Rx50,
-        1 => DriveType::Rx33,
-        2 => DriveType::Rd51,
-        3 => DriveType::Rd31,
-        4 => DriveType::Rd52,
-        5 => DriveType::Rd53,
-        6 => DriveType::Rd54,
-        7 => DriveType::Ra60,
-        8 => DriveType::Ra81,
-        9 => DriveType::Ra82,
-        10 => DriveType::Ra71,
-        11 => DriveType::Ra72,
-        12 => DriveType::Ra90,
-        13 => DriveType::Ra92,
-        14 => DriveType::Rrd40,
-        _ => return None,
-    })
 }

@@ -4,7 +4,8 @@ ghost use Rattle.std.specs.Prelude.{None, false, is_some, ◌≡◌, ◌||◌};
 ghost use Rattle.uda_port.specs.Port.{port_restarted, port_after_ip_read};
 ghost use Rattle.uda_port.specs.Startup.{sa_shown};
 ghost use Rattle.uda_c.specs.CallStatus.{status_code};
-ghost use Rattle.uda_c.specs.Choices.{bus_of, type_of};
+ghost use Rattle.uda_c.specs.Choices.{bus_of};
+ghost use Rattle.uda_packet.specs.DriveTypes.{type_numbered};
 ghost use Rattle.uda_c.specs.declared.call_status.CallStatus.{CallStatus};
 ghost use Rattle.uda_c.specs.declared.call_status.CallStatus.TheVariants.{Done, NoController};
 ghost use Rattle.uda_c.specs.Controllers.{OnHandle, AreSound, HoldsSound, MakesNew, MakesAs, SetsType, refusal_of_new, profile_of, is_read_only, Frees, GivesBack};
@@ -15,7 +16,7 @@ ghost use Rattle.uda_c.specs.Snapshot.{port_snapshot};
 ghost use Rattle.uda_c.specs.Last.{turn_record, TellsLine};
 
 use crate::call_status::CallStatus;
-use crate::choices::{bus_of, type_of};
+use crate::choices::bus_of;
 use crate::controller::Controller;
 use crate::handle::Handle;
 use crate::last::{TurnRecord, put_last_line};
@@ -24,7 +25,7 @@ use crate::snapshot::PortSnapshot;
 use crate::unit_images::UnitImages;
 use loose::Loose;
 use std::alloc::Global;
-use uda_packet::Identity;
+use uda_packet::{DriveType, Identity};
 use uda_port::{Profile, USUAL_IDENTITY};
 
 /// Returns the library's version: 10000 times the major number, 100 times the minor, and the patch number.
@@ -76,13 +77,13 @@ pub extern "C" fn uda50_new_as(alloc: Global, handle: &mut Handle, bus: u32, fir
 pub extern "C" fn uda50_set_type(handle: &mut Handle, unit: u32, drive_type: u32) -> u32
     ensures sets { OnHandle handle.old.value handle.new.value (result ≡ status_code NoController)
         (λ old new. (answer : CallStatus) × (result ≡ status_code answer)
-        × SetsType old unit (type_of drive_type) answer new) }
+        × SetsType old unit (type_numbered drive_type) answer new) }
     ensures sound { AreSound handle.old.value handle.new.value }
 {
     match handle.get() {
         Some(controller) => {
             controller.keep();
-            let answer = controller.set_type(unit, type_of(drive_type)).code();
+            let answer = controller.set_type(unit, DriveType::of_number(drive_type)).code();
             controller.keep();
             answer
         }

@@ -7,7 +7,7 @@ use Rattle.uda_mem.specs.Put.{put, part}
 use Rattle.uda_mem.proofs.PutLaws.{length-part}
 use Rattle.uda_packet.specs.declared.command.Command.{Command}
 use Rattle.uda_packet.specs.declared.end.End.{End}
-use Rattle.uda_exec.specs.Disks.{PENDING_LIMIT}
+use Rattle.uda_exec.specs.Disks.{PENDING_LIMIT, basic_exec}
 use Rattle.uda_disk.specs.Request.{Request}
 use Rattle.uda_disk.specs.InOrderRun.{too_long}
 use Rattle.uda_disk.specs.Answer.{Answer, TooLong}
@@ -151,7 +151,7 @@ module _ {start : Units} {requests : List Request} {n : ℕ} {out : List (Option
       })
   driving_works {new} (OneDone x) =
       let t : Ends start requests n D.due D.ended answers x.place x.end
-      (record { units = new.units; pending = new.due; guest_ops = [] }) new.memory =
+      (basic_exec new.units new.due) new.memory =
       keeps_execute D.keeps D.are_unexecuted refl D.outs.separate x.executes in
       rw x.is (record {
         due = remove D.due x.place;

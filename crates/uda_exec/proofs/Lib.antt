@@ -16,3 +16,4 @@ pub mod NamedLaws
 pub mod Comparisons
 pub mod OnlyOne
 pub mod Removals
+pub mod Saving

@@ -2,7 +2,6 @@
 use Rattle.std.proofs.Common.{◌≡◌, ℕ, zero, suc, List, [], ◌∷◌, Some, refl, sym, ap, ◌∙◌, subst}
 use Rattle.std.specs.Prelude.{slice_get, remove}
 use Rattle.uda_packet.specs.declared.command.Command.{Command}
-use Rattle.uda_exec.specs.Disks.{ExecState}
 use Rattle.uda_exec.specs.Execution.{Executes, TakesOut}
 use Rattle.uda_exec.specs.GuestExecution.{ExecutesAs}
 use Rattle.uda_exec.specs.GuestOps.{op_at}

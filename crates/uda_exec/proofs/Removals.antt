@@ -1,5 +1,5 @@
 -- Removal of an element from a list: the later ones are copied one place down, and the last one is dropped.
-use Rattle.std.proofs.Common.{◌≡◌, ℕ, suc, List, length, ◌+◌, ◌-◌, ◌<◌, ◌≤◌, ◌++◌, ◌∙◌, ap, sym, subst, arith}
+use Rattle.std.proofs.Common.{◌≡◌, ℕ, suc, List, length, ◌+◌, ◌-◌, ◌<◌, ◌++◌, ◌∙◌, ap, arith}
 use Rattle.std.specs.Prelude.{take, drop, remove}
 use Rattle.std.specs.List.{copy_within}
 use Rattle.std.proofs.lemmas.List.{take_all, length-drop}

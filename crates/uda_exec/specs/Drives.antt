@@ -55,6 +55,11 @@ abbrev pub info_at : Option (Option UnitState) → Option UnitInfo
 info_at (Some (Some unit)) = Some (info_of unit)
 info_at _ = None
 
+-- the store of a unit
+abbrev pub store_at : Option (Option UnitState) → Option StoreState
+store_at (Some (Some unit)) = Some unit.store
+store_at _ = None
+
 -- the mode and the size that a unit without a drive has for a host
 abbrev pub ABSENT : UnitInfo
 ABSENT = record { mode = record { online = false; hard = false; soft = false }; size = 0 }

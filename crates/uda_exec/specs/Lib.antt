@@ -13,3 +13,4 @@ pub mod Compare
 pub mod Comparing
 pub mod GuestExecution
 pub mod Laws
+pub mod Saved

@@ -97,6 +97,13 @@ impl<S: BlockStore> DriveUnit<S> {
         }
     }
 
+    /// Returns the store of the unit's blocks.
+    pub fn store(&self) -> &S
+        ensures store { S.state result.now ≡ self.now.store }
+    {
+        &self.store
+    }
+
     /// Makes the unit available, without software write protection.
     pub fn reset(&mut self)
         ensures unit { self.new ≡ fresh_unit (drive_in self.old) }

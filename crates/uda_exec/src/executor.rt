@@ -2,24 +2,26 @@
 //!
 //! MSCP Basic Disk Functions Manual: unit states, command ordering.
 ghost use Rattle.std.specs.Prelude.{◌≡◌, ℕ, ◌+◌, ◌-◌, ◌<◌, ◌≤◌, [], ◌∷◌, ◌++◌, length, map, option_map};
-ghost use Rattle.std.specs.Prelude.{IsNone, IfNone, IfSome, Some, None, ◌↔◌, remove, set, slice_get, unwrap_or};
+ghost use Rattle.std.specs.Prelude.{IsNone, IfNone, IfSome, IsTrue, Some, None, ◌↔◌, remove, set, slice_get, unwrap_or};
 ghost use Rattle.uda_mem.specs.Slices.{IsMemory};
 ghost use Rattle.uda_disk.specs.Units.{IsWellFormed, AreWellFormed, is_faithful, is_infallible};
-ghost use Rattle.uda_exec.specs.Disks.{PENDING_LIMIT};
+ghost use Rattle.uda_exec.specs.Disks.{PENDING_LIMIT, FIRST_POSITION};
 ghost use Rattle.uda_exec.specs.Commands.{is_controller};
 ghost use Rattle.uda_exec.specs.Drives.{drive_state, drive_states, drive_in, fresh_unit, fresh_units};
 ghost use Rattle.uda_exec.specs.Drives.{drives_in, returned_drive, reset_unit, with_drive, info_at, ABSENT};
-ghost use Rattle.uda_exec.specs.Drives.{in_mode, with_mode};
+ghost use Rattle.uda_exec.specs.Drives.{in_mode, with_mode, store_at};
 ghost use Rattle.uda_exec.specs.Execution.{Executes, ExecutesAt};
 ghost use Rattle.uda_exec.specs.Named.{oldest_named, guest_op_named, taken_out, aborted, progress_of};
 ghost use Rattle.uda_exec.specs.GuestOps.{op_at, with_accepted, newest_guest};
 ghost use Rattle.uda_exec.specs.GuestExecution.{ExecutesGuestAt};
+ghost use Rattle.uda_exec.specs.Saved.{saved_exec, exec_fits, exec_restored, infos_of, units_restored, unit_restored};
 
 use crate::drive_unit::{DriveUnit, UnitInfo};
 use crate::guest_commands::execute_as;
 use crate::guest_ops::{GuestOps, drop_op, note_op, op_at};
 use crate::named::{place_named, progress};
 use crate::reply::{guest_reply, plain_body, refuse, reply};
+use crate::saved::{SavedExec, copied, units_fit};
 use crate::scheduler::{Position, next_place};
 use arrayvec::ArrayVec;
 use std::fmt;
@@ -48,7 +50,8 @@ pub struct Exec<S: BlockStore> {
     position: Position,
 }
 
-// The position of the last transfer decides which command is next. It isn't part of the contracts' view.
+// The position of the last transfer decides which command is next. Contracts see it, so that an executor can
+// be saved and restored, but no contract says how it decides.
 impl<S: BlockStore> Model for Exec<S> {
     ghost use Rattle.uda_exec.specs.Disks.{ExecState};
     ghost use Rattle.uda_disk.specs.Units.{AreWellFormed};
@@ -61,6 +64,7 @@ impl<S: BlockStore> Model for Exec<S> {
       units = e.units;
       pending = e.pending.items;
       guest_ops = e.guest_ops.items;
+      position = e.position;
     } };
 
     ghost invariant = { λ e. (length e.units ≡ 4) × (AreWellFormed e.units
@@ -97,6 +101,7 @@ impl<S: BlockStore> Exec<S> {
         ensures units { result.units ≡ fresh_units (drive_states S.state drives) }
         ensures pending { result.pending ≡ [] }
         ensures guest_ops { result.guest_ops ≡ [] }
+        ensures position { result.position ≡ FIRST_POSITION }
         ensures four_units { length result.units ≡ 4 }
         ensures well_formed { AreWellFormed result.units }
     {
@@ -148,6 +153,14 @@ impl<S: BlockStore> Exec<S> {
     {
         let unit = self.units.get(unit)?.as_ref()?;
         Some(unit.look())
+    }
+
+    /// Returns the store of a unit, or None if it has no drive or doesn't exist.
+    pub fn store(&self, unit: usize) -> Option<&S>
+        ensures store { option_map (λ s. S.state s.now) result ≡ store_at (slice_get self.now.units unit) }
+    {
+        let unit = self.units.get(unit)?.as_ref()?;
+        Some(unit.store())
     }
 
     /// Returns the mode and the size of a unit, or [`UnitInfo::ABSENT`] if it has no drive or doesn't exist.
@@ -338,6 +351,7 @@ impl<S: BlockStore> Exec<S> {
         ensures units { self.new.units ≡ map reset_unit self.old.units }
         ensures pending { self.new.pending ≡ [] }
         ensures guest_ops { self.new.guest_ops ≡ [] }
+        ensures position { self.new.position ≡ FIRST_POSITION }
         ensures four_units { length self.new.units ≡ 4 }
         ensures well_formed { AreWellFormed self.new.units }
     {
@@ -377,6 +391,53 @@ impl<S: BlockStore> Exec<S> {
         ensures well_formed { AreWellFormed self.new.units }
     {
         restore_at(&mut self.units, unit, mode);
+    }
+
+    /// Returns the whole state of the executor as a plain value, without its stores.
+    pub fn save(&self) -> SavedExec
+        ensures saved { result ≡ saved_exec self.now }
+    {
+        SavedExec {
+            units: self.infos(),
+            pending: copied(&self.pending),
+            guest_ops: copied(&self.guest_ops),
+            position: self.position,
+        }
+    }
+
+    // Returns the mode and the size of each unit.
+    #[tactic(auto, using(crate::proofs::Saving::four_infos))]
+    fn infos(&self) -> [Option<UnitInfo>; 4]
+        ensures infos { result ≡ infos_of self.now.units }
+    {
+        let _ = &self.units;
+        [self.unit(0), self.unit(1), self.unit(2), self.unit(3)]
+    }
+
+    /// Returns whether the executor can continue from a saved state. Its units have drives where the saved
+    /// ones had, of the same sizes and with the same hardware write protection. No operation is listed
+    /// without its command.
+    pub fn fits(&self, saved: &SavedExec) -> bool
+        ensures fits { result ≡ exec_fits saved.now self.now }
+    {
+        saved.guest_ops.len() <= saved.pending.len() && units_fit(saved.units, self.infos())
+    }
+
+    /// Continues from a saved state that fits ([`fits`](Exec::fits)). Each unit gets its saved mode, and the
+    /// pending commands and the position are replaced by the saved ones. The stores don't change. The call uses
+    /// no store, and can't see whether the blocks are still the same.
+    ///
+    /// MSCP Basic Disk Functions Manual: unit states, command ordering.
+    pub fn restore(&mut self, saved: &SavedExec)
+        requires fits { IsTrue (exec_fits saved.now self.old) }
+        ensures restored { self.new ≡ exec_restored saved.now self.old }
+        ensures four_units { length self.new.units ≡ 4 }
+        ensures well_formed { AreWellFormed self.new.units }
+    {
+        self.pending = copied(&saved.pending);
+        self.guest_ops = copied(&saved.guest_ops);
+        self.position = saved.position;
+        restore_all(&mut self.units, saved.units);
     }
 
     /// Returns the drives: drive `u` is that of unit `u`, or None if it has none. Each has its blocks as the
@@ -452,6 +513,29 @@ fn restore_unit<S: BlockStore>(unit: &mut Option<DriveUnit<S>>, mode: Mode)
 {
     if let Some(unit) = unit {
         unit.restore(mode);
+    }
+}
+
+// Sets the mode of each unit that was saved with a drive.
+fn restore_all<S: BlockStore>(units: &mut [Option<DriveUnit<S>>], infos: [Option<UnitInfo>; 4])
+    requires four_units { length units.old ≡ 4 }
+    requires well_formed { AreWellFormed units.old }
+    ensures units { units.new ≡ units_restored infos units.old }
+    ensures well_formed { AreWellFormed units.new }
+{
+    let [a, b, c, d] = infos;
+    restore_info(&mut units[0], a);
+    restore_info(&mut units[1], b);
+    restore_info(&mut units[2], c);
+    restore_info(&mut units[3], d);
+}
+
+// Sets the mode of a unit, if it was saved with a drive.
+fn restore_info<S: BlockStore>(unit: &mut Option<DriveUnit<S>>, info: Option<UnitInfo>)
+    ensures unit { unit.new ≡ unit_restored info unit.old }
+{
+    if let Some(info) = info {
+        restore_unit(unit, info.mode);
     }
 }
 

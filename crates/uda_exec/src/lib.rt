@@ -20,7 +20,10 @@ mod named;
 pub mod order;
 mod refusal;
 mod reply;
+mod saved;
 mod scheduler;
 
 pub use drive_unit::UnitInfo;
 pub use executor::{Exec, PENDING};
+pub use saved::{SavedExec, restored_is_saved};
+pub use scheduler::Position;

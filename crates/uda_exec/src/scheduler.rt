@@ -12,8 +12,10 @@ use uda_packet::{Command, Op};
 /// The start of a transfer's range. Positions are ordered by unit, and within a unit by block.
 #[derive(Clone, Copy, Debug, PartialEq, Eq, PartialOrd, Ord)]
 pub struct Position {
-    unit: u16,
-    lbn: u32,
+    /// The unit number.
+    pub unit: u16,
+    /// The block.
+    pub lbn: u32,
 }
 
 impl Position {

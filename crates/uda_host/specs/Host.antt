@@ -5,7 +5,7 @@ use Rattle.std.specs.Prelude.{None}
 use Rattle.uda_packet.specs.declared.command.Command.{Command}
 use Rattle.uda_packet.specs.declared.end.End.{End}
 use Rattle.uda_disk.specs.Units.{UnitState}
-use Rattle.uda_exec.specs.Disks.{PENDING_LIMIT}
+use Rattle.uda_exec.specs.Disks.{PENDING_LIMIT, basic_exec}
 use Rattle.uda_exec.specs.Execution.{Executes, ExecutesAt}
 use Rattle.uda_exec.specs.Transfers.{ChangesAt}
 use Rattle.uda_port.specs.declared.phase.Phase.{Phase}
@@ -58,8 +58,7 @@ pub record ExecutesPending (old new : HostState) : Type 0 where
   pub place : ℕ
   pub end : End
   pub executes :
-      ExecutesAt place (record { units = old.units; pending = old.due; guest_ops = [] }) old.memory end
-      (record { units = new.units; pending = new.due; guest_ops = [] }) new.memory
+      ExecutesAt place (basic_exec old.units old.due) old.memory end (basic_exec new.units new.due) new.memory
   pub is :
       new
       ≡ record old {

@@ -1,6 +1,6 @@
 -- The drive types that a unit can report, with the facts that a host can read of each. MSCP Basic Disk
 -- Functions Manual: media type identifiers, unit identifiers, Get Unit Status.
-use Rattle.std.specs.Prelude.{ℕ, true, false, List, codes}
+use Rattle.std.specs.Prelude.{ℕ, ◌==◌, true, false, List, codes, Option, Some, None, if◌then◌else◌}
 use Rattle.uda_packet.specs.declared.drive_type.DriveType.{DriveType}
 use Rattle.uda_packet.specs.declared.drive_type.DriveType.TheVariants as drive
 use Rattle.uda_packet.specs.declared.drive_type.DriveTraits.{DriveTraits}
@@ -58,3 +58,40 @@ drive_name drive.Ra72 = codes "RA72"
 drive_name drive.Ra90 = codes "RA90"
 drive_name drive.Ra92 = codes "RA92"
 drive_name drive.Rrd40 = codes "RRD40"
+
+-- the number of a drive type for programs that store it or pass it on, and the type of a number
+abbrev pub type_number : DriveType → ℕ
+type_number drive.Rx50 = 0
+type_number drive.Rx33 = 1
+type_number drive.Rd51 = 2
+type_number drive.Rd31 = 3
+type_number drive.Rd52 = 4
+type_number drive.Rd53 = 5
+type_number drive.Rd54 = 6
+type_number drive.Ra60 = 7
+type_number drive.Ra81 = 8
+type_number drive.Ra82 = 9
+type_number drive.Ra71 = 10
+type_number drive.Ra72 = 11
+type_number drive.Ra90 = 12
+type_number drive.Ra92 = 13
+type_number drive.Rrd40 = 14
+
+abbrev pub type_numbered : ℕ → Option DriveType
+type_numbered number =
+    if number == 0 then Some drive.Rx50
+    else if number == 1 then Some drive.Rx33
+    else if number == 2 then Some drive.Rd51
+    else if number == 3 then Some drive.Rd31
+    else if number == 4 then Some drive.Rd52
+    else if number == 5 then Some drive.Rd53
+    else if number == 6 then Some drive.Rd54
+    else if number == 7 then Some drive.Ra60
+    else if number == 8 then Some drive.Ra81
+    else if number == 9 then Some drive.Ra82
+    else if number == 10 then Some drive.Ra71
+    else if number == 11 then Some drive.Ra72
+    else if number == 12 then Some drive.Ra90
+    else if number == 13 then Some drive.Ra92
+    else if number == 14 then Some drive.Rrd40
+    else None

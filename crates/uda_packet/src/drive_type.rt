@@ -3,7 +3,7 @@
 //! MSCP Basic Disk Functions Manual: media type identifiers, unit identifiers, Get Unit Status.
 
 ghost use Rattle.std.specs.Prelude.{◌≡◌, true, false, Some};
-ghost use Rattle.uda_packet.specs.DriveTypes.{drive_traits, drive_name};
+ghost use Rattle.uda_packet.specs.DriveTypes.{drive_traits, drive_name, type_number, type_numbered};
 
 use std::fmt;
 
@@ -115,6 +115,54 @@ impl DriveType {
             DriveType::Ra92 => "RA92",
             DriveType::Rrd40 => "RRD40",
         }
+    }
+
+    /// Returns the number of the drive type, for programs that store it or pass it on.
+    pub fn number(self) -> u8
+        ensures number { result ≡ type_number self }
+        ensures back { type_numbered result ≡ Some self }
+    {
+        match self {
+            DriveType::Rx50 => 0,
+            DriveType::Rx33 => 1,
+            DriveType::Rd51 => 2,
+            DriveType::Rd31 => 3,
+            DriveType::Rd52 => 4,
+            DriveType::Rd53 => 5,
+            DriveType::Rd54 => 6,
+            DriveType::Ra60 => 7,
+            DriveType::Ra81 => 8,
+            DriveType::Ra82 => 9,
+            DriveType::Ra71 => 10,
+            DriveType::Ra72 => 11,
+            DriveType::Ra90 => 12,
+            DriveType::Ra92 => 13,
+            DriveType::Rrd40 => 14,
+        }
+    }
+
+    /// Returns the drive type of a number, or `None` if there is none.
+    pub fn of_number(number: u32) -> Option<DriveType>
+        ensures type_is { result ≡ type_numbered number }
+    {
+        Some(match number {
+            0 => DriveType::Rx50,
+            1 => DriveType::Rx33,
+            2 => DriveType::Rd51,
+            3 => DriveType::Rd31,
+            4 => DriveType::Rd52,
+            5 => DriveType::Rd53,
+            6 => DriveType::Rd54,
+            7 => DriveType::Ra60,
+            8 => DriveType::Ra81,
+            9 => DriveType::Ra82,
+            10 => DriveType::Ra71,
+            11 => DriveType::Ra72,
+            12 => DriveType::Ra90,
+            13 => DriveType::Ra92,
+            14 => DriveType::Rrd40,
+            _ => return None,
+        })
     }
 
     /// Returns the facts of the drive type that a host can read.

@@ -17,8 +17,10 @@ use crate::field::{
 
 /// An end message of the compatible profile. This profile has commands that the strict one doesn't know.
 ///
+/// The default value is no controller's. It fills unused elements of an array of end messages.
+///
 /// MSCP Basic Disk Functions Manual: end messages.
-#[derive(Clone, Copy, PartialEq, Eq, Debug)]
+#[derive(Clone, Copy, PartialEq, Eq, Debug, Default)]
 pub struct Reply {
     /// The reference number of the command.
     pub reference: u32,
@@ -60,7 +62,7 @@ impl Reply {
 /// The command that an end message of the compatible profile ends, with its results.
 ///
 /// MSCP Basic Disk Functions Manual: end messages.
-#[derive(Clone, Copy, PartialEq, Eq, Debug)]
+#[derive(Clone, Copy, PartialEq, Eq, Debug, Default)]
 pub enum ReplyBody {
     /// A command that the strict profile knows, or an invalid command.
     Basic(EndBody),
@@ -81,6 +83,7 @@ pub enum ReplyBody {
     /// Compare Controller Data.
     CompareController,
     /// Flush.
+    #[default]
     Flush,
     /// Set Unit Characteristics.
     SetUnit {

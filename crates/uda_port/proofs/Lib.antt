@@ -6,3 +6,4 @@ pub mod TurnLaws
 pub mod PlayLaws
 pub mod DeathLaws
 pub mod TraceLaws
+pub mod Saving

@@ -15,3 +15,4 @@ pub mod Trace
 pub mod Turn
 pub mod Events
 pub mod Display
+pub mod Saved

@@ -3,7 +3,7 @@
 use Rattle.std.specs.Prelude.{◌≡◌, ℕ, ◌+◌, ◌-◌, ◌*◌, ◌≤◌, ◌==◌, min, Bool, true, false, ◌&&◌, List, [], length, map}
 use Rattle.std.specs.Prelude.{is_some, Option, None, Some, ◌||◌, option_map, slice_get, set}
 use Rattle.uda_packet.specs.declared.reply.Reply.{Reply}
-use Rattle.uda_exec.specs.Disks.{ExecState, PENDING_LIMIT}
+use Rattle.uda_exec.specs.Disks.{ExecState, PENDING_LIMIT, basic_exec}
 use Rattle.uda_packet.specs.declared.drive_type.DriveType.{DriveType}
 use Rattle.uda_packet.specs.DriveTypes.{drive_traits}
 use Rattle.uda_exec.specs.Drives.{DriveState, reset_unit, with_drive}
@@ -43,7 +43,7 @@ ring_at_start = record { base = 0; count = 1; place = 0 }
 -- nothing is pending, and every unit with a drive is available without software write protection; blocks and
 -- hardware write protection stay
 abbrev pub exec_at_start : ExecState → ExecState
-exec_at_start exec = record { units = map reset_unit exec.units; pending = []; guest_ops = [] }
+exec_at_start exec = basic_exec (map reset_unit exec.units) []
 
 -- the state after the creation of a port with these units
 abbrev pub port_at_start : Profile → ExecState → PortState

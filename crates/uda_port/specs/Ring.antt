@@ -1,11 +1,12 @@
 -- Rings of descriptors in host memory.
 -- UDA50 Programmer's Documentation Kit: communication area, ring descriptors.
-use Rattle.std.specs.Prelude.{◌≡◌, ◌≤◌, ℕ, ◌+◌, ◌*◌, ◌%◌, Bool, ◌||◌, nat_eq, nat_le, List, [], ◌∷◌, ◌++◌}
+use Rattle.std.specs.Prelude.{◌≡◌, ◌≤◌, ℕ, ◌+◌, ◌*◌, ◌%◌, Bool, ◌&&◌, ◌||◌, nat_eq, nat_le, nat_lt, List, [], ◌∷◌, ◌++◌}
 use Rattle.std.specs.Prelude.{length, take, drop, map, Option, Some, None, if◌then◌else◌}
 use Rattle.std.specs.List.{range_with_len}
 use Rattle.uda_mem.specs.Put.{put}
 use Rattle.uda_mem.specs.Words.{word_at, word_bytes}
 use Rattle.uda_port.specs.declared.descriptor.Descriptor.{Descriptor}
+use Rattle.uda_port.specs.declared.ring.RingParts.{RingParts}
 
 -- the owner bit is bit 15 of the second word: if it is set, the port owns the descriptor
 abbrev pub is_owned : Descriptor → Bool
@@ -56,6 +57,19 @@ pub record RingState : Type 0 where
   pub base : ℕ
   pub count : ℕ
   pub place : ℕ
+
+-- the numbers of a ring
+abbrev pub parts_of : RingState → RingParts
+parts_of r = record { base = r.base; count = r.count; place = r.place }
+
+-- The ring with these numbers, if a port can have it: the base is even and at most 2^31 + 512, there are at
+-- most 128 descriptors, and the next index is one of theirs.
+abbrev pub ring_of : RingParts → Option RingState
+ring_of parts =
+    if nat_eq (parts.base % 2) 0 && nat_le parts.base 0x80000200 && nat_le parts.count 128
+    && nat_lt parts.place parts.count
+    then Some (record { base = parts.base; count = parts.count; place = parts.place })
+    else None
 
 -- the address of the next descriptor
 abbrev pub descriptor_address : RingState → ℕ

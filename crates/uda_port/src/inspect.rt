@@ -1,8 +1,8 @@
 //! State of a port that an emulator can display, in addition to the registers.
 //!
 //! UDA50 Programmer's Documentation Kit: communication area, credits.
-ghost use Rattle.std.specs.Prelude.{◌≡◌, slice_get};
-ghost use Rattle.uda_exec.specs.Drives.{info_at};
+ghost use Rattle.std.specs.Prelude.{◌≡◌, slice_get, option_map};
+ghost use Rattle.uda_exec.specs.Drives.{info_at, store_at};
 ghost use Rattle.uda_port.specs.Guest.{is_due};
 
 use crate::interrupt::Interrupts;
@@ -32,6 +32,14 @@ impl<S: BlockStore> Port<S> {
         ensures info { result ≡ info_at (slice_get self.now.exec.units unit) }
     {
         self.exec.unit(unit)
+    }
+
+    /// Returns the store of a unit, or None if it has no drive or doesn't exist.
+    pub fn store(&self, unit: usize) -> Option<&S>
+        ensures store { option_map (λ s. S.state s.now) result
+            ≡ store_at (slice_get self.now.exec.units unit) }
+    {
+        self.exec.store(unit)
     }
 
     /// Returns the host's interrupt settings, and whether a request is pending.

@@ -58,6 +58,23 @@ pub struct Ring {
     place: u16,
 }
 
+/// The numbers of a ring, by which it can be saved and made again.
+///
+/// UDA50 Programmer's Documentation Kit: communication area.
+#[derive(Clone, Copy, Debug, PartialEq, Eq)]
+pub struct RingParts {
+    /// The address of the first descriptor.
+    pub base: u32,
+    /// The number of descriptors.
+    pub count: u16,
+    /// The index of the next descriptor, counted from 0.
+    pub place: u16,
+}
+
+/// The largest base of a ring that initialization describes: that of a command ring which follows 128
+/// descriptors from the largest address of 31 bits on.
+const LARGEST_BASE: u32 = 0x8000_0200;
+
 /// The next descriptor of a ring.
 #[derive(Clone, Copy)]
 pub(crate) enum NextDescriptor {
@@ -88,6 +105,7 @@ impl Ring {
     ghost use Rattle.std.specs.Prelude.{◌≡◌, ◌+◌, ◌%◌, ◌^◌, ◌<◌, ◌≤◌, ◌↔◌, IsTrue, length, OnOk, IfSome, MatchOption, Some, None};
     ghost use Rattle.uda_mem.specs.Slices.{IsMemory};
     ghost use Rattle.uda_port.specs.Ring.{IsRingBase, is_ring_length, descriptor_address, ring_advanced};
+    ghost use Rattle.uda_port.specs.Ring.{ring_of, parts_of};
     ghost use Rattle.uda_port.specs.Ring.{memory_returned, next_descriptor};
     ghost use Rattle.uda_port.specs.Interrupt.{is_ring_transition, ring_before, any_owned, word_below};
     ghost use Rattle.uda_port.specs.Fetch.{FetchEffect, ReadsNext, OrderKept, STRICT_FETCHING};
@@ -123,6 +141,39 @@ impl Ring {
             base,
             count: n,
             place: 0,
+        }
+    }
+
+    /// Returns the ring with these numbers, or None if no port has such a ring: its base is odd or above
+    /// 2^31 + 512, it has more than 128 descriptors, or the next index isn't below their number.
+    pub fn of_parts(parts: RingParts) -> Option<Ring>
+        ensures ring { result ≡ ring_of parts }
+    {
+        let RingParts { base, count, place } = parts;
+        if base % 2 != 0 {
+            return None;
+        }
+        if base > LARGEST_BASE {
+            return None;
+        }
+        if count > 128 {
+            return None;
+        }
+        if place >= count {
+            return None;
+        }
+        Some(Ring { base, count, place })
+    }
+
+    /// Returns the numbers of the ring. [`of_parts`](Ring::of_parts) makes it again from them.
+    pub fn parts(self) -> RingParts
+        ensures parts { result ≡ parts_of self }
+        ensures back { ring_of result ≡ Some self }
+    {
+        RingParts {
+            base: self.base,
+            count: self.count,
+            place: self.place,
         }
     }
 

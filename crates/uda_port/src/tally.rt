@@ -36,6 +36,15 @@ impl Tally {
         }
     }
 
+    /// Returns this count.
+    pub(crate) fn of(count: usize) -> Tally
+        ensures { result ≡ count }
+    {
+        let mut tally = Tally::new();
+        tally.add(count);
+        tally
+    }
+
     /// Adds `amount`.
     pub(crate) fn add(&mut self, amount: usize)
         ensures { self.new ≡ self.old + amount }

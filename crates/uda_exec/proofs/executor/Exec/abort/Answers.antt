@@ -1,6 +1,5 @@
-use Rattle.std.proofs.Common.{◌≡◌, ℕ, Bool, Option, Some, None, List, refl, sym, ap, ◌∙◌}
+use Rattle.std.proofs.Common.{◌≡◌, ℕ, Bool, Option, Some, None, List, sym, ap, ◌∙◌}
 use Rattle.std.specs.Prelude.{position, option_map, slice_get, unwrap_or, remove}
-use Rattle.std.proofs.lemmas.Option.{slice_get_read}
 use Rattle.uda_packet.specs.declared.guest_command.GuestOp.{GuestOp}
 use Rattle.uda_packet.specs.declared.reply.ReplyBody.{ReplyBody}
 use Rattle.uda_packet.specs.GuestCommands.{blank_reply}
@@ -10,7 +9,7 @@ use Rattle.uda_exec.specs.Disks.{ExecState}
 use Rattle.uda_exec.specs.GuestOps.{op_at}
 use Rattle.uda_exec.specs.Named.{is_named, aborted, without_op}
 use Rattle.uda_exec.proofs.Words.{Command}
-use Rattle.uda_exec.proofs.NamedLaws.{is_at, place_within, aborted_at}
+use Rattle.uda_exec.proofs.NamedLaws.{is_at, aborted_at}
 use Rattle.uda_exec.proofs.executor.Exec.abort.Goals as goal
 
 pub returns-in_err-place-clause-end : goal.returns-in_err-place-clause-end
@@ -51,6 +50,7 @@ returns-clause-taken g c =
       units = c.self.inside.units;
       pending = remove items c.in_ok-place.place;
       guest_ops = ops;
+      position = c.self.inside.position;
     } in
     rw (← c.self.view_is, c.remove_pending-named.ensures.left, (is_at p items (Some c.in_ok-place.place) at).1)
     (ap make left)

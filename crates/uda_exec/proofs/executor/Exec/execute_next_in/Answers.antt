@@ -1,4 +1,4 @@
-use Rattle.std.proofs.Common.{◌≡◌, Some, List, refl}
+use Rattle.std.proofs.Common.{◌≡◌, Some, List}
 use Rattle.std.specs.Prelude.{slice_get}
 use Rattle.uda_exec.specs.GuestOps.{op_at}
 use Rattle.uda_exec.proofs.Words.{Command, IsEligible}

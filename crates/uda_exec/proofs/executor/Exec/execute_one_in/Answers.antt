@@ -1,4 +1,4 @@
-use Rattle.std.proofs.Common.{◌≡◌, Some, List, refl, rules, arith}
+use Rattle.std.proofs.Common.{◌≡◌, Some, List, rules, arith}
 use Rattle.std.specs.Prelude.{slice_get}
 use Rattle.uda_exec.proofs.Words.{Command, IsEligible}
 use Rattle.uda_exec.proofs.Changes.{length-changes}

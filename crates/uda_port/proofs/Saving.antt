@@ -1,0 +1,589 @@
+-- Ports that differ only in their counts have the same future.
+use Rattle.std.proofs.Common.{◌≡◌, ℕ, zero, suc, ◌+◌, ◌-◌, ◌<◌, ◌≤◌, ◌↔◌, ◌==◌, Bool, true, false, ◌&&◌, ◌||◌, List, [], ◌∷◌, length, Result, Ok, Err, refl, sym, ap, subst, ◌∙◌, arith}
+use Rattle.std.specs.Prelude.{if◌then◌else◌, not, nat_lt, nat_le, IsTrue}
+use Rattle.uda_packet.specs.declared.guest_command.GuestOp.{GuestOp}
+use Rattle.std.proofs.lemmas.Bool.{lt-ltb, leb-true, eqb-true, and_parts}
+use Rattle.uda_packet.specs.declared.reply.Reply.{Reply}
+use Rattle.uda_packet.specs.declared.guest_command.GuestCommand.{GuestCommand}
+use Rattle.uda_exec.specs.Disks.{ExecState}
+use Rattle.uda_exec.proofs.Saving.{restored_is_saved as exec_is_saved}
+use Rattle.uda_port.specs.declared.guest.Guest.{Guest}
+use Rattle.uda_port.specs.declared.interrupt.Interrupts.{Interrupts}
+use Rattle.uda_port.specs.declared.area.Area.{Area}
+use Rattle.uda_port.specs.declared.phase.Phase.{Phase}
+use Rattle.uda_port.specs.declared.phase.Phase.TheVariants.{Step1, Step2, Step3, Wrap, PurgeTest, PollTest, Step4, Running, Dead}
+use Rattle.uda_port.specs.declared.phase.Fatal.{Fatal}
+use Rattle.uda_port.specs.declared.phase.Fatal.TheVariants.{PacketRead, PacketWrite, RingRead, RingWrite, CreditsExceeded, InvalidConnection, InitializationError}
+use Rattle.uda_port.specs.declared.profile.Profile.{Profile}
+use Rattle.uda_port.specs.declared.profile.Profile.TheVariants.{Strict, Compatible}
+use Rattle.uda_port.specs.declared.packet.Delivery.{Delivery}
+use Rattle.uda_port.specs.declared.saved.Saved.{Saved}
+use Rattle.uda_port.specs.declared.turn.Turn.{Turn}
+use Rattle.uda_port.specs.declared.turn.Turn.TheVariants.{Fetched, Executed, Delivered, Notified, Idle, Dead as DeadTurn}
+use Rattle.uda_port.specs.declared.play.HostEvent.{HostEvent}
+use Rattle.uda_port.specs.declared.play.HostEvent.TheVariants.{WriteIp, ReadIp, WriteSa, Word, Turn as TurnEvent}
+use Rattle.uda_port.specs.Ring.{RingState}
+use Rattle.uda_port.specs.Delivery.{Puts}
+use Rattle.uda_port.specs.Report.{end_text}
+use Rattle.uda_port.specs.Message.{message_in, flags_kept}
+use Rattle.uda_port.specs.Port.{PortState, next_grant, credits_granted, response_indicator, command_indicator, interrupts_after, port_restarted, port_in_phase, port_after_ip_read, lacks_credit}
+use Rattle.uda_port.specs.Interrupt.{interrupts_asked}
+use Rattle.uda_port.specs.Startup.{has_bit, area_of, has_area, refuses_second, refuses_third, asks_test, after_wrap_request, after_sa_write, failed_port, port_with_rings, memory_with_area}
+use Rattle.uda_port.specs.Turn.{Unchanged, port_with_message, port_turn_on, port_not_polling, TakesPacket, FetchRule, ExecuteRule, DeliverRule, NotifyRule, LaterRulesEffect, GoesOn, Fails, InFetch, InRest, RunningTurn, Stopped, TurnEffect}
+use Rattle.uda_port.specs.Events.{EventEffect, EventsEffect}
+use Rattle.uda_port.specs.Saved.{saved_port, port_restored, is_consistent, outstanding, credits_due, lists_ops, least_deliveries, Counts, with_counts, SameButCounts, RestoredIsSaved, SameFuture}
+
+-- ---- what was saved
+
+one_more : (n : ℕ) → nat_lt 0 (n + 1) ≡ true
+one_more n = lt-ltb 0 (n + 1) (omega arith)
+
+positive : (n : ℕ) → nat_lt 0 (suc n) ≡ true
+positive n = lt-ltb 0 (suc n) (omega arith)
+
+least_begun : (begun : Bool) → nat_lt 0 (least_deliveries begun) ≡ begun
+least_begun true = refl
+least_begun false = refl
+
+pub restored_is_saved : RestoredIsSaved
+restored_is_saved port exec listed same =
+    let x = exec_is_saved port.exec exec listed same in
+    let r = port_restored (saved_port port) exec in
+    record {
+      drives = x.fits;
+      same = record {
+        counts = record { turns = 0; fetches = r.fetches; deliveries = r.deliveries; load = 0 };
+        same = ap (λ (e : ExecState). record r { exec = e }) x.same;
+        begun = least_begun (nat_lt 0 port.deliveries);
+      };
+    }
+
+-- ---- what continues from it
+
+-- the invariant of the port, as far as the saved state decides it
+pub record Agrees (s : Saved) : Type 0 where
+  pub credits :
+      s.credits + (least_deliveries s.begun + outstanding s) ≡ credits_granted (least_deliveries s.begun)
+  pub ordered : s.responses.base ≤ s.commands.base
+  pub begun : IsTrue s.begun ↔ (0 < least_deliveries s.begun)
+  pub strict : s.profile ≡ Strict → s.exec.guest_ops.items ≡ []
+
+credits_agree : (begun : Bool) (credits n : ℕ) → credits + n ≡ credits_due begun
+    → credits + (least_deliveries begun + n) ≡ credits_granted (least_deliveries begun)
+credits_agree true credits n is = omega (arith, is)
+credits_agree false credits n is = omega (arith, is)
+
+begun_agrees : (begun : Bool) → IsTrue begun ↔ (0 < least_deliveries begun)
+begun_agrees true = (λ _. omega arith, λ _. refl)
+begun_agrees false = (λ is. absurd (cc), λ less. absurd (omega (arith, less)))
+
+none_listed : (profile : Profile) (ops : List GuestOp) → not (lists_ops profile ops) ≡ true → profile ≡ Strict
+    → ops ≡ []
+none_listed Strict [] none is = refl
+none_listed Strict (op ∷ more) none is = absurd (cc)
+none_listed (Compatible identity) ops none is = absurd (cc)
+
+pub agrees : (s : Saved) → is_consistent s ≡ true → Agrees s
+agrees s consistent =
+    let granted = s.credits + outstanding s == credits_due s.begun in
+    let none = not (lists_ops s.profile s.exec.guest_ops.items) in
+    let parts = and_parts (nat_le s.responses.base s.commands.base) (granted && none) consistent in
+    let others = and_parts granted none parts.1 in
+    record {
+      credits = credits_agree s.begun s.credits (outstanding s) (eqb-true _ _ others.0);
+      ordered = leb-true _ _ parts.0;
+      begun = begun_agrees s.begun;
+      strict = none_listed s.profile s.exec.guest_ops.items others.1;
+    }
+
+-- ---- a turn
+
+-- the next end message grants the same
+same_grant : (d e : ℕ) → nat_lt 0 d ≡ nat_lt 0 e → next_grant d ≡ next_grant e
+same_grant zero zero begun = refl
+same_grant zero (suc e) begun = let no : false ≡ true = begun ∙ positive e in absurd (cc)
+same_grant (suc d) zero begun = let no : false ≡ true = sym begun ∙ positive d in absurd (cc)
+same_grant (suc d) (suc e) begun = omega arith
+
+-- what leads to a port leads to one with other counts
+record LeadsAlso (P : PortState → Type 0) (new : PortState) : Type 0 where
+  counts : Counts
+  leads : P (with_counts counts new)
+  begun : nat_lt 0 counts.deliveries ≡ nat_lt 0 new.deliveries
+
+-- deliveries of equal ports
+same_begun : (n : ℕ) (a b : PortState) → a ≡ b → nat_lt 0 n ≡ nat_lt 0 b.deliveries
+    → nat_lt 0 n ≡ nat_lt 0 a.deliveries
+same_begun n a b is begun = begun ∙ ap (λ (x : PortState). nat_lt 0 x.deliveries) (sym is)
+
+abbrev one_fetched : Counts → Counts
+one_fetched k = record k { fetches = k.fetches + 1 }
+
+-- what a fetch changes in addition to what its message does
+record FetchChanges : Type 0 where
+  commands : RingState
+  credits : ℕ
+  interrupts : Interrupts
+  guest : Guest
+
+abbrev port_fetched : FetchChanges → Result GuestCommand Reply → ℕ → PortState → PortState
+port_fetched changes m fetches old = record (port_with_message old m) {
+  commands = changes.commands;
+  credits = changes.credits;
+  interrupts = changes.interrupts;
+  fetches = fetches;
+  guest = changes.guest;
+}
+
+message_same : (k : Counts) (old : PortState) (m : Result GuestCommand Reply) (changes : FetchChanges) (f : ℕ)
+    → with_counts (one_fetched k) (port_fetched changes m f old)
+    ≡ port_fetched changes m (k.fetches + 1) (with_counts k old)
+message_same k old (Ok c) changes f = refl
+message_same k old (Err r) changes f = refl
+
+message_deliveries : (old : PortState) (m : Result GuestCommand Reply)
+    → (port_with_message old m).deliveries ≡ old.deliveries
+message_deliveries old (Ok c) = refl
+message_deliveries old (Err r) = refl
+
+module _ (k : Counts) (old : PortState) (begun : nat_lt 0 k.deliveries ≡ nat_lt 0 old.deliveries)
+    (memory : List ℕ)
+    (new : PortState) (memory_after : List ℕ) where
+  unchanged : Unchanged old memory new memory_after
+      → Unchanged (with_counts k old) memory (with_counts k new) memory_after
+  unchanged u = record { state = ap (with_counts k) u.state; memory_stays = u.memory_stays }
+
+  stays_begun : new ≡ old → nat_lt 0 k.deliveries ≡ nat_lt 0 new.deliveries
+  stays_begun is = same_begun k.deliveries new old is begun
+
+  takes_packet : {p : _} → TakesPacket old memory p new memory_after
+      → TakesPacket (with_counts k old) memory p (with_counts k new) memory_after
+  takes_packet t = record { looks = t.looks; takes = t.takes; others = ap (with_counts k) t.others }
+
+  fetch_rule : (r : Result Bool Fatal) → FetchRule old memory r new memory_after
+      → LeadsAlso (λ x. FetchRule (with_counts k old) memory r x memory_after) new
+  fetch_rule (Ok true) f =
+      let m = message_in old.profile f.packet in
+      let changes : FetchChanges = record {
+        commands = new.commands;
+        credits = old.credits - 1;
+        interrupts = interrupts_after old (command_indicator old memory);
+        guest = flags_kept old.profile f.packet m old.guest;
+      } in
+      record {
+        counts = one_fetched k;
+        leads = record {
+          packet = f.packet;
+          looks = f.looks;
+          takes = f.takes;
+          in_order = f.in_order;
+          credit = f.credit;
+          sequential = f.sequential;
+          others = ap (with_counts (one_fetched k)) f.others ∙ message_same k old m changes (old.fetches + 1);
+        };
+        begun = same_begun k.deliveries new _ f.others
+            (begun ∙ ap (nat_lt 0) (sym (message_deliveries old m)));
+      }
+  fetch_rule (Ok false) rule =
+      record { counts = k; leads = (rule.0, unchanged rule.1); begun = stays_begun rule.1.state }
+  fetch_rule (Err RingRead) rule = record {
+    counts = k;
+    leads = (record { looks = rule.0.looks; no_descriptor = rule.0.no_descriptor }, unchanged rule.1);
+    begun = stays_begun rule.1.state;
+  }
+  fetch_rule (Err PacketRead) rule = record {
+    counts = k;
+    leads = (record { looks = rule.0.looks; no_packet = rule.0.no_packet }, unchanged rule.1);
+    begun = stays_begun rule.1.state;
+  }
+  fetch_rule (Err CreditsExceeded) rule = record {
+    counts = k;
+    leads = record {
+      packet = rule.packet;
+      taken = takes_packet rule.taken;
+      strict = rule.strict;
+      no_credit = rule.no_credit;
+    };
+    begun = same_begun k.deliveries new _ rule.taken.others begun;
+  }
+  fetch_rule (Err InvalidConnection) rule = record {
+    counts = k;
+    leads = record {
+      packet = rule.packet;
+      taken = takes_packet rule.taken;
+      credit = rule.credit;
+      not_sequential = rule.not_sequential;
+    };
+    begun = same_begun k.deliveries new _ rule.taken.others begun;
+  }
+  fetch_rule (Err PacketWrite) rule = absurd rule
+  fetch_rule (Err RingWrite) rule = absurd rule
+  fetch_rule (Err InitializationError) rule = absurd rule
+
+  execute_rule : ExecuteRule old memory true new memory_after
+      → LeadsAlso (λ x. ExecuteRule (with_counts k old) memory true x memory_after) new
+  execute_rule rule =
+      let more = record k { load = k.load + length old.exec.pending } in
+      record {
+        counts = more;
+        leads = (
+          rule.0,
+          record {
+            end = rule.1.end;
+            executes = rule.1.executes;
+            others = ap (with_counts more) rule.1.others;
+          },
+        );
+        begun = same_begun k.deliveries new _ rule.1.others begun;
+      }
+
+  grants : next_grant k.deliveries ≡ next_grant old.deliveries
+  grants = same_grant k.deliveries old.deliveries begun
+
+  deliver_rule : (r : Result Bool Fatal) → DeliverRule old memory r new memory_after
+      → LeadsAlso (λ x. DeliverRule (with_counts k old) memory r x memory_after) new
+  deliver_rule (Ok true) d =
+      let more = record k { deliveries = k.deliveries + 1 } in
+      let granted : ℕ → Delivery = λ n. record {
+        profile = old.profile;
+        credits = n;
+        indicator = response_indicator old memory;
+      } in
+      let left : ℕ → PortState = λ n. record (with_counts more old) {
+        responses = new.responses;
+        waiting = new.waiting;
+        polling = lacks_credit old.profile old.credits || old.polling;
+        credits = old.credits + n;
+        interrupts = interrupts_after old (response_indicator old memory);
+      } in
+      record {
+        counts = more;
+        leads = record {
+          end = d.end;
+          first = d.first;
+          puts = subst (λ (n : ℕ). Puts (granted n) old.responses memory
+              (end_text old d.end) new.responses memory_after)
+              (sym grants) d.puts;
+          legible = d.legible;
+          others = ap (with_counts more) d.others ∙ ap left (sym grants);
+        };
+        begun = same_begun (k.deliveries + 1) new _ d.others
+            (one_more k.deliveries ∙ sym (one_more old.deliveries));
+      }
+  deliver_rule (Ok false) rule =
+      record { counts = k; leads = (rule.0, unchanged rule.1); begun = stays_begun rule.1.state }
+  deliver_rule (Err RingRead) rule = record {
+    counts = k;
+    leads = (
+      record { text = rule.0.text; is_next = rule.0.is_next; no_descriptor = rule.0.no_descriptor },
+      unchanged rule.1,
+    );
+    begun = stays_begun rule.1.state;
+  }
+  deliver_rule (Err PacketWrite) rule = record {
+    counts = k;
+    leads = (record { text = rule.0.text; is_next = rule.0.is_next; no_room = rule.0.no_room }, unchanged rule.1);
+    begun = stays_begun rule.1.state;
+  }
+  deliver_rule (Err PacketRead) rule = absurd rule
+  deliver_rule (Err RingWrite) rule = absurd rule
+  deliver_rule (Err CreditsExceeded) rule = absurd rule
+  deliver_rule (Err InvalidConnection) rule = absurd rule
+  deliver_rule (Err InitializationError) rule = absurd rule
+
+  notify_rule : NotifyRule old memory (Ok true) new memory_after
+      → LeadsAlso (λ x. NotifyRule (with_counts k old) memory (Ok true) x memory_after) new
+  notify_rule rule = record {
+    counts = k;
+    leads = record {
+      drive = rule.drive;
+      text = rule.text;
+      none_waits = rule.none_waits;
+      due = rule.due;
+      message = rule.message;
+      puts = rule.puts;
+      others = ap (with_counts k) rule.others;
+    };
+    begun = same_begun k.deliveries new _ rule.others begun;
+  }
+
+  delivers : (r : Result Bool Fatal) → (old.exec.pending ≡ []) × DeliverRule old memory r new memory_after
+      → LeadsAlso (λ x. (old.exec.pending ≡ []) × DeliverRule (with_counts k old) memory r x memory_after) new
+  delivers r rule =
+      let d = deliver_rule r rule.1 in
+      record { counts = d.counts; leads = (rule.0, d.leads); begun = d.begun }
+
+  notifies : (old.exec.pending ≡ []) × NotifyRule old memory (Ok true) new memory_after
+      → LeadsAlso (λ x. (old.exec.pending ≡ [])
+      × NotifyRule (with_counts k old) memory (Ok true) x memory_after) new
+  notifies rule =
+      let d = notify_rule rule.1 in
+      record { counts = d.counts; leads = (rule.0, d.leads); begun = d.begun }
+
+  later_rules : (r : Result Turn Fatal) → LaterRulesEffect old memory r new memory_after
+      → LeadsAlso (λ x. LaterRulesEffect (with_counts k old) memory r x memory_after) new
+  later_rules (Ok Executed) rule = execute_rule rule
+  later_rules (Ok Delivered) rule = delivers (Ok true) rule
+  later_rules (Ok Notified) rule = notifies rule
+  later_rules (Ok Idle) rule = delivers (Ok false) rule
+  later_rules (Ok Fetched) rule = absurd rule
+  later_rules (Ok DeadTurn) rule = absurd rule
+  later_rules (Err cause) rule = delivers (Err cause) rule
+
+module _ (k : Counts) (old : PortState) (begun : nat_lt 0 k.deliveries ≡ nat_lt 0 old.deliveries)
+    (memory : List ℕ)
+    (new : PortState) (memory_after : List ℕ) where
+  -- the rules after the first
+  goes_on : (r : Result Turn Fatal) → GoesOn old memory r new memory_after
+      → LeadsAlso (λ x. GoesOn (with_counts k old) memory r x memory_after) new
+  goes_on r g =
+      let x = later_rules k (port_not_polling old) begun memory new memory_after r g.rest in
+      record {
+        counts = x.counts;
+        leads = record { nothing_to_fetch = g.nothing_to_fetch; rest = x.leads };
+        begun = x.begun;
+      }
+
+  fails : (cause : Fatal) → Fails cause old memory new memory_after
+      → LeadsAlso (λ x. Fails cause (with_counts k old) memory x memory_after) new
+  fails cause (InFetch rule) =
+      let x = fetch_rule k old begun memory new memory_after (Err cause) rule in
+      record { counts = x.counts; leads = InFetch x.leads; begun = x.begun }
+  fails cause (InRest rule) =
+      let x = goes_on (Err cause) rule in
+      record { counts = x.counts; leads = InRest x.leads; begun = x.begun }
+
+  stopped : (due turn : Turn) → Stopped old memory due turn new memory_after
+      → LeadsAlso (λ x. Stopped (with_counts k old) memory due turn x memory_after) new
+  stopped due turn s = record {
+    counts = k;
+    leads = record { answer = s.answer; unchanged = unchanged k old begun memory new memory_after s.unchanged };
+    begun = stays_begun k old begun memory new memory_after s.unchanged.state;
+  }
+
+abbrev one_turn : Counts → Counts
+one_turn k = record k { turns = k.turns + 1 }
+
+module _ (k : Counts) (old : PortState) (begun : nat_lt 0 k.deliveries ≡ nat_lt 0 old.deliveries)
+    (memory : List ℕ)
+    (new : PortState) (memory_after : List ℕ) where
+  -- a turn of a running port
+  running : (turn : Turn) → RunningTurn old memory turn new memory_after
+      → LeadsAlso (λ x. RunningTurn (with_counts k old) memory turn x memory_after) new
+  running Fetched rule = fetch_rule (one_turn k) (port_turn_on old) begun memory new memory_after
+      (Ok true) rule
+  running Executed rule = goes_on (one_turn k) (port_turn_on old) begun memory new memory_after
+      (Ok Executed) rule
+  running Delivered rule = goes_on (one_turn k) (port_turn_on old) begun memory new memory_after
+      (Ok Delivered) rule
+  running Notified rule = goes_on (one_turn k) (port_turn_on old) begun memory new memory_after
+      (Ok Notified) rule
+  running Idle rule = goes_on (one_turn k) (port_turn_on old) begun memory new memory_after (Ok Idle) rule
+  running DeadTurn d =
+      let x = fails (one_turn k) (port_turn_on old) begun memory d.before memory_after d.cause d.fails in
+      record {
+        counts = x.counts;
+        leads = record {
+          cause = d.cause;
+          before = with_counts x.counts d.before;
+          fails = x.leads;
+          died = ap (with_counts x.counts) d.died;
+        };
+        begun = same_begun x.counts.deliveries new _ d.died x.begun;
+      }
+
+  turns : (p : Phase) (turn : Turn) → TurnEffect p old memory turn new memory_after
+      → LeadsAlso (λ x. TurnEffect p (with_counts k old) memory turn x memory_after) new
+  turns Running turn rule = running turn rule
+  turns (Dead cause) turn rule = stopped k old begun memory new memory_after DeadTurn turn rule
+  turns Step1 turn rule = stopped k old begun memory new memory_after Idle turn rule
+  turns (Step2 first) turn rule = stopped k old begun memory new memory_after Idle turn rule
+  turns (Step3 first second) turn rule = stopped k old begun memory new memory_after Idle turn rule
+  turns (Wrap word) turn rule = stopped k old begun memory new memory_after Idle turn rule
+  turns PurgeTest turn rule = stopped k old begun memory new memory_after Idle turn rule
+  turns PollTest turn rule = stopped k old begun memory new memory_after Idle turn rule
+  turns Step4 turn rule = stopped k old begun memory new memory_after Idle turn rule
+
+-- ---- a word of initialization
+
+-- a port and its memory, with other counts
+abbrev both : Counts → PortState × List ℕ → PortState × List ℕ
+both k x = (with_counts k x.0, x.1)
+
+wrap_same : (k : Counts) (old : PortState) (profile : Profile) (word : ℕ)
+    → after_wrap_request profile (with_counts k old) word
+    ≡ with_counts k (after_wrap_request profile old word)
+wrap_same k old Strict word = refl
+wrap_same k old (Compatible identity) word = refl
+
+module _ (k : Counts) (old : PortState) where
+  abbrev step1_if : Bool → Bool → PortState → ℕ → PortState
+  step1_if step wraps port word =
+      if step then
+      (if wraps then after_wrap_request port.profile port word
+      else port_in_phase (record port { interrupts = interrupts_asked port.profile port.interrupts word })
+      (Step2 word))
+      else port
+
+  step1_same : (step wraps : Bool) (word : ℕ)
+      → step1_if step wraps (with_counts k old) word ≡ with_counts k (step1_if step wraps old word)
+  step1_same true true word = wrap_same k old old.profile word
+  step1_same true false word = refl
+  step1_same false wraps word = refl
+
+  abbrev step2_if : Bool → PortState → ℕ → ℕ → PortState
+  step2_if refuses port first word =
+      if refuses then failed_port port InitializationError else port_in_phase port (Step3 first word)
+
+  step2_same : (refuses : Bool) (first word : ℕ)
+      → step2_if refuses (with_counts k old) first word ≡ with_counts k (step2_if refuses old first word)
+  step2_same true first word = refl
+  step2_same false first word = refl
+
+  abbrev tested_if : Bool → PortState → PortState
+  tested_if test port = if test then record port { phase = PurgeTest } else port_in_phase port Step4
+
+  abbrev step3_if : Bool → Bool → Bool → Area → PortState × List ℕ → PortState × List ℕ
+  step3_if refuses has test area x =
+      if refuses then (failed_port x.0 InitializationError, x.1)
+      else if has then (tested_if test (port_with_rings x.0 area), memory_with_area area x.1)
+      else (failed_port x.0 RingWrite, x.1)
+
+  step3_same : (refuses has test : Bool) (area : Area) (memory : List ℕ)
+      → step3_if refuses has test area (with_counts k old, memory)
+      ≡ both k (step3_if refuses has test area (old, memory))
+  step3_same true has test area memory = refl
+  step3_same false true true area memory = refl
+  step3_same false true false area memory = refl
+  step3_same false false test area memory = refl
+
+  purge_same : (none : Bool)
+      → (if none then record (with_counts k old) { phase = PollTest } else with_counts k old)
+      ≡ with_counts k (if none then record old { phase = PollTest } else old)
+  purge_same true = refl
+  purge_same false = refl
+
+  step4_same : (go : Bool)
+      → (if go then record (with_counts k old) { phase = Running } else with_counts k old)
+      ≡ with_counts k (if go then record old { phase = Running } else old)
+  step4_same true = refl
+  step4_same false = refl
+
+  beside : (memory : List ℕ) {a b : PortState} → a ≡ b → ◌≡◌ {A = PortState × List ℕ} (a, memory) (b, memory)
+  beside memory is = ap (λ (x : PortState). (x, memory)) is
+
+  words_same : (p : Phase) (memory : List ℕ) (word : ℕ)
+      → after_sa_write p (with_counts k old) memory word ≡ both k (after_sa_write p old memory word)
+  words_same Step1 memory word = beside memory (step1_same (has_bit word 15) (has_bit word 14) word)
+  words_same (Step2 first) memory word = beside memory
+      (step2_same (refuses_second old.profile word) first word)
+  words_same (Step3 first second) memory word =
+      let area = area_of old.profile first second word in
+      step3_same (refuses_third old.profile word) (has_area area (length memory))
+      (asks_test old.profile word) area memory
+  words_same (Wrap before) memory word = refl
+  words_same PurgeTest memory word = beside memory (purge_same (word == 0))
+  words_same PollTest memory word = refl
+  words_same Step4 memory word = beside memory (step4_same (has_bit word 0))
+  words_same Running memory word = refl
+  words_same (Dead cause) memory word = refl
+
+  ip_read_same : (p : Phase) → port_after_ip_read p (with_counts k old)
+      ≡ with_counts k (port_after_ip_read p old)
+  ip_read_same Running = refl
+  ip_read_same PollTest = refl
+  ip_read_same Step1 = refl
+  ip_read_same (Step2 first) = refl
+  ip_read_same (Step3 first second) = refl
+  ip_read_same (Wrap word) = refl
+  ip_read_same PurgeTest = refl
+  ip_read_same Step4 = refl
+  ip_read_same (Dead cause) = refl
+
+abbrev counts_of : PortState → Counts
+counts_of p = record { turns = p.turns; fetches = p.fetches; deliveries = p.deliveries; load = p.load }
+
+word_deliveries : (p : Phase) (old : PortState) (memory : List ℕ) (word : ℕ)
+    → (after_sa_write p old memory word).0.deliveries ≡ old.deliveries
+word_deliveries p old memory word =
+    ap (λ (x : PortState × List ℕ). x.0.deliveries) (words_same (counts_of old) old p memory word)
+
+ip_read_deliveries : (p : Phase) (old : PortState) → (port_after_ip_read p old).deliveries ≡ old.deliveries
+ip_read_deliveries p old = ap (λ (x : PortState). x.deliveries) (ip_read_same (counts_of old) old p)
+
+-- ---- events
+
+module _ (k : Counts) (old : PortState) (begun : nat_lt 0 k.deliveries ≡ nat_lt 0 old.deliveries)
+    (memory : List ℕ)
+    (new : PortState) (memory_after : List ℕ) where
+  event : (e : HostEvent) → EventEffect e old memory new memory_after
+      → LeadsAlso (λ x. EventEffect e (with_counts k old) memory x memory_after) new
+  event WriteIp effect = record {
+    counts = counts_of (port_restarted old);
+    leads = (ap (with_counts (counts_of (port_restarted old))) effect.0, effect.1);
+    begun = same_begun 0 new _ effect.0 refl;
+  }
+  event ReadIp effect = record {
+    counts = k;
+    leads = (ap (with_counts k) effect.0 ∙ sym (ip_read_same k old old.phase), effect.1);
+    begun =
+        same_begun k.deliveries new _ effect.0
+        (begun ∙ ap (nat_lt 0) (sym (ip_read_deliveries old.phase old)));
+  }
+  event (WriteSa word) effect = record {
+    counts = k;
+    leads = ap (both k) effect ∙ sym (words_same k old old.phase memory word);
+    begun = same_begun k.deliveries new _ (ap (λ (x : PortState × List ℕ). x.0) effect)
+        (begun ∙ ap (nat_lt 0) (sym (word_deliveries old.phase old memory word)));
+  }
+  event (Word address word) effect = record {
+    counts = k;
+    leads = (ap (with_counts k) effect.0, effect.1);
+    begun = same_begun k.deliveries new old effect.0 begun;
+  }
+  event TurnEvent effect =
+      let x = turns k old begun memory new memory_after old.phase effect.0 effect.1 in
+      record { counts = x.counts; leads = (effect.0, x.leads); begun = x.begun }
+
+all_events : (events : List HostEvent) (k : Counts) (old : PortState) (memory : List ℕ) (new : PortState)
+    (memory_after : List ℕ) → nat_lt 0 k.deliveries ≡ nat_lt 0 old.deliveries
+    → EventsEffect events old memory new memory_after
+    → LeadsAlso (λ x. EventsEffect events (with_counts k old) memory x memory_after) new
+all_events [] k old memory new memory_after begun effect = record {
+  counts = k;
+  leads = unchanged k old begun memory new memory_after effect;
+  begun = stays_begun k old begun memory new memory_after effect.state;
+}
+all_events (e ∷ rest) k old memory new memory_after begun effect =
+    let between = effect.0 in
+    let x = event k old begun memory between.0 between.1 e effect.1 in
+    let y = all_events rest x.counts between.0 between.1 new memory_after x.begun effect.2 in
+    record {
+      counts = y.counts;
+      leads = ((with_counts x.counts between.0, between.1), x.leads, y.leads);
+      begun = y.begun;
+    }
+
+also : (a b : PortState) (P : PortState → PortState → Type 0) (same : SameButCounts a b) (new : PortState)
+    → LeadsAlso (λ x. P (with_counts same.counts a) x) new → LeadsAlso (λ x. P b x) new
+also a b P same new x = record {
+  counts = x.counts;
+  leads = subst (λ (y : PortState). P y (with_counts x.counts new)) (sym same.same) x.leads;
+  begun = x.begun;
+}
+
+same_again : (P : PortState → Type 0) (new : PortState) (x : LeadsAlso P new)
+    → SameButCounts new (with_counts x.counts new)
+same_again P new x = record { counts = x.counts; same = refl; begun = x.begun }
+
+pub same_future : SameFuture
+same_future = record {
+  turns = λ a b memory turn new memory_after same effect.
+      let x = also a b (λ p q. TurnEffect p.phase p memory turn q memory_after) same new
+      (turns same.counts a same.begun memory new memory_after a.phase turn effect) in
+      record { left = with_counts x.counts new; effect = x.leads; same = same_again _ new x };
+  events = λ events a b memory new memory_after same effect.
+      let x = also a b (λ p q. EventsEffect events p memory q memory_after) same new
+      (all_events events same.counts a memory new memory_after same.begun effect) in
+      record { left = with_counts x.counts new; effect = x.leads; same = same_again _ new x };
+}

@@ -1,7 +1,7 @@
 /* uda50.h: a simulated UDA50 disk controller, for an emulator of a PDP-11 or a VAX.
 
-   The functions are in groups: lifecycle, drives, registers, turns, inspection, and failures for tests. The project's
-   docs/C.md shows how an emulator uses them, and docs/PORT.md says what the controller does.
+   The functions are in groups: lifecycle, drives, registers, turns, inspection, save and restore, and failures for
+   tests. The project's docs/C.md shows how an emulator uses them, and docs/PORT.md says what the controller does.
 
    A `uda50` is the handle of one controller. Set it to zero before its first use, pass its address, and neither copy
    it nor write into it. Every function accepts every handle. On a handle without a controller, each function except
@@ -61,12 +61,16 @@ enum {
     UDA50_NO_SUCH_UNIT = 66,     /* the unit isn't 0 to 3 */
     UDA50_ALREADY_ATTACHED = 67, /* the unit has an image */
     UDA50_NOT_ATTACHED = 68,     /* the unit has no image */
-    UDA50_BAD_LENGTH = 69,       /* an image isn't one or more whole blocks, or guest memory has an odd length */
+    UDA50_BAD_LENGTH = 69,       /* an image isn't one or more whole blocks, guest memory has an odd length, or a saved
+                                    state hasn't UDA50_STATE_LENGTH bytes */
     UDA50_TOO_LARGE = 70,        /* an image has more than UDA50_MAX_BLOCKS blocks, or guest memory more than 4 MB */
     UDA50_NOT_EMPTY = 71,        /* a struct that an image is to be put into isn't empty */
     UDA50_HAS_CONTROLLER = 72,   /* the handle has a controller */
     UDA50_NO_SUCH_BUS = 73,      /* the bus isn't UDA50_UNIBUS or UDA50_QBUS */
-    UDA50_NO_SUCH_TYPE = 74      /* the drive type isn't UDA50_RX50 to UDA50_RRD40 */
+    UDA50_NO_SUCH_TYPE = 74,     /* the drive type isn't UDA50_RX50 to UDA50_RRD40 */
+    UDA50_OTHER_VERSION = 75,    /* a saved state has another version */
+    UDA50_BAD_STATE = 76,        /* no controller has the saved state */
+    UDA50_OTHER_IMAGES = 77      /* the images aren't as many and as long as the saved ones, or not as protected */
 };
 
 /* What a turn did. uda50_turn and uda50_run return it. */
@@ -253,6 +257,26 @@ uint32_t uda50_get_last_turn(uda50 *handle, uda50_turn_record *turn);
    nothing. Before the first turn the line is empty. Returns UDA50_OK; or UDA50_NO_CONTROLLER or UDA50_NO_MEMORY, and
    then the buffer is as it was. */
 uint32_t uda50_format_last_turn(uda50 *handle, uint8_t *buffer, size_t length);
+
+/* ---- Save and restore ---- */
+
+/* The number of bytes of a saved state. docs/PORT.md describes them. */
+enum { UDA50_STATE_LENGTH = 1576 };
+
+/* Copies the state of the controller to `state`, between any two calls: all that decides what a guest will see, but
+   images and guest memory, which are the emulator's. Returns UDA50_OK, or the first that holds of UDA50_NO_CONTROLLER
+   and UDA50_BAD_LENGTH; then `state` is as it was. */
+uint32_t uda50_save(uda50 *handle, uint8_t *state, size_t length);
+
+/* Continues from a saved state. Make a controller and attach the images first, to the units that had one, as long and
+   as write-protected as they were; an RRD40's image is write-protected. The controller's own state is dropped, also
+   its profile, bus, first unit and drive types. If images and guest memory have the bytes that they had when the state
+   was saved, the guest sees from then on what it would have seen. There is no last turn.
+
+   Returns UDA50_OK, or the first that holds of UDA50_NO_CONTROLLER, UDA50_BAD_LENGTH, UDA50_OTHER_VERSION,
+   UDA50_BAD_STATE and UDA50_OTHER_IMAGES. Any bytes are accepted or refused: none lead to a controller that breaks an
+   invariant. */
+uint32_t uda50_restore(uda50 *handle, const uint8_t *state, size_t length);
 
 /* ---- Failures for tests ---- */
 

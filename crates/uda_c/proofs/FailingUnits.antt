@@ -12,7 +12,7 @@ use Rattle.uda_exec.specs.Drives.{DriveState, drive_in, fresh_unit, returned_dri
 use Rattle.uda_port.specs.Port.{PortState}
 use Rattle.uda_c.specs.declared.call_status.CallStatus.TheVariants.{Done, NoSuchUnit, NotAttached}
 use Rattle.uda_c.specs.ControllerState.{ControllerState}
-use Rattle.uda_c.specs.BorrowedImage.{failing_from_now}
+use Rattle.uda_c.specs.BorrowedImage.{with_failing_call}
 use Rattle.uda_c.specs.Controllers.{FailsAt, drive_failing, unit_failing}
 
 -- a unit with a mode and a size has a drive
@@ -49,7 +49,7 @@ put_back units u drive m =
     let back : List (Option UnitState) = set (set units u None) u (Some (fresh_unit drive)) in
     set back u (in_mode m (unwrap_or (slice_get back u) None))
 
-unit_fails : (units : List (Option UnitState)) (u call : ℕ) (look : UnitInfo) (drive failing : DriveState)
+unit_fails : (units : List (Option UnitState)) (u : ℕ) (call : Option ℕ) (look : UnitInfo) (drive failing : DriveState)
     → info_at (slice_get units u) ≡ Some look → Some drive ≡ returned_drive units u None
     → failing ≡ drive_failing call drive
     → put_back units u failing look.mode ≡ set units u
@@ -62,7 +62,7 @@ unit_fails units u call look drive failing e back fails =
     let got : slice_get (set units u b) u ≡ Some b =
     slice_get-set_same units u b (slice_get_within units u (Some s.unit) s.here) in
     let store = ap (λ (d : DriveState). d.store) fails
-    ∙ ap (λ (d : DriveState). failing_from_now call d.store) drive_is in
+    ∙ ap (λ (d : DriveState). with_failing_call call d.store) drive_is in
     let mode = ap (λ (l : UnitInfo). l.mode) s.look_is in
     ap (λ (xs : List (Option UnitState)). set xs u (in_mode look.mode (unwrap_or (slice_get xs u) None)))
     (set-set units u None b)
@@ -73,7 +73,7 @@ unit_fails units u call look drive failing e back fails =
     (sym s.here)
 
 -- the three calls that do so
-pub fails_at : (old : ControllerState) (u call : ℕ) (look : UnitInfo) (drive failing : DriveState)
+pub fails_at : (old : ControllerState) (u : ℕ) (call : Option ℕ) (look : UnitInfo) (drive failing : DriveState)
     (out back new : PortState)
     → nat_lt 3 u ≡ false → info_at (slice_get old.port.exec.units u) ≡ Some look
     → Some drive ≡ returned_drive old.port.exec.units u None → failing ≡ drive_failing call drive

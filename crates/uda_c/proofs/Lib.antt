@@ -5,5 +5,6 @@ mod HandleCrosses
 pub mod Images
 pub mod RunLaws
 pub mod FailingUnits
+pub mod SavedUnits
 pub mod Lending
 pub mod FaithfulUnits

@@ -1,5 +1,5 @@
 -- Images in memory that a C program lends, as stores of blocks.
-use Rattle.std.specs.Prelude.{◌≡◌, ◌≤◌, ◌/◌, ◌%◌, ℕ, true, false, List, length, Option, Some, None, is_none}
+use Rattle.std.specs.Prelude.{◌≡◌, ◌≤◌, ◌/◌, ◌%◌, ℕ, true, List, length, Option, Some, None, is_none}
 use Rattle.uda_image.specs.Store.{StoreState}
 use Rattle.uda_image.specs.Image.{block_count_of, blocks_of, failures_by}
 use Rattle.uda_image.specs.Limits.{store_limit}
@@ -31,7 +31,7 @@ borrowed_state image = record {
   failing_call = image.left;
 }
 
--- the store whose call of this number from now on fails, and no other
-abbrev pub failing_from_now : ℕ → StoreState → StoreState
-failing_from_now call store =
-    record store { never_fails = false; failures = failures_by call; failing_call = Some call }
+-- the store whose call of this number from now on fails, and no other; None if none fails
+abbrev pub with_failing_call : Option ℕ → StoreState → StoreState
+with_failing_call call store =
+    record store { never_fails = is_none call; failures = failures_of call; failing_call = call }

@@ -28,7 +28,7 @@ use Rattle.uda_c.specs.ControllerState.{ControllerState}
 use Rattle.uda_c.specs.declared.slot.Slot.{Slot}
 use Rattle.uda_c.specs.declared.unit_images.UnitImages.{UnitImages}
 use Rattle.uda_c.specs.Slots.{empty_slot, are_empty}
-use Rattle.uda_c.specs.BorrowedImage.{borrowed_state, failing_from_now}
+use Rattle.uda_c.specs.BorrowedImage.{borrowed_state, with_failing_call}
 
 -- The invariant of the port of every controller. It has four units, they return the blocks that were written,
 -- and each has exactly as many blocks as its size. Its credits agree.
@@ -207,16 +207,16 @@ MakesNew (Some c) profile answer new = (answer ≡ HasController) × (new ≡ So
 MakesNew None profile answer None = answer ≡ NoMemory
 MakesNew None profile answer (Some c) = (answer ≡ Done) × (c ≡ controller_at_start profile)
 
--- a drive whose store fails at a call, counted from now on
-abbrev pub drive_failing : ℕ → DriveState → DriveState
-drive_failing call drive = record drive { store = failing_from_now call drive.store }
+-- a drive whose store fails at a call, counted from now on, or never
+abbrev pub drive_failing : Option ℕ → DriveState → DriveState
+drive_failing call drive = record drive { store = with_failing_call call drive.store }
 
 -- a unit with such a drive, otherwise unchanged
-abbrev pub unit_failing : ℕ → UnitState → UnitState
-unit_failing call unit = record unit { store = failing_from_now call unit.store }
+abbrev pub unit_failing : Option ℕ → UnitState → UnitState
+unit_failing call unit = record unit { store = with_failing_call call unit.store }
 
 -- the controller with such a unit u
-abbrev pub controller_failing : ControllerState → ℕ → ℕ → ControllerState
+abbrev pub controller_failing : ControllerState → ℕ → Option ℕ → ControllerState
 controller_failing c u call = record c {
   port = record c.port {
     exec = record c.port.exec {
@@ -226,8 +226,8 @@ controller_failing c u call = record c {
   };
 }
 
-pub record FailsAt (old : ControllerState) (unit call : ℕ) (answer : CallStatus) (new : ControllerState)
-    : Type 0 where
+pub record FailsAt (old : ControllerState) (unit : ℕ) (call : Option ℕ) (answer : CallStatus)
+    (new : ControllerState) : Type 0 where
   pub answer_is : answer ≡ unit_answer old unit
   pub fails : answer ≡ Done → new ≡ controller_failing old unit call
   pub refused : answer ≢ Done → new ≡ old

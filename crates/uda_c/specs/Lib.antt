@@ -9,6 +9,7 @@ pub mod BorrowedImage
 pub mod CallStatus
 pub mod ControllerState
 pub mod Controllers
+pub mod Saving
 pub mod Snapshot
 pub mod Last
 pub mod Runs

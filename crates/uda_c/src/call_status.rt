@@ -21,7 +21,8 @@ pub enum CallStatus {
     AlreadyAttached,
     /// The unit has no image.
     NotAttached,
-    /// The length is invalid: an image's is a multiple of 512 and not 0, guest memory's is even.
+    /// The length is invalid: an image's is a multiple of 512 and not 0, guest memory's is even, and a saved
+    /// state's is fixed.
     BadLength,
     /// An image or a guest's memory may not have this many bytes.
     TooLarge,
@@ -33,6 +34,12 @@ pub enum CallStatus {
     NoSuchBus,
     /// There is no such drive type.
     NoSuchType,
+    /// The saved state has another version.
+    OtherVersion,
+    /// No controller has the saved state.
+    BadState,
+    /// The units don't have images of the saved sizes and hardware write protections.
+    OtherImages,
 }
 
 impl CallStatus {
@@ -61,6 +68,9 @@ impl CallStatus {
             CallStatus::HasController => 72,
             CallStatus::NoSuchBus => 73,
             CallStatus::NoSuchType => 74,
+            CallStatus::OtherVersion => 75,
+            CallStatus::BadState => 76,
+            CallStatus::OtherImages => 77,
         }
     }
 }

@@ -1,10 +1,12 @@
 //! The controller of a handle.
-ghost use Rattle.std.specs.Prelude.{◌≡◌, ◌≢◌, ◌≤◌, ◌/◌, ◌%◌, ℕ, length, IfSome, IfNone, IfOk, IfErr, IsTrue};
+ghost use Rattle.std.specs.Prelude.{◌≡◌, ◌≢◌, ◌≤◌, ◌/◌, ◌%◌, ℕ, length, slice_get, IfSome, IfNone, IfOk, IfErr, IsTrue};
 ghost use Rattle.uda_image.specs.Limits.{store_limit};
 ghost use Rattle.uda_mem.specs.Slices.{IsMemory};
 ghost use Rattle.uda_c.specs.declared.call_status.CallStatus.TheVariants.{RanTurn, Done};
 ghost use Rattle.uda_c.specs.Controllers.{controller_at_start, SetsType, Attaches, Detaches, TurnsWhereMemory};
-ghost use Rattle.uda_c.specs.Controllers.{FailsAt, drive_failing, TakesTurn, memory_refusal, IsSoundPort};
+ghost use Rattle.uda_c.specs.Controllers.{FailsAt, controller_failing, drive_failing, TakesTurn, memory_refusal, IsSoundPort};
+ghost use Rattle.uda_c.specs.Saving.{Saves, RestoreOutcome, controller_saved, failing_call_of};
+ghost use Rattle.uda_c.specs.Saving.{controller_failing_at};
 ghost use Rattle.uda_port.specs.Port.{port_restarted, port_after_ip_read};
 ghost use Rattle.uda_port.specs.Interrupt.{vector_of, served};
 ghost use Rattle.uda_c.specs.Controllers.{WritesSa, GivesBack, image_answer, image_at, image_bytes_at};
@@ -16,6 +18,7 @@ ghost use Rattle.uda_c.specs.Runs.{TakesTurns, RunsWhereMemory, does_nothing};
 use crate::call_status::CallStatus;
 use crate::lent::BorrowedBytes;
 use crate::lent_image::BorrowedImage;
+use crate::saving::{RestoreRefusal, calls_have_drives};
 use crate::slot::Slot;
 use crate::unit_images::UnitImages;
 use std::alloc::Global;
@@ -24,6 +27,7 @@ use uda_exec::Exec;
 use uda_image::{Drive, STORE_LIMIT};
 use uda_packet::DriveType;
 use uda_port::{Port, Profile, Trace, Turn};
+use uda_saved::{STATE_LENGTH, SavedState};
 
 /// A port over the images that C has lent, and the record of its last turn.
 #[derive(Drop)]
@@ -169,8 +173,8 @@ impl Controller {
         self.detach(unit, image);
     }
 
-    /// Makes one block call of a unit's image fail, counted from now on.
-    pub fn fail_at(&mut self, unit: u32, call: u32) -> CallStatus
+    /// Makes one block call of a unit's image fail, counted from now on, or none.
+    pub fn set_failing_call(&mut self, unit: u32, call: Option<u32>) -> CallStatus
         ensures fails { FailsAt self.old unit call result self.new }
     {
         let unit = unit as usize;
@@ -203,6 +207,84 @@ impl Controller {
         } else {
             CallStatus::AlreadyAttached
         }
+    }
+
+    /// Copies the state of the controller into C's bytes.
+    pub fn save(&self, bytes: &mut [u8]) -> CallStatus
+        ensures saves { Saves self.now bytes.old result bytes.new }
+    {
+        if bytes.len() != STATE_LENGTH {
+            return CallStatus::BadLength;
+        }
+        bytes.copy_from_slice(self.saved().to_bytes().as_slice());
+        CallStatus::Done
+    }
+
+    // Returns the state of the controller.
+    #[tactic(auto, using(crate::proofs::SavedUnits::saved_calls))]
+    fn saved(&self) -> SavedState
+        ensures { result ≡ controller_saved self.now }
+    {
+        self.keep();
+        SavedState {
+            port: self.port.save(),
+            failing_calls: [
+                self.failing_call(0),
+                self.failing_call(1),
+                self.failing_call(2),
+                self.failing_call(3),
+            ],
+        }
+    }
+
+    // Returns the number of the call of a unit's image that is to fail, or None.
+    fn failing_call(&self, unit: usize) -> Option<u32>
+        ensures { result ≡ failing_call_of (slice_get self.now.port.exec.units unit) }
+    {
+        self.port.store(unit)?.failing_call()
+    }
+
+    /// Continues from saved bytes, over the images that are attached.
+    #[tactic(auto, using(crate::proofs::SavedUnits::restored_faithful))]
+    pub fn restore(&mut self, bytes: &[u8]) -> Result<(), RestoreRefusal>
+        ensures restores { RestoreOutcome result self.old bytes.now self.new }
+    {
+        let state = match SavedState::from_bytes(bytes) {
+            Ok(state) => state,
+            Err(cause) => return Err(RestoreRefusal::Bytes(cause)),
+        };
+        if !calls_have_drives(state.port.exec.units, state.failing_calls) {
+            return Err(RestoreRefusal::CallWithoutDrive);
+        }
+        match self.port.restore(&state.port) {
+            Ok(()) => {
+                self.last = None;
+                self.set_failing_calls(state.failing_calls);
+                Ok(())
+            }
+            Err(cause) => Err(RestoreRefusal::Port(cause)),
+        }
+    }
+
+    // Sets the failing calls of all images.
+    fn set_failing_calls(&mut self, calls: [Option<u32>; 4])
+        ensures set { self.new ≡ controller_failing_at calls self.old }
+    {
+        self.keep();
+        let [a, b, c, d] = calls;
+        self.set_call_of(0, a);
+        self.set_call_of(1, b);
+        self.set_call_of(2, c);
+        self.set_call_of(3, d);
+    }
+
+    // Sets the failing call of a unit's image, if the unit has one.
+    #[tactic(auto, using(crate::proofs::SavedUnits::unit_fails))]
+    fn set_call_of(&mut self, unit: u32, call: Option<u32>)
+        requires low { unit ≤ 3 }
+        ensures set { self.new ≡ controller_failing self.old unit call }
+    {
+        self.set_failing_call(unit, call);
     }
 
     /// Runs one turn of the port in the guest's memory.
@@ -295,13 +377,13 @@ fn image_answer(bytes: usize) -> CallStatus
     }
 }
 
-// Returns a drive whose store fails at a call, counted from now on.
-fn failing(drive: Drive<BorrowedImage>, call: u32) -> Drive<BorrowedImage>
+// Returns a drive whose store fails at a call, counted from now on, or never.
+fn failing(drive: Drive<BorrowedImage>, call: Option<u32>) -> Drive<BorrowedImage>
     ensures store { drive_state borrowed_state result ≡ drive_failing call (drive_state borrowed_state drive) }
 {
     let Drive { store, hard } = drive;
     let mut store = store;
-    store.fail_at(call);
+    store.set_failing_call(call);
     Drive { store, hard }
 }
 

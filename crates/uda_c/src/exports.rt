@@ -1,6 +1,6 @@
 //! The functions that C calls, as `include/uda50.h` declares them. Each accepts every handle, including one
 //! that was never made or was freed.
-ghost use Rattle.std.specs.Prelude.{None, false, is_some, ◌≡◌, ◌||◌};
+ghost use Rattle.std.specs.Prelude.{None, Some, false, is_some, ◌≡◌, ◌||◌};
 ghost use Rattle.uda_port.specs.Port.{port_restarted, port_after_ip_read};
 ghost use Rattle.uda_port.specs.Startup.{sa_shown};
 ghost use Rattle.uda_c.specs.CallStatus.{status_code};
@@ -11,6 +11,7 @@ ghost use Rattle.uda_c.specs.declared.call_status.CallStatus.TheVariants.{Done, 
 ghost use Rattle.uda_c.specs.Controllers.{OnHandle, AreSound, HoldsSound, MakesNew, MakesAs, SetsType, refusal_of_new, profile_of, is_read_only, Frees, GivesBack};
 ghost use Rattle.uda_c.specs.Controllers.{Attaches, Detaches, HasImage, HadBytes, WritesSa};
 ghost use Rattle.uda_c.specs.Controllers.{FailsAt, TurnsWhereMemory, TakesInterrupt};
+ghost use Rattle.uda_c.specs.Saving.{Saves, Restores};
 ghost use Rattle.uda_c.specs.Runs.{RunsWhereMemory};
 ghost use Rattle.uda_c.specs.Snapshot.{port_snapshot};
 ghost use Rattle.uda_c.specs.Last.{turn_record, TellsLine};
@@ -20,6 +21,7 @@ use crate::choices::bus_of;
 use crate::controller::Controller;
 use crate::handle::Handle;
 use crate::last::{TurnRecord, put_last_line};
+use crate::saving::restore_status;
 use crate::slot::Slot;
 use crate::snapshot::PortSnapshot;
 use crate::unit_images::UnitImages;
@@ -83,7 +85,9 @@ pub extern "C" fn uda50_set_type(handle: &mut Handle, unit: u32, drive_type: u32
     match handle.get() {
         Some(controller) => {
             controller.keep();
-            let answer = controller.set_type(unit, DriveType::of_number(drive_type)).code();
+            let answer = controller
+                .set_type(unit, DriveType::of_number(drive_type))
+                .code();
             controller.keep();
             answer
         }
@@ -162,13 +166,50 @@ pub extern "C" fn uda50_detach(handle: &mut Handle, unit: u32, image: &mut Slot)
 pub extern "C" fn uda50_inject_failure(handle: &mut Handle, unit: u32, call: u32) -> u32
     ensures fails { OnHandle handle.old.value handle.new.value (result ≡ status_code NoController)
         (λ old new. (answer : CallStatus) × (result ≡ status_code answer)
-        × FailsAt old unit call answer new) }
+        × FailsAt old unit (Some call) answer new) }
     ensures sound { AreSound handle.old.value handle.new.value }
 {
     match handle.get() {
         Some(controller) => {
             controller.keep();
-            let answer = controller.fail_at(unit, call).code();
+            let answer = controller.set_failing_call(unit, Some(call)).code();
+            controller.keep();
+            answer
+        }
+        None => CallStatus::NoController.code(),
+    }
+}
+
+/// Copies the state of the controller into C's bytes.
+#[unsafe(no_mangle)]
+pub extern "C" fn uda50_save(handle: &mut Handle, state: &mut [u8]) -> u32
+    ensures saves { OnHandle handle.old.value handle.new.value
+        ((result ≡ status_code NoController) × (state.new ≡ state.old))
+        (λ old new. (answer : CallStatus) × (result ≡ status_code answer) × (new ≡ old)
+        × Saves old state.old answer state.new) }
+    ensures sound { AreSound handle.old.value handle.new.value }
+{
+    match handle.get() {
+        Some(controller) => {
+            controller.keep();
+            controller.save(state).code()
+        }
+        None => CallStatus::NoController.code(),
+    }
+}
+
+/// Continues from saved bytes, over the images that are attached.
+#[unsafe(no_mangle)]
+pub extern "C" fn uda50_restore(handle: &mut Handle, state: &[u8]) -> u32
+    ensures restores { OnHandle handle.old.value handle.new.value (result ≡ status_code NoController)
+        (λ old new. (answer : CallStatus) × (result ≡ status_code answer)
+        × Restores old state.now answer new) }
+    ensures sound { AreSound handle.old.value handle.new.value }
+{
+    match handle.get() {
+        Some(controller) => {
+            controller.keep();
+            let answer = restore_status(controller.restore(state)).code();
             controller.keep();
             answer
         }

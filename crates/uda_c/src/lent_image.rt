@@ -6,7 +6,7 @@ ghost use Rattle.uda_image.specs.AtOnce.{TriesToRead, TriesToWrite};
 ghost use Rattle.uda_image.specs.Image.{block_count_of, block_of, with_block, half_written};
 ghost use Rattle.uda_image.specs.Store.{Reads, Writes, KeepsAttributes};
 ghost use Rattle.uda_image.specs.StoreLaws.{block_count-le, HasWholeBlocks-blocks_of};
-ghost use Rattle.uda_c.specs.BorrowedImage.{borrowed_state, failing_from_now, IsWhole};
+ghost use Rattle.uda_c.specs.BorrowedImage.{borrowed_state, with_failing_call, IsWhole};
 ghost use Rattle.std.specs.List.{concat};
 
 use crate::lent::BorrowedBytes;
@@ -15,7 +15,8 @@ use uda_image::{BlockStore, StoreError, blocks};
 
 /// An image in memory that C has lent: block after block.
 ///
-/// It is faithful. None of its calls fails until [`fail_at`](BorrowedImage::fail_at) sets one to fail.
+/// It is faithful. None of its calls fails until
+/// [`set_failing_call`](BorrowedImage::set_failing_call) sets one to fail.
 #[derive(Drop)]
 pub struct BorrowedImage {
     bytes: BorrowedBytes,
@@ -62,13 +63,22 @@ impl BorrowedImage {
         bytes
     }
 
-    /// Makes the image's call number `call` from now on fail, and no other. Reads and writes of blocks are
-    /// counted together, from 1. If `call` is 0, none fails.
-    pub fn fail_at(&mut self, call: u32)
-        ensures left { self.new ≡ record self.old { left = Some call } }
-        ensures state { borrowed_state self.new ≡ failing_from_now call (borrowed_state self.old) }
+    /// Returns the number of the call that is to fail, counted from now on and from 1; 0 if that call is
+    /// over.
+    /// Returns None if no call was set to fail.
+    pub fn failing_call(&self) -> Option<u32>
+        ensures call { result ≡ (borrowed_state self.now).failing_call }
     {
-        self.left = Some(call);
+        self.left
+    }
+
+    /// Makes the image's call of this number from now on fail, and no other. Reads and writes of blocks are
+    /// counted together, from 1. If the number is 0 or None, none fails.
+    pub fn set_failing_call(&mut self, call: Option<u32>)
+        ensures left { self.new ≡ record self.old { left = call } }
+        ensures state { borrowed_state self.new ≡ with_failing_call call (borrowed_state self.old) }
+    {
+        self.left = call;
     }
 
     // Counts one call, and returns whether it is the failing one.

@@ -9,6 +9,7 @@ mod handle;
 mod last;
 mod lent;
 mod lent_image;
+mod saving;
 mod slot;
 mod snapshot;
 mod text;

@@ -7,7 +7,7 @@ use Rattle.uda_c.specs.Controllers.{FailsAt}
 use Rattle.uda_c.specs.BorrowedImage.{borrowed_state}
 use Rattle.uda_c.proofs.FailingUnits.{fails_at, is_handed}
 use Rattle.uda_c.proofs.FaithfulUnits.{drive_faithful, mode_faithful}
-use Rattle.uda_c.proofs.controller.Controller.fail_at.Goals as goal
+use Rattle.uda_c.proofs.controller.Controller.set_failing_call.Goals as goal
 
 pub invariant_of-self : goal.invariant_of-self
 invariant_of-self c =

@@ -19,6 +19,8 @@ impl CaseMachine {
             Deed::Post => self.post(words),
             Deed::Text => self.post_text(words),
             Deed::Keep => self.keep(),
+            Deed::Save => self.save(),
+            Deed::Alter => self.alter(words),
         }
     }
 

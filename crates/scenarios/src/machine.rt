@@ -90,6 +90,8 @@ pub struct CaseMachine {
     pub shelf: Option<Drive<RecordingImage>>,
     /// A stored copy of memory.
     pub kept: Vec<u8>,
+    /// The bytes of a saved port.
+    pub saved: Vec<u8>,
     /// The port's phase after random events.
     pub played: Option<Phase>,
     /// The turns that were run since the last printout, one a line.
@@ -106,6 +108,7 @@ impl CaseMachine {
             layout: LAYOUT,
             shelf: None,
             kept: Vec::new(alloc),
+            saved: Vec::new(alloc),
             played: None,
             turns: String::new(alloc),
         })

@@ -18,6 +18,7 @@ mod op;
 mod place;
 mod random;
 mod run;
+mod saved;
 mod sight;
 mod verb;
 mod words;

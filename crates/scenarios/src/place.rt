@@ -26,6 +26,7 @@ impl CaseMachine {
             Place::Kept => self.same(came),
             Place::End => self.end(words, came),
             Place::Descriptor => self.descriptor(words.address()?, came),
+            Place::State => self.state(words.number()?, wanted, came),
         }
     }
 

@@ -30,6 +30,7 @@ impl CaseMachine {
             Work::Fetch => self.fetch(came),
             Work::Random => self.random(words, came),
             Work::Replay => self.replay(words, came),
+            Work::Resume => self.resume(came),
         }
     }
 

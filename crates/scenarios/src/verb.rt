@@ -13,7 +13,7 @@ pub enum Verb {
     Run(Work),
     /// It expects a state of the port or the executor.
     Show(Sight),
-    /// It expects a state of memory.
+    /// It expects a state of memory, or bytes of a saved port.
     Find(Place),
     /// It expects a state of drives.
     Open(Hold),
@@ -41,6 +41,8 @@ pub enum Deed {
     Post,
     Text,
     Keep,
+    Save,
+    Alter,
 }
 
 /// The changes of drives and of an executor.
@@ -66,6 +68,7 @@ pub enum Work {
     Fetch,
     Random,
     Replay,
+    Resume,
 }
 
 /// The visible state of a port or an executor.
@@ -84,7 +87,7 @@ pub enum Sight {
     Debug,
 }
 
-/// The visible state of memory.
+/// The visible state of memory, and the bytes of a saved port.
 #[derive(Clone, Copy)]
 pub enum Place {
     Words,
@@ -94,6 +97,7 @@ pub enum Place {
     Kept,
     End,
     Descriptor,
+    State,
 }
 
 /// The visible state of drives.
@@ -105,7 +109,7 @@ pub enum Hold {
     Calls,
 }
 
-const VERBS: [(&str, Verb); 51] = [
+const VERBS: [(&str, Verb); 55] = [
     ("new", Verb::Set(Preparation::New)),
     ("memory", Verb::Set(Preparation::Memory)),
     ("slice", Verb::Set(Preparation::Slice)),
@@ -120,6 +124,8 @@ const VERBS: [(&str, Verb); 51] = [
     ("post", Verb::Do(Deed::Post)),
     ("text", Verb::Do(Deed::Text)),
     ("keep", Verb::Do(Deed::Keep)),
+    ("save", Verb::Do(Deed::Save)),
+    ("alter", Verb::Do(Deed::Alter)),
     ("unit", Verb::Move(Change::Unit)),
     ("remove", Verb::Move(Change::Remove)),
     ("insert", Verb::Move(Change::Insert)),
@@ -135,6 +141,7 @@ const VERBS: [(&str, Verb); 51] = [
     ("fetch", Verb::Run(Work::Fetch)),
     ("random", Verb::Run(Work::Random)),
     ("replay", Verb::Run(Work::Replay)),
+    ("resume", Verb::Run(Work::Resume)),
     ("sa", Verb::Show(Sight::Sa)),
     ("interrupt", Verb::Show(Sight::Interrupt)),
     ("phase", Verb::Show(Sight::Phase)),
@@ -153,6 +160,7 @@ const VERBS: [(&str, Verb); 51] = [
     ("kept", Verb::Find(Place::Kept)),
     ("end", Verb::Find(Place::End)),
     ("descriptor", Verb::Find(Place::Descriptor)),
+    ("state", Verb::Find(Place::State)),
     ("mode", Verb::Open(Hold::Mode)),
     ("drive", Verb::Open(Hold::Drive)),
     ("shelf", Verb::Open(Hold::Shelf)),

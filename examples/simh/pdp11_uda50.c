@@ -2,8 +2,8 @@
    its PDP-11, and of its VAX, a MicroVAX 3900.
 
    The library does what a controller does. For each of the four devices this file has the two registers, four units
-   whose files are mapped, the steps of the start-up and the port's turns as timed events, the interrupts, and the
-   guest's memory.
+   whose files are mapped, the steps of the start-up and the port's turns as timed events, the interrupts, the guest's
+   memory, and the state that SIMH saves and restores.
 
    On a PDP-11 the library works in the memory as SIMH keeps it: an array of words of the host's own order, so the
    host must be little-endian. While the UNIBUS map is on, a window of 248 KB is copied through SIMH's calls instead,
@@ -27,10 +27,12 @@ enum { CONTROLLERS = 4, UNITS = 4, BLOCK = 512, LINE = 96 };
 /* Sizes of RAUSER in blocks, as RQ has them: the smallest, what is above the largest, and a megabyte. */
 enum { USER_MIN = 10000, USER_LIMIT = sizeof(t_addr) > 4 ? 2000000000 : 4000000, MEGABYTE = 1954 };
 
-/* After its drives a device has units for events: of turns, of a word for SA, and of attention messages. */
+/* After its drives a device has units for events: of turns, of a word for SA, and of attention messages. The memory of
+   one more unit is the controller's saved state. */
 #define TURNS(it) ((it)->device->units + UNITS)
 #define STEP(it) ((it)->device->units + UNITS + 1)
 #define TICK(it) ((it)->device->units + UNITS + 2)
+#define STATE(it) ((it)->device->units + UNITS + 3)
 #define UNIT_LOCKED (1u << UNIT_V_UF)
 #define drive_type u3
 #define controller_number u4
@@ -48,6 +50,8 @@ t_stat rq_wr(int32 data, int32 address, int32 access);
 t_stat rq_turn(UNIT *unit);
 t_stat rq_step(UNIT *unit);
 t_stat rq_tick(UNIT *unit);
+t_stat rq_examine(t_value *value, t_addr address, UNIT *unit, int32 switches);
+t_stat rq_deposit(t_value value, t_addr address, UNIT *unit, int32 switches);
 t_stat rq_reset(DEVICE *device);
 t_stat rq_boot(int32 number, DEVICE *device);
 t_stat rq_attach(UNIT *unit, char *path);
@@ -67,6 +71,7 @@ typedef struct {
     uda50_file files[UNITS];
     int32 word;    /* was written to SA: the library gets it at an event */
     int32 request; /* for an interrupt: the processor hasn't granted it yet */
+    uint8 state[UDA50_STATE_LENGTH]; /* while SIMH saves or restores */
 } controller;
 
 #define REGISTERS(address, length) {address, length, &rq_rd, &rq_wr, 1, IVCL(RQ), 0, {&rq_acknowledge}}
@@ -143,10 +148,12 @@ MTAB rq_mod[] = {
             .drive_type = type, .controller_number = n                                          \
     }
 #define EVENT(n, call) {UDATA(&call, UNIT_DIS, 0), .controller_number = n}
+#define SAVED(n) {UDATA(NULL, UNIT_FIX + UNIT_DIS, UDA50_STATE_LENGTH), .controller_number = n}
 #define UNITS_OF(n, type, blocks)                                                               \
     {                                                                                           \
         DRIVE(n, UDA50_RD54, 311200), DRIVE(n, UDA50_RD54, 311200), DRIVE(n, UDA50_RD54, 311200), \
-            DRIVE(n, type, blocks), EVENT(n, rq_turn), EVENT(n, rq_step), EVENT(n, rq_tick)     \
+            DRIVE(n, type, blocks), EVENT(n, rq_turn), EVENT(n, rq_step), EVENT(n, rq_tick),    \
+            SAVED(n)                                                                            \
     }
 #define REGISTERS_OF(n)                                                                         \
     {GRDATA(VEC, controllers[n].dib.vec, DEV_RDX, 16, 0), REG_RO},                              \
@@ -154,8 +161,8 @@ MTAB rq_mod[] = {
         {FLDATA(INT, controllers[n].request, 0)}
 #define DEVICE_OF(n, name, units, registers, flags)                                             \
     {                                                                                           \
-        name, units, registers, rq_mod, UNITS + 3, DEV_RDX, T_ADDR_W, 2, DEV_RDX, 16, NULL, NULL, &rq_reset, \
-            &rq_boot, &rq_attach, &rq_detach, &controllers[n].dib,                              \
+        name, units, registers, rq_mod, UNITS + 4, DEV_RDX, T_ADDR_W, 2, DEV_RDX, 16, &rq_examine,  \
+            &rq_deposit, &rq_reset, &rq_boot, &rq_attach, &rq_detach, &controllers[n].dib,      \
             DEV_FLTA | DEV_DISABLE | DEV_UBUS | DEV_QBUS | DEV_DEBUG | (flags)                  \
     }
 
@@ -462,6 +469,61 @@ t_stat rq_reset(DEVICE *device)
 
     begin_anew(it);
     return status == SCPE_OK ? auto_config(0, 0) : status;
+}
+
+/* SAVE reads the memory of a unit that can't be attached, and RESTORE writes it after it has attached the drives. So
+   the state is saved by the read of its first word, and restored by the write of its last. EXAMINE and DEPOSIT of a
+   drive use its file, as for a device without these functions. */
+static t_stat restore_state(controller *it)
+{
+    uint32 status = uda50_restore(&it->uda, it->state, sizeof it->state);
+
+    it->bus = UNIBUS ? UDA50_UNIBUS : UDA50_QBUS;
+    if (status == UDA50_OK)
+        return SCPE_OK;
+    printf("%s: the state can't be restored: %u\n", it->device->name, status);
+    return SCPE_INCOMP;
+}
+
+static t_stat find_word(UNIT *unit, t_addr address)
+{
+    if ((unit->flags & (UNIT_ATTABLE | UNIT_ATT)) == UNIT_ATTABLE)
+        return SCPE_UNATT;
+    if (address >= unit->capac)
+        return SCPE_NXM;
+    return unit->flags & UNIT_ATT ? sim_fseek(unit->fileref, address & ~(t_addr)1, SEEK_SET) : SCPE_OK;
+}
+
+t_stat rq_examine(t_value *value, t_addr address, UNIT *unit, int32 switches)
+{
+    controller *it = of_unit(unit);
+    t_stat status = find_word(unit, address);
+    uint16 word = 0;
+
+    if (status != SCPE_OK)
+        return status;
+    if (unit == STATE(it)) {
+        if (address == 0 && uda50_save(&it->uda, it->state, sizeof it->state) != UDA50_OK)
+            return SCPE_IERR;
+        memcpy(&word, it->state + address, sizeof word);
+    } else
+        sim_fread(&word, sizeof word, 1, unit->fileref);
+    *value = word;
+    return SCPE_OK;
+}
+
+t_stat rq_deposit(t_value value, t_addr address, UNIT *unit, int32 switches)
+{
+    controller *it = of_unit(unit);
+    t_stat status = find_word(unit, address);
+    uint16 word = (uint16)value;
+
+    if (status != SCPE_OK)
+        return status;
+    if (unit != STATE(it))
+        return sim_fwrite(&word, sizeof word, 1, unit->fileref) == 1 ? SCPE_OK : SCPE_IOERR;
+    memcpy(it->state + address, &word, sizeof word);
+    return address + sizeof word == sizeof it->state ? restore_state(it) : SCPE_OK;
 }
 
 static bool is_locked(UNIT *unit)

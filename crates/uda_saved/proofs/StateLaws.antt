@@ -95,7 +95,7 @@ module _ {A : Type 0} (width : ℕ) (read : List ℕ → A) where
       ∙ ap (λ (i : ℕ). read (part bytes at width)
       ∷ (items_in width read n (at + width) bytes ++ read (part bytes i width) ∷ [])) same
 
-  -- what was written behind a front is read there
+  -- what was written after a front is read there
   items_back : (write : A → List ℕ) (xs : List A) (front rest : List ℕ) → All (IsReadBack width read write) xs
       → items_in width read (length xs) (length front) (front ++ (concat (map write xs) ++ rest)) ≡ xs
   items_back write [] front rest back = refl

@@ -149,7 +149,8 @@ port_from bytes controller counts drives = record {
 
 abbrev pub port_in : List ℕ → Saved
 port_in bytes =
-    port_from bytes (controller_in (row_in bytes 1)) (counts_in (row_in bytes 2)) (drives_row_in (row_in bytes 3))
+    port_from bytes (controller_in (row_in bytes 1)) (counts_in (row_in bytes 2))
+    (drives_row_in (row_in bytes 3))
 
 -- the state that has these bytes, if there is one, and some state otherwise
 abbrev pub state_in : List ℕ → SavedState

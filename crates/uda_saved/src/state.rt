@@ -35,7 +35,7 @@ pub const STATE_LENGTH: usize = 1_576;
 /// The version of the bytes that [`SavedState::to_bytes`] writes and [`SavedState::from_bytes`] reads.
 pub const STATE_VERSION: u16 = 1;
 
-// The offset of the additional operations, behind the rows.
+// The offset of the additional operations, after the rows.
 const OPS: usize = 120;
 
 // The offset of the pending commands.

@@ -240,11 +240,14 @@ CRATES = {
     "refused_growths": (0, 7.82, ""),
     "uda_agreement": (0, 8.18, ""),
     "script_tests": (0, 9, ""),
+    "workloads": (0, 8.54, ""),
 }
 # the arrows that leave by the right side and go down between two columns, each with its x
 LANES = {("uda_driver", "uda_posting"): 500, ("uda_script_run", "uda_grammar"): 740}
+# the arrows that go over the top and down at the right, each with the x where it goes up, its y, and the x where it goes down
+OVER = {("workloads", "uda50_show"): (270, 85, 1165)}
 PROGRAMS = {"uda", "uda50", "uda_c"}
-AROUND = re.compile(r"_tests$|_example$|^bench$|^scenarios$|^refused_growths$|^uda_agreement$")
+AROUND = re.compile(r"_tests$|_example$|^bench$|^workloads$|^scenarios$|^refused_growths$|^uda_agreement$")
 
 
 def uses():
@@ -296,6 +299,9 @@ def crates():
         (x, y), (u, v), half = centre(name), centre(other), width / 2
         if (name, other) in LANES:
             return f"M{x + half:g} {y:g} H{LANES[name, other]} V{v - 52:g} H{u:g} V{v - 22:g}"
+        if (name, other) in OVER:
+            up, top, down = OVER[name, other]
+            return f"M{x + half:g} {y:g} H{up} V{top} H{down} V{v:g} H{u + half + 2:g}"
         if AROUND.search(name) and u > x:
             return f"M{x + half:g} {y:g} L{u - half - 2:g} {v:g}"
         if AROUND.search(name):

@@ -241,6 +241,7 @@ CRATES = {
     "uda_agreement": (0, 8.18, ""),
     "script_tests": (0, 9, ""),
     "workloads": (0, 8.54, ""),
+    "show_tests": (3, 7.2, ""),
 }
 # the arrows that leave by the right side and go down between two columns, each with its x
 LANES = {("uda_driver", "uda_posting"): 500, ("uda_script_run", "uda_grammar"): 740}

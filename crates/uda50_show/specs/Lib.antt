@@ -3,3 +3,4 @@ pub mod Boot
 pub mod Home
 pub mod Labels
 pub mod Tokens
+pub mod Rows

@@ -1,7 +1,8 @@
 //! Reading of packets from text.
 ghost use Rattle.std.specs.Prelude.{◌≡◌, ◌<◌, ◌≤◌, ◌∷◌, ◌++◌, ◌↔◌, ◌⊎◌, [], length, None, IsSome, IfSome};
 ghost use Rattle.std.specs.Prelude.{OnErr, IsOk, IfOk};
-ghost use Rattle.std.specs.Str.Parse.{IsNumeral, digits_value};
+ghost use Rattle.std.specs.Char.{digit_value};
+ghost use Rattle.std.specs.Str.Parse.{AllDigits, digits_value};
 ghost use Rattle.uda50_show.specs.Tokens.{IsByteToken, IsWordToken};
 
 use crate::packet::Packet;
@@ -65,16 +66,20 @@ impl PacketReader {
         ensures token { IsOk result → IsByteToken token.now ⊎ IsWordToken token.now }
         ensures unchanged { OnErr result (self.new ≡ self.old) }
     {
-        match token.len() {
-            2 => {
-                let byte = digits(token, 16)? as u8;
+        match token.as_bytes() {
+            [high, low] => {
+                let byte = byte_of([*high, *low])?;
                 Ok(self.push(byte))
             }
-            6 => {
-                let [low, high] = digits(token, 8)?.to_le_bytes();
-                let first = self.push(low);
-                let second = self.push(high);
-                Ok(first.or(second))
+            [a, b, c, d, e, f] => {
+                let [low, high] = word_of([*a, *b, *c, *d, *e, *f])?.to_le_bytes();
+                match self.push(low) {
+                    None => Ok(self.push(high)),
+                    whole => {
+                        self.push(high);
+                        Ok(whole)
+                    }
+                }
             }
             _ => Err(TokenError),
         }
@@ -96,15 +101,49 @@ impl PacketReader {
     }
 }
 
-// Returns the number of a token of digits. A sign is not a digit.
-fn digits(token: &str, radix: u32) -> Result<u16, TokenError>
+// Returns the byte of a token of two digits.
+fn byte_of(token: [u8; 2]) -> Result<u8, TokenError>
+    ensures value { IfOk result (λ byte. byte ≡ digits_value 16 token) }
+    ensures ok { IsOk result ↔ IsByteToken token }
+{
+    let [high, low] = token;
+    match (digit(high, 16), digit(low, 16)) {
+        (Some(high), Some(low)) => Ok((16 * high + low) as u8),
+        _ => Err(TokenError),
+    }
+}
+
+// Returns the word of a token of six digits.
+fn word_of(token: [u8; 6]) -> Result<u16, TokenError>
+    ensures value { IfOk result (λ word. word ≡ digits_value 8 token) }
+    ensures ok { IsOk result ↔ IsWordToken token }
+{
+    let [a, b, c, d, e, f] = token;
+    let (Some(high), Some(low)) = (three_digits(a, b, c), three_digits(d, e, f)) else {
+        return Err(TokenError);
+    };
+    if high < 128 {
+        Ok((512 * high + low) as u16)
+    } else {
+        Err(TokenError)
+    }
+}
+
+// Returns the number of three octal digits, which is below 512.
+fn three_digits(a: u8, b: u8, c: u8) -> Option<u32>
+    ensures value { IfSome result (λ number. number ≡ digits_value 8 (a ∷ b ∷ c ∷ [])) }
+    ensures some { IsSome result ↔ AllDigits 8 (a ∷ b ∷ c ∷ []) }
+    ensures small { IfSome result (λ number. number < 512) }
+{
+    Some(64 * digit(a, 8)? + 8 * digit(b, 8)? + digit(c, 8)?)
+}
+
+// Returns the value of a digit. A letter above the digits of the radix is none.
+fn digit(byte: u8, radix: u32) -> Option<u32>
     requires low { 2 ≤ radix }
     requires high { radix ≤ 16 }
-    ensures value { IfOk result (λ n. n ≡ digits_value radix token.now) }
-    ensures ok { IsOk result ↔ (IsNumeral radix token.now × (digits_value radix token.now < 65536)) }
+    ensures value { IfSome result (λ d. d ≡ digit_value byte) }
+    ensures some { IsSome result ↔ digit_value byte < radix }
 {
-    match token.as_bytes() {
-        [b'+', ..] => Err(TokenError),
-        _ => u16::from_str_radix(token, radix).map_err(|_| TokenError),
-    }
+    char::from(byte).to_digit(radix)
 }

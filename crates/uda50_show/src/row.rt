@@ -1,6 +1,12 @@
 //! Rows of a dump.
+ghost use Rattle.std.specs.Prelude.{◌≡◌, ◌≤◌, ◌+◌, Some};
+ghost use Rattle.std.specs.Prelude.{◌++◌, ◌%◌, codes, map};
+ghost use Rattle.std.specs.Fmt.{WritesOnOk};
+ghost use Rattle.uda50_show.specs.Rows.{hex_row, octal_row, hex_offset, octal_offset, hex_cell, octal_cell, row_text, glyph, printable};
+ghost use Rattle.uda50_show.specs.Block.{words, word_at};
 
 use crate::text::printable;
+use byteorder::{ByteOrder, LittleEndian};
 use std::fmt;
 
 /// Sixteen bytes of a block, with a text such as `1f0  44 45 43 ..  |DECRT11A    ....|`: the offset and the
@@ -14,16 +20,12 @@ pub struct HexRow {
 }
 
 impl fmt::Display for HexRow {
+    ghost output = { λ row. Some (hex_row row.offset row.bytes) };
+
     fn fmt<W: fmt::Write>(&self, f: &mut fmt::Formatter<W>) -> fmt::Result {
-        write!(f, "{:03x} ", self.offset)?;
-        for byte in self.bytes {
-            write!(f, " {byte:02x}")?;
-        }
-        f.write_str("  |")?;
-        for byte in self.bytes {
-            f.write_char(printable(byte))?;
-        }
-        f.write_str("|")
+        write_hex_offset(f, self.offset)?;
+        write_ascii(f, hex_cells(&self.bytes).as_flattened())?;
+        write_text(f, &self.bytes)
     }
 }
 
@@ -38,16 +40,127 @@ pub struct OctalRow {
 }
 
 impl fmt::Display for OctalRow {
+    ghost output = { λ row. Some (octal_row row.offset row.bytes) };
+
     fn fmt<W: fmt::Write>(&self, f: &mut fmt::Formatter<W>) -> fmt::Result {
-        write!(f, "{:03o} ", self.offset)?;
-        for n in 0..8 {
-            let word = u16::from_le_bytes([self.bytes[2 * n], self.bytes[2 * n + 1]]);
-            write!(f, " {word:06o}")?;
-        }
-        f.write_str("  |")?;
-        for byte in self.bytes {
-            f.write_char(printable(byte))?;
-        }
-        f.write_str("|")
+        write_octal_offset(f, self.offset)?;
+        write_ascii(f, octal_cells(&self.bytes).as_flattened())?;
+        write_text(f, &self.bytes)
     }
+}
+
+// Writes an offset in hexadecimal, of three digits at least, and a space.
+fn write_hex_offset<W: fmt::Write>(f: &mut fmt::Formatter<W>, offset: u16) -> fmt::Result
+    ensures { WritesOnOk W.write_str_gives f.old result (hex_offset offset) f.new }
+{
+    if offset >= 0x1000 {
+        return write!(f, "{offset:x} ");
+    }
+    let text = [digit(offset >> 8), digit(offset >> 4), digit(offset), b' '];
+    write_ascii(f, &text)
+}
+
+// Writes an offset in octal, of three digits at least, and a space.
+fn write_octal_offset<W: fmt::Write>(f: &mut fmt::Formatter<W>, offset: u16) -> fmt::Result
+    ensures { WritesOnOk W.write_str_gives f.old result (octal_offset offset) f.new }
+{
+    if offset >= 0x200 {
+        return write!(f, "{offset:o} ");
+    }
+    let text = [
+        digit(offset >> 6 & 7),
+        digit(offset >> 3 & 7),
+        digit(offset & 7),
+        b' ',
+    ];
+    write_ascii(f, &text)
+}
+
+// Writes the bytes as text between bars, after two spaces.
+fn write_text<W: fmt::Write>(f: &mut fmt::Formatter<W>, bytes: &[u8; 16]) -> fmt::Result
+    ensures { WritesOnOk W.write_str_gives f.old result (row_text bytes.now) f.new }
+{
+    f.write_str("  |")?;
+    write_ascii(f, &printables(bytes))?;
+    f.write_str("|")
+}
+
+// Writes bytes that are ASCII.
+fn write_ascii<W: fmt::Write>(f: &mut fmt::Formatter<W>, bytes: &[u8]) -> fmt::Result
+    ensures { WritesOnOk W.write_str_gives f.old result bytes.now f.new }
+{
+    match std::str::from_utf8(bytes) {
+        Ok(text) => f.write_str(text),
+        Err(_) => Err(fmt::Error),
+    }
+}
+
+// Returns the bytes as cells in hexadecimal.
+fn hex_cells(bytes: &[u8; 16]) -> [[u8; 3]; 16]
+    ensures { result ≡ map hex_cell bytes.now }
+{
+    let mut cells = [[b' '; 3]; 16];
+    for n in 0..16 {
+        cells[n] = hex_cell(bytes[n]);
+    }
+    cells
+}
+
+// Returns the words of the bytes as cells in octal.
+fn octal_cells(bytes: &[u8; 16]) -> [[u8; 7]; 8]
+    ensures { result ≡ map octal_cell (words 8 bytes.now) }
+{
+    let mut cells = [[b' '; 7]; 8];
+    for n in 0..8 {
+        cells[n] = octal_cell(word_at(bytes, 2 * n));
+    }
+    cells
+}
+
+// Returns the bytes, with a point for each that isn't printable.
+fn printables(bytes: &[u8; 16]) -> [u8; 16]
+    ensures { result ≡ map printable bytes.now }
+{
+    let mut shown = [b'.'; 16];
+    for n in 0..16 {
+        shown[n] = printable(bytes[n]);
+    }
+    shown
+}
+
+// Returns a space and the two hexadecimal digits of a byte.
+fn hex_cell(byte: u8) -> [u8; 3]
+    ensures { result ≡ hex_cell byte }
+{
+    [b' ', digit(u16::from(byte >> 4)), digit(u16::from(byte))]
+}
+
+// Returns the word at an offset, low byte first.
+fn word_at(bytes: &[u8; 16], offset: usize) -> u16
+    requires { offset + 2 ≤ 16 }
+    ensures { result ≡ word_at offset bytes.now }
+{
+    LittleEndian::read_u16(&bytes[offset..])
+}
+
+// Returns a space and the six octal digits of a word.
+fn octal_cell(word: u16) -> [u8; 7]
+    ensures { result ≡ octal_cell word }
+{
+    [
+        b' ',
+        digit(word >> 15),
+        digit(word >> 12 & 7),
+        digit(word >> 9 & 7),
+        digit(word >> 6 & 7),
+        digit(word >> 3 & 7),
+        digit(word & 7),
+    ]
+}
+
+// Returns the digit of the low four bits.
+fn digit(number: u16) -> u8
+    ensures { result ≡ glyph (number % 16) }
+{
+    b"0123456789abcdef"[usize::from(number & 15)]
 }

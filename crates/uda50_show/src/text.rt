@@ -1,4 +1,6 @@
 //! Bytes as text.
+ghost use Rattle.std.specs.Prelude.{◌≡◌};
+ghost use Rattle.uda50_show.specs.Rows.{printable};
 
 use std::fmt;
 
@@ -15,17 +17,19 @@ impl fmt::Display for FixedText<'_> {
             None => &self.0[..0],
         };
         for byte in shown {
-            f.write_char(printable(*byte))?;
+            f.write_char(char::from(printable(*byte)))?;
         }
         Ok(())
     }
 }
 
-/// Returns the character of a printable ASCII byte, or a point for any other.
-pub(crate) fn printable(byte: u8) -> char {
-    if byte.is_ascii_graphic() || byte == b' ' {
-        char::from(byte)
+/// Returns the byte if it is printable ASCII, or else a point.
+pub(crate) fn printable(byte: u8) -> u8
+    ensures { result ≡ printable byte }
+{
+    if byte >= b' ' && byte <= b'~' {
+        byte
     } else {
-        '.'
+        b'.'
     }
 }

@@ -1,0 +1,3 @@
+//! Comparisons of two forms.
+mod rows;
+mod tokens;

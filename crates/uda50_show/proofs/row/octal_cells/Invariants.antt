@@ -1,0 +1,8 @@
+use Rattle.std.proofs.Common.{◌≡◌, take, length, map}
+use Rattle.uda50_show.specs.Rows.{octal_cell}
+use Rattle.uda50_show.specs.Block.{words}
+use Rattle.uda50_show.proofs.row.octal_cells.Given as goal
+
+-- the first of them are made
+abbrev pub invariant-loop-n : goal.invariant-loop-n
+invariant-loop-n l = (length l.cells ≡ 8) × (take l.n l.cells ≡ map octal_cell (words l.n l.bytes))

@@ -1,0 +1,48 @@
+-- The printed rows of a dump.
+use Rattle.std.specs.Prelude.{ℕ, ◌/◌, ◌%◌, false, if◌then◌else◌, nat_lt, nat_le, ◌&&◌, List, [], ◌∷◌, ◌++◌, map, codes}
+use Rattle.std.specs.List.{flat_map}
+use Rattle.std.specs.Fmt.{digit_glyph, digits}
+use Rattle.uda50_show.specs.Block.{words}
+
+-- a digit below 16
+abbrev pub glyph : ℕ → ℕ
+glyph d = digit_glyph false d
+
+-- the byte of a printable ASCII character, or a point
+abbrev pub printable : ℕ → ℕ
+printable byte = if nat_le 32 byte && nat_le byte 126 then byte else 46
+
+-- a space and the two hexadecimal digits of a byte
+abbrev pub hex_cell : ℕ → List ℕ
+hex_cell byte = 32 ∷ glyph (byte / 16) ∷ glyph (byte % 16) ∷ []
+
+-- a space and the six octal digits of a word
+abbrev pub octal_cell : ℕ → List ℕ
+octal_cell word =
+    32 ∷ glyph (word / 32768) ∷ glyph (word / 4096 % 8) ∷ glyph (word / 512 % 8) ∷ glyph (word / 64 % 8)
+    ∷ glyph (word / 8 % 8) ∷ glyph (word % 8) ∷ []
+
+-- the printed bytes between bars, after two spaces
+abbrev pub row_text : List ℕ → List ℕ
+row_text bytes = codes "  |" ++ map printable bytes ++ codes "|"
+
+-- an offset in hexadecimal, of three digits at least, and a space
+abbrev pub hex_offset : ℕ → List ℕ
+hex_offset n =
+    if nat_lt n 4096 then glyph (n / 256) ∷ glyph (n / 16 % 16) ∷ glyph (n % 16) ∷ 32 ∷ []
+    else digits 16 false n ++ codes " "
+
+-- an offset in octal, of three digits at least, and a space
+abbrev pub octal_offset : ℕ → List ℕ
+octal_offset n =
+    if nat_lt n 512 then glyph (n / 64) ∷ glyph (n / 8 % 8) ∷ glyph (n % 8) ∷ 32 ∷ []
+    else digits 8 false n ++ codes " "
+
+-- the text of sixteen bytes in hexadecimal
+abbrev pub hex_row : ℕ → List ℕ → List ℕ
+hex_row offset bytes = hex_offset offset ++ flat_map hex_cell bytes ++ row_text bytes
+
+-- the text of sixteen bytes as eight words in octal
+abbrev pub octal_row : ℕ → List ℕ → List ℕ
+octal_row offset bytes =
+    octal_offset offset ++ flat_map octal_cell (words 8 bytes) ++ row_text bytes

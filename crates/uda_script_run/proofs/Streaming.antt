@@ -1,13 +1,11 @@
 -- A script that is read from a stream, line by line and batch by batch.
-use Rattle.std.proofs.Common.{◌≡◌, ℕ, ◌+◌, ◌<◌, ◌≤◌, Bool, true, false, List, [], ◌∷◌, ◌++◌, length, take, Option, Some, None, refl, sym, ap, ◌∙◌, arith, subst, append_assoc, append-nil, length-append, nat_lt}
+use Rattle.std.proofs.Common.{◌≡◌, ℕ, zero, suc, ◌+◌, ◌≤◌, Bool, true, false, List, [], ◌∷◌, ◌++◌, length, take, Option, Some, None, refl, sym, ap, ◌∙◌, arith, subst, append_assoc, append-nil, length-append}
 use Rattle.std.specs.Prelude.{◌==◌, ◌&&◌, if◌then◌else◌, IfSome}
-use Rattle.std.specs.Option.{option_to_list}
 use Rattle.std.specs.List.{list_all}
-use Rattle.std.proofs.lemmas.Bool.Decides.{nat_tests}
-use Rattle.std.proofs.lemmas.List.{take_all, length-take-le, take-append-le}
-use Rattle.std.proofs.lemmas.List.Elements.{All-nil, All-cons, All-append}
-use Rattle.std.specs.Io.KnownBytes.{Consumes, IsAtEnd}
-use Rattle.std.proofs.KnownBytes.{Consumes-nil, Consumes-trans}
+use Rattle.std.proofs.lemmas.List.{take_all, length-take}
+use Rattle.std.proofs.lemmas.List.Elements.{All-nil, All-append}
+use Rattle.std.specs.Io.KnownBytes.{Consumes, IsAtEnd, Keeps}
+use Rattle.std.proofs.KnownBytes.{Consumes-nil, Consumes-trans, Consumes-kept}
 use Rattle.uda_disk.specs.Answer.{Answer}
 use Rattle.uda_grammar.specs.declared.error.ScriptError.{ScriptError}
 use Rattle.uda_grammar.specs.declared.error.ScriptError.TheVariants.{NoMemory, Syntax, TooManyLines, ShortData, Read, Write}
@@ -25,17 +23,12 @@ use Rattle.uda_script_run.specs.declared.source.Next.TheVariants.{More, End, Fau
 use Rattle.uda_script_run.specs.declared.text_error.TextError.{TextError}
 use Rattle.uda_script_run.specs.declared.text_error.TextError.TheVariants as error
 use Rattle.uda_script_run.specs.Texts.{succeeded, outcome_of, both, part_after, whole_report}
-use Rattle.uda_script_run.specs.Lines.{line_room, ReadsLine, TextAt, text_at, ReadsOn, EndsWith, ReadsBatch, IsUnreadText}
+use Rattle.uda_script_run.specs.Lines.{line_room, ReadsLine, TakesPart, TextAt, text_at, ReadsOn, EndsWith, ReadsBatch, IsUnreadText}
 use Rattle.uda_script_run.specs.Batches.{Setting, Ran, StopsBefore, StopsInError}
 use Rattle.uda_script_run.specs.Stream.{RanText, StopsInScript, StopsInText}
 use Rattle.uda_script_run.proofs.Batching.{from_none, from_more, stops_later, stops_there}
 
 -- ---- a line, byte by byte
-
--- the byte that was read
-pub read_some : (now next : Option (List ℕ)) (o : Option ℕ) (byte : ℕ) → o ≡ Some byte
-    → Consumes now next (option_to_list o) → Consumes now next (byte ∷ [])
-read_some now next o byte is h = subst (λ (x : Option ℕ). Consumes now next (option_to_list x)) is h
 
 -- the first bytes of a line were read, and as many of them are kept as there is room for
 pub record ReadsPart (text now : Option (List ℕ)) (kept : List ℕ) : Type 0 where
@@ -52,84 +45,77 @@ part_none text = record {
   consumed = Consumes-nil text;
 }
 
-kept_more : (room : ℕ) (line : List ℕ) (byte : ℕ) → length (take room line) < room
-    → take room line ++ byte ∷ [] ≡ take room (line ++ byte ∷ [])
-kept_more room line byte few = by (nat_lt (length line) room) refl
-  where
-    by : (less : Bool) → nat_lt (length line) room ≡ less
-        → take room line ++ byte ∷ [] ≡ take room (line ++ byte ∷ [])
-    by true is =
-        let less : length line < room = grind (arith, nat_tests, is) in
-        ap (λ (xs : List ℕ). xs ++ byte ∷ []) (take_all room line (omega (arith, less)))
-        ∙ sym (take_all room (line ++ byte ∷ []) (omega (arith, less, length-append line (byte ∷ []))))
-    by false is =
-        let all : room ≤ length line = grind (arith, nat_tests, is) in
-        absurd (omega (arith, few, length-take-le room line all))
+-- what is kept of a line, if its first bytes were kept before
+kept_again : (room : ℕ) (line part : List ℕ) → take room (take room line ++ part) ≡ take room (line ++ part)
+kept_again zero line part = refl
+kept_again (suc room) [] part = refl
+kept_again (suc room) (byte ∷ line) part = ap (λ (xs : List ℕ). byte ∷ xs) (kept_again room line part)
 
-kept_full : (room : ℕ) (line rest : List ℕ) → room ≤ length (take room line)
-    → take room line ≡ take room (line ++ rest)
-kept_full room line rest full = by (nat_lt (length line) room) refl
-  where
-    by : (less : Bool) → nat_lt (length line) room ≡ less → take room line ≡ take room (line ++ rest)
-    by true is =
-        let less : length line < room = grind (arith, nat_tests, is) in
-        let same = ap length (take_all room line (omega (arith, less))) in
-        absurd (omega (arith, full, less, same))
-    by false is =
-        let all : room ≤ length line = grind (arith, nat_tests, is) in
-        sym (take-append-le room line rest all)
+still_kept : (kept more : List ℕ) (line part : List ℕ) → kept ≡ take line_room line
+    → (length kept ≤ line_room → more ≡ take line_room (kept ++ part)) → more ≡ take line_room (line ++ part)
+still_kept kept more line part is grown =
+    let few : length kept ≤ line_room = subst (λ (xs : List ℕ). length xs ≤ line_room) (sym is)
+    (omega (arith, length-take line_room line)) in
+    grown few ∙ ap (λ (xs : List ℕ). take line_room (xs ++ part)) is ∙ kept_again line_room line part
 
-part_grown : (text now next : Option (List ℕ)) (kept more : List ℕ) (byte : ℕ)
-    (so_far : ReadsPart text now kept)
-    → Consumes now next (byte ∷ []) → (byte == 10) ≡ false → more ≡ take line_room (so_far.line ++ byte ∷ [])
-    → ReadsPart text next more
-part_grown text now next kept more byte so_far consumed other is = record {
-  line = so_far.line ++ byte ∷ [];
-  one = All-append (λ b. (b == 10) ≡ false) so_far.line (byte ∷ []) so_far.one
-      (All-cons (λ b. (b == 10) ≡ false) byte [] other (All-nil (λ b. (b == 10) ≡ false)));
-  is_kept = is;
-  consumed = Consumes-trans text now next so_far.line (byte ∷ []) so_far.consumed consumed;
+-- a text that is known stays known
+still_at_end : (text now next : Option (List ℕ)) (line : List ℕ) → Consumes text now line
+    → IfSome now (λ _. IsAtEnd next) → IfSome text (λ _. IsAtEnd next)
+still_at_end None now next line consumed ended = tt
+still_at_end (Some xs) None next line consumed ended = absurd consumed
+still_at_end (Some xs) (Some ys) next line consumed ended = ended
+
+-- no part more, since a read was interrupted
+pub takes_none : (text now : Option (List ℕ)) (kept : List ℕ) → Keeps text now → TakesPart text now kept kept None
+takes_none text now kept same = record {
+  part = [];
+  one = All-nil (λ byte. (byte == 10) ≡ false);
+  is_kept = λ few. sym (ap (take line_room) (append-nil kept) ∙ take_all line_room kept few);
+  consumed = Consumes-kept text text now [] (Consumes-nil text) same;
+  at_end = λ e. absurd (cc);
 }
 
-pub part_kept : (text now next : Option (List ℕ)) (kept more : List ℕ) (byte : ℕ) → ReadsPart text now kept
-    → Consumes now next (byte ∷ []) → (byte == 10) ≡ false → length kept < line_room
-    → more ≡ kept ++ byte ∷ []
-    → ReadsPart text next more
-part_kept text now next kept more byte so_far consumed other few is =
-    let short : length (take line_room so_far.line) < line_room =
-    subst (λ (xs : List ℕ). length xs < line_room) so_far.is_kept few in
-    part_grown text now next kept more byte so_far consumed other
-    (is ∙ ap (λ (xs : List ℕ). xs ++ byte ∷ []) so_far.is_kept ∙ kept_more line_room so_far.line byte short)
+-- no part more, since the reader showed nothing
+pub takes_end : (text now : Option (List ℕ)) (kept shown : List ℕ) → Keeps text now → length shown ≡ 0
+    → IfSome text (λ xs. length shown ≡ 0 → xs ≡ []) → TakesPart text now kept kept (Some false)
+takes_end text now kept shown same none ended = record {
+  part = [];
+  one = All-nil (λ byte. (byte == 10) ≡ false);
+  is_kept = λ few. sym (ap (take line_room) (append-nil kept) ∙ take_all line_room kept few);
+  consumed = Consumes-kept text text now [] (Consumes-nil text) same;
+  at_end = λ _. by text now same ended;
+}
+  where
+    by : (a b : Option (List ℕ)) → Keeps a b → IfSome a (λ xs. length shown ≡ 0 → xs ≡ []) → IfSome a (λ _. IsAtEnd b)
+    by None b same ended = tt
+    by (Some xs) None same ended = absurd same
+    by (Some xs) (Some ys) same ended = same ∙ ended none
 
-pub part_dropped : (text now next : Option (List ℕ)) (kept : List ℕ) (byte : ℕ) → ReadsPart text now kept
-    → Consumes now next (byte ∷ []) → (byte == 10) ≡ false → line_room ≤ length kept
-    → ReadsPart text next kept
-part_dropped text now next kept byte so_far consumed other full =
-    let long : line_room ≤ length (take line_room so_far.line) =
-    subst (λ (xs : List ℕ). line_room ≤ length xs) so_far.is_kept full in
-    part_grown text now next kept kept byte so_far consumed other
-    (so_far.is_kept ∙ kept_full line_room so_far.line (byte ∷ []) long)
-
-pub line_ended : (text now next : Option (List ℕ)) (kept : List ℕ) → ReadsPart text now kept
-    → Consumes now next (10 ∷ [])
-    → ReadsLine text next kept true
-line_ended text now next kept so_far consumed = record {
-  line = so_far.line;
-  one = so_far.one;
-  is_kept = so_far.is_kept;
-  consumed = Consumes-trans text now next so_far.line (10 ∷ []) so_far.consumed consumed;
-  at_end = λ other. absurd (cc);
+-- a part more of a line that goes on
+pub part_more : (text now next : Option (List ℕ)) (kept more : List ℕ) → ReadsPart text now kept
+    → TakesPart now next kept more None → ReadsPart text next more
+part_more text now next kept more so_far taken = record {
+  line = so_far.line ++ taken.part;
+  one = All-append (λ b. (b == 10) ≡ false) so_far.line taken.part so_far.one taken.one;
+  is_kept = still_kept kept more so_far.line taken.part so_far.is_kept taken.is_kept;
+  consumed =
+      Consumes-trans text now next so_far.line taken.part so_far.consumed
+      (subst (λ (xs : List ℕ). Consumes now next xs) (append-nil taken.part) taken.consumed);
 }
 
-pub line_last : (text now next : Option (List ℕ)) (kept : List ℕ) → ReadsPart text now kept
-    → Consumes now next []
-    → IsAtEnd next → ReadsLine text next kept false
-line_last text now next kept so_far consumed ended = record {
-  line = so_far.line;
-  one = so_far.one;
-  is_kept = so_far.is_kept;
-  consumed = Consumes-trans text now next so_far.line [] so_far.consumed consumed;
-  at_end = λ _. ended;
+-- the last part of a line
+pub part_last : (text now next : Option (List ℕ)) (kept more : List ℕ) (ended : Bool) → ReadsPart text now kept
+    → TakesPart now next kept more (Some ended) → ReadsLine text next more ended
+part_last text now next kept more ended so_far taken = record {
+  line = so_far.line ++ taken.part;
+  one = All-append (λ b. (b == 10) ≡ false) so_far.line taken.part so_far.one taken.one;
+  is_kept = still_kept kept more so_far.line taken.part so_far.is_kept taken.is_kept;
+  consumed =
+      subst (λ (xs : List ℕ). Consumes text next xs)
+      (sym (append_assoc so_far.line taken.part (if ended then 10 ∷ [] else [])))
+      (Consumes-trans text now next so_far.line (taken.part ++ (if ended then 10 ∷ [] else [])) so_far.consumed
+      taken.consumed);
+  at_end = λ e. still_at_end text now next so_far.line so_far.consumed (taken.at_end (ap (λ (b : Bool). Some b) e));
 }
 
 -- ---- texts whose bytes are known, or not
@@ -151,6 +137,14 @@ known_bytes (Some xs) = (xs, refl)
 nothing_left : (text : Option (List ℕ)) → IsAtEnd text → IfSome text (λ xs. [] ≡ xs)
 nothing_left None ended = tt
 nothing_left (Some xs) ended = sym ended
+
+-- a text of which nothing is left
+ended_text : (text now : Option (List ℕ)) (line : List ℕ) → Consumes text now (line ++ [])
+    → IfSome text (λ _. IsAtEnd now) → IfSome text (λ xs. line ≡ xs)
+ended_text None now line consumed ended = tt
+ended_text (Some xs) now line consumed ended =
+    subst (λ (all : List ℕ). all ≡ xs) (append-nil (line ++ []) ∙ append-nil line)
+    (known_more (Some xs) now (line ++ []) [] consumed (nothing_left now ended))
 
 -- ---- a line and what it makes
 
@@ -176,10 +170,7 @@ module _ (read : ℕ) (text now : Option (List ℕ)) (kept : List ℕ) where
       }
 
   last_text : (got : ReadsLine text now kept false) → IfSome text (λ xs. got.line ≡ xs)
-  last_text got =
-      subst (λ (line : List ℕ). IfSome text (λ xs. line ≡ xs))
-      (append-nil (got.line ++ []) ∙ append-nil got.line)
-      (known_more text now (got.line ++ []) [] got.consumed (nothing_left now (got.at_end refl)))
+  last_text got = ended_text text now got.line got.consumed (got.at_end refl)
 
   pub line_ends : (made : List Line) → ReadsLine text now kept false → is_fault kept ≡ false
       → made ≡ request_in (read + 1) kept → EndsWith (text_at read text) made None

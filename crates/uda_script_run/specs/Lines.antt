@@ -1,5 +1,5 @@
 -- Lines and batches of lines of a text that is read from a stream.
-use Rattle.std.specs.Prelude.{◌≡◌, ℕ, ◌+◌, Bool, false, if◌then◌else◌, List, [], ◌∷◌, ◌++◌, take, Option, Some, None, IfSome}
+use Rattle.std.specs.Prelude.{◌≡◌, ℕ, ◌+◌, Bool, false, if◌then◌else◌, List, [], ◌∷◌, ◌++◌, take, length, ◌≤◌, Option, Some, None, IfSome}
 use Rattle.std.specs.Io.KnownBytes.{Consumes, IsAtEnd}
 use Rattle.uda_grammar.specs.declared.script.Line.{Line}
 use Rattle.uda_grammar.specs.Parts.{IsOneLine, lines_of}
@@ -20,7 +20,20 @@ pub record ReadsLine (text text_after : Option (List ℕ)) (kept : List ℕ) (en
   pub one : IsOneLine line
   pub is_kept : kept ≡ take line_room line
   pub consumed : Consumes text text_after (line ++ (if ended then 10 ∷ [] else []))
-  pub at_end : ended ≡ false → IsAtEnd text_after
+  pub at_end : ended ≡ false → IfSome text (λ _. IsAtEnd text_after)
+
+-- the bytes that end a part of a line: its line feed, if that was read
+abbrev pub part_end : Option Bool → List ℕ
+part_end None = []
+part_end (Some ended) = if ended then 10 ∷ [] else []
+
+-- a part of a line was taken, and of what is kept of the line there is more, as much as there is room for
+pub record TakesPart (text text_after : Option (List ℕ)) (kept kept_after : List ℕ) (ended : Option Bool) : Type 0 where
+  pub part : List ℕ
+  pub one : IsOneLine part
+  pub is_kept : length kept ≤ line_room → kept_after ≡ take line_room (kept ++ part)
+  pub consumed : Consumes text text_after (part ++ part_end ended)
+  pub at_end : ended ≡ Some false → IfSome text (λ _. IsAtEnd text_after)
 
 -- a position in a text: the number of lines read, and the bytes that are left, if they are known
 pub record TextAt : Type 0 where

@@ -1,15 +1,15 @@
 //! The text of a script, read line by line from a stream.
 
-ghost use Rattle.std.specs.Prelude.{◌≡◌, ◌≤◌, ◌+◌, ◌++◌, List, None, length, OnOk, IfOk, IfErr};
+ghost use Rattle.std.specs.Prelude.{◌≡◌, ◌≤◌, ◌<◌, ◌+◌, ◌++◌, List, take, slice_index, length, OnOk, IfOk, IfErr};
 ghost use Rattle.std.specs.Option.{option_to_list};
-ghost use Rattle.std.specs.Io.KnownBytes.{Consumes, IsAtEnd};
 ghost use Rattle.uda_grammar.specs.declared.script.Line.{Line as Request};
-ghost use Rattle.uda_script_run.specs.Lines.{ReadsLine, ReadsBatch, IsUnreadText, text_at};
+ghost use Rattle.uda_grammar.specs.Parts.{IsOneLine};
+ghost use Rattle.uda_script_run.specs.Lines.{ReadsLine, ReadsBatch, IsUnreadText, text_at, TakesPart, line_room};
 
 use crate::growth::push;
 use crate::text_error::TextError;
 use arrayvec::ArrayVec;
-use std::io::{ErrorKind, Read};
+use std::io::{BufRead, ErrorKind};
 use uda_grammar::{Expected, Line, ScriptError, explain, parse_line};
 
 /// The most requests that are executed in one batch.
@@ -39,45 +39,71 @@ pub(crate) struct Source<T> {
     pub(crate) lines_read: u64,
 }
 
-// Reads the next byte, and returns `None` at the end of the text. Repeats an interrupted read.
-fn read_byte<T: Read>(text: &mut T) -> Result<Option<u8>, TextError>
-    ensures byte { IfOk result (λ byte.
-        Consumes (T.remaining text.old) (T.remaining text.new) (option_to_list byte)) }
-    ensures end { IfOk result (λ byte. byte ≡ None → IsAtEnd (T.remaining text.new)) }
-    ensures error { IfErr result (λ e. e ≡ TextError.Unreadable) }
+// Returns the number of bytes before the first line feed, or of all if there is none.
+fn length_to_line_feed(bytes: &[u8]) -> usize
+    ensures within { result ≤ length bytes.now }
+    ensures one { IsOneLine (take result bytes.now) }
+    ensures ended { result < length bytes.now → slice_index bytes.now result ≡ 10 }
 {
-    let mut bytes = [0];
-    for _ in 0..u64::MAX {
-        match text.read(&mut bytes) {
-            Ok(0) => return Ok(None),
-            Ok(_) => return Ok(Some(bytes[0])),
-            Err(error) => {
-                if error.kind() != ErrorKind::Interrupted {
-                    return Err(TextError::Unreadable);
-                }
-            }
+    for n in 0..bytes.len() {
+        if bytes[n] == b'\n' {
+            return n;
         }
     }
-    Err(TextError::Unreadable)
+    bytes.len()
+}
+
+// Appends bytes to those of a line that are kept, as many as there is room for.
+fn keep(line: &mut LineStart, bytes: &[u8])
+    ensures kept { line.new.items ≡ take line_room (line.old.items ++ bytes.now) }
+{
+    let count = line.remaining_capacity().min(bytes.len());
+    let _ = line.try_extend_from_slice(&bytes[..count]);
+}
+
+// Reads what the reader has at hand of the line. Returns whether a line feed ended it, or `None` if more of it may
+// follow. An interrupted read brings nothing.
+fn read_part<T: BufRead>(text: &mut T, line: &mut LineStart) -> Result<Option<bool>, TextError>
+    ensures part { IfOk result (λ ended.
+        TakesPart (T.remaining text.old) (T.remaining text.new) line.old.items line.new.items ended) }
+    ensures error { IfErr result (λ e. e ≡ TextError.Unreadable) }
+{
+    let bytes = match text.fill_buf() {
+        Ok(bytes) => bytes,
+        Err(error) => {
+            return if error.kind() == ErrorKind::Interrupted {
+                Ok(None)
+            } else {
+                Err(TextError::Unreadable)
+            };
+        }
+    };
+    if bytes.is_empty() {
+        return Ok(Some(false));
+    }
+    let end = length_to_line_feed(bytes);
+    let is_ended = end < bytes.len();
+    keep(line, &bytes[..end]);
+    if is_ended {
+        text.consume(end + 1);
+        Ok(Some(true))
+    } else {
+        text.consume(end);
+        Ok(None)
+    }
 }
 
 // Reads the next line, and returns whether a line feed ended it. It keeps only the beginning of a long
 // line.
-fn read_line<T: Read>(text: &mut T, line: &mut LineStart) -> Result<bool, TextError>
+fn read_line<T: BufRead>(text: &mut T, line: &mut LineStart) -> Result<bool, TextError>
     ensures line { IfOk result (λ ended.
         ReadsLine (T.remaining text.old) (T.remaining text.new) line.new.items ended) }
     ensures error { IfErr result (λ e. e ≡ TextError.Unreadable) }
 {
     line.clear();
     for _ in 0..u64::MAX {
-        match read_byte(text)? {
-            None => return Ok(false),
-            Some(b'\n') => return Ok(true),
-            Some(byte) => {
-                if !line.is_full() {
-                    line.push(byte);
-                }
-            }
+        if let Some(ended) = read_part(text, line)? {
+            return Ok(ended);
         }
     }
     Err(TextError::Unreadable)
@@ -94,7 +120,7 @@ fn append(lines: &mut Vec<Line>, request: Option<Line>) -> Result<(), ScriptErro
     }
 }
 
-impl<T: Read> Source<T> {
+impl<T: BufRead> Source<T> {
     // Reads one line, and appends the request that it makes, if any.
     fn read_statement(&mut self, lines: &mut Vec<Line>) -> Result<Next, TextError>
         ensures read { IfOk result (λ next. (made : List Request)

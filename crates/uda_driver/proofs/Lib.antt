@@ -6,3 +6,4 @@ pub mod Drivings
 pub mod Loads
 pub mod Underways
 mod Told
+pub mod Spans

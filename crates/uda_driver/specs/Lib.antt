@@ -7,3 +7,4 @@ pub mod RunInvariant
 pub mod Driver
 pub mod Drive
 pub mod Display
+pub mod Span

@@ -11,7 +11,9 @@ use Rattle.uda_disk.specs.Values.{request_value}
 use Rattle.uda_host.specs.Layout.{buffer_address}
 use Rattle.uda_host.specs.Host.{HostState}
 use Rattle.uda_driver.specs.Blank.{Prepared}
-use Rattle.uda_driver.specs.declared.buffers.Outstanding.{Outstanding}
+use Rattle.uda_driver.specs.declared.slot.Outstanding.{Outstanding}
+use Rattle.uda_driver.specs.declared.span.Span.{Span}
+use Rattle.uda_driver.specs.Span.{spans_clash}
 
 -- an outstanding request with this buffer, as it was posted
 abbrev pub posted_with : ℕ → Outstanding → Posted
@@ -34,6 +36,11 @@ clashes_with r None = false
 
 abbrev pub clashes_with_any : Request → List (Option Outstanding) → Bool
 clashes_with_any r out = list_any (clashes_with r) out
+
+-- the same for a span of blocks and the span of the outstanding request
+abbrev pub span_clashes : Span → Option Outstanding → Bool
+span_clashes span (Some one) = spans_clash span one.span
+span_clashes span None = false
 
 -- a request must wait while no credit is left, or while it conflicts with an outstanding one
 abbrev pub must_wait : HostState → List (Option Outstanding) → Request → Bool

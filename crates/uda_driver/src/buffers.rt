@@ -2,23 +2,15 @@
 ghost use Rattle.std.specs.Prelude.{◌≡◌, ◌+◌, ◌<◌, Some, None, length, replicate, position, is_none};
 ghost use Rattle.std.specs.Prelude.{slice_get, slice_set};
 ghost use Rattle.uda_exec.specs.Disks.{PENDING_LIMIT};
-ghost use Rattle.uda_disk.specs.Values.{request_value};
-ghost use Rattle.uda_driver.specs.Outstanding.{refers, clashes_with, clashes_with_any};
+ghost use Rattle.std.specs.List.{list_any};
+ghost use Rattle.uda_disk.specs.Request.{Request as Asked};
+ghost use Rattle.uda_driver.specs.Span.{span_of};
+ghost use Rattle.uda_driver.specs.Outstanding.{refers, span_clashes, clashes_with_any};
 ghost use Rattle.uda_driver.specs.DriverStep.{IsReferred};
 
-use uda_disk::{Answer, Request};
+use crate::slot::Outstanding;
+use crate::span::Span;
 use uda_exec::PENDING;
-
-/// An outstanding request, and the answer that its end message will fill.
-#[derive(Drop)]
-pub(crate) struct Outstanding<'a> {
-    /// The index in the list of requests, from 0.
-    pub(crate) place: u32,
-    /// The request.
-    pub(crate) request: &'a Request,
-    /// Its prepared answer, with capacity for the bytes of a Read.
-    pub(crate) answer: Answer,
-}
 
 /// Returns the table with no outstanding request.
 pub(crate) fn none_out<'a>() -> [Option<Outstanding<'a>>; PENDING]
@@ -86,19 +78,26 @@ fn is_referred(slot: &Option<Outstanding<'_>>, reference: u32) -> bool
     }
 }
 
-/// Returns whether a request conflicts with an outstanding one.
-pub(crate) fn clashes_with_any(request: &Request, out: &[Option<Outstanding<'_>>; PENDING]) -> bool
-    ensures { result ≡ clashes_with_any (request_value request.now) out.now }
+/// Returns whether a request of these blocks conflicts with an outstanding one.
+pub(crate) fn clashes_with_any(span: Span, out: &[Option<Outstanding<'_>>; PENDING]) -> bool
+    ensures { (r : Asked) → span ≡ span_of r → result ≡ clashes_with_any r out.now }
 {
-    out.iter().any(|slot| clashes_with(request, slot))
+    any_span_clashes(span, out)
 }
 
-// Returns whether a request conflicts with the one that uses this buffer.
-fn clashes_with(request: &Request, slot: &Option<Outstanding<'_>>) -> bool
-    ensures { result ≡ clashes_with (request_value request.now) slot.now }
+// Returns the same for the spans of the code.
+fn any_span_clashes(span: Span, out: &[Option<Outstanding<'_>>; PENDING]) -> bool
+    ensures { result ≡ list_any (span_clashes span) out.now }
+{
+    out.iter().any(|slot| clashes_with(span, slot))
+}
+
+// Returns whether a request of these blocks conflicts with the one that uses this buffer.
+fn clashes_with(span: Span, slot: &Option<Outstanding<'_>>) -> bool
+    ensures { result ≡ span_clashes span slot.now }
 {
     match slot {
-        Some(one) => request.clashes(one.request),
+        Some(one) => span.clashes(one.span),
         None => false,
     }
 }

@@ -10,6 +10,8 @@ mod driver;
 mod errors;
 mod losses;
 mod run_loop;
+mod slot;
+mod span;
 mod watch;
 
 pub use driver::{Driver, REQUEST_LIMIT, RunError};

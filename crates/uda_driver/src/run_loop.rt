@@ -12,9 +12,13 @@ ghost use Rattle.uda_driver.specs.Driver.{DriverInvariant};
 ghost use Rattle.uda_driver.specs.Outstanding.{must_wait, AreFit};
 ghost use Rattle.uda_driver.specs.DriverStep.{HasFreeBuffer, PostsRequest, IsReferred, ReportsEnd, DriverStep};
 ghost use Rattle.uda_driver.specs.Drive.{IsDriving, RunFinished};
+ghost use Rattle.uda_disk.specs.Request.{Request as Asked};
+ghost use Rattle.uda_driver.specs.Span.{span_of};
 
 use crate::answers::answer_for;
-use crate::buffers::{Outstanding, clashes_with_any, free_buffer, none_out, put_out, take_out};
+use crate::buffers::{clashes_with_any, free_buffer, none_out, put_out, take_out};
+use crate::slot::Outstanding;
+use crate::span::Span;
 use crate::watch::Watch;
 use uda_disk::{Answer, Request};
 use uda_exec::PENDING;
@@ -42,7 +46,8 @@ pub(crate) fn drive<S: BlockStore, W: Watch>(
     for n in 0..requests.len() {
         let request = &requests[n];
         if !request.is_too_long() {
-            while must_wait(host, &out, request) {
+            let span = Span::of(request);
+            while must_wait(host, &out, span) {
                 run_turn(host, &mut out, &mut answers, watch);
             }
             let answer = std::mem::replace(&mut answers[n], Answer::TooLong);
@@ -50,6 +55,7 @@ pub(crate) fn drive<S: BlockStore, W: Watch>(
                 place: n as u32,
                 request,
                 answer,
+                span,
             };
             post(host, &mut out, one);
         }
@@ -64,12 +70,12 @@ pub(crate) fn drive<S: BlockStore, W: Watch>(
 fn must_wait<S: BlockStore>(
     host: &Host<S>,
     out: &[Option<Outstanding<'_>>; PENDING],
-    request: &Request,
+    span: Span,
 ) -> bool
-    ensures waits { result ≡ must_wait host.now out.now (request_value request.now) }
+    ensures waits { (r : Asked) → span ≡ span_of r → result ≡ must_wait host.now out.now r }
     ensures consistent { IsConsistent host.now }
 {
-    host.credits() == 0 || clashes_with_any(request, out)
+    host.credits() == 0 || clashes_with_any(span, out)
 }
 
 // Posts a request with a free buffer, and writes the payload of a Write into that buffer.
@@ -132,6 +138,7 @@ fn store_answer<S: BlockStore>(
         place,
         request,
         answer,
+        ..
     } = one;
     answers[place as usize] = answer_for(answer, request, end, host.buffer(number as u8));
 }

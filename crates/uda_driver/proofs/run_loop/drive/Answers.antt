@@ -15,7 +15,7 @@ run_turn-requires g c =
     let now = c.loop-host.invariant in (
       search rules,
       (
-        wait_some now _ (sym c.loop-host-test.ensures.waits),
+        wait_some now _ (sym (c.loop-host-test.ensures.waits _ c.of-span.ensures.span)),
         is_driving now (omega (arith, c.loop-n-test.true)),
       ),
     )
@@ -23,7 +23,7 @@ run_turn-requires g c =
 pub loop-host-smaller : goal.loop-host-smaller
 loop-host-smaller g c =
     let now = c.loop-host.invariant in
-    steps_less now.at_work.consistent (wait_some now _ (sym c.loop-host-test.ensures.waits)) c.run_turn.ensures.effect
+    steps_less now.at_work.consistent (wait_some now _ (sym (c.loop-host-test.ensures.waits _ c.of-span.ensures.span))) c.run_turn.ensures.effect
 
 pub loop-host-preserved : goal.loop-host-preserved
 loop-host-preserved g c =
@@ -32,12 +32,12 @@ loop-host-preserved g c =
     record { low = c.loop-n-test.true; is = c.index-requests-n.is } in
     let short = sym c.is_too_long.ensures.long ∙ c.if-not-is_too_long.true in
     underway_step now c.run_turn.ensures.consistent c.run_turn.ensures.well_formed
-    (wait_ends now it (sym c.loop-host-test.ensures.waits) short) c.run_turn.ensures.effect
+    (wait_ends now it (sym (c.loop-host-test.ensures.waits _ c.of-span.ensures.span)) short) c.run_turn.ensures.effect
 
 pub post-requires : goal.post-requires
 post-requires g c =
     let now = c.loop-host.invariant in
-    let free = sym c.loop-host-test.ensures.waits in
+    let free = sym (c.loop-host-test.ensures.waits _ c.of-span.ensures.span) in
     let short = sym c.is_too_long.ensures.long ∙ c.if-not-is_too_long.true in
     let low : c.loop-n.n < length c.args.requests.now = c.loop-n-test.true in (
       search rules,
@@ -57,7 +57,7 @@ loop-n-preserved g c =
           let taken = w.replace-answer.ensures.value ∙ w.index_mut.ensures.value in
           rw (w.host-is, w.answers-is, w.out-is)
           (underway_post w.loop-host.invariant it
-          (sym w.loop-host-test.ensures.waits) w.index_mut.result.now short refl refl taken
+          (sym (w.loop-host-test.ensures.waits _ w.of-span.ensures.span)) w.index_mut.result.now short refl refl taken
           (ap (slice_set w.loop-host.answers.items c.loop-n.n) w.replace-answer.ensures.after)
           w.post.ensures.posts w.post.ensures.consistent)
       | else-not-is_too_long w ↦

@@ -4,8 +4,11 @@ use crate::fault::{Fault, Reason, STANDARD_INPUT};
 use crate::outcome::Outcome;
 use std::alloc::Global;
 use std::fs::{File, OpenFile};
-use std::io::{BufRead, BufReader, Write};
+use std::io::{BufRead, BufReader, Read, Write};
 use uda50_show::PacketReader;
+
+/// The most bytes that are kept for the next line. The memory of a longer line is given back.
+const LINE_ROOM: usize = 4_096;
 
 // The state of reading packets.
 #[derive(Debug, Drop)]
@@ -15,7 +18,7 @@ struct DecodeProgress {
     invalid: bool,
 }
 
-/// Prints the packets of a file, or of standard input, each when it is complete.
+/// Prints the packets of a file, or of standard input.
 pub(crate) fn decode<'w, W: Write>(
     rt: &HostRuntime,
     path: &'w str,
@@ -30,11 +33,12 @@ pub(crate) fn decode<'w, W: Write>(
     decode_from(rt.alloc(), path, input, out)
 }
 
-// Prints the packets of a text.
-fn decode_from<'w, R: BufRead + Drop, W: Write>(
+// Prints the packets of a text. What it printed goes out before it may have to wait for more of the text, before
+// a fault, and at the end.
+fn decode_from<'w, R: Read + Drop, W: Write>(
     alloc: Global,
     name: &'w str,
-    input: R,
+    mut input: BufReader<R>,
     out: &mut W,
 ) -> Result<Outcome, Fault<'w>> {
     let mut progress = DecodeProgress {
@@ -42,11 +46,25 @@ fn decode_from<'w, R: BufRead + Drop, W: Write>(
         packets: 0,
         invalid: false,
     };
-    let mut number = 0u64;
-    for line in input.lines(alloc) {
-        let line = line.map_err(|error| Fault::system(name, error))?;
-        number = number.saturating_add(1);
-        decode_line(name, number, line.as_str(), &mut progress, out)?;
+    let mut line = String::new(alloc);
+    for number in 1..u64::MAX {
+        if !input.buffer().contains(&b'\n') {
+            out.flush()?;
+        }
+        let read = input.read_line(&mut line);
+        let done = match read {
+            Ok(0) => break,
+            Ok(_) => decode_line(name, number, line.as_str(), &mut progress, out),
+            Err(error) => Err(Fault::system(name, error)),
+        };
+        if done.is_err() {
+            out.flush()?;
+        }
+        done?;
+        if line.capacity() > LINE_ROOM {
+            line = String::new(alloc);
+        }
+        line.clear();
     }
     match progress.reader.filled() {
         0 if progress.invalid => Ok(Outcome::Failed),
@@ -79,7 +97,6 @@ fn decode_line<'w, W: Write>(
             progress.invalid |= !packet.is_valid();
             let number = progress.packets;
             write!(out, "packet {number}, {packet}")?;
-            out.flush()?;
         }
     }
     Ok(())

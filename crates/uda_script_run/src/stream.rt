@@ -27,8 +27,8 @@ const MOST_BATCHES: u64 = 1 << 56;
 /// for the same requests. Answers and disks are related to the in-order run of all requests as those of
 /// [`Driver::run`](uda_driver::Driver::run) are.
 ///
-/// `watch` receives each turn of the port. The text is read byte by byte, so it should be a buffered
-/// reader.
+/// `watch` receives each turn of the port. The text is read as far as its reader has it buffered, and a line that
+/// isn't buffered to its end is read in parts.
 ///
 /// # Errors
 ///

@@ -1,13 +1,17 @@
 //! Rows of a dump.
-ghost use Rattle.std.specs.Prelude.{◌≡◌, ◌≤◌, ◌+◌, Some};
+ghost use Rattle.std.specs.Prelude.{◌≡◌, ◌≤◌, ◌+◌, Some, length};
 ghost use Rattle.std.specs.Prelude.{◌++◌, ◌%◌, codes, map};
 ghost use Rattle.std.specs.Fmt.{WritesOnOk};
 ghost use Rattle.uda50_show.specs.Rows.{hex_row, octal_row, hex_offset, octal_offset, hex_cell, octal_cell, row_text, glyph, printable};
 ghost use Rattle.uda50_show.specs.Block.{words, word_at};
 
 use crate::text::printable;
+use arrayvec::ArrayVec;
 use byteorder::{ByteOrder, LittleEndian};
 use std::fmt;
+
+// The text of a row after its offset: at most 56 bytes of cells, 16 characters and what is around them.
+type RowText = ArrayVec<u8, 80>;
 
 /// Sixteen bytes of a block, with a text such as `1f0  44 45 43 ..  |DECRT11A    ....|`: the offset and the
 /// bytes in hexadecimal, and the bytes as text.
@@ -24,8 +28,7 @@ impl fmt::Display for HexRow {
 
     fn fmt<W: fmt::Write>(&self, f: &mut fmt::Formatter<W>) -> fmt::Result {
         write_hex_offset(f, self.offset)?;
-        write_ascii(f, hex_cells(&self.bytes).as_flattened())?;
-        write_text(f, &self.bytes)
+        write_rest(f, hex_cells(&self.bytes).as_flattened(), &self.bytes)
     }
 }
 
@@ -44,8 +47,7 @@ impl fmt::Display for OctalRow {
 
     fn fmt<W: fmt::Write>(&self, f: &mut fmt::Formatter<W>) -> fmt::Result {
         write_octal_offset(f, self.offset)?;
-        write_ascii(f, octal_cells(&self.bytes).as_flattened())?;
-        write_text(f, &self.bytes)
+        write_rest(f, octal_cells(&self.bytes).as_flattened(), &self.bytes)
     }
 }
 
@@ -76,13 +78,29 @@ fn write_octal_offset<W: fmt::Write>(f: &mut fmt::Formatter<W>, offset: u16) -> 
     write_ascii(f, &text)
 }
 
-// Writes the bytes as text between bars, after two spaces.
-fn write_text<W: fmt::Write>(f: &mut fmt::Formatter<W>, bytes: &[u8; 16]) -> fmt::Result
-    ensures { WritesOnOk W.write_str_gives f.old result (row_text bytes.now) f.new }
+// Writes the cells of a row, and its bytes as text between bars after two spaces, in one piece.
+fn write_rest<W: fmt::Write>(
+    f: &mut fmt::Formatter<W>,
+    cells: &[u8],
+    bytes: &[u8; 16],
+) -> fmt::Result
+    requires { length cells.now ≤ 56 }
+    ensures { WritesOnOk W.write_str_gives f.old result (cells.now ++ row_text bytes.now) f.new }
 {
-    f.write_str("  |")?;
-    write_ascii(f, &printables(bytes))?;
-    f.write_str("|")
+    let mut rest = RowText::new();
+    append(&mut rest, cells);
+    append(&mut rest, b"  |");
+    append(&mut rest, &printables(bytes));
+    append(&mut rest, b"|");
+    write_ascii(f, &rest)
+}
+
+// Appends bytes to a text that has room for them.
+fn append(text: &mut RowText, bytes: &[u8])
+    requires { length text.old.items + length bytes.now ≤ 80 }
+    ensures { text.new.items ≡ text.old.items ++ bytes.now }
+{
+    let _ = text.try_extend_from_slice(bytes);
 }
 
 // Writes bytes that are ASCII.

@@ -3,7 +3,7 @@ ghost use Rattle.std.specs.Prelude.{◌≡◌, ◌<◌, ◌≤◌, ◌∷◌, �
 ghost use Rattle.std.specs.Prelude.{OnErr, IsOk, IfOk};
 ghost use Rattle.std.specs.Char.{digit_value};
 ghost use Rattle.std.specs.Str.Parse.{AllDigits, digits_value};
-ghost use Rattle.uda50_show.specs.Tokens.{IsByteToken, IsWordToken};
+ghost use Rattle.uda50_show.specs.Tokens.{IsByteToken, IsWordToken, token_bytes, made_bytes};
 
 use crate::packet::Packet;
 use std::error::Error;
@@ -64,40 +64,68 @@ impl PacketReader {
         ensures byte { IsByteToken token.now → IsOk result }
         ensures word { IsWordToken token.now → IsOk result }
         ensures token { IsOk result → IsByteToken token.now ⊎ IsWordToken token.now }
+        ensures bytes { IfOk result (λ made. made_bytes made ++ self.new ≡ self.old ++ token_bytes token.now) }
         ensures unchanged { OnErr result (self.new ≡ self.old) }
     {
         match token.as_bytes() {
             [high, low] => {
                 let byte = byte_of([*high, *low])?;
-                Ok(self.push(byte))
+                if self.filled < 47 {
+                    self.put(byte);
+                    Ok(None)
+                } else {
+                    Ok(Some(self.complete(byte)))
+                }
             }
             [a, b, c, d, e, f] => {
                 let [low, high] = word_of([*a, *b, *c, *d, *e, *f])?.to_le_bytes();
-                match self.push(low) {
-                    None => Ok(self.push(high)),
-                    whole => {
-                        self.push(high);
-                        Ok(whole)
-                    }
+                if self.filled < 46 {
+                    self.put(low);
+                    self.put(high);
+                    Ok(None)
+                } else {
+                    Ok(self.push_last_word(low, high))
                 }
             }
             _ => Err(TokenError),
         }
     }
 
-    // Adds a byte, and returns the packet that it completes.
-    fn push(&mut self, byte: u8) -> Option<Packet>
-        ensures more { length self.old < 47 → (result ≡ None) × (self.new ≡ self.old ++ byte ∷ []) }
-        ensures whole { length self.old ≡ 47 → IsSome result × (self.new ≡ []) }
-        ensures packet { IfSome result (λ packet. packet.0 ≡ self.old ++ byte ∷ []) }
+    // Adds a byte that doesn't complete the packet.
+    fn put(&mut self, byte: u8)
+        requires { length self.old < 47 }
+        ensures more { self.new ≡ self.old ++ byte ∷ [] }
     {
         self.bytes[self.filled] = byte;
-        if self.filled < 47 {
-            self.filled += 1;
-            return None;
-        }
+        self.filled += 1;
+    }
+
+    // Adds the last byte of a packet, and returns the packet.
+    fn complete(&mut self, byte: u8) -> Packet
+        requires { length self.old ≡ 47 }
+        ensures whole { self.new ≡ [] }
+        ensures packet { result.0 ≡ self.old ++ byte ∷ [] }
+    {
+        self.bytes[self.filled] = byte;
         self.filled = 0;
-        Some(Packet(self.bytes))
+        Packet(self.bytes)
+    }
+
+    // Adds the bytes of a word, of which one completes the packet, and returns the packet. It isn't inlined, since
+    // most tokens complete none.
+    #[inline(never)]
+    fn push_last_word(&mut self, low: u8, high: u8) -> Option<Packet>
+        requires { 46 ≤ length self.old }
+        ensures some { IsSome result }
+        ensures packet { IfSome result (λ packet. packet.0 ++ self.new ≡ self.old ++ low ∷ high ∷ []) }
+    {
+        if self.filled < 47 {
+            self.put(low);
+            return Some(self.complete(high));
+        }
+        let packet = self.complete(low);
+        self.put(high);
+        Some(packet)
     }
 }
 

@@ -64,7 +64,8 @@ impl PacketReader {
         ensures byte { IsByteToken token.now → IsOk result }
         ensures word { IsWordToken token.now → IsOk result }
         ensures token { IsOk result → IsByteToken token.now ⊎ IsWordToken token.now }
-        ensures bytes { IfOk result (λ made. made_bytes made ++ self.new ≡ self.old ++ token_bytes token.now) }
+        ensures bytes { IfOk result (λ made.
+            made_bytes made ++ self.new ≡ self.old ++ token_bytes token.now) }
         ensures unchanged { OnErr result (self.new ≡ self.old) }
     {
         match token.as_bytes() {

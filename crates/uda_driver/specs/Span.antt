@@ -14,4 +14,5 @@ span_of r = record {
 
 -- two spans share a block of one unit, and one of them is written
 abbrev pub spans_clash : Span → Span → Bool
-spans_clash a b = nat_eq a.unit b.unit && (a.writes || b.writes) && nat_lt (max a.first b.first) (min a.end b.end)
+spans_clash a b =
+    nat_eq a.unit b.unit && (a.writes || b.writes) && nat_lt (max a.first b.first) (min a.end b.end)

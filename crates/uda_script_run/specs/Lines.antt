@@ -28,7 +28,8 @@ part_end None = []
 part_end (Some ended) = if ended then 10 ∷ [] else []
 
 -- a part of a line was taken, and of what is kept of the line there is more, as much as there is room for
-pub record TakesPart (text text_after : Option (List ℕ)) (kept kept_after : List ℕ) (ended : Option Bool) : Type 0 where
+pub record TakesPart (text text_after : Option (List ℕ)) (kept kept_after : List ℕ)
+    (ended : Option Bool) : Type 0 where
   pub part : List ℕ
   pub one : IsOneLine part
   pub is_kept : length kept ≤ line_room → kept_after ≡ take line_room (kept ++ part)

@@ -41,7 +41,7 @@ pub(crate) fn dump<'w, W: Write>(
 /// The most blocks that are read in one call.
 const PIECE: u32 = 16;
 
-/// The bytes of so many blocks.
+/// The bytes of the most blocks that are read in one call.
 const ROOM: usize = 8_192;
 
 // The image of a dump, and the format in which its blocks are printed.

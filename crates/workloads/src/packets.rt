@@ -70,7 +70,7 @@ fn token_of(table: &str, length: usize, number: usize) -> &str {
     table.get(start..start.saturating_add(length)).unwrap_or("")
 }
 
-// Returns the tokens of all numbers of so many digits, each of so many bits: of 256 bytes or 65,536 words.
+// Returns the tokens of every number of `digits` digits: 256 bytes or 65,536 words.
 fn token_table(alloc: Global, digits: u32, bits: u32) -> Result<String> {
     let mut table = String::new(alloc);
     let count = if digits == 2 { 256 } else { 65_536 };
@@ -181,7 +181,7 @@ fn kind(draw: &mut Draw) -> Kind {
     }
 }
 
-// Writes so many digits, each of so many bits.
+// Writes a number in `digits` digits of `bits` bits each.
 fn push_digits(table: &mut String, number: u32, digits: u32, bits: u32) -> Result<()> {
     for n in 0..digits {
         let place = digits.saturating_sub(n).saturating_sub(1);

@@ -72,7 +72,7 @@ fn add_answer(digest: &mut Digest, answer: &Answer) {
     }
 }
 
-// Makes a driver of so many units, all online.
+// Makes a driver of `units` units, all online.
 fn driver(alloc: Global, units: u16) -> Result<Driver<MemImage>> {
     let drives = [
         drive(alloc, units > 0, false)?,
@@ -163,7 +163,7 @@ fn bytes(draw: &mut Draw) -> u32 {
     }
 }
 
-// Returns so many bytes of one value, of which the first four are others.
+// Returns `bytes` bytes of one value, except the first four.
 fn payload(alloc: Global, draw: &mut Draw, bytes: u64) -> Result<Vec<u8>> {
     let mut payload = Vec::from_elem(alloc, draw.byte(), bytes as usize)?;
     for (byte, first) in payload.iter_mut().zip(draw.number().to_le_bytes()) {

@@ -193,7 +193,7 @@ impl Guest {
         self.next.saturating_add(n) % self.slots.max(1) % 8
     }
 
-    // Takes turns until the port is idle, and digests so many end messages.
+    // Takes turns until the port is idle, digests the end messages of the ring, and goes `count` slots on.
     fn take_turns(&mut self, count: u32, digest: &mut Digest) -> Result<()> {
         self.port.read_ip();
         for _ in 0..64 {

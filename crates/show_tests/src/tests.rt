@@ -1,3 +1,4 @@
 //! Comparisons of two forms.
+mod packets;
 mod rows;
 mod tokens;

@@ -4,3 +4,4 @@ pub mod Home
 pub mod Labels
 pub mod Tokens
 pub mod Rows
+pub mod Hex

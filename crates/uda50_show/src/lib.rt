@@ -3,6 +3,7 @@
 
 mod boot_block;
 mod checksum;
+mod digits;
 mod disk_label;
 mod drive_type;
 mod fields;

@@ -1,5 +1,6 @@
 //! The text of a packet, field by field.
 
+use crate::digits::{HexByte, HexLong, HexWord};
 use crate::fields::word;
 use std::fmt;
 use uda_packet::{
@@ -40,12 +41,18 @@ fn write_end<W: fmt::Write>(f: &mut fmt::Formatter<W>, end: &End) -> fmt::Result
         status,
         body,
     } = *end;
-    writeln!(f, "end message: {}", body.name())?;
-    writeln!(f, "  reference   {reference}")?;
-    writeln!(f, "  unit        {unit}")?;
-    writeln!(f, "  end code    0x{:02x}", body.code())?;
-    let name = status::name(status);
-    writeln!(f, "  status      0x{status:04x} ({name})")?;
+    write!(
+        f,
+        "end message: {}\n  \
+         reference   {reference}\n  \
+         unit        {unit}\n  \
+         end code    0x{}\n  \
+         status      0x{} ({})\n",
+        body.name(),
+        HexByte(body.code()),
+        HexWord(status),
+        status::name(status)
+    )?;
     match body {
         EndBody::Status { flags } => write_flags(f, flags),
         EndBody::Online { flags, size } => {
@@ -68,7 +75,7 @@ fn write_flags<W: fmt::Write>(f: &mut fmt::Formatter<W>, flags: u16) -> fmt::Res
         (false, true) => " (hardware write protection)",
         (true, true) => " (software and hardware write protection)",
     };
-    writeln!(f, "  unit flags  0x{flags:04x}{names}")
+    writeln!(f, "  unit flags  0x{}{names}", HexWord(flags))
 }
 
 // Writes the lines of a command.
@@ -82,11 +89,17 @@ fn write_command_lines<W: fmt::Write>(
         unit,
         op,
     } = *command;
-    writeln!(f, "command: {}", op.name())?;
-    writeln!(f, "  reference   {reference}")?;
-    writeln!(f, "  unit        {unit}")?;
-    writeln!(f, "  opcode      0x{:02x}", op.opcode())?;
-    writeln!(f, "  modifiers   0x{modifiers:04x}")?;
+    write!(
+        f,
+        "command: {}\n  \
+         reference   {reference}\n  \
+         unit        {unit}\n  \
+         opcode      0x{}\n  \
+         modifiers   0x{}\n",
+        op.name(),
+        HexByte(op.opcode()),
+        HexWord(modifiers)
+    )?;
     if let Op::Online { soft: Some(soft) } = op {
         let asked = if soft { "on" } else { "off" };
         return writeln!(f, "  protection  {asked} (Set Write Protect)");
@@ -99,11 +112,21 @@ fn write_command_lines<W: fmt::Write>(
 
 // Writes the lines of a transfer's parameters.
 fn write_transfer<W: fmt::Write>(f: &mut fmt::Formatter<W>, transfer: &Transfer) -> fmt::Result {
-    writeln!(f, "  byte count  {}", transfer.bytes)?;
-    if transfer.kind.has_buffer() {
-        writeln!(f, "  buffer      0x{:08x}", transfer.buffer)?;
+    let Transfer {
+        kind,
+        bytes,
+        lbn,
+        buffer,
+    } = *transfer;
+    if kind.has_buffer() {
+        let buffer = HexLong(buffer);
+        writeln!(
+            f,
+            "  byte count  {bytes}\n  buffer      0x{buffer}\n  lbn         {lbn}"
+        )
+    } else {
+        writeln!(f, "  byte count  {bytes}\n  lbn         {lbn}")
     }
-    writeln!(f, "  lbn         {}", transfer.lbn)
 }
 
 // Writes the lines of an invalid command.
@@ -120,14 +143,21 @@ fn write_bad<W: fmt::Write>(
         body,
     } = *bad;
     match kind {
-        BadKind::Opcode => writeln!(f, "neither a command nor an end message: {kind}")?,
-        _ => writeln!(f, "invalid command, {}: {kind}", body.name())?,
+        BadKind::Opcode => write!(f, "neither a command nor an end message: {kind}")?,
+        _ => write!(f, "invalid command, {}: {kind}", body.name())?,
     }
-    writeln!(f, "  reference   {reference}")?;
-    writeln!(f, "  unit        {unit}")?;
-    writeln!(f, "  opcode      0x{code:02x}")?;
-    writeln!(f, "  modifiers   0x{modifiers:04x}")?;
     let status = bad.end().status;
-    let name = status::name(status);
-    writeln!(f, "  rejected    status 0x{status:04x} ({name})")
+    writeln!(
+        f,
+        "\n  \
+         reference   {reference}\n  \
+         unit        {unit}\n  \
+         opcode      0x{}\n  \
+         modifiers   0x{}\n  \
+         rejected    status 0x{} ({})",
+        HexByte(code),
+        HexWord(modifiers),
+        HexWord(status),
+        status::name(status)
+    )
 }

@@ -5,6 +5,7 @@ ghost use Rattle.std.specs.Fmt.{WritesOnOk};
 ghost use Rattle.uda50_show.specs.Rows.{hex_row, octal_row, hex_offset, octal_offset, hex_cell, octal_cell, row_text, glyph, printable};
 ghost use Rattle.uda50_show.specs.Block.{words, word_at};
 
+use crate::digits::{digit, write_ascii};
 use crate::text::printable;
 use arrayvec::ArrayVec;
 use byteorder::{ByteOrder, LittleEndian};
@@ -103,16 +104,6 @@ fn append(text: &mut RowText, bytes: &[u8])
     let _ = text.try_extend_from_slice(bytes);
 }
 
-// Writes bytes that are ASCII.
-fn write_ascii<W: fmt::Write>(f: &mut fmt::Formatter<W>, bytes: &[u8]) -> fmt::Result
-    ensures { WritesOnOk W.write_str_gives f.old result bytes.now f.new }
-{
-    match std::str::from_utf8(bytes) {
-        Ok(text) => f.write_str(text),
-        Err(_) => Err(fmt::Error),
-    }
-}
-
 // Returns the bytes as cells in hexadecimal.
 fn hex_cells(bytes: &[u8; 16]) -> [[u8; 3]; 16]
     ensures { result ≡ map hex_cell bytes.now }
@@ -174,11 +165,4 @@ fn octal_cell(word: u16) -> [u8; 7]
         digit(word >> 3 & 7),
         digit(word & 7),
     ]
-}
-
-// Returns the digit of the low four bits.
-fn digit(number: u16) -> u8
-    ensures { result ≡ glyph (number % 16) }
-{
-    b"0123456789abcdef"[usize::from(number & 15)]
 }

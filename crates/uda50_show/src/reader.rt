@@ -73,20 +73,18 @@ impl PacketReader {
                 let byte = byte_of([*high, *low])?;
                 if self.filled < 47 {
                     self.put(byte);
-                    Ok(None)
-                } else {
-                    Ok(Some(self.complete(byte)))
+                    return Ok(None);
                 }
+                Ok(Some(self.complete(byte)))
             }
             [a, b, c, d, e, f] => {
                 let [low, high] = word_of([*a, *b, *c, *d, *e, *f])?.to_le_bytes();
                 if self.filled < 46 {
                     self.put(low);
                     self.put(high);
-                    Ok(None)
-                } else {
-                    Ok(self.push_last_word(low, high))
+                    return Ok(None);
                 }
+                Ok(self.push_last_word(low, high))
             }
             _ => Err(TokenError),
         }
@@ -101,7 +99,8 @@ impl PacketReader {
         self.filled += 1;
     }
 
-    // Adds the last byte of a packet, and returns the packet.
+    // Adds the last byte of a packet, and returns the packet. It isn't inlined, since most tokens complete none.
+    #[inline(never)]
     fn complete(&mut self, byte: u8) -> Packet
         requires { length self.old ≡ 47 }
         ensures whole { self.new ≡ [] }
@@ -129,6 +128,22 @@ impl PacketReader {
         Some(packet)
     }
 }
+
+/// The value of each character as a digit. A letter of either case follows the nine digits, and any other
+/// character has 36, which is no digit's value.
+static DIGIT_VALUES: [u8; 256] = [
+    36, 36, 36, 36, 36, 36, 36, 36, 36, 36, 36, 36, 36, 36, 36, 36, 36, 36, 36, 36, 36, 36, 36, 36,
+    36, 36, 36, 36, 36, 36, 36, 36, 36, 36, 36, 36, 36, 36, 36, 36, 36, 36, 36, 36, 36, 36, 36, 36,
+    0, 1, 2, 3, 4, 5, 6, 7, 8, 9, 36, 36, 36, 36, 36, 36, 36, 10, 11, 12, 13, 14, 15, 16, 17, 18,
+    19, 20, 21, 22, 23, 24, 25, 26, 27, 28, 29, 30, 31, 32, 33, 34, 35, 36, 36, 36, 36, 36, 36, 10,
+    11, 12, 13, 14, 15, 16, 17, 18, 19, 20, 21, 22, 23, 24, 25, 26, 27, 28, 29, 30, 31, 32, 33, 34,
+    35, 36, 36, 36, 36, 36, 36, 36, 36, 36, 36, 36, 36, 36, 36, 36, 36, 36, 36, 36, 36, 36, 36, 36,
+    36, 36, 36, 36, 36, 36, 36, 36, 36, 36, 36, 36, 36, 36, 36, 36, 36, 36, 36, 36, 36, 36, 36, 36,
+    36, 36, 36, 36, 36, 36, 36, 36, 36, 36, 36, 36, 36, 36, 36, 36, 36, 36, 36, 36, 36, 36, 36, 36,
+    36, 36, 36, 36, 36, 36, 36, 36, 36, 36, 36, 36, 36, 36, 36, 36, 36, 36, 36, 36, 36, 36, 36, 36,
+    36, 36, 36, 36, 36, 36, 36, 36, 36, 36, 36, 36, 36, 36, 36, 36, 36, 36, 36, 36, 36, 36, 36, 36,
+    36, 36, 36, 36, 36, 36, 36, 36, 36, 36, 36, 36, 36, 36,
+];
 
 // Returns the byte of a token of two digits.
 fn byte_of(token: [u8; 2]) -> Result<u8, TokenError>
@@ -174,5 +189,14 @@ fn digit(byte: u8, radix: u32) -> Option<u32>
     ensures value { IfSome result (λ d. d ≡ digit_value byte) }
     ensures some { IsSome result ↔ digit_value byte < radix }
 {
-    char::from(byte).to_digit(radix)
+    let value = digit_value(byte);
+    if value < radix { Some(value) } else { None }
+}
+
+// Returns the value of a character as a digit, which is below 36 if it is one.
+#[tactic(auto, using(crate::proofs::DigitValues::value_at))]
+fn digit_value(byte: u8) -> u32
+    ensures { result ≡ digit_value byte }
+{
+    u32::from(DIGIT_VALUES[usize::from(byte)])
 }

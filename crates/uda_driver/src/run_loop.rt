@@ -25,7 +25,7 @@ use uda_exec::PENDING;
 use uda_host::{Host, buffer_address};
 use uda_image::BlockStore;
 use uda_packet::End;
-use uda_port::CREDITS;
+use uda_port::{CREDITS, Trace};
 use uda_posting::{command_of, write_payload};
 
 /// Executes the requests, and replaces the blank answers by theirs. `watch` receives each turn. Nothing is
@@ -114,9 +114,10 @@ fn run_turn<S: BlockStore, W: Watch>(
     ensures consistent { IsConsistent host.new }
     ensures well_formed { AreWellFormed host.new.units }
 {
-    let turn = host.step_traced();
-    watch.see(&turn.trace, host.credits());
-    if let Some(end) = turn.end {
+    let mut trace = Trace::Idle;
+    let end = host.step_into(&mut trace);
+    watch.see(&trace, host.credits());
+    if let Some(end) = end {
         store_answer(host, out, answers, end);
     }
 }

@@ -43,9 +43,6 @@ use Rattle.uda_port.specs.declared.guest.Guest.{Guest}
 use Rattle.uda_port.specs.Interrupt.{indicator_at, word_below, memory_with_indicator}
 use Rattle.uda_port.specs.Port.{PortState, lacks_credit, CreditsAgree, next_grant, command_indicator, response_indicator, interrupts_after}
 use Rattle.uda_port.specs.Turn.{port_turn_on, port_with_message, ExecutesFor, ExecutesStrictly, delivery_of, FetchesOne, NothingToFetch, FetchRule, GoesOn, Fails, InFetch, InRest, RunningTurn, TurnEffect}
-use Rattle.uda_port.specs.declared.trace.Trace.{Trace}
-use Rattle.uda_port.specs.declared.trace.Trace.TheVariants as trace
-use Rattle.uda_port.specs.Trace.{turn_of}
 use Rattle.uda_host.specs.Layout.{slots, memory_size, response_descriptor, command_descriptor, response_packet, command_packet, owner_word, flag_word}
 use Rattle.uda_host.specs.Slots.{RingSlot, slot_at, command_at, response_at, owned, memory_reopened, RingsHold, WritesSlot}
 use Rattle.uda_host.specs.HostPortAgreement.{IsSound, unfetched}
@@ -493,19 +490,6 @@ module _ {S : Type 0} {h : Inside S} (host : HostInvariant h) (before : PortStat
   lives cause (InRest goes) = rest_lives cause goes
 
 -- ---- a turn
-
--- a trace record of another kind belongs to another turn
-pub undelivered : (was : Trace) → ((end : Reply) → was ≡ trace.Delivered end → ⊥) → turn_of was ≡ Delivered
-    → ⊥
-undelivered (trace.Fetched command) other is = absurd (cc)
-undelivered (trace.InvalidCommand end) other is = absurd (cc)
-undelivered (trace.Answered end) other is = absurd (cc)
-undelivered (trace.Aborted end) other is = absurd (cc)
-undelivered (trace.Executed end) other is = absurd (cc)
-undelivered (trace.Delivered end) other is = other end refl
-undelivered trace.Notified other is = absurd (cc)
-undelivered trace.Idle other is = absurd (cc)
-undelivered (trace.Dead cause) other is = absurd (cc)
 
 module _ {S : Type 0} {h : Inside S} {value : HostState} (is : host_view h ≡ value) (host : HostInvariant h)
     (new : PortState) (after : List ℕ) (agree : CreditsAgree new) where

@@ -1,10 +1,14 @@
 //! The host of a port.
-ghost use Rattle.std.specs.Prelude.{◌≡◌, ◌<◌, ◌≤◌, length, map, IfOk, IfErr};
+ghost use Rattle.std.specs.Prelude.{◌≡◌, ◌<◌, ◌≤◌, ◌↔◌, length, map, IfOk, IfErr, IsSome};
 ghost use Rattle.uda_mem.specs.Put.{put, part};
 ghost use Rattle.uda_disk.specs.Units.{AreWellFormed};
 ghost use Rattle.uda_exec.specs.Disks.{PENDING_LIMIT};
 ghost use Rattle.uda_exec.specs.Drives.{reset_unit};
 ghost use Rattle.uda_host.specs.Layout.{buffer_address, buffer_size};
+ghost use Rattle.uda_port.specs.Port.{CreditsAgree};
+ghost use Rattle.uda_port.specs.Turn.{TurnEffect};
+ghost use Rattle.uda_port.specs.Trace.{turn_of};
+ghost use Rattle.uda_port.specs.declared.turn.Turn.TheVariants.{Delivered};
 ghost use Rattle.uda_host.specs.HostPortAgreement.{IsAbove};
 ghost use Rattle.uda_host.specs.Host.{outstanding_count, Posts, StepEffect, IsConsistent, IsIdle, IsStarted, ExecutedAlone};
 
@@ -17,7 +21,7 @@ use uda_exec::Exec;
 use uda_image::BlockStore;
 use uda_mem::HostMemory;
 use uda_packet::{Command, End, Op};
-use uda_port::{Port, PortAllocError, Trace};
+use uda_port::{Port, PortAllocError, Trace, Turn};
 
 /// One turn of a host's port.
 #[derive(Clone, Copy, Debug, PartialEq, Eq)]
@@ -133,9 +137,23 @@ impl<S: BlockStore> Host<S> {
         ensures consistent { IsConsistent self.new }
         ensures well_formed { AreWellFormed self.new.units }
     {
-        let trace = self.port.turn_traced(&mut self.memory);
-        let Trace::Delivered(_) = trace else {
-            return Step { trace, end: None };
+        let mut trace = Trace::Idle;
+        let end = self.step_into(&mut trace);
+        Step { trace, end }
+    }
+
+    /// Does the same, and stores what the port did in `trace`. Returns the end message, if there is one. It
+    /// is for callers that keep the record of the last turn: the record isn't copied.
+    pub fn step_into(&mut self, trace: &mut Trace) -> Option<End>
+        requires some { 0 < outstanding_count self.old }
+        ensures effect { StepEffect self.old result self.new }
+        ensures delivered { IsSome result ↔ (turn_of trace.new ≡ Delivered) }
+        ensures consistent { IsConsistent self.new }
+        ensures well_formed { AreWellFormed self.new.units }
+    {
+        let turn = turn_into(&mut self.port, &mut self.memory, trace);
+        let Turn::Delivered = turn else {
+            return None;
         };
         let Some(end) = end_at(&self.memory, self.response_place) else {
             unreachable!()
@@ -144,10 +162,7 @@ impl<S: BlockStore> Host<S> {
         reopen(&mut self.memory, self.response_place);
         self.response_place = (self.response_place + 1) % SLOTS;
         self.held += credits;
-        Step {
-            trace,
-            end: Some(end),
-        }
+        Some(end)
     }
 
     /// Executes one command, in three turns, while no other is outstanding, and returns its end message.
@@ -208,4 +223,15 @@ impl<S: BlockStore> Host<S> {
         let Host { port, .. } = self;
         port.into_exec()
     }
+}
+
+// Runs a turn of the port over the host's memory, and stores what it did in `trace`.
+#[tactic(auto, using(uda_port::proofs::Length::wholes))]
+fn turn_into<S: BlockStore>(port: &mut Port<S>, memory: &mut HostMemory, trace: &mut Trace) -> Turn
+    ensures effect { TurnEffect port.old.phase port.old memory.old result port.new memory.new }
+    ensures turn { result ≡ turn_of trace.new }
+    ensures credits { CreditsAgree port.new }
+    ensures well_formed { AreWellFormed port.new.exec.units }
+{
+    port.turn_traced_into(memory.as_mut_slice(), trace)
 }

@@ -1,3 +1,4 @@
 pub mod Rows
 pub mod Tokens
 pub mod DigitValues
+pub mod Ascii

@@ -1,5 +1,5 @@
 //! Bytes as text.
-ghost use Rattle.std.specs.Prelude.{◌≡◌};
+ghost use Rattle.std.specs.Prelude.{◌≡◌, ◌<◌};
 ghost use Rattle.uda50_show.specs.Rows.{printable};
 
 use std::fmt;
@@ -25,7 +25,8 @@ impl fmt::Display for FixedText<'_> {
 
 /// Returns the byte if it is printable ASCII, or else a point.
 pub(crate) fn printable(byte: u8) -> u8
-    ensures { result ≡ printable byte }
+    ensures shown { result ≡ printable byte }
+    ensures ascii { result < 128 }
 {
     if byte >= b' ' && byte <= b'~' {
         byte

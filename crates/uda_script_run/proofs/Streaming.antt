@@ -3,7 +3,7 @@ use Rattle.std.proofs.Common.{◌≡◌, ℕ, zero, suc, ◌+◌, ◌≤◌, Boo
 use Rattle.std.specs.Prelude.{◌==◌, ◌&&◌, if◌then◌else◌, IfSome}
 use Rattle.std.specs.List.{list_all}
 use Rattle.std.proofs.lemmas.List.{take_all, length-take}
-use Rattle.std.proofs.lemmas.List.Elements.{All-nil, All-append}
+use Rattle.std.proofs.lemmas.List.Elements.{All-nil, All-cons, All-append}
 use Rattle.std.specs.Io.KnownBytes.{Consumes, IsAtEnd, Keeps}
 use Rattle.std.proofs.KnownBytes.{Consumes-nil, Consumes-trans, Consumes-kept}
 use Rattle.uda_disk.specs.Answer.{Answer}
@@ -90,6 +90,44 @@ takes_end text now kept shown same none ended = record {
     by None b same ended = tt
     by (Some xs) None same ended = absurd same
     by (Some xs) (Some ys) same ended = same ∙ ended none
+
+-- no part more, since the text ended
+pub takes_last : (text now : Option (List ℕ)) (kept : List ℕ) → Consumes text now [] → IsAtEnd now
+    → TakesPart text now kept kept (Some false)
+takes_last text now kept none ended = record {
+  part = [];
+  one = All-nil (λ byte. (byte == 10) ≡ false);
+  is_kept = λ few. sym (ap (take line_room) (append-nil kept) ∙ take_all line_room kept few);
+  consumed = none;
+  at_end = λ _. by text;
+}
+  where
+    by : (a : Option (List ℕ)) → IfSome a (λ _. IsAtEnd now)
+    by None = tt
+    by (Some xs) = ended
+
+-- a line feed and no more
+pub takes_feed : (text now : Option (List ℕ)) (kept : List ℕ) → Consumes text now (10 ∷ [])
+    → TakesPart text now kept kept (Some true)
+takes_feed text now kept feed = record {
+  part = [];
+  one = All-nil (λ byte. (byte == 10) ≡ false);
+  is_kept = λ few. sym (ap (take line_room) (append-nil kept) ∙ take_all line_room kept few);
+  consumed = feed;
+  at_end = λ e. absurd (cc);
+}
+
+-- one byte of the line
+pub takes_byte : (text between now : Option (List ℕ)) (kept more : List ℕ) (byte : ℕ) → (byte == 10) ≡ false
+    → more ≡ take line_room (kept ++ byte ∷ []) → Consumes text between (byte ∷ []) → Keeps between now
+    → TakesPart text now kept more None
+takes_byte text between now kept more byte other grown taken same = record {
+  part = byte ∷ [];
+  one = All-cons (λ b. (b == 10) ≡ false) byte [] other (All-nil (λ b. (b == 10) ≡ false));
+  is_kept = λ _. grown;
+  consumed = Consumes-kept text between now (byte ∷ []) taken same;
+  at_end = λ e. absurd (cc);
+}
 
 -- a part more of a line that goes on
 pub part_more : (text now next : Option (List ℕ)) (kept more : List ℕ) → ReadsPart text now kept

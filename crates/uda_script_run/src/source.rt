@@ -1,6 +1,7 @@
 //! The text of a script, read line by line from a stream.
 
-ghost use Rattle.std.specs.Prelude.{◌≡◌, ◌≤◌, ◌<◌, ◌+◌, ◌++◌, List, take, slice_index, length, OnOk, IfOk, IfErr};
+ghost use Rattle.std.specs.Prelude.{◌≡◌, ◌≤◌, ◌<◌, ◌+◌, ◌++◌, List, None, take, slice_index, length, OnOk, IfOk, IfErr};
+ghost use Rattle.std.specs.Io.KnownBytes.{Consumes, IsAtEnd, Keeps};
 ghost use Rattle.std.specs.Option.{option_to_list};
 ghost use Rattle.uda_grammar.specs.declared.script.Line.{Line as Request};
 ghost use Rattle.uda_grammar.specs.Parts.{IsOneLine};
@@ -9,7 +10,7 @@ ghost use Rattle.uda_script_run.specs.Lines.{ReadsLine, ReadsBatch, IsUnreadText
 use crate::growth::push;
 use crate::text_error::TextError;
 use arrayvec::ArrayVec;
-use std::io::{BufRead, ErrorKind};
+use std::io::{BufRead, ErrorKind, Read};
 use uda_grammar::{Expected, Line, ScriptError, explain, parse_line};
 
 /// The most requests that are executed in one batch.
@@ -32,11 +33,13 @@ pub(crate) enum Next {
     Fault { line: u64, expected: Expected },
 }
 
-/// A stream with the text of a script, and the number of its lines that were read.
+/// A stream with the text of a script, the number of its lines that were read, and whether it has shown bytes
+/// that it has buffered.
 #[derive(Drop)]
 pub(crate) struct Source<T> {
     pub(crate) text: T,
     pub(crate) lines_read: u64,
+    pub(crate) has_shown: bool,
 }
 
 // Returns the number of bytes before the first line feed, or of all if there is none.
@@ -61,9 +64,70 @@ fn keep(line: &mut LineStart, bytes: &[u8])
     let _ = line.try_extend_from_slice(&bytes[..count]);
 }
 
-// Reads what the reader has at hand of the line. Returns whether a line feed ended it, or `None` if more of it may
-// follow. An interrupted read brings nothing.
-fn read_part<T: BufRead>(text: &mut T, line: &mut LineStart) -> Result<Option<bool>, TextError>
+// Reads the next byte, and returns `None` at the end of the text. Repeats an interrupted read.
+fn read_byte<T: Read>(text: &mut T) -> Result<Option<u8>, TextError>
+    ensures byte { IfOk result (λ byte.
+        Consumes (T.remaining text.old) (T.remaining text.new) (option_to_list byte)) }
+    ensures end { IfOk result (λ byte. byte ≡ None → IsAtEnd (T.remaining text.new)) }
+    ensures error { IfErr result (λ e. e ≡ TextError.Unreadable) }
+{
+    let mut bytes = [0];
+    for _ in 0..u64::MAX {
+        match text.read(&mut bytes) {
+            Ok(0) => return Ok(None),
+            Ok(_) => return Ok(Some(bytes[0])),
+            Err(error) => {
+                if error.kind() != ErrorKind::Interrupted {
+                    return Err(TextError::Unreadable);
+                }
+            }
+        }
+    }
+    Err(TextError::Unreadable)
+}
+
+// Returns whether the reader shows bytes. It shows none at its end, if it has no buffer, or if a read is
+// interrupted.
+fn shows<T: BufRead>(text: &mut T) -> Result<bool, TextError>
+    ensures keeps { IfOk result (λ _. Keeps (T.remaining text.old) (T.remaining text.new)) }
+    ensures error { IfErr result (λ e. e ≡ TextError.Unreadable) }
+{
+    match text.fill_buf() {
+        Ok(bytes) => Ok(!bytes.is_empty()),
+        Err(error) => {
+            if error.kind() == ErrorKind::Interrupted {
+                Ok(false)
+            } else {
+                Err(TextError::Unreadable)
+            }
+        }
+    }
+}
+
+// Reads the next byte of the line from a reader that has shown none, and notes whether it shows more.
+fn read_unshown<T: BufRead>(
+    text: &mut T,
+    line: &mut LineStart,
+    has_shown: &mut bool,
+) -> Result<Option<bool>, TextError>
+    ensures part { IfOk result (λ ended.
+        TakesPart (T.remaining text.old) (T.remaining text.new) line.old.items line.new.items ended) }
+    ensures error { IfErr result (λ e. e ≡ TextError.Unreadable) }
+{
+    match read_byte(text)? {
+        None => Ok(Some(false)),
+        Some(b'\n') => Ok(Some(true)),
+        Some(byte) => {
+            keep(line, &[byte]);
+            *has_shown = shows(text)?;
+            Ok(None)
+        }
+    }
+}
+
+// Reads what the reader shows of the line. Returns whether a line feed ended it, or `None` if more of it may
+// follow. A reader that has shown bytes shows none only at its end. An interrupted read brings nothing.
+fn read_shown<T: BufRead>(text: &mut T, line: &mut LineStart) -> Result<Option<bool>, TextError>
     ensures part { IfOk result (λ ended.
         TakesPart (T.remaining text.old) (T.remaining text.new) line.old.items line.new.items ended) }
     ensures error { IfErr result (λ e. e ≡ TextError.Unreadable) }
@@ -93,16 +157,37 @@ fn read_part<T: BufRead>(text: &mut T, line: &mut LineStart) -> Result<Option<bo
     }
 }
 
+// Reads a part of the line. Returns whether a line feed ended it, or `None` if more of it may follow.
+fn read_part<T: BufRead>(
+    text: &mut T,
+    line: &mut LineStart,
+    has_shown: &mut bool,
+) -> Result<Option<bool>, TextError>
+    ensures part { IfOk result (λ ended.
+        TakesPart (T.remaining text.old) (T.remaining text.new) line.old.items line.new.items ended) }
+    ensures error { IfErr result (λ e. e ≡ TextError.Unreadable) }
+{
+    if *has_shown {
+        read_shown(text, line)
+    } else {
+        read_unshown(text, line, has_shown)
+    }
+}
+
 // Reads the next line, and returns whether a line feed ended it. It keeps only the beginning of a long
 // line.
-fn read_line<T: BufRead>(text: &mut T, line: &mut LineStart) -> Result<bool, TextError>
+fn read_line<T: BufRead>(
+    text: &mut T,
+    line: &mut LineStart,
+    has_shown: &mut bool,
+) -> Result<bool, TextError>
     ensures line { IfOk result (λ ended.
         ReadsLine (T.remaining text.old) (T.remaining text.new) line.new.items ended) }
     ensures error { IfErr result (λ e. e ≡ TextError.Unreadable) }
 {
     line.clear();
     for _ in 0..u64::MAX {
-        if let Some(ended) = read_part(text, line)? {
+        if let Some(ended) = read_part(text, line, has_shown)? {
             return Ok(ended);
         }
     }
@@ -134,7 +219,7 @@ impl<T: BufRead> Source<T> {
             return Err(TextError::Unreadable);
         };
         let mut line = LineStart::new();
-        let is_ended = read_line(&mut self.text, &mut line)?;
+        let is_ended = read_line(&mut self.text, &mut line, &mut self.has_shown)?;
         self.lines_read = number;
         let Ok(request) = parse_line(number, &line) else {
             let expected = explain(&line);

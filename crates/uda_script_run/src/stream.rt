@@ -60,6 +60,7 @@ pub fn run_text<S: BlockStore, T: BufRead + Drop, R: Read, W: Write, V: Write, H
     let mut source = Source {
         text,
         lines_read: 0,
+        has_shown: false,
     };
     let mut lines = Vec::new(alloc);
     let mut progress = ScriptProgress::start(alloc, style);

@@ -2,6 +2,7 @@
 use super::batches::{driver_of, left_in};
 use super::streams::{Manner, Sink, Source};
 use std::alloc::Global;
+use std::io::{BufRead, BufReader};
 use std::test::Fail;
 use uda_driver::{Driver, Unwatched};
 use uda_grammar::{Expected, Part, ScriptError, explain};
@@ -212,9 +213,13 @@ impl Text {
         Ok(script)
     }
 
-    // Runs the script.
-    fn run(&self, alloc: Global, driver: &mut Driver<MemImage>) -> Result<Ran, Fail> {
-        let script = self.script(alloc)?;
+    // Runs the script, which is read from this reader.
+    fn run<T: BufRead + Drop>(
+        &self,
+        alloc: Global,
+        script: T,
+        driver: &mut Driver<MemImage>,
+    ) -> Result<Ran, Fail> {
         let data = Vec::from_elem(alloc, 7, self.held)?;
         let mut channels = Channels {
             input: Source::new(Manner::Halting(1_000), &data),
@@ -222,7 +227,7 @@ impl Text {
             report: Sink::new(alloc, Manner::Whole),
             watch: Unwatched,
         };
-        let done = run_text(alloc, self.style, script.as_slice(), &mut channels, driver);
+        let done = run_text(alloc, self.style, script, &mut channels, driver);
         let unread = channels.input.left.len();
         Ok(Ran {
             done,
@@ -247,13 +252,31 @@ fn texts(rt: HostRuntime) -> Result<(), Fail> {
     let alloc = rt.alloc();
     for (n, text) in TEXTS.iter().enumerate() {
         let mut driver = driver_of(alloc, &[5; 4096])?;
-        let got = text.run(alloc, &mut driver)?;
+        let script = text.script(alloc)?;
+        let got = text.run(alloc, script.as_slice(), &mut driver)?;
         assert!(rt; text.is_result(&got), "text {n}");
         let left = left_in(alloc, driver)?;
         assert!(rt;
             left.starts_with(&[if text.held == 0 { 5 } else { 7 }]),
             "text {n}: blocks"
         );
+    }
+    Ok(())
+}
+
+/// A reader that has no buffer, or one that is shorter than most lines, gives the same.
+#[test]
+fn texts_in_parts(rt: HostRuntime) -> Result<(), Fail> {
+    let alloc = rt.alloc();
+    for (n, text) in TEXTS.iter().enumerate() {
+        for capacity in [0, 1, 5] {
+            let mut driver = driver_of(alloc, &[5; 4096])?;
+            let script = text.script(alloc)?;
+            let source = Source::new(Manner::Halting(3), &script);
+            let script = BufReader::with_capacity(alloc, capacity, source)?;
+            let got = text.run(alloc, script, &mut driver)?;
+            assert!(rt; text.is_result(&got), "text {n}, capacity {capacity}");
+        }
     }
     Ok(())
 }

@@ -5,7 +5,7 @@ use Rattle.std.specs.Io.KnownBytes.{Consumes}
 use Rattle.std.specs.Io.BufRead.{FillKeeps}
 use Rattle.std.proofs.BufReadLemmas.{Consumes_shown}
 use Rattle.uda_script_run.proofs.Streaming.{takes_none, takes_end}
-use Rattle.uda_script_run.proofs.source.read_part.Goals as goal
+use Rattle.uda_script_run.proofs.source.read_shown.Goals as goal
 
 pub returns-then-eq-clause-part : goal.returns-then-eq-clause-part
 returns-then-eq-clause-part g c = takes_none _ _ _ c.fill_buf.follows.holds-at-none.0

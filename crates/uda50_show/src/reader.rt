@@ -99,7 +99,8 @@ impl PacketReader {
         self.filled += 1;
     }
 
-    // Adds the last byte of a packet, and returns the packet. It isn't inlined, since most tokens complete none.
+    // Adds the last byte of a packet, and returns the packet. It isn't inlined, since most tokens complete
+    // none.
     #[inline(never)]
     fn complete(&mut self, byte: u8) -> Packet
         requires { length self.old ≡ 47 }
@@ -111,8 +112,8 @@ impl PacketReader {
         Packet(self.bytes)
     }
 
-    // Adds the bytes of a word, of which one completes the packet, and returns the packet. It isn't inlined, since
-    // most tokens complete none.
+    // Adds the bytes of a word, of which one completes the packet, and returns the packet. It isn't inlined,
+    // since most tokens complete none.
     #[inline(never)]
     fn push_last_word(&mut self, low: u8, high: u8) -> Option<Packet>
         requires { 46 ≤ length self.old }

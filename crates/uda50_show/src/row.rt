@@ -12,7 +12,8 @@ use arrayvec::ArrayVec;
 use byteorder::{ByteOrder, LittleEndian};
 use std::fmt;
 
-// The text of a row: an offset of four bytes, at most 56 bytes of cells, 16 characters and what is around them.
+// The text of a row: an offset of four bytes, at most 56 bytes of cells, 16 characters and what is around
+// them.
 type RowText = ArrayVec<u8, 80>;
 
 /// Sixteen bytes of a block, with a text such as `1f0  44 45 43 ..  |DECRT11A    ....|`: the offset and the
@@ -122,7 +123,8 @@ fn write_row<W: fmt::Write>(
     requires short { length offset.now ≤ 4 }
     requires few { length cells.now ≤ 56 }
     requires ascii { IsAscii offset.now × IsAscii cells.now }
-    ensures { WritesOnOk W.write_str_gives f.old result (offset.now ++ cells.now ++ row_text bytes.now) f.new }
+    ensures { WritesOnOk W.write_str_gives f.old result
+        (offset.now ++ cells.now ++ row_text bytes.now) f.new }
 {
     let mut row = RowText::new();
     append(&mut row, offset);

@@ -1,5 +1,8 @@
 //! `uda50 decode`: prints packets by their fields.
 
+#[cfg(test)]
+mod tests;
+
 use crate::fault::{Fault, Reason, STANDARD_INPUT};
 use crate::outcome::Outcome;
 use std::alloc::Global;

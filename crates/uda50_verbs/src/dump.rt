@@ -1,5 +1,8 @@
 //! `uda50 dump`: prints blocks as text, or writes their bytes.
 
+#[cfg(test)]
+mod tests;
+
 use crate::fault::{Fault, Reason, STANDARD_OUTPUT};
 use crate::image::{open, read_block_or_zeros};
 use crate::outcome::Outcome;
@@ -30,11 +33,7 @@ pub(crate) fn dump<'w, W: Write>(
         path,
         format: dump.format,
     };
-    let mut room = [0; ROOM];
-    for first in (start..end).step_by(PIECE as usize) {
-        let count = end.saturating_sub(first).min(PIECE);
-        job.dump_piece(out, first, count, &mut room)?;
-    }
+    job.dump_blocks(out, start, end)?;
     Ok(Outcome::Done)
 }
 
@@ -53,6 +52,21 @@ struct DumpJob<'w> {
 }
 
 impl<'w> DumpJob<'w> {
+    // Prints the blocks from `start` to before `end`.
+    fn dump_blocks<W: Write>(
+        &mut self,
+        out: &mut W,
+        start: u32,
+        end: u32,
+    ) -> Result<(), Fault<'w>> {
+        let mut room = [0; ROOM];
+        for first in (start..end).step_by(PIECE as usize) {
+            let count = end.saturating_sub(first).min(PIECE);
+            self.dump_piece(out, first, count, &mut room)?;
+        }
+        Ok(())
+    }
+
     // Prints at most 16 blocks. They are read in one call. If that fails, each is read by itself, so that those before
     // the one that can't be read are printed.
     fn dump_piece<W: Write>(

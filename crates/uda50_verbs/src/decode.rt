@@ -37,7 +37,7 @@ pub(crate) fn decode<'w, W: Write>(
 }
 
 // Prints the packets of a text. What it printed goes out before it may have to wait for more of the text, before
-// a fault, and at the end.
+// a fault of the text, and at the end.
 fn decode_from<'w, R: Read + Drop, W: Write>(
     alloc: Global,
     name: &'w str,
@@ -54,16 +54,17 @@ fn decode_from<'w, R: Read + Drop, W: Write>(
         if !input.buffer().contains(&b'\n') {
             out.flush()?;
         }
-        let read = input.read_line(&mut line);
-        let done = match read {
-            Ok(0) => break,
-            Ok(_) => decode_line(name, number, line.as_str(), &mut progress, out),
-            Err(error) => Err(Fault::system(name, error)),
+        let read = match input.read_line(&mut line) {
+            Ok(read) => read,
+            Err(error) => {
+                out.flush()?;
+                return Err(Fault::system(name, error));
+            }
         };
-        if done.is_err() {
-            out.flush()?;
+        if read == 0 {
+            break;
         }
-        done?;
+        decode_line(name, number, line.as_str(), &mut progress, out)?;
         if line.capacity() > LINE_ROOM {
             line = String::new(alloc);
         }
@@ -93,7 +94,10 @@ fn decode_line<'w, W: Write>(
         word = word.saturating_add(1);
         let packet = match progress.reader.push_token(token) {
             Ok(packet) => packet,
-            Err(error) => return Err(Fault::new(name, Reason::Token { line, word, error })),
+            Err(error) => {
+                out.flush()?;
+                return Err(Fault::new(name, Reason::Token { line, word, error }));
+            }
         };
         if let Some(packet) = packet {
             progress.packets = progress.packets.saturating_add(1);

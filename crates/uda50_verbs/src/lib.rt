@@ -15,6 +15,8 @@ mod run;
 mod script;
 mod streams;
 mod target;
+#[cfg(test)]
+mod test_streams;
 mod trace;
 
 pub use entry::{program, unreadable_arguments};

@@ -2,9 +2,9 @@
 use super::{DecodeProgress, LINE_ROOM, PacketReader, decode_from};
 use crate::fault::{Fault, Reason};
 use crate::outcome::Outcome;
+use crate::test_streams::{Bits, Sink};
 use std::alloc::{AllocError, Global};
-use std::io;
-use std::io::{BufRead, BufReader, ErrorKind, Read, Write};
+use std::io::{BufRead, BufReader, BufWriter, Write};
 use std::process::Abort;
 use std::test::Fail;
 
@@ -63,68 +63,23 @@ fn decode_line<'w, W: Write>(
     Ok(())
 }
 
-/// A reader that moves at most `most` bytes in each call. Each second call is interrupted.
-#[derive(Drop)]
-struct Bits<'a> {
-    left: &'a [u8],
-    most: usize,
-    calls: u32,
-}
-
-impl Read for Bits<'_> {
-    fn read(&mut self, buf: &mut [u8]) -> io::Result<usize> {
-        self.calls = self.calls.wrapping_add(1);
-        if self.calls % 2 == 0 {
-            return Err(io::Error::from(ErrorKind::Interrupted));
-        }
-        let count = self.most.min(self.left.len()).min(buf.len());
-        buf[..count].copy_from_slice(&self.left[..count]);
-        self.left = &self.left[count..];
-        Ok(count)
-    }
-}
-
-/// A writer that takes `room` bytes, and the number of bytes that had come at the last flush.
-#[derive(Drop)]
-struct Sink {
-    taken: Vec<u8>,
-    room: usize,
-    flushed: usize,
-}
-
-impl Write for Sink {
-    fn write(&mut self, buf: &[u8]) -> io::Result<usize> {
-        let count = buf.len().min(self.room.saturating_sub(self.taken.len()));
-        if count == 0 && !buf.is_empty() {
-            return Err(io::Error::from(ErrorKind::StorageFull));
-        }
-        self.taken.extend_from_slice(&buf[..count])?;
-        Ok(count)
-    }
-
-    fn flush(&mut self) -> io::Result<()> {
-        self.flushed = self.taken.len();
-        Ok(())
-    }
-}
-
 /// The tokens of a text, and how they stand in lines.
 #[derive(Clone, Copy, Debug)]
 struct Shape {
     /// The number of tokens.
     tokens: usize,
-    /// The number of tokens on a line.
+    /// The number of tokens on a line. An even width makes Get Unit Status commands, and an odd one Aborts.
     width: usize,
     /// What ends a line.
     end: &'static str,
-    /// The token after which something else comes.
+    /// The index of the token after which `other` is inserted.
     at: usize,
-    /// What comes there.
+    /// The inserted bytes.
     other: &'static [u8],
 }
 
 impl Shape {
-    // Returns the text. Each packet is a Get Unit Status or another one, by the number of tokens on a line.
+    // Returns the text.
     fn text(&self, alloc: Global) -> Result<Vec<u8>, AllocError> {
         let opcode = if self.width % 2 == 0 { "03 " } else { "01 " };
         let mut text = Vec::new(alloc);
@@ -142,14 +97,19 @@ impl Shape {
     }
 }
 
-/// Where a text comes from, and where its packets go.
+/// How a text comes, and where its packets go.
 #[derive(Clone, Copy, Debug)]
 struct Streams {
+    /// The most bytes that a read brings.
     most: usize,
+    /// The number of bytes that are read before reads fail.
+    until: usize,
+    /// The number of bytes that the writer takes.
     room: usize,
 }
 
-// Compares output and result. All output has to be flushed, except that of a full writer.
+// Compares output and result, over the writer itself and over a buffer. The output has to be flushed, except that of a
+// full writer.
 fn compare(
     rt: &(impl Alloc<A = Global> + Abort),
     shape: &Shape,
@@ -157,34 +117,41 @@ fn compare(
 ) -> Result<(), Fail> {
     let alloc = rt.alloc();
     let text = shape.text(alloc)?;
-    let Streams { most, room } = streams;
-    let sink = || Sink {
-        taken: Vec::new(alloc),
-        room,
-        flushed: 0,
-    };
+    let Streams { most, until, room } = streams;
     let bits = || Bits {
         left: &text,
         most,
+        until,
         calls: 0,
     };
-    let (mut out, mut expected) = (sink(), sink());
+    let (mut out, mut expected) = (Sink::new(alloc, room), Sink::new(alloc, room));
     let done = decode_from(alloc, "text", BufReader::new(alloc, bits())?, &mut out);
     let wanted = decode_lines(alloc, "text", BufReader::new(alloc, bits())?, &mut expected);
+    let wanted = format!(in alloc; "{wanted:?}")?;
     assert!(rt; out.taken == expected.taken, "{shape:?}, {streams:?}");
     assert!(rt;
         out.flushed == out.taken.len() || out.taken.len() == room,
         "{shape:?}, {streams:?}"
     );
-    let (done, wanted) = (
+    assert_eq!(rt;
         format!(in alloc; "{done:?}")?,
-        format!(in alloc; "{wanted:?}")?,
+        wanted,
+        "{shape:?}, {streams:?}"
     );
-    assert_eq!(rt; done, wanted, "{shape:?}, {streams:?}");
+    let mut buffer = BufWriter::new(alloc, Sink::new(alloc, room))?;
+    let done = decode_from(alloc, "text", BufReader::new(alloc, bits())?, &mut buffer);
+    let (out, _) = buffer.into_parts();
+    assert!(rt;
+        out.taken == expected.taken,
+        "{shape:?}, {streams:?}, buffered"
+    );
+    assert_eq!(rt;
+        format!(in alloc; "{done:?}")?,
+        wanted,
+        "{shape:?}, {streams:?}, buffered"
+    );
     Ok(())
 }
-
-const WIDTHS: [usize; 7] = [1, 47, 48, 97, 1_365, 1_366, 4_000];
 
 const ENDS: [&str; 4] = ["\n", "\r\n", "# a comment\n\n", ""];
 
@@ -192,41 +159,65 @@ const OTHERS: [&[u8]; 5] = [b"", b"zz ", b"\xff ", b"\n000000 ", b"\n#\n"];
 
 const ALL: usize = 1 << 20;
 
-const STREAMS: [Streams; 4] = [
+const STREAMS: [Streams; 5] = [
     Streams {
-        most: 8_192,
+        most: LINE_ROOM,
+        until: ALL,
         room: ALL,
     },
     Streams {
         most: 61,
+        until: ALL,
         room: ALL,
     },
-    Streams { most: 1, room: ALL },
     Streams {
-        most: LINE_ROOM,
+        most: 1,
+        until: 2_500,
+        room: ALL,
+    },
+    Streams {
+        most: 8_192,
+        until: ALL,
         room: 999,
+    },
+    Streams {
+        most: 8_192,
+        until: ALL,
+        room: 0,
     },
 ];
 
+/// The widths of lines, with the tokens of the text and the index of the insertion. 1,365 tokens and a line feed are as
+/// many bytes as are kept for the next line.
+const WIDTHS: [(usize, usize, usize); 9] = [
+    (1, 47, 3),
+    (1, 1_440, 700),
+    (47, 1_440, 700),
+    (48, 47, 3),
+    (48, 1_440, 700),
+    (97, 1_440, 700),
+    (1_365, 4_800, 2_800),
+    (1_366, 4_800, 2_800),
+    (4_000, 4_800, 2_800),
+];
+
 /// Lines of any length, also of more bytes than are kept for the next, with any end, and with tokens that are wrong,
-/// bytes that aren't text, and ends inside a packet. They come in pieces of any length, and go to writers with room for
-/// all or for some of the output.
+/// bytes that aren't text, and ends inside a packet. They come in pieces of any length, also from a reader that fails,
+/// and go to writers with room for all or for some of the output.
 #[test]
 fn packets_are_as_flushed_one_by_one(rt: HostRuntime) -> Result<(), Fail> {
-    let mut turn = 0usize;
-    for width in WIDTHS {
+    for (width, tokens, at) in WIDTHS {
         for end in ENDS {
             for other in OTHERS {
-                for (tokens, at) in [(47, 3), (1_440, 700), (4_800, 2_800)] {
-                    let shape = Shape {
-                        tokens,
-                        width,
-                        end,
-                        at,
-                        other,
-                    };
-                    compare(&rt, &shape, STREAMS[turn % 4])?;
-                    turn = turn.wrapping_add(1);
+                let shape = Shape {
+                    tokens,
+                    width,
+                    end,
+                    at,
+                    other,
+                };
+                for streams in STREAMS {
+                    compare(&rt, &shape, streams)?;
                 }
             }
         }

@@ -1,7 +1,9 @@
 //! The blocks of a dump, compared with a dump that reads one block at a time.
 use super::{DumpJob, HexRow, OctalRow};
 use crate::fault::Fault;
-use crate::image::{open, read_block_or_zeros};
+use crate::image::read_block_or_zeros;
+use crate::test_streams::Sink;
+use std::alloc::Global;
 use std::fs::{File, OpenFile};
 use std::io::Write;
 use std::path::PathBuf;
@@ -74,24 +76,25 @@ fn dump_block<'w, W: Write>(
     Ok(())
 }
 
-// Compares the output, and the fault, of the blocks from `start` to before `end` with those of the slower form.
+// Compares the output, and the fault, of a range of blocks with those of the slower form. The writer has limited room.
 fn compare(
-    rt: &(impl Alloc + Abort),
+    rt: &(impl Alloc<A = Global> + Abort),
     job: &mut DumpJob<'_>,
-    start: u32,
-    end: u32,
+    (start, end): (u32, u32),
+    room: usize,
 ) -> Result<(), Fail> {
-    let (mut out, mut expected) = (Vec::new(rt.alloc()), Vec::new(rt.alloc()));
+    let alloc = rt.alloc();
+    let (mut out, mut expected) = (Sink::new(alloc, room), Sink::new(alloc, room));
     let done = job.dump_blocks(&mut out, start, end);
     let (path, format) = (job.path, job.format);
     let wanted = dump_one_by_one(&mut job.image, path, format, (start, end), &mut expected);
     assert!(rt;
-        out == expected,
-        "the bytes of {start} to {end}, {format:?}"
+        out.taken == expected.taken,
+        "{start} to {end}, {format:?}, {room}"
     );
     let (done, wanted) = (
-        format!(in rt.alloc(); "{done:?}")?,
-        format!(in rt.alloc(); "{wanted:?}")?,
+        format!(in alloc; "{done:?}")?,
+        format!(in alloc; "{wanted:?}")?,
     );
     assert_eq!(rt; done, wanted);
     Ok(())
@@ -110,16 +113,19 @@ fn scratch_file(rt: &HostRuntime) -> io::Result<PathBuf> {
     Ok(path)
 }
 
-// Leaves the first blocks of a file.
-fn shorten(rt: &HostRuntime, path: &PathBuf, blocks: u32) -> io::Result<()> {
+// Leaves the first bytes of a file.
+fn shorten(rt: &HostRuntime, path: &PathBuf, bytes: u64) -> io::Result<()> {
     File::options()
         .write(true)
         .open(rt, path.as_path())?
-        .set_len(512 * u64::from(blocks))
+        .set_len(bytes)
 }
 
-/// Ranges of any length in each format. Then the file is shortened by one block after the other. The blocks that it
-/// no longer has can't be read.
+const ALL: usize = 1 << 20;
+
+/// Ranges of any length in each format, some of them with blocks that the image doesn't have, and writers that become
+/// full. Then the file is shortened by one block after the other, or by a part of one. The blocks that it no longer has
+/// can't be read.
 #[test]
 fn blocks_are_as_read_one_by_one(rt: HostRuntime) -> Result<(), Fail> {
     for format in FORMATS {
@@ -133,13 +139,21 @@ fn blocks_are_as_read_one_by_one(rt: HostRuntime) -> Result<(), Fail> {
         };
         for start in [0, 1, 16, 20] {
             for end in start..=BLOCKS {
-                compare(&rt, &mut job, start, end)?;
+                compare(&rt, &mut job, (start, end), ALL)?;
             }
         }
-        for blocks in (0..BLOCKS).rev() {
-            shorten(&rt, &scratch, blocks)?;
-            compare(&rt, &mut job, 0, BLOCKS)?;
-            compare(&rt, &mut job, 7, 32)?;
+        for range in [(20, 36), (30, 40), (34, 52), (35, 36), (40, 57)] {
+            compare(&rt, &mut job, range, ALL)?;
+        }
+        for room in [0, 7, 511, 512, 700, 8_192, 20_000] {
+            compare(&rt, &mut job, (3, BLOCKS), room)?;
+        }
+        for blocks in (0..u64::from(BLOCKS)).rev() {
+            for bytes in [512 * blocks + 100, 512 * blocks] {
+                shorten(&rt, &scratch, bytes)?;
+                compare(&rt, &mut job, (0, BLOCKS), ALL)?;
+                compare(&rt, &mut job, (7, 32), 9_000)?;
+            }
         }
         fs::remove_file(&rt, scratch.as_path())?;
     }

@@ -16,7 +16,7 @@ use Rattle.uda_posting.proofs.Owing.{separate_turned}
 use Rattle.uda_disk.proofs.Lists.{All-remove, All-at, pairs_first, pairs_rest, pairs_others}
 use Rattle.uda_driver.specs.Outstanding.{posted_with, IsOut}
 use Rattle.uda_driver.specs.RunInvariant.{BufferTableInvariant}
-use Rattle.uda_driver.specs.declared.slot.Outstanding.{Outstanding}
+use Rattle.uda_driver.specs.declared.outstanding.Outstanding.{Outstanding}
 use Rattle.uda_driver.proofs.Slots.{set_at, freed_at, count-taken, count-freed}
 
 -- ---- one of a list comes before it

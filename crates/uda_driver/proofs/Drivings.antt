@@ -25,7 +25,7 @@ use Rattle.uda_host.specs.Host.{HostState, outstanding_count, BuffersStay, Takes
 use Rattle.uda_driver.specs.Outstanding.{posted_with, occupied_count, clashes_with, IsFit, AreFit}
 use Rattle.uda_driver.specs.DriverStep.{PostsRequest, IsReferred}
 use Rattle.uda_driver.specs.RunInvariant.{BufferTableInvariant, RequestsInvariant}
-use Rattle.uda_driver.specs.declared.slot.Outstanding.{Outstanding}
+use Rattle.uda_driver.specs.declared.outstanding.Outstanding.{Outstanding}
 use Rattle.uda_driver.proofs.Slots.{set_at, freed_at}
 use Rattle.uda_driver.proofs.BufferTableInvariant.{none_at, outs_none, of_alive, outs_post, outs_execute, own, own_reference, outs_take}
 

@@ -18,7 +18,7 @@ use Rattle.uda_host.specs.Host.{HostState, TurnWithoutEnd, OneFetched, OneDone, 
 use Rattle.uda_driver.specs.Outstanding.{posted_with, clashes_with_any}
 use Rattle.uda_driver.specs.DriverStep.{PostsRequest}
 use Rattle.uda_driver.specs.Load.{triangle, InLead, LeadOver, LoadAt, GoesOn, IsOver}
-use Rattle.uda_driver.specs.declared.slot.Outstanding.{Outstanding}
+use Rattle.uda_driver.specs.declared.outstanding.Outstanding.{Outstanding}
 use Rattle.uda_driver.proofs.Slots.{clashes-taken}
 
 triangle-more : (n : ℕ) → triangle (n + 1) ≡ n + 1 + triangle n

@@ -11,7 +11,7 @@ use Rattle.std.proofs.lemmas.Option.{slice_get_within, slice_get-get_or, get_or_
 use Rattle.uda_disk.specs.Request.{Request}
 use Rattle.uda_driver.specs.Outstanding.{occupied_count, clashes_with, clashes_with_any}
 use Rattle.uda_driver.specs.DriverStep.{HasFreeBuffer}
-use Rattle.uda_driver.specs.declared.slot.Outstanding.{Outstanding}
+use Rattle.uda_driver.specs.declared.outstanding.Outstanding.{Outstanding}
 
 -- ---- one buffer is set
 

@@ -6,7 +6,8 @@ use Rattle.std.specs.List.{list_any}
 use Rattle.std.proofs.lemmas.Bool.Decides.{nat_tests}
 use Rattle.uda_disk.specs.Request.{Request, Extent, blocks_for, extent_of}
 use Rattle.uda_disk.specs.Order.{clash}
-use Rattle.uda_driver.specs.declared.slot.Outstanding.{Outstanding}
+use Rattle.uda_driver.specs.declared.outstanding.Outstanding.{Outstanding}
+use Rattle.uda_driver.specs.declared.span.Span.{Span}
 use Rattle.uda_driver.specs.Span.{span_of, spans_clash}
 use Rattle.uda_driver.specs.Outstanding.{clashes_with, clashes_with_any, span_clashes}
 
@@ -50,3 +51,7 @@ same_any r [] = refl
 same_any r (slot ∷ rest) =
     ap (λ (b : Bool). b || list_any (span_clashes (span_of r)) rest) (same_slot r slot)
     ∙ ap (λ (b : Bool). clashes_with r slot || b) (same_any r rest)
+
+pub any_clashes : (r : Request) (span : Span) (out : List (Option Outstanding)) → span ≡ span_of r
+    → list_any (span_clashes span) out ≡ clashes_with_any r out
+any_clashes r span out is = ap (λ (s : Span). list_any (span_clashes s) out) is ∙ same_any r out

@@ -29,7 +29,7 @@ use Rattle.uda_driver.specs.DriverStep.{HasFreeBuffer, PostsRequest, DriverStep,
 use Rattle.uda_driver.specs.Load.{triangle, InLead, IsOver}
 use Rattle.uda_driver.specs.RunInvariant.{IsAtWork, RunInvariant}
 use Rattle.uda_driver.specs.Drive.{IsDriving, RunFinished}
-use Rattle.uda_driver.specs.declared.slot.Outstanding.{Outstanding}
+use Rattle.uda_driver.specs.declared.outstanding.Outstanding.{Outstanding}
 use Rattle.uda_driver.proofs.Slots.{some_free, clashing_out, no_clash_at}
 use Rattle.uda_driver.proofs.Drivings.{driving_works, driving_takes, driving_skip, driving_post, driving_start, driving_end, counted_out}
 use Rattle.uda_driver.proofs.Loads.{triangle-is, lead-waits, lead-none, Next, next, load_start, over_from, over_works, over_takes, load_skip, load_post}

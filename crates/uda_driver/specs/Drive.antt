@@ -11,7 +11,7 @@ use Rattle.uda_host.specs.Host.{HostState}
 use Rattle.uda_driver.specs.Run.{HasTurnCounts}
 use Rattle.uda_driver.specs.Driver.{DriverInvariant}
 use Rattle.uda_driver.specs.RunInvariant.{RequestsInvariant}
-use Rattle.uda_driver.specs.declared.slot.Outstanding.{Outstanding}
+use Rattle.uda_driver.specs.declared.outstanding.Outstanding.{Outstanding}
 
 -- a run is in progress, for some requests so far, and some units at its start
 pub record IsDriving (out : List (Option Outstanding)) (answers : List CodeAnswer) (host : HostState) : Type 0 where

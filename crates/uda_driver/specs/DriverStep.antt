@@ -8,7 +8,7 @@ use Rattle.uda_disk.specs.declared.answer.Answer.{Answer}
 use Rattle.uda_host.specs.Layout.{buffer_address}
 use Rattle.uda_host.specs.Host.{HostState, Posts, TurnWithoutEnd, TakesEnd}
 use Rattle.uda_driver.specs.Outstanding.{posted_with}
-use Rattle.uda_driver.specs.declared.slot.Outstanding.{Outstanding}
+use Rattle.uda_driver.specs.declared.outstanding.Outstanding.{Outstanding}
 
 -- the host after a write of a request's payload into this buffer
 abbrev pub with_payload : HostState → ℕ → Outstanding → HostState

@@ -7,7 +7,7 @@ use Rattle.uda_disk.specs.Order.{clash, lead, lead_from}
 use Rattle.uda_disk.specs.InOrderRun.{posted_count}
 use Rattle.uda_host.specs.Host.{HostState}
 use Rattle.uda_driver.specs.Outstanding.{clashes_with_any}
-use Rattle.uda_driver.specs.declared.slot.Outstanding.{Outstanding}
+use Rattle.uda_driver.specs.declared.outstanding.Outstanding.{Outstanding}
 
 -- 1 + 2 + .. + n
 abbrev pub triangle : ℕ → ℕ

@@ -11,7 +11,7 @@ use Rattle.uda_disk.specs.Values.{request_value}
 use Rattle.uda_host.specs.Layout.{buffer_address}
 use Rattle.uda_host.specs.Host.{HostState}
 use Rattle.uda_driver.specs.Blank.{Prepared}
-use Rattle.uda_driver.specs.declared.slot.Outstanding.{Outstanding}
+use Rattle.uda_driver.specs.declared.outstanding.Outstanding.{Outstanding}
 use Rattle.uda_driver.specs.declared.span.Span.{Span}
 use Rattle.uda_driver.specs.Span.{spans_clash}
 

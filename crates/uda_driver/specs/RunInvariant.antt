@@ -16,7 +16,7 @@ use Rattle.uda_host.specs.Host.{HostState, outstanding_count, IsConsistent}
 use Rattle.uda_driver.specs.Blank.{AreBlank}
 use Rattle.uda_driver.specs.Outstanding.{occupied_count, AreFit, IsOut, HaveOwnPlaces}
 use Rattle.uda_driver.specs.Load.{LoadAt}
-use Rattle.uda_driver.specs.declared.slot.Outstanding.{Outstanding}
+use Rattle.uda_driver.specs.declared.outstanding.Outstanding.{Outstanding}
 
 -- The outstanding requests are those that are not executed (`due`) and those that have ended, each once.
 -- The end messages are queued in the order of execution, and each refers to its request.

@@ -2,13 +2,12 @@
 ghost use Rattle.std.specs.Prelude.{◌≡◌, ◌+◌, ◌<◌, Some, None, length, replicate, position, is_none};
 ghost use Rattle.std.specs.Prelude.{slice_get, slice_set};
 ghost use Rattle.uda_exec.specs.Disks.{PENDING_LIMIT};
-ghost use Rattle.std.specs.List.{list_any};
 ghost use Rattle.uda_disk.specs.Request.{Request as Asked};
 ghost use Rattle.uda_driver.specs.Span.{span_of};
 ghost use Rattle.uda_driver.specs.Outstanding.{refers, span_clashes, clashes_with_any};
 ghost use Rattle.uda_driver.specs.DriverStep.{IsReferred};
 
-use crate::slot::Outstanding;
+use crate::outstanding::Outstanding;
 use crate::span::Span;
 use uda_exec::PENDING;
 
@@ -81,13 +80,6 @@ fn is_referred(slot: &Option<Outstanding<'_>>, reference: u32) -> bool
 /// Returns whether a request of these blocks conflicts with an outstanding one.
 pub(crate) fn clashes_with_any(span: Span, out: &[Option<Outstanding<'_>>; PENDING]) -> bool
     ensures { (r : Asked) → span ≡ span_of r → result ≡ clashes_with_any r out.now }
-{
-    any_span_clashes(span, out)
-}
-
-// Returns the same for the spans of the code.
-fn any_span_clashes(span: Span, out: &[Option<Outstanding<'_>>; PENDING]) -> bool
-    ensures { result ≡ list_any (span_clashes span) out.now }
 {
     out.iter().any(|slot| clashes_with(span, slot))
 }

@@ -9,8 +9,8 @@ mod buffers;
 mod driver;
 mod errors;
 mod losses;
+mod outstanding;
 mod run_loop;
-mod slot;
 mod span;
 mod watch;
 

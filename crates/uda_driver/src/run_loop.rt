@@ -17,7 +17,7 @@ ghost use Rattle.uda_driver.specs.Span.{span_of};
 
 use crate::answers::answer_for;
 use crate::buffers::{clashes_with_any, free_buffer, none_out, put_out, take_out};
-use crate::slot::Outstanding;
+use crate::outstanding::Outstanding;
 use crate::span::Span;
 use crate::watch::Watch;
 use uda_disk::{Answer, Request};

@@ -7,4 +7,7 @@ pub mod Appends
 pub mod Alikes
 pub mod Batching
 pub mod Streaming
+pub mod WordDigits
+pub mod ReadAhead
+pub mod Names
 pub mod Outcomes

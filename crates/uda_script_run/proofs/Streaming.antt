@@ -4,8 +4,8 @@ use Rattle.std.specs.Prelude.{◌==◌, ◌&&◌, if◌then◌else◌, IfSome}
 use Rattle.std.specs.List.{list_all}
 use Rattle.std.proofs.lemmas.List.{take_all, length-take}
 use Rattle.std.proofs.lemmas.List.Elements.{All-nil, All-cons, All-append}
-use Rattle.std.specs.Io.KnownBytes.{Consumes, IsAtEnd, Keeps}
-use Rattle.std.proofs.KnownBytes.{Consumes-nil, Consumes-trans, Consumes-kept}
+use Rattle.std.specs.Io.KnownBytes.{Consumes, IsAtEnd}
+use Rattle.std.proofs.KnownBytes.{Consumes-nil, Consumes-trans}
 use Rattle.uda_disk.specs.Answer.{Answer}
 use Rattle.uda_grammar.specs.declared.error.ScriptError.{ScriptError}
 use Rattle.uda_grammar.specs.declared.error.ScriptError.TheVariants.{NoMemory, Syntax, TooManyLines, ShortData, Read, Write}
@@ -20,6 +20,7 @@ use Rattle.uda_script_run.specs.declared.style.ScriptOutcome.{ScriptOutcome}
 use Rattle.uda_script_run.specs.declared.style.ScriptOutcome.TheVariants.{AllSucceeded, SomeFailed}
 use Rattle.uda_script_run.specs.declared.source.Next.{Next}
 use Rattle.uda_script_run.specs.declared.source.Next.TheVariants.{More, End, Fault}
+use Rattle.uda_script_run.specs.declared.source.PartEnd.TheVariants.{Open, LineFeed, Text}
 use Rattle.uda_script_run.specs.declared.text_error.TextError.{TextError}
 use Rattle.uda_script_run.specs.declared.text_error.TextError.TheVariants as error
 use Rattle.uda_script_run.specs.Texts.{succeeded, outcome_of, both, part_after, whole_report}
@@ -28,7 +29,7 @@ use Rattle.uda_script_run.specs.Batches.{Setting, Ran, StopsBefore, StopsInError
 use Rattle.uda_script_run.specs.Stream.{RanText, StopsInScript, StopsInText}
 use Rattle.uda_script_run.proofs.Batching.{from_none, from_more, stops_later, stops_there}
 
--- ---- a line, byte by byte
+-- ---- a line, part by part
 
 -- the first bytes of a line were read, and as many of them are kept as there is room for
 pub record ReadsPart (text now : Option (List ℕ)) (kept : List ℕ) : Type 0 where
@@ -58,57 +59,20 @@ still_kept kept more line part is grown =
     (omega (arith, length-take line_room line)) in
     grown few ∙ ap (λ (xs : List ℕ). take line_room (xs ++ part)) is ∙ kept_again line_room line part
 
--- a text that is known stays known
-still_at_end : (text now next : Option (List ℕ)) (line : List ℕ) → Consumes text now line
-    → IfSome now (λ _. IsAtEnd next) → IfSome text (λ _. IsAtEnd next)
-still_at_end None now next line consumed ended = tt
-still_at_end (Some xs) None next line consumed ended = absurd consumed
-still_at_end (Some xs) (Some ys) next line consumed ended = ended
-
--- no part more, since a read was interrupted
-pub takes_none : (text now : Option (List ℕ)) (kept : List ℕ) → Keeps text now → TakesPart text now kept kept None
-takes_none text now kept same = record {
-  part = [];
-  one = All-nil (λ byte. (byte == 10) ≡ false);
-  is_kept = λ few. sym (ap (take line_room) (append-nil kept) ∙ take_all line_room kept few);
-  consumed = Consumes-kept text text now [] (Consumes-nil text) same;
-  at_end = λ e. absurd (cc);
-}
-
--- no part more, since the reader showed nothing
-pub takes_end : (text now : Option (List ℕ)) (kept shown : List ℕ) → Keeps text now → length shown ≡ 0
-    → IfSome text (λ xs. length shown ≡ 0 → xs ≡ []) → TakesPart text now kept kept (Some false)
-takes_end text now kept shown same none ended = record {
-  part = [];
-  one = All-nil (λ byte. (byte == 10) ≡ false);
-  is_kept = λ few. sym (ap (take line_room) (append-nil kept) ∙ take_all line_room kept few);
-  consumed = Consumes-kept text text now [] (Consumes-nil text) same;
-  at_end = λ _. by text now same ended;
-}
-  where
-    by : (a b : Option (List ℕ)) → Keeps a b → IfSome a (λ xs. length shown ≡ 0 → xs ≡ []) → IfSome a (λ _. IsAtEnd b)
-    by None b same ended = tt
-    by (Some xs) None same ended = absurd same
-    by (Some xs) (Some ys) same ended = same ∙ ended none
-
 -- no part more, since the text ended
 pub takes_last : (text now : Option (List ℕ)) (kept : List ℕ) → Consumes text now [] → IsAtEnd now
-    → TakesPart text now kept kept (Some false)
+    → TakesPart text now kept kept Text
 takes_last text now kept none ended = record {
   part = [];
   one = All-nil (λ byte. (byte == 10) ≡ false);
   is_kept = λ few. sym (ap (take line_room) (append-nil kept) ∙ take_all line_room kept few);
   consumed = none;
-  at_end = λ _. by text;
+  at_end = λ _. ended;
 }
-  where
-    by : (a : Option (List ℕ)) → IfSome a (λ _. IsAtEnd now)
-    by None = tt
-    by (Some xs) = ended
 
 -- a line feed and no more
 pub takes_feed : (text now : Option (List ℕ)) (kept : List ℕ) → Consumes text now (10 ∷ [])
-    → TakesPart text now kept kept (Some true)
+    → TakesPart text now kept kept LineFeed
 takes_feed text now kept feed = record {
   part = [];
   one = All-nil (λ byte. (byte == 10) ≡ false);
@@ -118,20 +82,20 @@ takes_feed text now kept feed = record {
 }
 
 -- one byte of the line
-pub takes_byte : (text between now : Option (List ℕ)) (kept more : List ℕ) (byte : ℕ) → (byte == 10) ≡ false
-    → more ≡ take line_room (kept ++ byte ∷ []) → Consumes text between (byte ∷ []) → Keeps between now
-    → TakesPart text now kept more None
-takes_byte text between now kept more byte other grown taken same = record {
+pub takes_byte : (text now : Option (List ℕ)) (kept more : List ℕ) (byte : ℕ) → (byte == 10) ≡ false
+    → more ≡ take line_room (kept ++ byte ∷ []) → Consumes text now (byte ∷ [])
+    → TakesPart text now kept more Open
+takes_byte text now kept more byte other grown taken = record {
   part = byte ∷ [];
   one = All-cons (λ b. (b == 10) ≡ false) byte [] other (All-nil (λ b. (b == 10) ≡ false));
   is_kept = λ _. grown;
-  consumed = Consumes-kept text between now (byte ∷ []) taken same;
+  consumed = taken;
   at_end = λ e. absurd (cc);
 }
 
 -- a part more of a line that goes on
 pub part_more : (text now next : Option (List ℕ)) (kept more : List ℕ) → ReadsPart text now kept
-    → TakesPart now next kept more None → ReadsPart text next more
+    → TakesPart now next kept more Open → ReadsPart text next more
 part_more text now next kept more so_far taken = record {
   line = so_far.line ++ taken.part;
   one = All-append (λ b. (b == 10) ≡ false) so_far.line taken.part so_far.one taken.one;
@@ -141,19 +105,29 @@ part_more text now next kept more so_far taken = record {
       (subst (λ (xs : List ℕ). Consumes now next xs) (append-nil taken.part) taken.consumed);
 }
 
--- the last part of a line
-pub part_last : (text now next : Option (List ℕ)) (kept more : List ℕ) (ended : Bool) → ReadsPart text now kept
-    → TakesPart now next kept more (Some ended) → ReadsLine text next more ended
-part_last text now next kept more ended so_far taken = record {
+-- the last part of a line that a line feed ends, and of one that the text ends
+pub part_ended : (text now next : Option (List ℕ)) (kept more : List ℕ) → ReadsPart text now kept
+    → TakesPart now next kept more LineFeed → ReadsLine text next more true
+part_ended text now next kept more so_far taken = record {
   line = so_far.line ++ taken.part;
   one = All-append (λ b. (b == 10) ≡ false) so_far.line taken.part so_far.one taken.one;
   is_kept = still_kept kept more so_far.line taken.part so_far.is_kept taken.is_kept;
   consumed =
-      subst (λ (xs : List ℕ). Consumes text next xs)
-      (sym (append_assoc so_far.line taken.part (if ended then 10 ∷ [] else [])))
-      (Consumes-trans text now next so_far.line (taken.part ++ (if ended then 10 ∷ [] else [])) so_far.consumed
-      taken.consumed);
-  at_end = λ e. still_at_end text now next so_far.line so_far.consumed (taken.at_end (ap (λ (b : Bool). Some b) e));
+      subst (λ (xs : List ℕ). Consumes text next xs) (sym (append_assoc so_far.line taken.part (10 ∷ [])))
+      (Consumes-trans text now next so_far.line (taken.part ++ 10 ∷ []) so_far.consumed taken.consumed);
+  at_end = λ e. absurd (cc);
+}
+
+pub part_last : (text now next : Option (List ℕ)) (kept more : List ℕ) → ReadsPart text now kept
+    → TakesPart now next kept more Text → ReadsLine text next more false
+part_last text now next kept more so_far taken = record {
+  line = so_far.line ++ taken.part;
+  one = All-append (λ b. (b == 10) ≡ false) so_far.line taken.part so_far.one taken.one;
+  is_kept = still_kept kept more so_far.line taken.part so_far.is_kept taken.is_kept;
+  consumed =
+      subst (λ (xs : List ℕ). Consumes text next xs) (sym (append_assoc so_far.line taken.part []))
+      (Consumes-trans text now next so_far.line (taken.part ++ []) so_far.consumed taken.consumed);
+  at_end = λ e. taken.at_end refl;
 }
 
 -- ---- texts whose bytes are known, or not
@@ -175,14 +149,6 @@ known_bytes (Some xs) = (xs, refl)
 nothing_left : (text : Option (List ℕ)) → IsAtEnd text → IfSome text (λ xs. [] ≡ xs)
 nothing_left None ended = tt
 nothing_left (Some xs) ended = sym ended
-
--- a text of which nothing is left
-ended_text : (text now : Option (List ℕ)) (line : List ℕ) → Consumes text now (line ++ [])
-    → IfSome text (λ _. IsAtEnd now) → IfSome text (λ xs. line ≡ xs)
-ended_text None now line consumed ended = tt
-ended_text (Some xs) now line consumed ended =
-    subst (λ (all : List ℕ). all ≡ xs) (append-nil (line ++ []) ∙ append-nil line)
-    (known_more (Some xs) now (line ++ []) [] consumed (nothing_left now ended))
 
 -- ---- a line and what it makes
 
@@ -208,7 +174,10 @@ module _ (read : ℕ) (text now : Option (List ℕ)) (kept : List ℕ) where
       }
 
   last_text : (got : ReadsLine text now kept false) → IfSome text (λ xs. got.line ≡ xs)
-  last_text got = ended_text text now got.line got.consumed (got.at_end refl)
+  last_text got =
+      subst (λ (line : List ℕ). IfSome text (λ xs. line ≡ xs))
+      (append-nil (got.line ++ []) ∙ append-nil got.line)
+      (known_more text now (got.line ++ []) [] got.consumed (nothing_left now (got.at_end refl)))
 
   pub line_ends : (made : List Line) → ReadsLine text now kept false → is_fault kept ≡ false
       → made ≡ request_in (read + 1) kept → EndsWith (text_at read text) made None

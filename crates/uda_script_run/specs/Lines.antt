@@ -9,6 +9,8 @@ use Rattle.uda_script_run.specs.declared.text_error.TextError.{TextError}
 use Rattle.uda_script_run.specs.declared.text_error.TextError.TheVariants as error
 use Rattle.uda_script_run.specs.declared.source.Next.{Next}
 use Rattle.uda_script_run.specs.declared.source.Next.TheVariants.{More, End, Fault}
+use Rattle.uda_script_run.specs.declared.source.PartEnd.{PartEnd}
+use Rattle.uda_script_run.specs.declared.source.PartEnd.TheVariants.{Open, LineFeed, Text}
 
 -- the number of bytes of a line that are kept
 abbrev pub line_room : ℕ
@@ -20,21 +22,22 @@ pub record ReadsLine (text text_after : Option (List ℕ)) (kept : List ℕ) (en
   pub one : IsOneLine line
   pub is_kept : kept ≡ take line_room line
   pub consumed : Consumes text text_after (line ++ (if ended then 10 ∷ [] else []))
-  pub at_end : ended ≡ false → IfSome text (λ _. IsAtEnd text_after)
+  pub at_end : ended ≡ false → IsAtEnd text_after
 
--- the bytes that end a part of a line: its line feed, if that was read
-abbrev pub part_end : Option Bool → List ℕ
-part_end None = []
-part_end (Some ended) = if ended then 10 ∷ [] else []
+-- the bytes that end a part of a line
+abbrev pub part_end : PartEnd → List ℕ
+part_end Open = []
+part_end LineFeed = 10 ∷ []
+part_end Text = []
 
 -- a part of a line was taken, and of what is kept of the line there is more, as much as there is room for
 pub record TakesPart (text text_after : Option (List ℕ)) (kept kept_after : List ℕ)
-    (ended : Option Bool) : Type 0 where
+    (end : PartEnd) : Type 0 where
   pub part : List ℕ
   pub one : IsOneLine part
   pub is_kept : length kept ≤ line_room → kept_after ≡ take line_room (kept ++ part)
-  pub consumed : Consumes text text_after (part ++ part_end ended)
-  pub at_end : ended ≡ Some false → IfSome text (λ _. IsAtEnd text_after)
+  pub consumed : Consumes text text_after (part ++ part_end end)
+  pub at_end : end ≡ Text → IsAtEnd text_after
 
 -- a position in a text: the number of lines read, and the bytes that are left, if they are known
 pub record TextAt : Type 0 where

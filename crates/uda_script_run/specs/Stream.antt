@@ -1,5 +1,5 @@
 -- The result of a script whose text is read from a stream.
-use Rattle.std.specs.Prelude.{◌≡◌, ℕ, List, Option, Some, None, IfSome}
+use Rattle.std.specs.Prelude.{◌≡◌, ℕ, List, Option, Some, None, IfSome, Result, Ok, Err}
 use Rattle.uda_disk.specs.Answer.{Answer}
 use Rattle.uda_grammar.specs.Reading.{requests_in, fault_in}
 use Rattle.uda_script_run.specs.declared.style.ReportStyle.{ReportStyle}
@@ -36,3 +36,8 @@ pub record StopsInText (style : ReportStyle) (text : Option (List ℕ)) (before 
   pub script : List ℕ
   pub is_text : IfSome text (λ bytes. script ≡ bytes)
   pub stops : StopsInScript style script before after e
+
+-- the run of the script of a stream: of the whole script, or up to an error
+abbrev pub RunsText : ReportStyle → Option (List ℕ) → Setting → Setting → Result ScriptOutcome TextError → Type 0
+RunsText style text before after (Ok outcome) = RanText style text outcome before after
+RunsText style text before after (Err e) = StopsInText style text before after e

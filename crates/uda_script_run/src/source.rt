@@ -1,16 +1,17 @@
 //! The text of a script, read line by line from a stream.
 
-ghost use Rattle.std.specs.Prelude.{◌≡◌, ◌≤◌, ◌<◌, ◌+◌, ◌++◌, List, None, take, slice_index, length, OnOk, IfOk, IfErr};
-ghost use Rattle.std.specs.Io.KnownBytes.{Consumes, IsAtEnd, Keeps};
+ghost use Rattle.std.specs.Prelude.{◌≡◌, ◌≤◌, ◌+◌, ◌++◌, List, None, take, length, OnOk, IfOk, IfErr};
+ghost use Rattle.std.specs.Io.KnownBytes.{Consumes, IsAtEnd};
 ghost use Rattle.std.specs.Option.{option_to_list};
 ghost use Rattle.uda_grammar.specs.declared.script.Line.{Line as Request};
-ghost use Rattle.uda_grammar.specs.Parts.{IsOneLine};
 ghost use Rattle.uda_script_run.specs.Lines.{ReadsLine, ReadsBatch, IsUnreadText, text_at, TakesPart, line_room};
 
 use crate::growth::push;
 use crate::text_error::TextError;
+use crate::text_reader::TextReader;
 use arrayvec::ArrayVec;
-use std::io::{BufRead, ErrorKind, Read};
+use memchr::memchr;
+use std::io::{ErrorKind, Read};
 use uda_grammar::{Expected, Line, ScriptError, explain, parse_line};
 
 /// The most requests that are executed in one batch.
@@ -33,27 +34,22 @@ pub(crate) enum Next {
     Fault { line: u64, expected: Expected },
 }
 
-/// A stream with the text of a script, the number of its lines that were read, and whether it has shown bytes
-/// that it has buffered.
+/// The end of a part of a line.
+#[derive(Clone, Copy)]
+pub(crate) enum PartEnd {
+    /// None: more of the line may follow.
+    Open,
+    /// A line feed.
+    LineFeed,
+    /// The end of the text.
+    Text,
+}
+
+/// A stream with the text of a script, and the number of its lines that were read.
 #[derive(Drop)]
 pub(crate) struct Source<T> {
     pub(crate) text: T,
     pub(crate) lines_read: u64,
-    pub(crate) has_shown: bool,
-}
-
-// Returns the number of bytes before the first line feed, or of all if there is none.
-fn length_to_line_feed(bytes: &[u8]) -> usize
-    ensures within { result ≤ length bytes.now }
-    ensures one { IsOneLine (take result bytes.now) }
-    ensures ended { result < length bytes.now → slice_index bytes.now result ≡ 10 }
-{
-    for n in 0..bytes.len() {
-        if bytes[n] == b'\n' {
-            return n;
-        }
-    }
-    bytes.len()
 }
 
 // Appends bytes to those of a line that are kept, as many as there is room for.
@@ -86,109 +82,60 @@ fn read_byte<T: Read>(text: &mut T) -> Result<Option<u8>, TextError>
     Err(TextError::Unreadable)
 }
 
-// Returns whether the reader shows bytes. It shows none at its end, if it has no buffer, or if a read is
-// interrupted.
-fn shows<T: BufRead>(text: &mut T) -> Result<bool, TextError>
-    ensures keeps { IfOk result (λ _. Keeps (T.remaining text.old) (T.remaining text.new)) }
-    ensures error { IfErr result (λ e. e ≡ TextError.Unreadable) }
-{
-    match text.fill_buf() {
-        Ok(bytes) => Ok(!bytes.is_empty()),
-        Err(error) => {
-            if error.kind() == ErrorKind::Interrupted {
-                Ok(false)
-            } else {
-                Err(TextError::Unreadable)
-            }
-        }
-    }
-}
-
-// Reads the next byte of the line from a reader that has shown none, and notes whether it shows more.
-fn read_unshown<T: BufRead>(
-    text: &mut T,
-    line: &mut LineStart,
-    has_shown: &mut bool,
-) -> Result<Option<bool>, TextError>
-    ensures part { IfOk result (λ ended.
-        TakesPart (T.remaining text.old) (T.remaining text.new) line.old.items line.new.items ended) }
+// Reads the next byte of the line, and returns what it ends.
+fn read_next<T: TextReader>(text: &mut T, line: &mut LineStart) -> Result<PartEnd, TextError>
+    ensures part { IfOk result (λ end.
+        TakesPart (T.remaining text.old) (T.remaining text.new) line.old.items line.new.items end) }
     ensures error { IfErr result (λ e. e ≡ TextError.Unreadable) }
 {
     match read_byte(text)? {
-        None => Ok(Some(false)),
-        Some(b'\n') => Ok(Some(true)),
+        None => Ok(PartEnd::Text),
+        Some(b'\n') => Ok(PartEnd::LineFeed),
         Some(byte) => {
             keep(line, &[byte]);
-            *has_shown = shows(text)?;
-            Ok(None)
+            Ok(PartEnd::Open)
         }
     }
 }
 
-// Reads what the reader shows of the line. Returns whether a line feed ended it, or `None` if more of it may
-// follow. A reader that has shown bytes shows none only at its end. An interrupted read brings nothing.
-fn read_shown<T: BufRead>(text: &mut T, line: &mut LineStart) -> Result<Option<bool>, TextError>
-    ensures part { IfOk result (λ ended.
-        TakesPart (T.remaining text.old) (T.remaining text.new) line.old.items line.new.items ended) }
+// Reads a part of the line: what the reader has of it already, or else one byte. Returns what ended the part.
+fn read_part<T: TextReader>(text: &mut T, line: &mut LineStart) -> Result<PartEnd, TextError>
+    ensures part { IfOk result (λ end.
+        TakesPart (T.remaining text.old) (T.remaining text.new) line.old.items line.new.items end) }
     ensures error { IfErr result (λ e. e ≡ TextError.Unreadable) }
 {
-    let bytes = match text.fill_buf() {
-        Ok(bytes) => bytes,
-        Err(error) => {
-            return if error.kind() == ErrorKind::Interrupted {
-                Ok(None)
-            } else {
-                Err(TextError::Unreadable)
-            };
-        }
-    };
+    let bytes = text.bytes_ahead();
     if bytes.is_empty() {
-        return Ok(Some(false));
+        return read_next(text, line);
     }
-    let end = length_to_line_feed(bytes);
-    let is_ended = end < bytes.len();
-    keep(line, &bytes[..end]);
-    if is_ended {
-        text.consume(end + 1);
-        Ok(Some(true))
-    } else {
-        text.consume(end);
-        Ok(None)
-    }
-}
-
-// Reads a part of the line. Returns whether a line feed ended it, or `None` if more of it may follow.
-fn read_part<T: BufRead>(
-    text: &mut T,
-    line: &mut LineStart,
-    has_shown: &mut bool,
-) -> Result<Option<bool>, TextError>
-    ensures part { IfOk result (λ ended.
-        TakesPart (T.remaining text.old) (T.remaining text.new) line.old.items line.new.items ended) }
-    ensures error { IfErr result (λ e. e ≡ TextError.Unreadable) }
-{
-    if *has_shown {
-        read_shown(text, line)
-    } else {
-        read_unshown(text, line, has_shown)
+    match memchr(b'\n', bytes) {
+        Some(end) => {
+            keep(line, &bytes[..end]);
+            text.skip(end + 1);
+            Ok(PartEnd::LineFeed)
+        }
+        None => {
+            keep(line, bytes);
+            let count = bytes.len();
+            text.skip(count);
+            Ok(PartEnd::Open)
+        }
     }
 }
 
 // Reads the next line, and returns whether a line feed ended it. It keeps only the beginning of a long
 // line.
-fn read_line<T: BufRead>(
-    text: &mut T,
-    line: &mut LineStart,
-    has_shown: &mut bool,
-) -> Result<bool, TextError>
+fn read_line<T: TextReader>(text: &mut T, line: &mut LineStart) -> Result<bool, TextError>
     ensures line { IfOk result (λ ended.
         ReadsLine (T.remaining text.old) (T.remaining text.new) line.new.items ended) }
     ensures error { IfErr result (λ e. e ≡ TextError.Unreadable) }
 {
     line.clear();
     for _ in 0..u64::MAX {
-        if let Some(ended) = read_part(text, line, has_shown)? {
-            return Ok(ended);
+        match read_part(text, line)? {
+            PartEnd::Open => {}
+            PartEnd::LineFeed => return Ok(true),
+            PartEnd::Text => return Ok(false),
         }
     }
     Err(TextError::Unreadable)
@@ -205,7 +152,7 @@ fn append(lines: &mut Vec<Line>, request: Option<Line>) -> Result<(), ScriptErro
     }
 }
 
-impl<T: BufRead> Source<T> {
+impl<T: TextReader> Source<T> {
     // Reads one line, and appends the request that it makes, if any.
     fn read_statement(&mut self, lines: &mut Vec<Line>) -> Result<Next, TextError>
         ensures read { IfOk result (λ next. (made : List Request)
@@ -219,7 +166,7 @@ impl<T: BufRead> Source<T> {
             return Err(TextError::Unreadable);
         };
         let mut line = LineStart::new();
-        let is_ended = read_line(&mut self.text, &mut line, &mut self.has_shown)?;
+        let is_ended = read_line(&mut self.text, &mut line)?;
         self.lines_read = number;
         let Ok(request) = parse_line(number, &line) else {
             let expected = explain(&line);

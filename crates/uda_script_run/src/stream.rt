@@ -1,16 +1,17 @@
 //! The run of a script whose text is read from a stream.
 
-ghost use Rattle.std.specs.Prelude.{IfOk, IfErr};
+ghost use Rattle.std.specs.Io.Buffered.{reader_remaining};
 ghost use Rattle.uda_script_run.specs.Batches.{setting};
-ghost use Rattle.uda_script_run.specs.Stream.{RanText, StopsInText};
+ghost use Rattle.uda_script_run.specs.Stream.{RunsText};
 
 use crate::batch::{ScriptProgress, run_batch};
 use crate::channels::Channels;
 use crate::source::{Next, Source};
 use crate::style::{ReportStyle, ScriptOutcome};
 use crate::text_error::TextError;
+use crate::text_reader::{ByteByByte, TextReader};
 use std::alloc::Global;
-use std::io::{BufRead, Read, Write};
+use std::io::{BufRead, BufReader, Read, Write};
 use uda_driver::{Driver, Watch};
 use uda_image::BlockStore;
 
@@ -27,8 +28,8 @@ const MOST_BATCHES: u64 = 1 << 56;
 /// for the same requests. Answers and disks are related to the in-order run of all requests as those of
 /// [`Driver::run`](uda_driver::Driver::run) are.
 ///
-/// `watch` receives each turn of the port. The text is read as far as its reader has it buffered, and a line that
-/// isn't buffered to its end is read in parts.
+/// `watch` receives each turn of the port. The text is read byte by byte, so its reader loses nothing behind
+/// the lines that were read. [`run_buffered_text`] is faster.
 ///
 /// # Errors
 ///
@@ -46,21 +47,56 @@ pub fn run_text<S: BlockStore, T: BufRead + Drop, R: Read, W: Write, V: Write, H
     channels: &mut Channels<R, W, V, H>,
     driver: &mut Driver<S>,
 ) -> Result<ScriptOutcome, TextError>
-    ensures whole { IfOk result (λ outcome. RanText style (T.remaining text) outcome
+    ensures run { RunsText style (T.remaining text)
         (setting (R.remaining channels.old.input) (W.contents channels.old.out)
         (V.contents channels.old.report) driver.old)
         (setting (R.remaining channels.new.input) (W.contents channels.new.out)
-        (V.contents channels.new.report) driver.new)) }
-    ensures error { IfErr result (StopsInText style (T.remaining text)
+        (V.contents channels.new.report) driver.new) result }
+{
+    run_lines(alloc, style, ByteByByte(text), channels, driver)
+}
+
+/// Runs a script as [`run_text`] does, and takes each line from the buffer of its reader.
+///
+/// The inner reader is read exactly where `run_text` would read it: when a byte is needed and the buffer is
+/// empty. So both wait, fail and end at the same place.
+///
+/// # Errors
+///
+/// Those of [`run_text`].
+pub fn run_buffered_text<S: BlockStore, T: Read + Drop, R: Read, W: Write, V: Write, H: Watch>(
+    alloc: Global,
+    style: ReportStyle,
+    text: BufReader<T>,
+    channels: &mut Channels<R, W, V, H>,
+    driver: &mut Driver<S>,
+) -> Result<ScriptOutcome, TextError>
+    ensures run { RunsText style (reader_remaining T.remaining text)
         (setting (R.remaining channels.old.input) (W.contents channels.old.out)
         (V.contents channels.old.report) driver.old)
         (setting (R.remaining channels.new.input) (W.contents channels.new.out)
-        (V.contents channels.new.report) driver.new)) }
+        (V.contents channels.new.report) driver.new) result }
+{
+    run_lines(alloc, style, text, channels, driver)
+}
+
+// Runs the lines of a text.
+fn run_lines<S: BlockStore, T: TextReader + Drop, R: Read, W: Write, V: Write, H: Watch>(
+    alloc: Global,
+    style: ReportStyle,
+    text: T,
+    channels: &mut Channels<R, W, V, H>,
+    driver: &mut Driver<S>,
+) -> Result<ScriptOutcome, TextError>
+    ensures run { RunsText style (T.remaining text)
+        (setting (R.remaining channels.old.input) (W.contents channels.old.out)
+        (V.contents channels.old.report) driver.old)
+        (setting (R.remaining channels.new.input) (W.contents channels.new.out)
+        (V.contents channels.new.report) driver.new) result }
 {
     let mut source = Source {
         text,
         lines_read: 0,
-        has_shown: false,
     };
     let mut lines = Vec::new(alloc);
     let mut progress = ScriptProgress::start(alloc, style);

@@ -1,6 +1,6 @@
 //! The contents of a report, and the outcome of a run.
 
-ghost use Rattle.std.specs.Prelude.{◌≡◌, ◌+◌, ◌<◌, ◌^◌};
+ghost use Rattle.std.specs.Prelude.{◌≡◌, ◌+◌, ◌<◌, ◌≤◌, ◌^◌, length};
 ghost use Rattle.std.specs.List.{list_all};
 ghost use Rattle.uda_disk.specs.Values.{answer_value, answer_values};
 ghost use Rattle.uda_script_run.specs.Texts.{succeeded, outcome_of, both, status_told, answer_name, part_after};
@@ -87,8 +87,10 @@ fn have_succeeded(answers: &[Answer]) -> bool
 }
 
 /// Returns the name of an answer's status.
+#[tactic(auto, using(crate::proofs::Names::short_name))]
 pub(crate) fn answer_name(answer: &Answer) -> &'static str
     ensures name { result.now ≡ answer_name (answer_value answer.now) }
+    ensures short { length result.now ≤ 29 }
 {
     match reported_status(answer) {
         None => "too long",

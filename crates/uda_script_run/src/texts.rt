@@ -8,16 +8,11 @@ ghost use Rattle.uda_script_run.specs.Texts.{part_text};
 ghost use Rattle.uda_script_run.specs.Texts.{AppendsBeginning};
 
 use crate::put::put_all;
+use crate::report_line::ReportLine;
 use crate::style::{ReportPart, ReportStyle, answer_name, has_succeeded};
-use arrayvec::ArrayString;
-use std::fmt::Write as _;
 use std::io::Write;
 use uda_disk::Answer;
 use uda_grammar::ScriptError;
-
-/// The capacity of a line of the report in bytes. A number, two words, a number of 32 bits and the spaces
-/// are 42 bytes at most, and a name in parentheses 34.
-const REPORT_LINE_ROOM: usize = 128;
 
 /// Writes the bytes of all `Data` answers, in the order of their requests, and flushes `out`. Fails with
 /// [`ScriptError::Write`] if a write or the flush fails.
@@ -90,7 +85,7 @@ fn put_data<W: Write>(out: &mut W, answer: &Answer) -> Result<(), ScriptError>
     }
 }
 
-// Writes a line of the report. It makes the whole line in a buffer before it writes any of it.
+// Writes a line of the report, as one piece.
 fn put_line<V: Write>(report: &mut V, number: usize, answer: &Answer) -> Result<(), ScriptError>
     ensures whole { OnOk result (Appends (V.contents report.old) (V.contents report.new)
         (report_line number (answer_value answer.now))) }
@@ -98,14 +93,14 @@ fn put_line<V: Write>(report: &mut V, number: usize, answer: &Answer) -> Result<
         (report_line number (answer_value answer.now))) }
     ensures error { IfErr result (λ e. e ≡ ScriptError.Write) }
 {
-    let mut line = ArrayString::<REPORT_LINE_ROOM>::new();
-    match writeln!(line, "{number} {answer}") {
-        Ok(()) => put_all(report, line.as_bytes()),
-        Err(_) => Err(ScriptError::Write),
-    }
+    let mut line = ReportLine::line_feed();
+    line.put_answer(answer);
+    line.put_byte(b' ');
+    line.put_number(number as u64);
+    put_all(report, line.as_bytes())
 }
 
-// Writes a line with the name of the answer's status. It makes the whole line before it writes any of it.
+// Writes a line with the name of the answer's status, as one piece.
 fn put_named<V: Write>(report: &mut V, number: usize, answer: &Answer) -> Result<(), ScriptError>
     ensures whole { OnOk result (Appends (V.contents report.old) (V.contents report.new)
         (named_line number (answer_value answer.now))) }
@@ -113,12 +108,14 @@ fn put_named<V: Write>(report: &mut V, number: usize, answer: &Answer) -> Result
         (named_line number (answer_value answer.now))) }
     ensures error { IfErr result (λ e. e ≡ ScriptError.Write) }
 {
-    let mut line = ArrayString::<REPORT_LINE_ROOM>::new();
-    let name = answer_name(answer);
-    match writeln!(line, "{number} {answer} ({name})") {
-        Ok(()) => put_all(report, line.as_bytes()),
-        Err(_) => Err(ScriptError::Write),
-    }
+    let mut line = ReportLine::line_feed();
+    line.put_byte(b')');
+    line.put_text(answer_name(answer).as_bytes());
+    line.put_text(b" (");
+    line.put_answer(answer);
+    line.put_byte(b' ');
+    line.put_number(number as u64);
+    put_all(report, line.as_bytes())
 }
 
 fn flush<W: Write>(writer: &mut W) -> Result<(), ScriptError>

@@ -2,7 +2,7 @@ use Rattle.std.proofs.Common.{◌≤◌, ◌+◌, ◌*◌}
 use Rattle.uda_script_run.specs.Lines.{text_at}
 use Rattle.uda_script_run.specs.Batches.{setting}
 use Rattle.uda_script_run.proofs.Streaming.{HasRun}
-use Rattle.uda_script_run.proofs.stream.run_text.Given as goal
+use Rattle.uda_script_run.proofs.stream.run_lines.Given as goal
 
 -- all lines that were read were run
 abbrev pub invariant-loop : goal.invariant-loop

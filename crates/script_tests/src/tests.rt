@@ -2,5 +2,6 @@
 mod batches;
 mod lines;
 mod program;
+mod readings;
 mod streams;
 mod texts;

@@ -5,3 +5,5 @@ pub mod Labels
 pub mod Tokens
 pub mod Rows
 pub mod Hex
+pub mod PacketText
+pub mod Pieces

@@ -21,7 +21,7 @@ pub use disk_label::DiskLabel;
 pub use drive_type::{DRIVE_TYPES, DriveTypeEntry, TypesOfSize};
 pub use home_block::{HomeBlock, VolumeFormat};
 pub use number::Grouped;
-pub use packet::Packet;
+pub use packet::{PACKET_TEXT, Packet};
 pub use reached::Reached;
 pub use reader::{PacketReader, TokenError};
 pub use row::{HexRow, OctalRow};

@@ -1,12 +1,31 @@
 //! The text of a packet, field by field.
+ghost use Rattle.std.specs.Prelude.{◌≡◌, ◌≤◌, ◌+◌, ◌++◌, Some, length};
+ghost use Rattle.std.specs.Fmt.{WritesOnOk};
+ghost use Rattle.arrayvec.specs.ArrayVec.{array_vec_len};
+ghost use Rattle.arrayvec.specs.ArrayString.{array_string_len};
+ghost use Rattle.uda_packet.specs.Commands.{BodyFits};
+ghost use Rattle.uda_packet.specs.Display.{fault_display};
+ghost use Rattle.uda_packet.specs.Opcode.{parameters};
+ghost use Rattle.uda_packet.specs.Range.{EntriesFit};
+ghost use Rattle.uda_packet.specs.Transfer.{has_buffer};
+ghost use Rattle.uda50_show.specs.PacketText.{packet_text, end_text, command_text, bad_text, head_lines};
+ghost use Rattle.uda50_show.specs.PacketText.{line, request_lines, named_status, flags_line, size_line};
+ghost use Rattle.uda50_show.specs.PacketText.{parameter_lines, transfer_lines, buffer_line, protection_line};
+ghost use Rattle.uda50_show.specs.PacketText.{result_lines, protection_name, bad_title};
+ghost use Rattle.uda50_show.specs.Pieces.{piece_text, pieces_text};
 
-use crate::digits::{HexByte, HexLong, HexWord};
-use crate::fields::word;
+use crate::digits::{ascii_text, hex_byte, hex_long, hex_word, write_number};
+use crate::fields::{code, modifiers};
+use arrayvec::{ArrayString, ArrayVec};
+use itoa::Buffer;
 use std::fmt;
 use uda_packet::{
     Bad, BadKind, Command, End, EndBody, Flags, Op, Transfer, UnitFlags, decode_command,
     decode_end, status,
 };
+
+/// The number of bytes for which [`Packet::text`] has room. No text is longer.
+pub const PACKET_TEXT: usize = 256;
 
 /// The 48 bytes of a message. Its text has a line for each field. If byte 8 is an end code, the text is
 /// that of an end message. Otherwise it is that of a command, or of an invalid command.
@@ -18,146 +37,344 @@ impl Packet {
     pub fn is_valid(&self) -> bool {
         decode_end(&self.0).is_some() || decode_command(&self.0).is_ok()
     }
+
+    /// Returns the text in one piece.
+    pub fn text(&self) -> ArrayString<PACKET_TEXT>
+        ensures text { result.bytes ≡ packet_text self.now.0 }
+    {
+        let pieces = self.pieces();
+        let mut text = ArrayString::new();
+        for piece in pieces.0.as_slice() {
+            piece.append_to(&mut text);
+        }
+        text
+    }
+
+    // Returns the pieces of the text.
+    #[tactic(auto, unfolding(crate::specs::PacketText::packet_text))]
+    fn pieces(&self) -> Pieces
+        ensures text { pieces_text result.0.items ≡ packet_text self.now.0 }
+        ensures short { length (pieces_text result.0.items) ≤ 256 }
+    {
+        if let Some(end) = decode_end(&self.0) {
+            return Pieces::of_end(&end);
+        }
+        let (code, modifiers) = (code(&self.0), modifiers(&self.0));
+        match decode_command(&self.0) {
+            Ok(command) => Pieces::of_command(&command, modifiers),
+            Err(bad) => Pieces::of_bad(&bad, code, modifiers),
+        }
+    }
 }
 
 impl fmt::Display for Packet {
+    ghost output = { λ packet. Some (packet_text packet.0) };
+
     fn fmt<W: fmt::Write>(&self, f: &mut fmt::Formatter<W>) -> fmt::Result {
-        if let Some(end) = decode_end(&self.0) {
-            return write_end(f, &end);
+        let pieces = self.pieces();
+        for piece in pieces.0.as_slice() {
+            piece.write(f)?;
         }
-        let (code, modifiers) = (self.0[8], word(&self.0, 10));
-        match decode_command(&self.0) {
-            Ok(command) => write_command_lines(f, &command, modifiers),
-            Err(bad) => write_bad(f, &bad, code, modifiers),
+        Ok(())
+    }
+}
+
+// A piece of the text of a packet.
+#[derive(Clone, Copy, Drop)]
+enum Piece {
+    // A text.
+    Text(&'static str),
+    // A number in decimal.
+    Decimal(u32),
+    // A byte as two hexadecimal digits.
+    Byte(u8),
+    // A word of two bytes as four hexadecimal digits.
+    Word(u16),
+    // A long word of four bytes as eight hexadecimal digits.
+    Long(u32),
+}
+
+impl Default for Piece {
+    fn default() -> Piece {
+        Piece::Text("")
+    }
+}
+
+impl Piece {
+    // Writes the piece. A number with zeros before it is two pieces for the writer.
+    fn write<W: fmt::Write>(&self, f: &mut fmt::Formatter<W>) -> fmt::Result
+        ensures { WritesOnOk W.write_str_gives f.old result (piece_text self.now) f.new }
+    {
+        match *self {
+            Piece::Text(words) => f.write_str(words),
+            Piece::Decimal(number) => write!(f, "{number}"),
+            Piece::Byte(byte) => write_number(f, &hex_byte(byte)),
+            Piece::Word(word) => write_number(f, &hex_word(word)),
+            Piece::Long(long) => write_number(f, &hex_long(long)),
+        }
+    }
+
+    // Appends the piece to a text that has room for it.
+    fn append_to(&self, text: &mut ArrayString<PACKET_TEXT>)
+        requires room { array_string_len text.old + length (piece_text self.now) ≤ 256 }
+        ensures appended { text.new.bytes ≡ text.old.bytes ++ piece_text self.now }
+    {
+        match *self {
+            Piece::Text(words) => text.push_str(words),
+            Piece::Decimal(number) => text.push_str(Buffer::new().format(number)),
+            Piece::Byte(byte) => text.push_str(ascii_text(&hex_byte(byte))),
+            Piece::Word(word) => text.push_str(ascii_text(&hex_word(word))),
+            Piece::Long(long) => text.push_str(ascii_text(&hex_long(long))),
         }
     }
 }
 
-// Writes the lines of an end message.
-fn write_end<W: fmt::Write>(f: &mut fmt::Formatter<W>, end: &End) -> fmt::Result {
-    let End {
-        reference,
-        unit,
-        status,
-        body,
-    } = *end;
-    write!(
-        f,
-        "end message: {}\n  \
-         reference   {reference}\n  \
-         unit        {unit}\n  \
-         end code    0x{}\n  \
-         status      0x{} ({})\n",
-        body.name(),
-        HexByte(body.code()),
-        HexWord(status),
-        status::name(status)
-    )?;
-    match body {
-        EndBody::Status { flags } => write_flags(f, flags),
-        EndBody::Online { flags, size } => {
-            write_flags(f, flags)?;
-            writeln!(f, "  unit size   {size} blocks")
+// The pieces of the text of a packet. An end message of Online and a Read have the most.
+#[derive(Drop)]
+struct Pieces(ArrayVec<Piece, 24>);
+
+impl Pieces {
+    // Returns the pieces of an end message.
+    fn of_end(end: &End) -> Pieces
+        ensures text { pieces_text result.0.items ≡ end_text end.now }
+        ensures short { length (pieces_text result.0.items) ≤ 256 }
+    {
+        let End {
+            reference,
+            unit,
+            status,
+            body,
+        } = *end;
+        let mut pieces = Pieces(ArrayVec::new());
+        pieces.line("end message: ", Piece::Text(body.name()));
+        pieces.request_lines(reference, unit);
+        pieces.line("  end code    0x", Piece::Byte(body.code()));
+        pieces.status_line("  status      0x", status);
+        pieces.result_lines(body);
+        pieces
+    }
+
+    // Returns the pieces of a command with these modifiers.
+    fn of_command(command: &Command, modifiers: u16) -> Pieces
+        ensures text { pieces_text result.0.items ≡ command_text command.now modifiers }
+        ensures short { length (pieces_text result.0.items) ≤ 256 }
+    {
+        let Command {
+            reference,
+            unit,
+            op,
+        } = *command;
+        let mut pieces = Pieces(ArrayVec::new());
+        pieces.line("command: ", Piece::Text(op.name()));
+        pieces.head_lines(reference, unit, op.opcode(), modifiers);
+        pieces.parameter_lines(op);
+        pieces
+    }
+
+    // Returns the pieces of an invalid command with this byte in the place of an opcode, and with these
+    // modifiers.
+    fn of_bad(bad: &Bad, code: u8, modifiers: u16) -> Pieces
+        ensures text { pieces_text result.0.items ≡ bad_text bad.now code modifiers }
+        ensures short { length (pieces_text result.0.items) ≤ 256 }
+    {
+        let mut pieces = Pieces(ArrayVec::new());
+        pieces.title(bad.kind, bad.body.name());
+        pieces.push(Piece::Text(fault_text(bad.kind)));
+        pieces.push(Piece::Text("\n"));
+        pieces.head_lines(bad.reference, bad.unit, code, modifiers);
+        pieces.status_line("  rejected    status 0x", bad.end().status);
+        pieces
+    }
+
+    // Adds a piece.
+    fn push(&mut self, piece: Piece)
+        requires room { array_vec_len self.old.0 + 1 ≤ 24 }
+        ensures text { pieces_text self.new.0.items
+            ≡ pieces_text self.old.0.items ++ piece_text piece }
+        ensures count { array_vec_len self.new.0 ≡ array_vec_len self.old.0 + 1 }
+    {
+        self.0.push(piece);
+    }
+
+    // Adds a line: a label and a value.
+    fn line(&mut self, label: &'static str, value: Piece)
+        requires room { array_vec_len self.old.0 + 3 ≤ 24 }
+        ensures text { pieces_text self.new.0.items
+            ≡ pieces_text self.old.0.items ++ line label.now (piece_text value) }
+        ensures count { array_vec_len self.new.0 ≡ array_vec_len self.old.0 + 3 }
+    {
+        self.push(Piece::Text(label));
+        self.push(value);
+        self.push(Piece::Text("\n"));
+    }
+
+    // Adds the line of a status word, with its name.
+    fn status_line(&mut self, label: &'static str, status: u16)
+        requires room { array_vec_len self.old.0 + 5 ≤ 24 }
+        ensures text { pieces_text self.new.0.items
+            ≡ pieces_text self.old.0.items ++ line label.now (named_status status) }
+        ensures count { array_vec_len self.new.0 ≡ array_vec_len self.old.0 + 5 }
+    {
+        self.push(Piece::Text(label));
+        self.push(Piece::Word(status));
+        self.push(Piece::Text(" ("));
+        self.push(Piece::Text(status::name(status)));
+        self.push(Piece::Text(")\n"));
+    }
+
+    // Adds the lines of the reference and the unit.
+    fn request_lines(&mut self, reference: u32, unit: u16)
+        requires room { array_vec_len self.old.0 + 6 ≤ 24 }
+        ensures text { pieces_text self.new.0.items
+            ≡ pieces_text self.old.0.items ++ request_lines reference unit }
+        ensures count { array_vec_len self.new.0 ≡ array_vec_len self.old.0 + 6 }
+    {
+        self.line("  reference   ", Piece::Decimal(reference));
+        self.line("  unit        ", Piece::Decimal(u32::from(unit)));
+    }
+
+    // Adds the lines of the fields that valid and invalid commands have.
+    fn head_lines(&mut self, reference: u32, unit: u16, opcode: u8, modifiers: u16)
+        requires room { array_vec_len self.old.0 + 12 ≤ 24 }
+        ensures text { pieces_text self.new.0.items
+            ≡ pieces_text self.old.0.items ++ head_lines reference unit opcode modifiers }
+        ensures count { array_vec_len self.new.0 ≡ array_vec_len self.old.0 + 12 }
+    {
+        self.request_lines(reference, unit);
+        self.line("  opcode      0x", Piece::Byte(opcode));
+        self.line("  modifiers   0x", Piece::Word(modifiers));
+    }
+
+    // Adds the lines of an end message's results.
+    fn result_lines(&mut self, body: EndBody)
+        requires room { array_vec_len self.old.0 + 7 ≤ 24 }
+        ensures text { pieces_text self.new.0.items ≡ pieces_text self.old.0.items ++ result_lines body }
+        ensures fits { BodyFits body }
+    {
+        match body {
+            EndBody::Status { flags } => self.flags_line(flags),
+            EndBody::Online { flags, size } => {
+                self.flags_line(flags);
+                self.size_line(size);
+            }
+            EndBody::Moved { bytes, .. } => self.line("  byte count  ", Piece::Decimal(bytes)),
+            EndBody::Invalid | EndBody::Controller | EndBody::Available => {}
         }
-        EndBody::Moved { bytes, .. } => writeln!(f, "  byte count  {bytes}"),
-        EndBody::Invalid | EndBody::Controller | EndBody::Available => Ok(()),
+    }
+
+    // Adds the line of the unit flags.
+    fn flags_line(&mut self, flags: u16)
+        requires room { array_vec_len self.old.0 + 4 ≤ 24 }
+        ensures text { pieces_text self.new.0.items ≡ pieces_text self.old.0.items ++ flags_line flags }
+        ensures count { array_vec_len self.new.0 ≡ array_vec_len self.old.0 + 4 }
+    {
+        self.push(Piece::Text("  unit flags  0x"));
+        self.push(Piece::Word(flags));
+        self.push(Piece::Text(protection_name(flags)));
+        self.push(Piece::Text("\n"));
+    }
+
+    // Adds the line of a unit's size.
+    fn size_line(&mut self, size: u32)
+        requires room { array_vec_len self.old.0 + 3 ≤ 24 }
+        ensures text { pieces_text self.new.0.items ≡ pieces_text self.old.0.items ++ size_line size }
+        ensures count { array_vec_len self.new.0 ≡ array_vec_len self.old.0 + 3 }
+    {
+        self.push(Piece::Text("  unit size   "));
+        self.push(Piece::Decimal(size));
+        self.push(Piece::Text(" blocks\n"));
+    }
+
+    // Adds the lines of a command's parameters.
+    fn parameter_lines(&mut self, op: Op)
+        requires room { array_vec_len self.old.0 + 9 ≤ 24 }
+        ensures text { pieces_text self.new.0.items ≡ pieces_text self.old.0.items ++ parameter_lines op }
+        ensures fits { EntriesFit (parameters op) }
+    {
+        match op {
+            Op::Online { soft } => self.protection_line(soft),
+            _ => self.transfer_lines(op.transfer()),
+        }
+    }
+
+    // Adds the line of an Online that asks for software protection, or for none.
+    fn protection_line(&mut self, soft: Option<bool>)
+        requires room { array_vec_len self.old.0 + 3 ≤ 24 }
+        ensures text { pieces_text self.new.0.items ≡ pieces_text self.old.0.items ++ protection_line soft }
+    {
+        let asked = match soft {
+            Some(true) => "on",
+            Some(false) => "off",
+            None => return,
+        };
+        self.push(Piece::Text("  protection  "));
+        self.push(Piece::Text(asked));
+        self.push(Piece::Text(" (Set Write Protect)\n"));
+    }
+
+    // Adds the lines of a transfer's parameters, if the command is one.
+    fn transfer_lines(&mut self, transfer: Option<Transfer>)
+        requires room { array_vec_len self.old.0 + 9 ≤ 24 }
+        ensures text { pieces_text self.new.0.items ≡ pieces_text self.old.0.items ++ transfer_lines transfer }
+    {
+        if let Some(transfer) = transfer {
+            self.line("  byte count  ", Piece::Decimal(transfer.bytes));
+            self.buffer_line(&transfer);
+            self.line("  lbn         ", Piece::Decimal(transfer.lbn));
+        }
+    }
+
+    // Adds the line of a transfer's buffer, if it has one.
+    fn buffer_line(&mut self, transfer: &Transfer)
+        requires room { array_vec_len self.old.0 + 3 ≤ 24 }
+        ensures text { pieces_text self.new.0.items
+            ≡ pieces_text self.old.0.items ++ buffer_line (has_buffer transfer.now.kind) transfer.now.buffer }
+        ensures count { array_vec_len self.new.0 ≤ array_vec_len self.old.0 + 3 }
+    {
+        if transfer.kind.has_buffer() {
+            self.line("  buffer      0x", Piece::Long(transfer.buffer));
+        }
+    }
+
+    // Adds what stands before the fault in the title of an invalid command of this name.
+    fn title(&mut self, kind: BadKind, name: &'static str)
+        requires room { array_vec_len self.old.0 + 3 ≤ 24 }
+        ensures text { pieces_text self.new.0.items ≡ pieces_text self.old.0.items ++ bad_title kind name.now }
+        ensures count { array_vec_len self.new.0 ≤ array_vec_len self.old.0 + 3 }
+    {
+        match kind {
+            BadKind::Opcode => self.push(Piece::Text("neither a command nor an end message: ")),
+            BadKind::Modifiers | BadKind::Version => {
+                self.push(Piece::Text("invalid command, "));
+                self.push(Piece::Text(name));
+                self.push(Piece::Text(": "));
+            }
+        }
     }
 }
 
-// Writes the line of the unit flags.
-fn write_flags<W: fmt::Write>(f: &mut fmt::Formatter<W>, flags: u16) -> fmt::Result {
+// Returns the write protection that unit flags tell.
+fn protection_name(flags: u16) -> &'static str
+    ensures name { result.now ≡ protection_name flags }
+{
     let bits = UnitFlags::from_bits_retain(flags);
     let software = bits.contains(UnitFlags::SOFT);
     let hardware = bits.contains(UnitFlags::HARD);
-    let names = match (software, hardware) {
+    match (software, hardware) {
         (false, false) => "",
         (true, false) => " (software write protection)",
         (false, true) => " (hardware write protection)",
         (true, true) => " (software and hardware write protection)",
-    };
-    writeln!(f, "  unit flags  0x{}{names}", HexWord(flags))
-}
-
-// Writes the lines of a command.
-fn write_command_lines<W: fmt::Write>(
-    f: &mut fmt::Formatter<W>,
-    command: &Command,
-    modifiers: u16,
-) -> fmt::Result {
-    let Command {
-        reference,
-        unit,
-        op,
-    } = *command;
-    write!(
-        f,
-        "command: {}\n  \
-         reference   {reference}\n  \
-         unit        {unit}\n  \
-         opcode      0x{}\n  \
-         modifiers   0x{}\n",
-        op.name(),
-        HexByte(op.opcode()),
-        HexWord(modifiers)
-    )?;
-    if let Op::Online { soft: Some(soft) } = op {
-        let asked = if soft { "on" } else { "off" };
-        return writeln!(f, "  protection  {asked} (Set Write Protect)");
-    }
-    match op.transfer() {
-        Some(transfer) => write_transfer(f, &transfer),
-        None => Ok(()),
     }
 }
 
-// Writes the lines of a transfer's parameters.
-fn write_transfer<W: fmt::Write>(f: &mut fmt::Formatter<W>, transfer: &Transfer) -> fmt::Result {
-    let Transfer {
-        kind,
-        bytes,
-        lbn,
-        buffer,
-    } = *transfer;
-    if kind.has_buffer() {
-        let buffer = HexLong(buffer);
-        writeln!(
-            f,
-            "  byte count  {bytes}\n  buffer      0x{buffer}\n  lbn         {lbn}"
-        )
-    } else {
-        writeln!(f, "  byte count  {bytes}\n  lbn         {lbn}")
-    }
-}
-
-// Writes the lines of an invalid command.
-fn write_bad<W: fmt::Write>(
-    f: &mut fmt::Formatter<W>,
-    bad: &Bad,
-    code: u8,
-    modifiers: u16,
-) -> fmt::Result {
-    let Bad {
-        reference,
-        unit,
-        kind,
-        body,
-    } = *bad;
+// Returns the text of an invalid field.
+fn fault_text(kind: BadKind) -> &'static str
+    ensures text { result.now ≡ fault_display kind }
+{
     match kind {
-        BadKind::Opcode => write!(f, "neither a command nor an end message: {kind}")?,
-        _ => write!(f, "invalid command, {}: {kind}", body.name())?,
+        BadKind::Opcode => "no command has this opcode",
+        BadKind::Modifiers => "a modifier is none of the command's",
+        BadKind::Version => "the version of MSCP is not 0",
     }
-    let status = bad.end().status;
-    writeln!(
-        f,
-        "\n  \
-         reference   {reference}\n  \
-         unit        {unit}\n  \
-         opcode      0x{}\n  \
-         modifiers   0x{}\n  \
-         rejected    status 0x{} ({})",
-        HexByte(code),
-        HexWord(modifiers),
-        HexWord(status),
-        status::name(status)
-    )
 }

@@ -152,7 +152,7 @@ fn byte_of(token: [u8; 2]) -> Result<u8, TokenError>
     ensures ok { IsOk result ↔ IsByteToken token }
 {
     let [high, low] = token;
-    match (digit(high, 16), digit(low, 16)) {
+    match (value_below(high, 16), value_below(low, 16)) {
         (Some(high), Some(low)) => Ok((16 * high + low) as u8),
         _ => Err(TokenError),
     }
@@ -180,11 +180,11 @@ fn three_digits(a: u8, b: u8, c: u8) -> Option<u32>
     ensures some { IsSome result ↔ AllDigits 8 (a ∷ b ∷ c ∷ []) }
     ensures small { IfSome result (λ number. number < 512) }
 {
-    Some(64 * digit(a, 8)? + 8 * digit(b, 8)? + digit(c, 8)?)
+    Some(64 * value_below(a, 8)? + 8 * value_below(b, 8)? + value_below(c, 8)?)
 }
 
 // Returns the value of a digit. A letter above the digits of the radix is none.
-fn digit(byte: u8, radix: u32) -> Option<u32>
+fn value_below(byte: u8, radix: u32) -> Option<u32>
     requires low { 2 ≤ radix }
     requires high { radix ≤ 16 }
     ensures value { IfSome result (λ d. d ≡ digit_value byte) }

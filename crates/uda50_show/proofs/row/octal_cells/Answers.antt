@@ -1,16 +1,14 @@
 use Rattle.std.proofs.Common.{◌≡◌, ℕ, List, ◌+◌, ◌*◌, ◌<◌, ◌++◌, ◌∷◌, [], map, rules, refl, sym, ap, ◌∙◌, arith, add-one, take, length}
 use Rattle.std.specs.Prelude.{slice_set}
-use Rattle.std.specs.Str.{IsAscii}
 use Rattle.std.proofs.lemmas.List.{map-append, take_more_set}
-use Rattle.std.proofs.lemmas.List.Elements.{All-set}
-use Rattle.uda50_show.proofs.Ascii.{cells_ascii}
 use Rattle.uda50_show.specs.Block.{words, word_at}
 use Rattle.uda50_show.specs.Rows.{octal_cell}
+use Rattle.uda50_show.proofs.Tokens.{six}
 use Rattle.uda50_show.proofs.row.octal_cells.Goals as goal
 
 pub loop-n-init : goal.loop-n-init
 unfolding words
-loop-n-init c = record { long = refl; made = refl; ascii = cells_ascii 8 7 }
+loop-n-init c = record { long = refl; made = refl }
 
 -- one cell more
 cell_more : (cells : List (List ℕ)) (bytes cell : List ℕ) (n : ℕ) → n < length cells
@@ -26,9 +24,10 @@ cell_more cells bytes cell n less so_far is =
 
 pub loop-n-preserved : goal.loop-n-preserved
 loop-n-preserved c =
-    let now = c.loop-n.invariant in record {
+    let now = c.loop-n.invariant in
+    let cell = ap (λ (xs : List ℕ). 32 ∷ xs) (six c.octal_word.result (search rules)) ∙ c.octal_word.ensures.digits
+    ∙ ap octal_cell c.word_at.ensures in
+    record {
       long = search rules;
-      made = cell_more _ _ _ _ (omega (arith, now.long, c.loop-n-test.true)) now.made
-          (c.octal_cell.ensures.cell ∙ ap octal_cell c.word_at.ensures);
-      ascii = All-set IsAscii c.loop-n.cells c.loop-n.n c.octal_cell.result c.octal_cell.ensures.ascii now.ascii;
+      made = cell_more _ _ _ _ (omega (arith, now.long, c.loop-n-test.true)) now.made cell;
     }

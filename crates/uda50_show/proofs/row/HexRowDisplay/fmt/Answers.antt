@@ -1,45 +1,23 @@
-use Rattle.std.proofs.Common.{ℕ, List, ◌++◌, sym, ap, subst, ◌∙◌, append_assoc, rules}
-use Rattle.std.specs.List.{flat_map}
-use Rattle.std.specs.Str.{IsAscii}
-use Rattle.std.proofs.lemmas.Grind.{put_two}
-use Rattle.std.proofs.lemmas.Str.Ascii.{IsAscii-nil}
-use Rattle.uda50_show.specs.Rows.{hex_offset, hex_cell, row_text}
-use Rattle.uda50_show.proofs.Rows.{flat_cells}
-use Rattle.uda50_show.proofs.Ascii.{flat_ascii}
+use Rattle.std.proofs.Common.{ℕ, List, ◌∷◌, [], ◌++◌, false, sym, ap, ◌∙◌, append-nil, arith, rules}
+use Rattle.std.specs.Fmt.{HasWritten, digits}
+use Rattle.std.proofs.Output.{has_written_of_eq}
+use Rattle.std.proofs.lemmas.Grind.{put_three}
+use Rattle.uda50_show.specs.Rows.{hex_offset, hex_cell}
+use Rattle.uda50_show.proofs.Offsets.{three_wide, hex_offset_shown}
+use Rattle.uda50_show.proofs.Rows.{cell_more, byte_cell}
 use Rattle.uda50_show.proofs.row.HexRowDisplay.fmt.Goals as goal
 
-pub write_row-requires-clause-ascii : goal.write_row-requires-clause-ascii
-write_row-requires-clause-ascii g c = (
-  IsAscii-nil,
-  subst IsAscii (sym c.as_flattened.ensures.value) (flat_ascii c.hex_cells-cells.result c.hex_cells-cells.ensures.ascii),
-)
+pub loop-byte-init : goal.loop-byte-init
+loop-byte-init g c = λ plain.
+    let offset = c.args.self.now.offset in
+    let shown : HasWritten g.W.Write.write_str_gives c.args.f.now (three_wide (digits 16 false offset) ++ 32 ∷ []) c.write.new.self = search rules in
+    has_written_of_eq _ _ _ _ _ (hex_offset_shown offset ∙ sym (append-nil (hex_offset offset))) shown
 
-pub write_row-requires-2-clause-ascii : goal.write_row-requires-2-clause-ascii
-write_row-requires-2-clause-ascii g c = (
-  c.hex_offset.ensures.ascii,
-  subst IsAscii (sym c.as_flattened-2.ensures.value) (flat_ascii c.hex_cells-cells.result c.hex_cells-cells.ensures.ascii),
-)
-
--- an offset of more than three digits is a piece of its own
-pub returns-then-self-ge4096-clause-writes : goal.returns-then-self-ge4096-clause-writes
-returns-then-self-ge4096-clause-writes g c = λ plain ok.
-    let row = c.args.self.now in
-    let offset = c.write_long_hex_offset.ensures plain (search rules) in
-    let rest = c.write_row.ensures offset.plain ok in
-    let flat =
-    c.as_flattened.ensures.value ∙ ap (flat_map (λ (x : List ℕ). x)) c.hex_cells-cells.ensures.cells
-    ∙ flat_cells hex_cell row.bytes in
-    put_two _ _ _ _ _ _ _ offset rest
-    (ap (λ (t : List ℕ). hex_offset row.offset ++ (t ++ row_text row.bytes)) flat
-    ∙ sym (append_assoc (hex_offset row.offset) (flat_map hex_cell row.bytes) (row_text row.bytes)))
-
-pub returns-clause-writes : goal.returns-clause-writes
-returns-clause-writes g c = λ plain ok.
-    let row = c.args.self.now in
-    let flat =
-    c.as_flattened-2.ensures.value ∙ ap (flat_map (λ (x : List ℕ). x)) c.hex_cells-cells.ensures.cells
-    ∙ flat_cells hex_cell row.bytes in
-    let text =
-    ap (λ (t : List ℕ). t ++ c.as_flattened-2.result.now ++ row_text row.bytes) c.hex_offset.ensures.text
-    ∙ ap (λ (t : List ℕ). hex_offset row.offset ++ t ++ row_text row.bytes) flat in
-    rw (← text) (c.write_row-2.ensures plain ok)
+pub loop-byte-preserved : goal.loop-byte-preserved
+loop-byte-preserved g c = λ plain.
+    let now = c.loop-byte.invariant plain in
+    let space = c.write_str.ensures.writes now.plain (search rules) in
+    let digits = c.write_number.ensures space.plain (search rules) in
+    put_three _ _ _ _ _ _ _ _ _ now space digits
+    (cell_more hex_cell (hex_offset c.args.self.now.offset) (32 ∷ c.hex_byte.result) c.args.self.now.bytes c.loop-byte.byte-index (omega arith)
+    (ap (λ (t : List ℕ). 32 ∷ t) c.hex_byte.ensures.digits ∙ byte_cell _ (search rules)))

@@ -1,46 +1,35 @@
-use Rattle.std.proofs.Common.{ℕ, List, ◌++◌, sym, ap, subst, ◌∙◌, append_assoc, rules}
+use Rattle.std.proofs.Common.{◌≡◌, ℕ, ◌+◌, ◌*◌, List, ◌∷◌, [], ◌++◌, false, sym, ap, ◌∙◌, add-one, append-nil, rules}
+use Rattle.std.specs.Fmt.{HasWritten, digits}
 use Rattle.std.specs.List.{flat_map}
-use Rattle.std.specs.Str.{IsAscii}
-use Rattle.std.proofs.lemmas.Grind.{put_two}
-use Rattle.std.proofs.lemmas.Str.Ascii.{IsAscii-nil}
-use Rattle.uda50_show.specs.Block.{words}
-use Rattle.uda50_show.specs.Rows.{octal_offset, octal_cell, row_text}
-use Rattle.uda50_show.proofs.Rows.{flat_cells}
-use Rattle.uda50_show.proofs.Ascii.{flat_ascii}
+use Rattle.std.proofs.Output.{has_written_of_eq}
+use Rattle.std.proofs.lemmas.Grind.{put_three}
+use Rattle.std.proofs.lemmas.List.{flat_map_more}
+use Rattle.uda50_show.specs.Block.{words, word_at}
+use Rattle.uda50_show.specs.Rows.{octal_offset, octal_cell}
+use Rattle.uda50_show.proofs.Offsets.{three_wide, octal_offset_shown}
 use Rattle.uda50_show.proofs.row.OctalRowDisplay.fmt.Goals as goal
 
-pub write_row-requires-clause-ascii : goal.write_row-requires-clause-ascii
-write_row-requires-clause-ascii g c = (
-  IsAscii-nil,
-  subst IsAscii (sym c.as_flattened.ensures.value) (flat_ascii c.octal_cells-cells.result c.octal_cells-cells.ensures.ascii),
-)
+pub loop-n-init : goal.loop-n-init
+unfolding words
+loop-n-init g c = λ plain.
+    let offset = c.args.self.now.offset in
+    let shown : HasWritten g.W.Write.write_str_gives c.args.f.now (three_wide (digits 8 false offset) ++ 32 ∷ []) c.write.new.self = search rules in
+    has_written_of_eq _ _ _ _ _ (octal_offset_shown offset ∙ sym (append-nil (octal_offset offset))) shown
 
-pub write_row-requires-2-clause-ascii : goal.write_row-requires-2-clause-ascii
-write_row-requires-2-clause-ascii g c = (
-  c.octal_offset.ensures.ascii,
-  subst IsAscii (sym c.as_flattened-2.ensures.value) (flat_ascii c.octal_cells-cells.result c.octal_cells-cells.ensures.ascii),
-)
+-- one cell more
+cell_more : (front piece bytes : List ℕ) (n : ℕ) → piece ≡ octal_cell (word_at (2 * n) bytes)
+    → (front ++ flat_map octal_cell (words n bytes)) ++ piece ≡ front ++ flat_map octal_cell (words (n + 1) bytes)
+unfolding words
+cell_more front piece bytes n is =
+    ap (λ (t : List ℕ). (front ++ flat_map octal_cell (words n bytes)) ++ t) is
+    ∙ flat_map_more octal_cell front (words n bytes) (word_at (2 * n) bytes)
+    ∙ ap (λ (k : ℕ). front ++ flat_map octal_cell (words k bytes)) (sym (add-one n))
 
--- an offset of more than three digits is a piece of its own
-pub returns-then-self-ge512-clause-writes : goal.returns-then-self-ge512-clause-writes
-returns-then-self-ge512-clause-writes g c = λ plain ok.
-    let row = c.args.self.now in
-    let offset = c.write_long_octal_offset.ensures plain (search rules) in
-    let rest = c.write_row.ensures offset.plain ok in
-    let flat =
-    c.as_flattened.ensures.value ∙ ap (flat_map (λ (x : List ℕ). x)) c.octal_cells-cells.ensures.cells
-    ∙ flat_cells octal_cell (words 8 row.bytes) in
-    put_two _ _ _ _ _ _ _ offset rest
-    (ap (λ (t : List ℕ). octal_offset row.offset ++ (t ++ row_text row.bytes)) flat
-    ∙ sym (append_assoc (octal_offset row.offset) (flat_map octal_cell (words 8 row.bytes)) (row_text row.bytes)))
-
-pub returns-clause-writes : goal.returns-clause-writes
-returns-clause-writes g c = λ plain ok.
-    let row = c.args.self.now in
-    let flat =
-    c.as_flattened-2.ensures.value ∙ ap (flat_map (λ (x : List ℕ). x)) c.octal_cells-cells.ensures.cells
-    ∙ flat_cells octal_cell (words 8 row.bytes) in
-    let text =
-    ap (λ (t : List ℕ). t ++ c.as_flattened-2.result.now ++ row_text row.bytes) c.octal_offset.ensures.text
-    ∙ ap (λ (t : List ℕ). octal_offset row.offset ++ t ++ row_text row.bytes) flat in
-    rw (← text) (c.write_row-2.ensures plain ok)
+pub loop-n-preserved : goal.loop-n-preserved
+loop-n-preserved g c = λ plain.
+    let now = c.loop-n.invariant plain in
+    let space = c.write_str.ensures.writes now.plain (search rules) in
+    let digits = c.write_number.ensures space.plain (search rules) in
+    put_three _ _ _ _ _ _ _ _ _ now space digits
+    (cell_more (octal_offset c.args.self.now.offset) (32 ∷ c.octal_word.result) c.args.self.now.bytes c.loop-n.n
+    (c.octal_word.ensures.digits ∙ ap octal_cell c.word_at.ensures))

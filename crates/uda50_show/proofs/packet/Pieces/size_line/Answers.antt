@@ -1,0 +1,6 @@
+use Rattle.std.proofs.Common.{append_assoc}
+use Rattle.uda50_show.proofs.packet.Pieces.size_line.Goals as goal
+
+pub returns-clause-text : goal.returns-clause-text
+returns-clause-text c =
+    rw (c.push-3.ensures.text, c.push-2.ensures.text, c.push.ensures.text) (simp append_assoc)

@@ -1,0 +1,23 @@
+use Rattle.std.proofs.Common.{ℕ, List, ◌++◌, replicate, ap, ◌∙◌, refl, rules}
+use Rattle.std.specs.List.{flat_map}
+use Rattle.uda50_show.specs.Block.{words}
+use Rattle.uda50_show.specs.Rows.{octal_offset, octal_cell}
+use Rattle.uda50_show.proofs.Rows.{flat_cells, three_parts}
+use Rattle.uda50_show.proofs.row.OctalRow.text.Goals as goal
+
+pub returns : goal.returns
+returns c =
+    let row = c.args.self.now in
+    let offset = c.copy_from_slice.ensures.after ∙ c.octal_offset.ensures.text in
+    let cells =
+    c.copy_from_slice-2.ensures.after ∙ c.as_flattened.ensures.value
+    ∙ ap (flat_map (λ (x : List ℕ). x)) c.octal_cells.ensures.cells ∙ flat_cells octal_cell (words 8 row.bytes) in
+    let characters = c.copy_from_slice-3.ensures.after ∙ c.characters.ensures.text in
+    record {
+      text =
+          three_parts 4 56 20 (replicate 80 32) c.copy_from_slice.new.self c.copy_from_slice-2.new.self
+          c.copy_from_slice-3.new.self (search rules) (search rules) (search rules) refl
+          ∙ ap (λ (t : List ℕ). t ++ c.copy_from_slice-2.new.self ++ c.copy_from_slice-3.new.self) offset
+          ∙ ap (λ (t : List ℕ). octal_offset row.offset ++ t ++ c.copy_from_slice-3.new.self) cells
+          ∙ ap (λ (t : List ℕ). octal_offset row.offset ++ flat_map octal_cell (words 8 row.bytes) ++ t) characters;
+    }

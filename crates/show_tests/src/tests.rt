@@ -1,4 +1,5 @@
 //! Comparisons of two forms.
 mod packets;
+mod pieces;
 mod rows;
 mod tokens;

@@ -1,5 +1,6 @@
 //! Packets, compared with packets that are formatted line by line.
 
+use super::pieces::{compare, compare_in_each_room};
 use rand_core::{Rng, SeedableRng};
 use rand_pcg::Pcg32;
 use std::fmt;
@@ -9,7 +10,7 @@ use uda_packet::{
     Bad, BadKind, Command, End, EndBody, Flags, Op, Transfer, UnitFlags, decode_command,
     decode_end, status,
 };
-use uda50_show::Packet;
+use uda50_show::{PACKET_TEXT, Packet};
 
 /// The slower form of a [`Packet`].
 #[derive(Drop)]
@@ -128,11 +129,32 @@ fn write_bad<W: fmt::Write>(
     writeln!(f, "  rejected    status 0x{status:04x} ({name})")
 }
 
-// Compares a packet with the slower form.
-fn compare(rt: &(impl Alloc + Abort), bytes: [u8; 48]) -> Result<(), Fail> {
-    let expected = format!(in rt.alloc(); "{}", FormattedPacket(bytes))?;
-    assert_eq!(rt; format!(in rt.alloc(); "{}", Packet(bytes))?, expected);
+// Compares the pieces of a packet with the slower form, and with the text in one piece.
+fn compare_packet(rt: &(impl Alloc + Abort), bytes: [u8; 48]) -> Result<(), Fail> {
+    let packet = Packet(bytes);
+    compare(rt, &packet, &FormattedPacket(bytes), PACKET_TEXT)?;
+    assert_eq!(rt;
+        packet.text().as_str(),
+        format!(in rt.alloc(); "{packet}")?.as_str()
+    );
     Ok(())
+}
+
+// Returns random bytes with this byte in the place of the opcode or end code, this word in that of the
+// status or the modifiers, and these unit flags. Without flags the bytes ask for version 0 of MSCP.
+fn packet_of(rng: &mut Pcg32, code: u8, word: u16, flags: u8) -> [u8; 48] {
+    let mut bytes = [0; 48];
+    rng.fill_bytes(&mut bytes);
+    bytes[8] = code;
+    let [low, high] = word.to_le_bytes();
+    bytes[10] = low;
+    bytes[11] = high;
+    bytes[15] = flags;
+    if flags == 0 {
+        bytes[12] = 0;
+        bytes[13] = 0;
+    }
+    bytes
 }
 
 /// The status words that have a name, and others. As modifiers they are valid, or not.
@@ -141,27 +163,35 @@ const WORDS: [u16; 19] = [
     0x2006, 0xffff,
 ];
 
-/// Packets of random bytes with each opcode and end code, each of these words as status or modifiers, and each pair of
-/// unit flags. One in four asks for version 0 of MSCP.
+/// Packets of random bytes with each opcode and end code, each of these words as status or modifiers, and
+/// each pair of unit flags. One in four asks for version 0 of MSCP.
 #[test]
 fn packets_are_as_formatted(rt: HostRuntime) -> Result<(), Fail> {
     let mut rng = Pcg32::seed_from_u64(3);
     for code in 0..=255u8 {
         for word in WORDS {
             for flags in [0, 0x10, 0x20, 0x30] {
-                let mut bytes = [0; 48];
-                rng.fill_bytes(&mut bytes);
-                bytes[8] = code;
-                let [low, high] = word.to_le_bytes();
-                bytes[10] = low;
-                bytes[11] = high;
-                bytes[15] = flags;
-                if flags == 0 {
-                    bytes[12] = 0;
-                    bytes[13] = 0;
-                }
-                compare(&rt, bytes)?;
+                compare_packet(&rt, packet_of(&mut rng, code, word, flags))?;
             }
+        }
+    }
+    Ok(())
+}
+
+/// Writers of each room hold of a packet what they hold of the slower form. The codes are those of all
+/// commands and end messages, and one that is neither. Small numbers have zeros before them.
+#[test]
+fn packets_end_in_each_room_as_formatted(rt: HostRuntime) -> Result<(), Fail> {
+    let mut rng = Pcg32::seed_from_u64(5);
+    let codes = [
+        3, 4, 8, 9, 16, 18, 33, 34, 99, 0x80, 0x83, 0x84, 0x88, 0x89, 0x90, 0xa1,
+    ];
+    for code in codes {
+        for (word, flags) in [(0, 0), (0, 0x10), (4, 0x30), (0x801, 0x10)] {
+            let mut bytes = packet_of(&mut rng, code, word, flags);
+            bytes[18] = 0;
+            bytes[19] = 0;
+            compare_in_each_room(&rt, &Packet(bytes), &FormattedPacket(bytes), PACKET_TEXT)?;
         }
     }
     Ok(())

@@ -1,5 +1,6 @@
 //! Rows of a dump, compared with rows that are formatted number by number.
 
+use super::pieces::{compare, compare_in_each_room};
 use rand_core::{Rng, SeedableRng};
 use rand_pcg::Pcg32;
 use std::fmt;
@@ -52,32 +53,59 @@ fn printable(byte: u8) -> char {
     }
 }
 
-// Compares both rows of an offset and bytes with the slower forms.
-fn compare(rt: &(impl Alloc + Abort), offset: u16, bytes: [u8; 16]) -> Result<(), Fail> {
+// Compares the pieces of both rows of an offset and bytes with the slower forms, and a row of a block with
+// its text in one piece.
+fn compare_rows(rt: &(impl Alloc + Abort), offset: u16, bytes: [u8; 16]) -> Result<(), Fail> {
     let (hex, octal) = (HexRow { offset, bytes }, OctalRow { offset, bytes });
-    let expected = format!(in rt.alloc(); "{}", FormattedHexRow(hex))?;
-    assert_eq!(rt; format!(in rt.alloc(); "{hex}")?, expected);
-    let expected = format!(in rt.alloc(); "{}", FormattedOctalRow(octal))?;
-    assert_eq!(rt; format!(in rt.alloc(); "{octal}")?, expected);
+    compare(rt, &hex, &FormattedHexRow(hex), WHOLE)?;
+    compare(rt, &octal, &FormattedOctalRow(octal), WHOLE)?;
+    if offset < 512 {
+        assert_eq!(rt;
+            format!(in rt.alloc(); "{hex}")?.as_bytes(),
+            &hex.text()[..]
+        );
+        assert_eq!(rt;
+            format!(in rt.alloc(); "{octal}")?.as_bytes(),
+            &octal.text()[..]
+        );
+    }
     Ok(())
 }
 
-/// Rows of random bytes, and of each byte, at offsets on both sides of those with more than three digits.
+/// Room for each row, also at offsets that no block has.
+const WHOLE: usize = 90;
+
+/// Rows of random bytes, of text, and of each byte, at each offset of a block and at others.
 #[test]
 fn rows_are_as_formatted(rt: HostRuntime) -> Result<(), Fail> {
     let mut rng = Pcg32::seed_from_u64(1);
-    let offsets = [
-        0, 7, 8, 16, 63, 64, 496, 511, 512, 4_095, 4_096, 32_767, 32_768, 65_535,
-    ];
     for byte in 0..=255u8 {
-        compare(&rt, u16::from(byte) * 2, [byte; 16])?;
+        compare_rows(&rt, u16::from(byte) * 2, [byte; 16])?;
     }
-    for _ in 0..200 {
-        for offset in offsets {
+    let others = [511, 512, 4_095, 4_096, 32_767, 32_768, 65_535];
+    for offset in (0..512).step_by(16).chain(others) {
+        for round in 0..20 {
             let mut bytes = [0; 16];
             rng.fill_bytes(&mut bytes);
-            compare(&rt, offset, bytes)?;
+            if round < 5 {
+                bytes = bytes.map(|byte| 32 + byte % 95);
+            }
+            compare_rows(&rt, offset, bytes)?;
         }
+    }
+    Ok(())
+}
+
+/// Writers of each room hold of a row what they hold of the slower form.
+#[test]
+fn rows_end_in_each_room_as_formatted(rt: HostRuntime) -> Result<(), Fail> {
+    let mut rng = Pcg32::seed_from_u64(4);
+    for offset in [0, 7, 8, 16, 63, 64, 496, 4_095, 65_535] {
+        let mut bytes = [0; 16];
+        rng.fill_bytes(&mut bytes[..14]);
+        let (hex, octal) = (HexRow { offset, bytes }, OctalRow { offset, bytes });
+        compare_in_each_room(&rt, &hex, &FormattedHexRow(hex), WHOLE)?;
+        compare_in_each_room(&rt, &octal, &FormattedOctalRow(octal), WHOLE)?;
     }
     Ok(())
 }

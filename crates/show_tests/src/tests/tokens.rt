@@ -51,8 +51,8 @@ fn digits(token: &str, radix: u32) -> Result<u16, TokenError>
     }
 }
 
-/// Random tokens of up to six characters, most of them digits, give the same packets and errors, and as many bytes
-/// of the next packet.
+/// Random tokens of up to six characters, most of them digits, give the same packets and errors, and as
+/// many bytes of the next packet.
 #[test]
 fn tokens_are_as_parsed(rt: HostRuntime) -> Result<(), Fail> {
     let characters = "0123456701234567012345670123456789abcdefABCDEFgG+- #\u{e9}";

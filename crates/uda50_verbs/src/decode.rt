@@ -7,11 +7,18 @@ use crate::fault::{Fault, Reason, STANDARD_INPUT};
 use crate::outcome::Outcome;
 use std::alloc::Global;
 use std::fs::{File, OpenFile};
-use std::io::{BufRead, BufReader, Read, Write};
-use uda50_show::PacketReader;
+use std::io;
+use std::io::{BufRead, BufReader, BufWriter, Read, Write};
+use uda50_show::{Packet, PacketReader};
 
 /// The most bytes that are kept for the next line. The memory of a longer line is given back.
 const LINE_ROOM: usize = 4_096;
+
+/// The bytes of the longest text before a packet, `packet 18446744073709551615, `.
+const HEAD_ROOM: usize = 29;
+
+/// The most bytes of packets that go out in one write. A pipe takes this many in one piece.
+const GATHERED: usize = 4_096;
 
 // The state of reading packets.
 #[derive(Debug, Drop)]
@@ -21,11 +28,31 @@ struct DecodeProgress {
     invalid: bool,
 }
 
+impl DecodeProgress {
+    // Makes the state before the first packet.
+    fn new() -> DecodeProgress {
+        DecodeProgress {
+            reader: PacketReader::new(),
+            packets: 0,
+            invalid: false,
+        }
+    }
+
+    // Returns the outcome at the end of the text.
+    fn outcome<'w>(&self, name: &'w str) -> Result<Outcome, Fault<'w>> {
+        match self.reader.filled() {
+            0 if self.invalid => Ok(Outcome::Failed),
+            0 => Ok(Outcome::Done),
+            bytes => Err(Fault::new(name, Reason::ShortPacket(bytes))),
+        }
+    }
+}
+
 /// Prints the packets of a file, or of standard input.
-pub(crate) fn decode<'w, W: Write>(
+pub(crate) fn decode<'w, W: Write + Drop>(
     rt: &HostRuntime,
     path: &'w str,
-    out: &mut W,
+    out: &mut BufWriter<W>,
 ) -> Result<Outcome, Fault<'w>> {
     if path == "-" {
         let input = BufReader::new(rt.alloc(), rt.stdin())?;
@@ -36,21 +63,18 @@ pub(crate) fn decode<'w, W: Write>(
     decode_from(rt.alloc(), path, input, out)
 }
 
-// Prints the packets of a text. What it printed goes out before it may have to wait for more of the text, before
-// a fault of the text, and at the end.
-fn decode_from<'w, R: Read + Drop, W: Write>(
+// Prints the packets of a text. What it printed goes out before it may have to wait for more of the text,
+// before a fault of the text, and at the end.
+fn decode_from<'w, R: Read + Drop, W: Write + Drop>(
     alloc: Global,
     name: &'w str,
     mut input: BufReader<R>,
-    out: &mut W,
+    out: &mut BufWriter<W>,
 ) -> Result<Outcome, Fault<'w>> {
-    let mut progress = DecodeProgress {
-        reader: PacketReader::new(),
-        packets: 0,
-        invalid: false,
-    };
+    let mut progress = DecodeProgress::new();
     let mut line = String::new(alloc);
-    for number in 1..u64::MAX {
+    let mut number = 0u64;
+    for _ in 0..u64::MAX {
         if !input.buffer().contains(&b'\n') {
             out.flush()?;
         }
@@ -62,28 +86,25 @@ fn decode_from<'w, R: Read + Drop, W: Write>(
             }
         };
         if read == 0 {
-            break;
+            return progress.outcome(name);
         }
+        number = number.saturating_add(1);
         decode_line(name, number, line.as_str(), &mut progress, out)?;
         if line.capacity() > LINE_ROOM {
             line = String::new(alloc);
         }
         line.clear();
     }
-    match progress.reader.filled() {
-        0 if progress.invalid => Ok(Outcome::Failed),
-        0 => Ok(Outcome::Done),
-        bytes => Err(Fault::new(name, Reason::ShortPacket(bytes))),
-    }
+    Err(Fault::new(name, Reason::Unreadable))
 }
 
 // Reads the tokens of a line, and prints the packets that they complete. `#` begins a comment.
-fn decode_line<'w, W: Write>(
+fn decode_line<'w, W: Write + Drop>(
     name: &'w str,
     line: u64,
     text: &str,
     progress: &mut DecodeProgress,
-    out: &mut W,
+    out: &mut BufWriter<W>,
 ) -> Result<(), Fault<'w>> {
     let tokens = match text.split_once('#') {
         Some((tokens, _)) => tokens,
@@ -102,9 +123,23 @@ fn decode_line<'w, W: Write>(
         if let Some(packet) = packet {
             progress.packets = progress.packets.saturating_add(1);
             progress.invalid |= !packet.is_valid();
-            let number = progress.packets;
-            write!(out, "packet {number}, {packet}")?;
+            put_packet(out, progress.packets, &packet)?;
         }
     }
     Ok(())
+}
+
+// Prints a packet. If it might be too long for the write of the packets that are gathered, these go out
+// first. So each write ends with a packet.
+fn put_packet<W: Write + Drop>(
+    out: &mut BufWriter<W>,
+    number: u64,
+    packet: &Packet,
+) -> io::Result<()> {
+    let text = packet.text();
+    if out.buffer().len() + HEAD_ROOM + text.len() > GATHERED {
+        out.flush()?;
+    }
+    write!(out, "packet {number}, ")?;
+    out.write_all(text.as_bytes())
 }

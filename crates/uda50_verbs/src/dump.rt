@@ -1,24 +1,23 @@
 //! `uda50 dump`: prints blocks as text, or writes their bytes.
 
-#[cfg(test)]
-mod tests;
-
 use crate::fault::{Fault, Reason, STANDARD_OUTPUT};
 use crate::image::{open, read_block_or_zeros};
 use crate::outcome::Outcome;
-use std::io::{IsTerminal, Write};
-use uda_image::{BlockStore, FileImage};
+use std::fmt::Display;
+use std::io;
+use std::io::{BufWriter, IsTerminal, Write};
+use uda_image::BlockStore;
 use uda50_arguments::{BlockRange, Dump, DumpFormat};
 use uda50_show::{HexRow, OctalRow};
 
 /// Prints blocks of an image.
-pub(crate) fn dump<'w, W: Write>(
+pub(crate) fn dump<'w, W: Write + Drop>(
     rt: &HostRuntime,
     dump: &Dump<'w>,
-    out: &mut W,
+    out: &mut BufWriter<W>,
 ) -> Result<Outcome, Fault<'w>> {
     let path = dump.image.path;
-    let image = open(rt, path, false)?;
+    let mut image = open(rt, path, false)?;
     let blocks = image.size();
     if dump.format == (DumpFormat::Raw { force: false }) && rt.stdout().is_terminal() {
         return Err(Fault::new(STANDARD_OUTPUT, Reason::Terminal));
@@ -28,94 +27,61 @@ pub(crate) fn dump<'w, W: Write>(
         Some(range) if range.is_within(blocks) => (range.start, range.end),
         Some(range) => return Err(Fault::new(path, Reason::PastEnd { range, blocks })),
     };
-    let mut job = DumpJob {
-        image,
-        path,
-        format: dump.format,
-    };
-    job.dump_blocks(out, start, end)?;
+    for block in start..end {
+        let bytes = read_block_or_zeros(&mut image, path, block)?;
+        dump_block(out, block, &bytes, dump.format)?;
+    }
     Ok(Outcome::Done)
 }
 
-/// The most blocks that are read in one call.
-const PIECE: u32 = 16;
-
-/// The bytes of the most blocks that are read in one call.
-const ROOM: usize = 8_192;
-
-// The image of a dump, and the format in which its blocks are printed.
-#[derive(Drop)]
-struct DumpJob<'w> {
-    image: FileImage,
-    path: &'w str,
-    format: DumpFormat,
-}
-
-impl<'w> DumpJob<'w> {
-    // Prints the blocks from `start` to before `end`.
-    fn dump_blocks<W: Write>(
-        &mut self,
-        out: &mut W,
-        start: u32,
-        end: u32,
-    ) -> Result<(), Fault<'w>> {
-        let mut room = [0; ROOM];
-        for first in (start..end).step_by(PIECE as usize) {
-            let count = end.saturating_sub(first).min(PIECE);
-            self.dump_piece(out, first, count, &mut room)?;
-        }
-        Ok(())
-    }
-
-    // Prints at most 16 blocks. They are read in one call. If that fails, each is read by itself, so that those before
-    // the one that can't be read are printed.
-    fn dump_piece<W: Write>(
-        &mut self,
-        out: &mut W,
-        first: u32,
-        count: u32,
-        room: &mut [u8; ROOM],
-    ) -> Result<(), Fault<'w>> {
-        let count = count.min(PIECE);
-        let bytes = &mut room[..512 * count as usize];
-        let on_image = self.image.size().checked_sub(count);
-        if on_image.is_some_and(|last| first <= last)
-            && self.image.try_read_blocks(first, count, bytes)
-        {
-            for (block, bytes) in (first..).zip(bytes.chunks_exact(512)) {
-                dump_block(out, block, bytes, self.format)?;
-            }
-            return Ok(());
-        }
-        for block in first..first.saturating_add(count) {
-            let bytes = read_block_or_zeros(&mut self.image, self.path, block)?;
-            dump_block(out, block, &bytes, self.format)?;
-        }
-        Ok(())
-    }
-}
-
 // Writes a block.
-fn dump_block<'w, W: Write>(
-    out: &mut W,
+fn dump_block<W: Write + Drop>(
+    out: &mut BufWriter<W>,
     block: u32,
-    bytes: &[u8],
+    bytes: &[u8; 512],
     format: DumpFormat,
-) -> Result<(), Fault<'w>> {
+) -> io::Result<()> {
     if let DumpFormat::Raw { .. } = format {
-        return Ok(out.write_all(bytes)?);
+        return out.write_all(bytes);
     }
     writeln!(out, "block {block}")?;
-    let mut offset = 0u16;
-    for row in bytes.chunks_exact(16) {
-        let mut bytes = [0; 16];
-        bytes.copy_from_slice(row);
+    for row in 0..32u16 {
+        let offset = 16 * row;
+        let start = usize::from(offset);
+        let mut sixteen = [0; 16];
+        sixteen.copy_from_slice(&bytes[start..start + 16]);
         if format == DumpFormat::Octal {
-            writeln!(out, "{}", OctalRow { offset, bytes })?;
+            let row = OctalRow {
+                offset,
+                bytes: sixteen,
+            };
+            let mut line = [b'\n'; 81];
+            line[..80].copy_from_slice(&row.text());
+            put_line(out, &line, &row)?;
         } else {
-            writeln!(out, "{}", HexRow { offset, bytes })?;
+            let row = HexRow {
+                offset,
+                bytes: sixteen,
+            };
+            let mut line = [b'\n'; 73];
+            line[..72].copy_from_slice(&row.text());
+            put_line(out, &line, &row)?;
         }
-        offset = offset.saturating_add(16);
     }
     Ok(())
+}
+
+// Writes the line of a row. A line that doesn't fit into the buffer goes to it in the pieces of the row's
+// `Display`, and the buffer goes out when the next of these doesn't fit.
+fn put_line<W: Write + Drop>(
+    out: &mut BufWriter<W>,
+    line: &[u8],
+    row: &impl Display,
+) -> io::Result<()> {
+    let room = out.capacity().saturating_sub(out.buffer().len());
+    if line.len() <= room {
+        out.write_all(line)
+    } else {
+        writeln!(out, "{row}")
+    }
 }

@@ -103,10 +103,10 @@ fn perform<'w>(rt: &HostRuntime, task: &Task<'w>) -> Result<Outcome, Fault<'w>> 
     Ok(outcome)
 }
 
-fn perform_with<'w, W: Write>(
+fn perform_with<'w, W: Write + Drop>(
     rt: &HostRuntime,
     task: &Task<'w>,
-    out: &mut W,
+    out: &mut BufWriter<W>,
 ) -> Result<Outcome, Fault<'w>> {
     match task {
         Task::Info { images } => info(rt, images.as_slice(), out),

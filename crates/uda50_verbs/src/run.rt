@@ -4,7 +4,7 @@ use crate::fault::{Fault, STANDARD_INPUT};
 use crate::outcome::Outcome;
 use crate::script::{Drives, Job, execute_script, open_drives};
 use std::fs::{File, OpenFile};
-use std::io::{BufRead, BufReader, BufWriter, Read};
+use std::io::{BufReader, BufWriter, Read};
 use uda_driver::Unwatched;
 use uda_script_run::{Channels, ReportStyle};
 use uda50_arguments::Run;
@@ -27,10 +27,10 @@ pub(crate) fn run<'w>(rt: &HostRuntime, run: &Run<'w>) -> Result<Outcome, Fault<
 }
 
 // Executes a script. The blocks that it reads go to standard output, and the report goes to standard error.
-fn run_from<'w, T: BufRead + Drop, R: Read + Drop>(
+fn run_from<'w, T: Read + Drop, R: Read + Drop>(
     rt: &HostRuntime,
     run: &Run<'w>,
-    text: T,
+    text: BufReader<T>,
     input: R,
     drives: Drives,
 ) -> Result<Outcome, Fault<'w>> {

@@ -2,11 +2,11 @@
 
 use crate::fault::{Fault, Reason, STANDARD_INPUT};
 use crate::image::open;
-use std::io::{BufRead, Read, Write};
+use std::io::{BufReader, Read, Write};
 use uda_driver::{Driver, Watch};
 use uda_grammar::ScriptError;
 use uda_image::{Drive, FileImage};
-use uda_script_run::{Channels, ReportStyle, ScriptOutcome, TextError, run_text};
+use uda_script_run::{Channels, ReportStyle, ScriptOutcome, TextError, run_buffered_text};
 use uda50_arguments::ImageName;
 
 /// The drives of units 0 to 3.
@@ -18,7 +18,7 @@ pub(crate) struct Job<'j, 'w, T> {
     /// The name of the script's file.
     pub(crate) name: &'w str,
     /// The text of the script.
-    pub(crate) text: T,
+    pub(crate) text: BufReader<T>,
     /// The images of units 0 to 3; `None` for no drive.
     pub(crate) units: &'j [Option<ImageName<'w>>],
     /// The style of the report.
@@ -26,7 +26,7 @@ pub(crate) struct Job<'j, 'w, T> {
 }
 
 /// Executes a script on its images, in batches, as it is read, and syncs the images that it wrote.
-pub(crate) fn execute_script<'w, T: BufRead + Drop, R: Read, W: Write, V: Write, H: Watch>(
+pub(crate) fn execute_script<'w, T: Read + Drop, R: Read, W: Write, V: Write, H: Watch>(
     rt: &HostRuntime,
     job: Job<'_, 'w, T>,
     drives: Drives,
@@ -41,7 +41,7 @@ pub(crate) fn execute_script<'w, T: BufRead + Drop, R: Read, W: Write, V: Write,
     let Ok(mut driver) = Driver::start(rt.alloc(), drives) else {
         return Err(Fault::new("uda50", Reason::NoMemory));
     };
-    let done = run_text(rt.alloc(), style, text, channels, &mut driver);
+    let done = run_buffered_text(rt.alloc(), style, text, channels, &mut driver);
     let outcome = done.map_err(|error| fault_of(name, error));
     sync(rt, driver.into_stores(), units, outcome)
 }

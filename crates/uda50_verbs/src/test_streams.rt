@@ -1,4 +1,4 @@
-//! Streams for tests: a reader that brings a text in pieces, and a writer with limited room.
+//! Streams for tests: a reader that brings a text in pieces, and a writer that refuses some bytes.
 use std::alloc::Global;
 use std::io;
 use std::io::{ErrorKind, Read, Write};
@@ -37,36 +37,50 @@ impl Read for Bits<'_> {
     }
 }
 
-/// A writer. If it is full, it refuses each further byte. If it took any, it then refuses a flush too, with another
-/// error.
+/// A writer. If it is full, it refuses each further byte. If it took any, it then refuses a flush too, with
+/// another error.
 #[derive(Drop)]
 pub(crate) struct Sink {
     /// The bytes that it took.
     pub(crate) taken: Vec<u8>,
+    /// The number of bytes that it had taken at the end of each write.
+    pub(crate) ends: Vec<usize>,
     /// The number of bytes that it takes.
-    pub(crate) room: usize,
-    /// The number of bytes that it had taken at the last flush.
-    pub(crate) flushed: usize,
+    room: usize,
+    /// The number of writes before the one that it refuses, if it refuses one. It takes the same bytes later.
+    writes_before_refusal: Option<u32>,
 }
 
 impl Sink {
-    /// Makes a writer with this room.
-    pub(crate) fn new(alloc: Global, room: usize) -> Sink {
+    /// Makes a writer with this room, and the number of writes before the one that it refuses.
+    pub(crate) fn new(alloc: Global, room: usize, writes_before_refusal: Option<u32>) -> Sink {
         Sink {
             taken: Vec::new(alloc),
+            ends: Vec::new(alloc),
             room,
-            flushed: 0,
+            writes_before_refusal,
         }
+    }
+
+    /// Returns whether it will refuse a write. It refuses one at most.
+    pub(crate) fn will_refuse(&self) -> bool {
+        self.writes_before_refusal.is_some()
     }
 }
 
 impl Write for Sink {
     fn write(&mut self, buf: &[u8]) -> io::Result<usize> {
+        let refusal = self.writes_before_refusal;
+        self.writes_before_refusal = refusal.and_then(|writes| writes.checked_sub(1));
+        if refusal == Some(0) {
+            return Err(io::Error::from(ErrorKind::WouldBlock));
+        }
         let count = buf.len().min(self.room.saturating_sub(self.taken.len()));
         if count == 0 && !buf.is_empty() {
             return Err(io::Error::from(ErrorKind::StorageFull));
         }
         self.taken.extend_from_slice(&buf[..count])?;
+        self.ends.push(self.taken.len())?;
         Ok(count)
     }
 
@@ -74,7 +88,6 @@ impl Write for Sink {
         if self.room > 0 && self.taken.len() >= self.room {
             return Err(io::Error::from(ErrorKind::BrokenPipe));
         }
-        self.flushed = self.taken.len();
         Ok(())
     }
 }

@@ -6,7 +6,7 @@ use crate::run::script_name;
 use crate::script::{Drives, Job, execute_script, open_drives};
 use std::fs::{File, OpenFile};
 use std::io;
-use std::io::{BufRead, BufReader, Read, Write};
+use std::io::{BufReader, Read, Write};
 use uda_driver::{Trace, Watch};
 use uda_packet::status;
 use uda_script_run::{Channels, ReportStyle};
@@ -31,7 +31,11 @@ pub(crate) fn trace<'w, W: Write>(
     trace_job(rt, job(script, units, text), rt.stdin(), drives, out)
 }
 
-fn job<'j, 'w, T>(script: &'w str, units: &'j [Option<ImageName<'w>>], text: T) -> Job<'j, 'w, T> {
+fn job<'j, 'w, T: Read + Drop>(
+    script: &'w str,
+    units: &'j [Option<ImageName<'w>>],
+    text: BufReader<T>,
+) -> Job<'j, 'w, T> {
     Job {
         name: script_name(script),
         text,
@@ -41,7 +45,7 @@ fn job<'j, 'w, T>(script: &'w str, units: &'j [Option<ImageName<'w>>], text: T) 
 }
 
 // Executes a script, and prints the turns.
-fn trace_job<'w, T: BufRead + Drop, R: Read + Drop, W: Write>(
+fn trace_job<'w, T: Read + Drop, R: Read + Drop, W: Write>(
     rt: &HostRuntime,
     job: Job<'_, 'w, T>,
     input: R,

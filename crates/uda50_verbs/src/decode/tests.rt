@@ -1,9 +1,11 @@
-//! The packets of texts, compared with a form that flushes after each packet and has memory of its own for each line.
+//! The packets of texts, compared with a form that flushes after each packet and has memory of its own for
+//! each line. Each write of that form is a packet.
 use super::{DecodeProgress, LINE_ROOM, PacketReader, decode_from};
 use crate::fault::{Fault, Reason};
 use crate::outcome::Outcome;
 use crate::test_streams::{Bits, Sink};
 use std::alloc::{AllocError, Global};
+use std::io;
 use std::io::{BufRead, BufReader, BufWriter, Write};
 use std::process::Abort;
 use std::test::Fail;
@@ -63,7 +65,7 @@ fn decode_line<'w, W: Write>(
     Ok(())
 }
 
-/// The tokens of a text, and how they stand in lines.
+/// The tokens of a text, and how they are divided into lines.
 #[derive(Clone, Copy, Debug)]
 struct Shape {
     /// The number of tokens.
@@ -106,10 +108,63 @@ struct Streams {
     until: usize,
     /// The number of bytes that the writer takes.
     room: usize,
+    /// The number of writes before the one that is refused, if one is.
+    writes_before_refusal: Option<u32>,
 }
 
-// Compares output and result, over the writer itself and over a buffer. The output has to be flushed, except that of a
-// full writer.
+/// What a form printed.
+#[derive(Drop)]
+struct Printed {
+    /// The writer at the end of the program.
+    out: Sink,
+    /// The number of bytes that the form left in the buffer.
+    left: usize,
+    /// The result.
+    done: String,
+}
+
+impl Printed {
+    // Ends the output as the program does.
+    fn of(
+        alloc: Global,
+        mut out: BufWriter<Sink>,
+        done: Result<Outcome, Fault<'_>>,
+    ) -> Result<Printed, AllocError> {
+        let left = out.buffer().len();
+        let _ = out.flush();
+        let (out, _) = out.into_parts();
+        let done = format!(in alloc; "{done:?}")?;
+        Ok(Printed { out, left, done })
+    }
+}
+
+// Prints the packets of a text, and prints them by the slower form.
+fn print_twice(alloc: Global, text: &[u8], streams: Streams) -> io::Result<(Printed, Printed)> {
+    let Streams {
+        most,
+        until,
+        room,
+        writes_before_refusal,
+    } = streams;
+    let bits = || Bits {
+        left: text,
+        most,
+        until,
+        calls: 0,
+    };
+    let sink = || Sink::new(alloc, room, writes_before_refusal);
+    let mut out = BufWriter::new(alloc, sink())?;
+    let done = decode_from(alloc, "text", BufReader::new(alloc, bits())?, &mut out);
+    let mut slow_out = BufWriter::new(alloc, sink())?;
+    let slow = decode_lines(alloc, "text", BufReader::new(alloc, bits())?, &mut slow_out);
+    Ok((
+        Printed::of(alloc, out, done)?,
+        Printed::of(alloc, slow_out, slow)?,
+    ))
+}
+
+// Compares outputs and results. The form may leave nothing in the buffer, unless the writer is full. If the
+// writer has room for all, each write ends with a packet.
 fn compare(
     rt: &(impl Alloc<A = Global> + Abort),
     shape: &Shape,
@@ -117,39 +172,50 @@ fn compare(
 ) -> Result<(), Fail> {
     let alloc = rt.alloc();
     let text = shape.text(alloc)?;
-    let Streams { most, until, room } = streams;
-    let bits = || Bits {
-        left: &text,
-        most,
-        until,
-        calls: 0,
-    };
-    let (mut out, mut expected) = (Sink::new(alloc, room), Sink::new(alloc, room));
-    let done = decode_from(alloc, "text", BufReader::new(alloc, bits())?, &mut out);
-    let wanted = decode_lines(alloc, "text", BufReader::new(alloc, bits())?, &mut expected);
-    let wanted = format!(in alloc; "{wanted:?}")?;
-    assert!(rt; out.taken == expected.taken, "{shape:?}, {streams:?}");
+    let (printed, wanted) = print_twice(alloc, &text, streams)?;
     assert!(rt;
-        out.flushed == out.taken.len() || out.taken.len() == room,
+        printed.out.taken == wanted.out.taken,
         "{shape:?}, {streams:?}"
     );
-    assert_eq!(rt;
-        format!(in alloc; "{done:?}")?,
-        wanted,
-        "{shape:?}, {streams:?}"
-    );
-    let mut buffer = BufWriter::new(alloc, Sink::new(alloc, room))?;
-    let done = decode_from(alloc, "text", BufReader::new(alloc, bits())?, &mut buffer);
-    let (out, _) = buffer.into_parts();
+    assert_eq!(rt; printed.done, wanted.done, "{shape:?}, {streams:?}");
+    let is_full = printed.out.taken.len() == streams.room;
+    assert!(rt; printed.left == 0 || is_full, "{shape:?}, {streams:?}");
+    for end in printed.out.ends.iter() {
+        assert!(rt;
+            is_full || wanted.out.ends.contains(end),
+            "a write ends at {end}: {shape:?}, {streams:?}"
+        );
+    }
+    Ok(())
+}
+
+// Compares outputs and results if one write is refused. The output is the whole one up to the end of a
+// packet, and is as long as that of the slower form, or longer. The refusal is the result.
+fn compare_refused(
+    rt: &(impl Alloc<A = Global> + Abort),
+    shape: &Shape,
+    writes: u32,
+) -> Result<(), Fail> {
+    let alloc = rt.alloc();
+    let text = shape.text(alloc)?;
+    let mut streams = STREAMS[0];
+    let (whole, packets) = print_twice(alloc, &text, streams)?;
+    streams.writes_before_refusal = Some(writes);
+    let (printed, wanted) = print_twice(alloc, &text, streams)?;
     assert!(rt;
-        out.taken == expected.taken,
-        "{shape:?}, {streams:?}, buffered"
+        whole.out.taken.starts_with(&printed.out.taken),
+        "{shape:?}, {writes}"
     );
-    assert_eq!(rt;
-        format!(in alloc; "{done:?}")?,
-        wanted,
-        "{shape:?}, {streams:?}, buffered"
+    assert!(rt;
+        printed.out.taken.len() >= wanted.out.taken.len(),
+        "{shape:?}, {writes}"
     );
+    for end in printed.out.ends.iter() {
+        assert!(rt; packets.out.ends.contains(end), "{shape:?}, {writes}");
+    }
+    if !printed.out.will_refuse() {
+        assert_eq!(rt; printed.done, wanted.done, "{shape:?}, {writes}");
+    }
     Ok(())
 }
 
@@ -164,31 +230,36 @@ const STREAMS: [Streams; 5] = [
         most: LINE_ROOM,
         until: ALL,
         room: ALL,
+        writes_before_refusal: None,
     },
     Streams {
         most: 61,
         until: ALL,
         room: ALL,
+        writes_before_refusal: None,
     },
     Streams {
         most: 1,
         until: 2_500,
         room: ALL,
+        writes_before_refusal: None,
     },
     Streams {
         most: 8_192,
         until: ALL,
         room: 999,
+        writes_before_refusal: None,
     },
     Streams {
         most: 8_192,
         until: ALL,
         room: 0,
+        writes_before_refusal: None,
     },
 ];
 
-/// The widths of lines, with the tokens of the text and the index of the insertion. 1,365 tokens and a line feed are as
-/// many bytes as are kept for the next line.
+/// The widths of lines, with the tokens of the text and the index of the insertion. 1,365 tokens and a line
+/// feed are as many bytes as are kept for the next line.
 const WIDTHS: [(usize, usize, usize); 9] = [
     (1, 47, 3),
     (1, 1_440, 700),
@@ -201,9 +272,9 @@ const WIDTHS: [(usize, usize, usize); 9] = [
     (4_000, 4_800, 2_800),
 ];
 
-/// Lines of any length, also of more bytes than are kept for the next, with any end, and with tokens that are wrong,
-/// bytes that aren't text, and ends inside a packet. They come in pieces of any length, also from a reader that fails,
-/// and go to writers with room for all or for some of the output.
+/// Lines of any length, also of more bytes than are kept for the next, with any end, and with tokens that
+/// are wrong, bytes that aren't text, and ends inside a packet. They come in pieces of any length, also
+/// from a reader that fails, and go to writers with room for all or for some of the output.
 #[test]
 fn packets_are_as_flushed_one_by_one(rt: HostRuntime) -> Result<(), Fail> {
     for (width, tokens, at) in WIDTHS {
@@ -219,6 +290,28 @@ fn packets_are_as_flushed_one_by_one(rt: HostRuntime) -> Result<(), Fail> {
                 for streams in STREAMS {
                     compare(&rt, &shape, streams)?;
                 }
+            }
+        }
+    }
+    Ok(())
+}
+
+/// A write that is refused once, wherever it is, and whatever follows it: more packets, a token that is
+/// wrong, or an end inside a packet.
+#[test]
+fn a_refused_write_repeats_nothing(rt: HostRuntime) -> Result<(), Fail> {
+    for (width, tokens, at) in WIDTHS {
+        for other in OTHERS {
+            let end = "\n";
+            let shape = Shape {
+                tokens,
+                width,
+                end,
+                at,
+                other,
+            };
+            for writes in [0, 1, 2, 3, 20] {
+                compare_refused(&rt, &shape, writes)?;
             }
         }
     }

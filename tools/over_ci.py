@@ -1,0 +1,90 @@
+#!/usr/bin/env python3
+"""Runs the prover over the libraries that `rt ci` built.
+
+    tools/over_ci.py archive CRATE FILE      proves the static library of crates/CRATE, and builds it as FILE
+
+`rt ci` leaves each library that it proved in crates/NAME/out/rlib. `rt check` and `rt lib` don't use it, and prove each
+library once more. This script does, so it must run right after an `rt ci` that passed, on the same files. checks/edits
+and checks/c use it with --after-ci. Where `rt check` has built libraries in this checkout, `rt ci` puts those back in
+place of its own. Then this script does nothing, and says so.
+"""
+import re
+import shutil
+import subprocess
+import sys
+from pathlib import Path
+
+TOP = Path(__file__).resolve().parent.parent
+
+
+class NotBuilt(Exception):
+    """The reason why a crate can't be proved over what `rt ci` built."""
+
+
+def kit():
+    """Returns the folder of the Rattle toolchain."""
+    rt = shutil.which("rt")
+    if not rt:
+        raise NotBuilt("the command rt of the Rattle toolchain is not on the path")
+    return Path(rt).resolve().parent.parent
+
+
+class Crates:
+    """The crates of crates.txt, and what each depends on."""
+
+    def __init__(self):
+        self.lines = {it[1]: it[0] for it in re.finditer(r"(?m)^(\w+)[^:#\n]*:.*", (TOP / "crates.txt").read_text())}
+        self.uses = {name: line.partition(":")[2].split() for name, line in self.lines.items()}
+
+    def below(self, crate):
+        """Returns the crates of this repository that the crate stands on."""
+        own = [it for it in self.uses[crate] if it in self.uses]
+        return set(own).union(*map(self.below, own))
+
+    def is_static(self, crate):
+        return "staticlib" in self.lines[crate].partition(":")[0].split()
+
+    def library(self, crate):
+        """Returns the folder of the crate's library."""
+        return TOP / f"crates/{crate}/out/rlib/{crate}.rlib"
+
+    def are_of_ci(self):
+        """Returns whether no library here is one that `rt check` built: it leaves a stamp beside those."""
+        return not any((self.library(it).parent / "stamp").exists() for it in self.uses)
+
+    def words(self, crate):
+        """Returns the words for `rattle check`, in a folder with the crate's src/, specs/ and proofs/."""
+        lacks = [it for it in sorted(self.below(crate)) if not (self.library(it) / "format").is_file()]
+        if lacks:
+            raise NotBuilt(f"{crate}: its libraries are not built: {', '.join(lacks)}")
+        is_program = (TOP / f"crates/{crate}/src/main.rt").is_file()
+        words = ["--crate-name", crate, "src/main.rt" if is_program else "src/lib.rt"]
+        of_kit = [it for it in self.uses[crate] if it not in self.uses]
+        for name in of_kit if "core" in of_kit else ["std", *of_kit]:
+            words += ["--extern", f"{name}={kit()}/rlibs/{name}.rlib"]
+        for name in self.uses[crate]:
+            words += ["--extern", f"{name}={self.library(name)}"] if name in self.uses else []
+        for name in sorted(self.below(crate)):
+            words += ["-L", f"dependency={self.library(name).parent}"]
+        words += ["-L", f"dependency={kit()}/rlibs", "--links", f"{crate}="]
+        words += ["--crate-type", "staticlib"] if self.is_static(crate) else []
+        return [*words, "--antt-project", f"{kit()}/rattle/logic/antt-project.json", "--logic-built", f"{kit()}/logic_built"]
+
+
+def main():
+    if len(sys.argv) != 4 or sys.argv[1] != "archive":
+        sys.exit(__doc__)
+    crate, archive, crates = sys.argv[2], Path(sys.argv[3]).resolve(), Crates()
+    if not crates.are_of_ci():
+        print("tools/over_ci.py: not built: the libraries here are not those of `rt ci`")
+        return 0
+    words = [f"{kit()}/bin/rattle", "build", *crates.words(crate), "--incremental", "out/incremental"]
+    words += ["--toolchain", f"{kit()}/toolchain", "--backend", "llvm", "-o", archive]
+    return subprocess.run(words, cwd=TOP / "crates" / crate).returncode
+
+
+if __name__ == "__main__":
+    try:
+        sys.exit(main())
+    except NotBuilt as why:
+        sys.exit(f"tools/over_ci.py: {why}")

@@ -1,0 +1,107 @@
+#!/usr/bin/env python3
+"""Notes the processor seconds that the prover takes for each crate, while another process runs.
+
+    tools/prover_times.py PID        until it is told to end, it watches the provers that PID and its children start
+
+It ends at SIGTERM, and then prints a table: for each crate the seconds of its library, of its tests, of its program, of
+the proofs that its must-fail edits begin with, and of the rounds of edits. It reads /proc four times a second, so up to
+a quarter of a second of each prover is missing.
+"""
+import os
+import re
+import signal
+import sys
+import time
+from collections import defaultdict
+
+TICKS = os.sysconf("SC_CLK_TCK")
+KINDS = ["library", "tests", "program", "edits: proof", "edits: rounds"]
+
+
+def kind_of(words, folder):
+    """Returns what a prover with these arguments works on, by what `rt ci`, `rt check` and checks/edits start."""
+    seed = words[words.index("--incremental") + 1] if "--incremental" in words else ""
+    if re.search(r"/(rt-edit|edits)-", folder):
+        return "edits: proof" if seed.endswith("/seed") else "edits: rounds"
+    if "--test" in words:
+        return "tests"
+    if seed:
+        return "edits: proof"
+    return "library" if words[1:2] == ["build"] and "src/lib.rt" in words and "staticlib" not in words else "program"
+
+
+def times_of(pid):
+    """Returns the parent of a process, when it began, and its processor seconds with those of the children that it has
+    waited for."""
+    with open(f"/proc/{pid}/stat") as it:
+        fields = it.read().rpartition(")")[2].split()
+    return int(fields[1]), fields[19], sum(map(int, fields[11:15])) / TICKS
+
+
+def command_of(pid):
+    with open(f"/proc/{pid}/cmdline", errors="replace") as it:
+        return it.read().split("\0")
+
+
+class Watch:
+    """The provers that were seen: for each its crate and kind, and its seconds."""
+
+    def __init__(self, top):
+        self.top, self.known, self.seconds = top, {}, {}
+
+    def look(self):
+        found = {}
+        for name in os.listdir("/proc"):
+            if name.isdigit():
+                try:
+                    found[int(name)] = times_of(name)
+                except (OSError, IndexError, ValueError):
+                    pass
+        for pid, (_, begun, seconds) in found.items():
+            if self.is_below(pid, found) and self.key(pid):
+                self.seconds[pid, begun, self.key(pid)] = seconds
+
+    def is_below(self, pid, found):
+        """Returns whether the process is one of those to watch: below the top one, and itself not below a prover."""
+        is_prover = False
+        while pid in found and pid != self.top:
+            pid = found[pid][0]
+            is_prover = is_prover or bool(self.known.get(pid))
+        return pid == self.top and not is_prover
+
+    def key(self, pid):
+        """Returns the crate and kind of a prover, or None of any other process."""
+        if not self.known.get(pid):
+            try:
+                words = command_of(pid)
+                is_prover = os.path.basename(words[0]) == "rattle" and "--crate-name" in words
+                self.known[pid] = (words[words.index("--crate-name") + 1], kind_of(words, os.readlink(f"/proc/{pid}/cwd"))) if is_prover else None
+            except (OSError, IndexError):
+                self.known[pid] = None
+        return self.known[pid]
+
+    def table(self):
+        """Returns the table's lines."""
+        sums = defaultdict(lambda: defaultdict(float))
+        for (*_, (crate, kind)), seconds in self.seconds.items():
+            sums[crate][kind] += seconds
+        rows = sorted(((crate, [by[it] for it in KINDS]) for crate, by in sums.items()), key=lambda it: -sum(it[1]))
+        rows.append(("all", [sum(it[1][at] for it in rows) for at in range(len(KINDS))]))
+        yield f"{'processor seconds':24}" + "".join(f"{it:>15}" for it in [*KINDS, "sum"])
+        for crate, cells in rows:
+            yield f"{crate:24}" + "".join(f"{it:15.0f}" if it else f"{'':15}" for it in [*cells, sum(cells)])
+
+
+def main():
+    if len(sys.argv) != 2 or not sys.argv[1].isdigit():
+        sys.exit(__doc__)
+    watch, is_over = Watch(int(sys.argv[1])), []
+    signal.signal(signal.SIGTERM, lambda *_: is_over.append(True))
+    while not is_over:
+        watch.look()
+        time.sleep(0.25)
+    print("\n".join(watch.table()))
+
+
+if __name__ == "__main__":
+    main()

@@ -59,8 +59,7 @@ class Crates:
             raise NotBuilt(f"{crate}: its libraries are not built: {', '.join(lacks)}")
         is_program = (TOP / f"crates/{crate}/src/main.rt").is_file()
         words = ["--crate-name", crate, "src/main.rt" if is_program else "src/lib.rt"]
-        of_kit = [it for it in self.uses[crate] if it not in self.uses]
-        for name in of_kit if "core" in of_kit else ["std", *of_kit]:
+        for name in ["std", *(it for it in self.uses[crate] if it not in self.uses)]:
             words += ["--extern", f"{name}={kit()}/rlibs/{name}.rlib"]
         for name in self.uses[crate]:
             words += ["--extern", f"{name}={self.library(name)}"] if name in self.uses else []

@@ -5,18 +5,23 @@ mod stores;
 
 use cases::CASES;
 use std::alloc::{AllocError, Global};
+use std::process::Abort;
 use std::test::Fail;
 use stores::started;
 use uda_disk::Request;
-use uda_driver::RunError;
+use uda_driver::{Driver, RunError};
 use uda_image::MemImage;
 
 #[test]
 fn cases_are_answered(rt: HostRuntime) -> Result<(), Fail> {
-    for case in CASES {
-        let name = case.name;
+    for case in &CASES {
         let wrong = case.first_wrong(&rt)?;
-        assert_eq!(rt; wrong, None, "{name}");
+        assert!(rt;
+            wrong.is_none(),
+            "{}: run {}",
+            case.name,
+            wrong.unwrap_or(0)
+        );
     }
     Ok(())
 }
@@ -30,15 +35,33 @@ fn statuses(alloc: Global, count: usize) -> Result<Vec<Request>, AllocError> {
     Ok(requests)
 }
 
+// Runs this many requests, and returns the number of answers.
+fn answers_of(
+    alloc: Global,
+    driver: &mut Driver<MemImage>,
+    count: usize,
+) -> Result<Result<usize, RunError>, AllocError> {
+    let requests = statuses(alloc, count)?;
+    Ok(match driver.run(&requests) {
+        Ok(answers) => Ok(answers.len()),
+        Err(error) => Err(error),
+    })
+}
+
+// Asserts that a driver runs 4,096 requests, and no more.
+fn assert_most(
+    rt: &(impl Alloc<A = Global> + Abort),
+    driver: &mut Driver<MemImage>,
+) -> Result<(), Fail> {
+    let refused = answers_of(rt.alloc(), driver, 4097)?;
+    assert!(rt; refused == Err(RunError::TooMany));
+    let answered = answers_of(rt.alloc(), driver, 4096)?;
+    assert!(rt; answered == Ok(4096));
+    Ok(())
+}
+
 #[test]
 fn too_many_requests(rt: HostRuntime) -> Result<(), Fail> {
     let mut driver = started(rt.alloc(), MemImage::new(rt.alloc(), 8)?, false)?;
-    for (count, wanted) in [(4097, Err(RunError::TooMany)), (4096, Ok(4096))] {
-        let requests = statuses(rt.alloc(), count)?;
-        match driver.run(&requests) {
-            Ok(answers) => assert!(rt; Ok(answers.len()) == wanted, "{count} requests"),
-            Err(error) => assert!(rt; Err(error) == wanted, "{count} requests"),
-        }
-    }
-    Ok(())
+    assert_most(&rt, &mut driver)
 }

@@ -54,7 +54,7 @@ const KEPT_OUT: &[&[(Ask, Reply)]] = &[&[
     (Ask::Read(7, 512), Reply::Data(0, 512, 0)),
 ]];
 
-pub const CASES: [Case; 29] = [
+pub static CASES: [Case; 29] = [
     Case {
         name: "an empty run",
         over: Over::Memory,

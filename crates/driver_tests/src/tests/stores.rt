@@ -230,15 +230,20 @@ impl Case {
         }
     }
 
-    // Shortens the file once it is open.
     fn over_file(&self, rt: &HostRuntime, bytes: &[u8]) -> Result<Option<usize>, Fail> {
         let path = scratch_file(rt, bytes)?;
-        let mut driver = start_file(rt.alloc(), FileImage::open(rt, path.as_str(), false)?)?;
-        shorten(rt, &path)?;
-        let wrong = self.run(rt.alloc(), &mut driver)?;
+        let wrong = self.run_shortened(rt, &path)?;
         let left = fs::read(rt, path.as_path())?;
         fs::remove_file(rt, path.as_path())?;
         self.judge(rt.alloc(), wrong, &left)
+    }
+
+    // Shortens the file once it is open, and executes the runs.
+    fn run_shortened(&self, rt: &HostRuntime, path: &PathBuf) -> Result<Option<usize>, Fail> {
+        let image = FileImage::open(rt, path.as_str(), false)?;
+        shorten(rt, path)?;
+        let mut driver = start_file(rt.alloc(), image)?;
+        self.run(rt.alloc(), &mut driver)
     }
 }
 

@@ -2,6 +2,7 @@
 ghost use Rattle.std.specs.Prelude.{◌≡◌, ◌+◌, ◌<◌, true, IfOk, IsOk, slice_set, is_ok, if◌then◌else◌};
 ghost use Rattle.uda_image.specs.Store.{HasWholeBlocks, KeepsAttributes};
 
+use super::prints;
 use std::alloc::{AllocError, Global};
 use std::fs::File;
 use std::path::PathBuf;
@@ -76,33 +77,49 @@ impl Call {
     /// Makes the call, and returns whether it has that result.
     fn is_answered<S: BlockStore>(self, store: &mut S) -> bool {
         let size = store.size();
-        let mut block = [0x77; 512];
         match self {
             Call::Size(wanted) => size == wanted,
-            Call::Read(n, halves) if n < size => {
-                store.read(n, &mut block).is_ok() && block == block_of(halves)
+            Call::Read(n, halves) => n < size && reads(store, n, halves),
+            Call::FailRead(n) => n < size && fails_to_read(store, n),
+            Call::Write(n, halves) => n < size && store.write(n, &block_of(halves)).is_ok(),
+            Call::FailWrite(n) => {
+                n < size && store.write(n, &[0x44; 512]) == Err(StoreError::Write)
             }
-            Call::FailRead(n) if n < size => {
-                store.read(n, &mut block) == Err(StoreError::Read) && block == [0x77; 512]
-            }
-            Call::Write(n, halves) if n < size => store.write(n, &block_of(halves)).is_ok(),
-            Call::FailWrite(n) if n < size => {
-                store.write(n, &[0x44; 512]) == Err(StoreError::Write)
-            }
-            Call::WriteThenRead(n, halves) if n < size => {
-                let written = block_of(halves);
-                write_then_read(store, n, &written, &mut block).is_ok() && block == written
-            }
+            Call::WriteThenRead(n, halves) => n < size && writes(store, n, &block_of(halves)),
             Call::ReadTwo(n, wanted, blocks) if n < size && size - n >= 2 => {
                 let mut two = [0x77; 1024];
                 store.try_read_blocks(n, 2, &mut two) == wanted && are_two(&two, blocks)
             }
-            Call::WriteThree(n, byte, wanted) if n < size && size - n >= 3 => {
-                store.try_write_blocks(n, 3, &[byte; 1536]) == wanted
+            Call::ReadTwo(..) => false,
+            Call::WriteThree(n, byte, wanted) => {
+                n < size && size - n >= 3 && store.try_write_blocks(n, 3, &[byte; 1536]) == wanted
             }
-            _ => false,
         }
     }
+}
+
+// Returns whether a block is read.
+fn reads<S: BlockStore>(store: &mut S, n: u32, halves: u16) -> bool
+    requires { n < (S.state store.old).size }
+{
+    let mut block = [0x77; 512];
+    store.read(n, &mut block).is_ok() && block == block_of(halves)
+}
+
+// Returns whether a block can't be read, and its buffer is unchanged.
+fn fails_to_read<S: BlockStore>(store: &mut S, n: u32) -> bool
+    requires { n < (S.state store.old).size }
+{
+    let mut block = [0x77; 512];
+    store.read(n, &mut block) == Err(StoreError::Read) && block == [0x77; 512]
+}
+
+// Returns whether a block is written and then read again.
+fn writes<S: BlockStore>(store: &mut S, n: u32, written: &[u8; 512]) -> bool
+    requires { n < (S.state store.old).size }
+{
+    let mut block = [0x77; 512];
+    write_then_read(store, n, written, &mut block).is_ok() && block == *written
 }
 
 // Returns whether these are two blocks, if they are given.
@@ -166,7 +183,7 @@ const AT_ONCE: &[Call] = &[
     Call::WriteThree(5, 0x44, true),
 ];
 
-const CASES: [Case; 14] = [
+static CASES: [Case; 14] = [
     Case {
         name: "no blocks",
         over: Over::Memory,
@@ -307,21 +324,27 @@ impl Case {
     fn first_wrong(&self, rt: &HostRuntime) -> Result<Option<usize>, Fail> {
         let blocks = bytes_of(rt.alloc(), self.blocks)?;
         match self.over {
-            Over::Memory => {
-                let mut image = MemImage::from_bytes(rt.alloc(), &blocks)?;
-                let wrong = first_wrong(&mut image, self.calls);
-                self.judge(rt.alloc(), wrong, image.bytes())
-            }
-            Over::Failing(at) => {
-                let image = MemImage::from_bytes(rt.alloc(), &blocks)?;
-                let mut failing = FailingImage::new(image, at);
-                let wrong = first_wrong(&mut failing, self.calls);
-                self.judge(rt.alloc(), wrong, failing.into_inner().bytes())
-            }
+            Over::Memory => self.over_memory(rt.alloc(), &blocks),
+            Over::Failing(at) => self.over_failing(rt.alloc(), &blocks, at),
             Over::File => self.over_file(rt, &blocks, true, blocks.len()),
             Over::LockedFile => self.over_file(rt, &blocks, false, blocks.len()),
             Over::ShortenedFile => self.over_file(rt, &blocks, true, 2048),
         }
+    }
+
+    // Makes the calls over memory.
+    fn over_memory(&self, alloc: Global, blocks: &[u8]) -> Result<Option<usize>, Fail> {
+        let mut image = MemImage::from_bytes(alloc, blocks)?;
+        let wrong = first_wrong(&mut image, self.calls);
+        self.judge(alloc, wrong, image.bytes())
+    }
+
+    // Makes the calls over memory. The call of this number fails.
+    fn over_failing(&self, alloc: Global, blocks: &[u8], at: u32) -> Result<Option<usize>, Fail> {
+        let image = MemImage::from_bytes(alloc, blocks)?;
+        let mut failing = FailingImage::new(image, at);
+        let wrong = first_wrong(&mut failing, self.calls);
+        self.judge(alloc, wrong, failing.into_inner().bytes())
     }
 
     // Makes the calls over a file that has this length once it is open.
@@ -359,9 +382,14 @@ impl Case {
 
 #[test]
 fn images(rt: HostRuntime) -> Result<(), Fail> {
-    for case in CASES {
+    for case in &CASES {
         let wrong = case.first_wrong(&rt)?;
-        assert_eq!(rt; wrong, None, "{}", case.name);
+        assert!(rt;
+            wrong.is_none(),
+            "{}: call {}",
+            case.name,
+            wrong.unwrap_or(0)
+        );
     }
     Ok(())
 }
@@ -369,29 +397,37 @@ fn images(rt: HostRuntime) -> Result<(), Fail> {
 #[test]
 fn images_in_memory(rt: HostRuntime) -> Result<(), Fail> {
     let zeros = MemImage::new(rt.alloc(), 2)?;
-    assert_eq!(rt; zeros.bytes(), [0; 1024].as_slice());
+    assert!(rt; zeros.bytes() == [0; 1024].as_slice());
     let long = MemImage::from_bytes(rt.alloc(), &[0x11; 513]).err();
-    assert_eq!(rt; long, Some(ImageError::Length));
+    assert!(rt; long == Some(ImageError::Length));
     let large = MemImage::new(rt.alloc(), 891_073).err();
-    assert_eq!(rt; large, Some(ImageError::TooLarge));
+    assert!(rt; large == Some(ImageError::TooLarge));
     Ok(())
 }
 
+/// The errors of an image, with their numbers and texts.
+static IMAGE_ERRORS: [(ImageError, u8, &str); 4] = [
+    (ImageError::NoMemory, 1, "out of memory"),
+    (ImageError::Open, 2, "cannot open"),
+    (ImageError::Length, 3, "length is no multiple of 512"),
+    (ImageError::TooLarge, 4, "more than 891072 blocks"),
+];
+
+/// The errors of a store, with their texts.
+static STORE_ERRORS: [(StoreError, &str); 2] = [
+    (StoreError::Read, "a block could not be read"),
+    (StoreError::Write, "a block could not be written"),
+];
+
 #[test]
 fn errors(rt: HostRuntime) -> Result<(), Fail> {
-    use ImageError::{Length, NoMemory, Open, TooLarge};
-    let texts = format!(in rt.alloc(); "{NoMemory}, {Open}, {Length}, {TooLarge}")?;
-    assert_eq!(rt;
-        texts.as_str(),
-        "out of memory, cannot open, length is no multiple of 512, more than 891072 blocks"
-    );
-    let numbers = [NoMemory as u8, Open as u8, Length as u8, TooLarge as u8];
-    assert_eq!(rt; numbers, [1, 2, 3, 4]);
-    let texts = format!(in rt.alloc(); "{}, {}", StoreError::Read, StoreError::Write)?;
-    assert_eq!(rt;
-        texts.as_str(),
-        "a block could not be read, a block could not be written"
-    );
+    for &(error, number, text) in &IMAGE_ERRORS {
+        let is_right = error as u8 == number && prints(rt.alloc(), &error, text)?;
+        assert!(rt; is_right, "{text}");
+    }
+    for &(error, text) in &STORE_ERRORS {
+        assert!(rt; prints(rt.alloc(), &error, text)?, "{text}");
+    }
     Ok(())
 }
 
@@ -441,21 +477,24 @@ fn open_of(rt: &HostRuntime, len: u64, large: bool) -> io::Result<Result<u32, Im
     Ok(opened)
 }
 
+/// Files by their lengths: whether the image may be large, and its size or error.
+static FILES: [(u64, bool, Result<u32, ImageError>); 10] = [
+    (0, false, Ok(0)),
+    (512, false, Ok(1)),
+    (513, false, Err(ImageError::Length)),
+    (891_072 * 512, false, Ok(891_072)),
+    (891_073 * 512, false, Err(ImageError::TooLarge)),
+    (891_073 * 512 + 1, false, Err(ImageError::Length)),
+    (513, true, Err(ImageError::Length)),
+    (891_073 * 512, true, Ok(891_073)),
+    (2_147_483_647 * 512, true, Ok(2_147_483_647)),
+    (2_147_483_648 * 512, true, Err(ImageError::TooLarge)),
+];
+
 #[test]
 fn files_by_length(rt: HostRuntime) -> Result<(), Fail> {
-    for (len, large, opened) in [
-        (0, false, Ok(0)),
-        (512, false, Ok(1)),
-        (513, false, Err(ImageError::Length)),
-        (891_072 * 512, false, Ok(891_072)),
-        (891_073 * 512, false, Err(ImageError::TooLarge)),
-        (891_073 * 512 + 1, false, Err(ImageError::Length)),
-        (513, true, Err(ImageError::Length)),
-        (891_073 * 512, true, Ok(891_073)),
-        (2_147_483_647 * 512, true, Ok(2_147_483_647)),
-        (2_147_483_648 * 512, true, Err(ImageError::TooLarge)),
-    ] {
-        assert_eq!(rt; open_of(&rt, len, large)?, opened, "{len} bytes");
+    for &(len, large, opened) in &FILES {
+        assert!(rt; open_of(&rt, len, large)? == opened, "{len} bytes");
     }
     Ok(())
 }
@@ -468,17 +507,27 @@ fn is_closed(rt: &HostRuntime, path: &str, writable: bool) -> bool {
 // A running program can't be opened for writing. An image that isn't writable is opened for reading only.
 #[test]
 fn non_regular_file_is_rejected(rt: HostRuntime) -> Result<(), Fail> {
-    let missing = path_of(&rt, "missing")?;
-    let folder = path_of(&rt, "folder")?;
-    fs::create_dir(&rt, folder.as_path())?;
-    assert!(rt; is_closed(&rt, missing.as_str(), false));
-    assert!(rt; is_closed(&rt, missing.as_str(), true));
     assert!(rt; is_closed(&rt, "/dev/null", true));
-    assert!(rt; is_closed(&rt, folder.as_str(), false));
     assert!(rt; !is_closed(&rt, "/proc/self/exe", false));
-    assert!(rt; !fs::exists(&rt, missing.as_path())?);
-    fs::remove_dir(&rt, folder.as_path())?;
+    assert!(rt; is_missing_closed(&rt)?);
+    assert!(rt; is_folder_closed(&rt)?);
     Ok(())
+}
+
+// Returns whether a file that doesn't exist can't be opened, and isn't made.
+fn is_missing_closed(rt: &HostRuntime) -> io::Result<bool> {
+    let path = path_of(rt, "missing")?;
+    let is_closed = is_closed(rt, path.as_str(), false) && is_closed(rt, path.as_str(), true);
+    Ok(is_closed && !fs::exists(rt, path.as_path())?)
+}
+
+// Returns whether a folder can't be opened.
+fn is_folder_closed(rt: &HostRuntime) -> io::Result<bool> {
+    let path = path_of(rt, "folder")?;
+    fs::create_dir(rt, path.as_path())?;
+    let is_closed = is_closed(rt, path.as_str(), false);
+    fs::remove_dir(rt, path.as_path())?;
+    Ok(is_closed)
 }
 
 // Returns whether a file that is open as this image can be opened as another: as a writable one, and as one
@@ -494,8 +543,8 @@ fn beside(rt: &HostRuntime, path: &PathBuf, writable: bool) -> Result<(bool, boo
 #[test]
 fn an_image_to_be_written_is_open_once(rt: HostRuntime) -> Result<(), Fail> {
     let path = file_of(&rt, "held", &[0x11; 512])?;
-    assert_eq!(rt; beside(&rt, &path, true)?, (false, false));
-    assert_eq!(rt; beside(&rt, &path, false)?, (false, true));
-    assert_eq!(rt; take_file(&rt, &path)?.len(), 512);
+    assert!(rt; beside(&rt, &path, true)? == (false, false));
+    assert!(rt; beside(&rt, &path, false)? == (false, true));
+    assert!(rt; take_file(&rt, &path)?.len() == 512);
     Ok(())
 }

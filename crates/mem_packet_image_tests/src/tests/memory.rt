@@ -2,6 +2,7 @@
 ghost use Rattle.std.specs.Prelude.{◌≡◌, if◌then◌else◌};
 ghost use Rattle.uda_mem.specs.Put.{put};
 
+use super::prints;
 use std::alloc::{AllocError, Global};
 use std::test::Fail;
 use uda_mem::{HostMemory, MEMORY_LIMIT, NoMemory};
@@ -130,7 +131,7 @@ enum Call {
 use Call::{Do, See};
 
 /// Memories by their lengths, each with the calls of it.
-const MEMORIES: [(u32, &[Call]); 6] = [
+static MEMORIES: [(u32, &[Call]); 6] = [
     // an empty memory has no word
     (
         0,
@@ -268,12 +269,11 @@ fn first_wrong(alloc: Global, len: u32, calls: &[Call]) -> Result<Option<usize>,
 
 #[test]
 fn memories(rt: HostRuntime) -> Result<(), Fail> {
-    for (len, calls) in MEMORIES {
+    for &(len, calls) in &MEMORIES {
         let wrong = first_wrong(rt.alloc(), len, calls)?;
-        assert_eq!(rt; wrong, None, "a memory of {len} bytes");
+        assert!(rt; wrong.is_none(), "{len} bytes: call {}", wrong.unwrap_or(0));
     }
-    assert_eq!(rt; NoMemory::from(AllocError), NoMemory);
-    let text = format!(in rt.alloc(); "{NoMemory}")?;
-    assert_eq!(rt; text.as_str(), "out of memory");
+    assert!(rt; NoMemory::from(AllocError) == NoMemory);
+    assert!(rt; prints(rt.alloc(), &NoMemory, "out of memory")?);
     Ok(())
 }

@@ -2,6 +2,7 @@
 
 ghost use Rattle.std.specs.Prelude.{◌≡◌};
 
+use super::prints;
 use std::test::Fail;
 use uda_packet::{
     Bad, BadKind, Command, End, EndBody, Envelope, Kind, Op, decode_command, decode_end,
@@ -97,15 +98,24 @@ const ONLINE_COMMAND: Command = Command {
     op: Op::Online { soft: Some(true) },
 };
 
+// Returns whether a command and a text are each other's.
+fn are_alike(command: &Command, text: &[u8; 48]) -> bool {
+    encode_command(command) == *text && is_command(text, command)
+}
+
+// Returns whether a text decodes to a command.
+fn is_command(text: &[u8; 48], command: &Command) -> bool {
+    decode_command(text) == Ok(*command)
+}
+
 #[test]
 fn commands(rt: HostRuntime) {
     for (command, front) in [
         (READ_COMMAND, READ.as_slice()),
         (ONLINE_COMMAND, ONLINE.as_slice()),
     ] {
-        assert_eq!(rt; encode_command(&command), text_of(front));
-        assert_eq!(rt; decode_command(&text_of(front)), Ok(command));
-        assert_eq!(rt; command_again(&command), Ok(command));
+        assert!(rt; are_alike(&command, &text_of(front)));
+        assert!(rt; command_again(&command) == Ok(command));
     }
     for (modifiers, flags, soft) in [
         (0x04, 0x30, Some(true)),
@@ -114,13 +124,11 @@ fn commands(rt: HostRuntime) {
     ] {
         let text = text_of(&[2, 0, 0, 0, 3, 0, 0, 0, 9, 0, modifiers, 0, 0, 0, 0, flags]);
         let op = Op::Online { soft };
-        assert_eq!(rt;
-            decode_command(&text),
-            Ok(Command {
-                op,
-                ..ONLINE_COMMAND
-            })
-        );
+        let command = Command {
+            op,
+            ..ONLINE_COMMAND
+        };
+        assert!(rt; is_command(&text, &command), "flags {flags}");
     }
 }
 
@@ -138,10 +146,22 @@ const MOVED: EndBody = EndBody::Moved {
     bytes: 512,
 };
 
+const AVAILABLE: EndBody = EndBody::Status { flags: 0 };
+
 const BROUGHT_ONLINE: EndBody = EndBody::Online {
     flags: 0x1000,
     size: 891_072,
 };
+
+// Returns whether an end message and a text are each other's.
+fn are_ends(end: &End, text: &[u8; 48]) -> bool {
+    encode_end(end) == *text && is_end(text, end) && end_again(end) == Some(*end)
+}
+
+// Returns whether a text decodes to an end message.
+fn is_end(text: &[u8; 48], end: &End) -> bool {
+    decode_end(text) == Some(*end)
+}
 
 #[test]
 fn ends_are_written_and_read(rt: HostRuntime) {
@@ -149,25 +169,20 @@ fn ends_are_written_and_read(rt: HostRuntime) {
     too_long[11] = 0;
     for (end, text) in [
         (end(1, 0, 0, MOVED), text_of(&READ_END)),
-        (
-            end(1, 0, 0x0004, EndBody::Status { flags: 0 }),
-            text_of(&STATUS_END),
-        ),
+        (end(1, 0, 0x0004, AVAILABLE), text_of(&STATUS_END)),
         (end(2, 3, 0, BROUGHT_ONLINE), ONLINE_END),
         (end(7, 2, 0x0001, EndBody::Invalid), too_long),
         (end(1, 0, 0, EndBody::Controller), text_of(&CONTROLLER_END)),
     ] {
-        assert_eq!(rt; encode_end(&end), text);
-        assert_eq!(rt; decode_end(&text), Some(end));
-        assert_eq!(rt; end_again(&end), Some(end));
+        assert!(rt; are_ends(&end, &text), "{end}");
     }
     // a packet of invalid length
     let other = End::for_invalid_length(&text_of(&UNKNOWN_END));
-    assert_eq!(rt; other, end(7, 2, 0x0001, EndBody::Invalid));
+    assert!(rt; other == end(7, 2, 0x0001, EndBody::Invalid));
 }
 
 /// Commands that are rejected: the invalid field, the end message's body and status, and the printed text.
-const REFUSED: [(&[u8], BadKind, EndBody, u16, &str); 4] = [
+static REFUSED: [(&[u8], BadKind, EndBody, u16, &str); 4] = [
     (
         &[7, 0, 0, 0, 2, 0, 0, 0, 0x0b],
         BadKind::Opcode,
@@ -202,46 +217,65 @@ const REFUSED: [(&[u8], BadKind, EndBody, u16, &str); 4] = [
 
 #[test]
 fn faults(rt: HostRuntime) -> Result<(), Fail> {
-    for (front, kind, body, status, text) in REFUSED {
+    for &(front, kind, body, status, text) in &REFUSED {
         let bad = decode_command(&text_of(front)).err().ok_or("no fault")?;
         let end = bad.end();
-        assert_eq!(rt; (bad.kind, bad.body, end.status), (kind, body, status));
-        let written = format!(in rt.alloc(); "{bad}")?;
-        assert_eq!(rt; written.as_str(), text);
-        if kind == BadKind::Opcode {
-            assert_eq!(rt; encode_end(&end), text_of(&UNKNOWN_END));
-            assert_eq!(rt; kind.number(), 1);
-        }
+        let is_right = bad.kind == kind && bad.body == body && end.status == status;
+        assert!(rt; is_right && is_numbered(kind, &end), "{bad}");
+        assert!(rt; prints(rt.alloc(), &bad, text)?, "{bad}");
     }
     Ok(())
 }
 
+// Returns whether an unknown opcode has its number and its end message.
+fn is_numbered(kind: BadKind, end: &End) -> bool {
+    kind != BadKind::Opcode || kind.number() == 1 && encode_end(end) == text_of(&UNKNOWN_END)
+}
+
+/// End messages with their texts: the reference, the unit, the status and the body.
+static ENDS: [(u32, u16, u16, EndBody, &str); 5] = [
+    (
+        3,
+        0,
+        0,
+        MOVED,
+        "reference 3, unit 0, status 0x0000 (success): Read, 512 bytes",
+    ),
+    (
+        2,
+        3,
+        0x0100,
+        BROUGHT_ONLINE,
+        "reference 2, unit 3, status 0x0100 (already online): Online, flags 0x1000, 891072 blocks",
+    ),
+    (
+        1,
+        0,
+        0x0004,
+        AVAILABLE,
+        "reference 1, unit 0, status 0x0004 (available): Get Unit Status, flags 0x0000",
+    ),
+    (
+        7,
+        2,
+        0x1234,
+        EndBody::Invalid,
+        "reference 7, unit 2, status 0x1234 (unknown status): invalid command",
+    ),
+    (
+        1,
+        0,
+        0,
+        EndBody::Controller,
+        "reference 1, unit 0, status 0x0000 (success): Set Controller Characteristics",
+    ),
+];
+
 #[test]
 fn ends_as_texts(rt: HostRuntime) -> Result<(), Fail> {
-    for (end, text) in [
-        (
-            end(3, 0, 0, MOVED),
-            "reference 3, unit 0, status 0x0000 (success): Read, 512 bytes",
-        ),
-        (
-            end(2, 3, 0x0100, BROUGHT_ONLINE),
-            "reference 2, unit 3, status 0x0100 (already online): Online, flags 0x1000, 891072 blocks",
-        ),
-        (
-            end(1, 0, 0x0004, EndBody::Status { flags: 0 }),
-            "reference 1, unit 0, status 0x0004 (available): Get Unit Status, flags 0x0000",
-        ),
-        (
-            end(7, 2, 0x1234, EndBody::Invalid),
-            "reference 7, unit 2, status 0x1234 (unknown status): invalid command",
-        ),
-        (
-            end(1, 0, 0, EndBody::Controller),
-            "reference 1, unit 0, status 0x0000 (success): Set Controller Characteristics",
-        ),
-    ] {
-        let written = format!(in rt.alloc(); "{end}")?;
-        assert_eq!(rt; written.as_str(), text);
+    for &(reference, unit, status, body, text) in &ENDS {
+        let end = end(reference, unit, status, body);
+        assert!(rt; prints(rt.alloc(), &end, text)?, "{end}");
     }
     Ok(())
 }
@@ -253,15 +287,15 @@ fn other_bytes_are_ignored(rt: HostRuntime) {
     let named = [
         0, 1, 2, 3, 4, 5, 8, 10, 11, 12, 13, 14, 15, 16, 17, 18, 19, 28, 29, 30, 31,
     ];
-    assert_eq!(rt; decode_command(&with_noise(read, &named)), Ok(READ_COMMAND));
+    assert!(rt; is_command(&with_noise(read, &named), &READ_COMMAND));
 
     // the end flags, identifier and media type of an Online's end message are not decoded
     let named = [0, 1, 2, 3, 4, 5, 8, 10, 11, 14, 15, 36, 37, 38, 39];
     let wanted = end(2, 3, 0, BROUGHT_ONLINE);
-    assert_eq!(rt; decode_end(&with_noise(ONLINE_END, &named)), Some(wanted));
+    assert!(rt; is_end(&with_noise(ONLINE_END, &named), &wanted));
 
     // opcodes and end codes are distinct
-    assert_eq!(rt; decode_end(&read), None);
+    assert!(rt; decode_end(&read).is_none());
     assert!(rt; decode_command(&text_of(&READ_END)).is_err());
 }
 
@@ -273,11 +307,9 @@ fn envelopes(rt: HostRuntime) {
         kind: 0,
         connection: 0,
     };
-    assert_eq!(rt; first.words(), (48, 0x0008));
-    assert_eq!(rt; Envelope::of_words(48, 0x0008), first);
+    assert!(rt; first.words() == (48, 0x0008));
+    assert!(rt; Envelope::of_words(48, 0x0008) == first);
     let other = Envelope::of_words(60, 0x0251);
-    assert_eq!(rt; other.credits, 1);
-    assert_eq!(rt; other.kind, 5);
-    assert_eq!(rt; other.connection, 2);
-    assert_eq!(rt; other.words(), (60, 0x0251));
+    assert!(rt; (other.credits, other.kind, other.connection) == (1, 5, 2));
+    assert!(rt; other.words() == (60, 0x0251));
 }

@@ -50,7 +50,7 @@ const ONE_READ: Batch = Batch {
     ..EMPTY
 };
 
-const BATCHES: [Batch; 13] = [
+static BATCHES: [Batch; 13] = [
     // the data of the lines is read, and no more
     Batch {
         script: "online 0\nwrite 0 0 0\nwrite 0 3 1\nread 0 3 1\n",
@@ -152,13 +152,18 @@ fn bytes_of(alloc: Global, blocks: &[u8; 8]) -> Result<Vec<u8>, AllocError> {
 }
 
 // Starts a driver over a drive of these blocks as unit 0, and no other.
-pub fn driver_of(alloc: Global, blocks: &[u8]) -> Result<Driver<MemImage>, Fail> {
+fn driver_of(alloc: Global, blocks: &[u8]) -> Result<Driver<MemImage>, Fail> {
     let store = MemImage::from_bytes(alloc, blocks)?;
     let drive = Some(Drive { store, hard: false });
     match Driver::start(alloc, [drive, None, None, None]) {
         Ok(driver) => Ok(driver),
         Err(_) => Err("no driver".into()),
     }
+}
+
+/// Starts a driver over eight blocks, all of 5.
+pub fn driver_of_fives(alloc: Global) -> Result<Driver<MemImage>, Fail> {
+    driver_of(alloc, &[5; 4096])
 }
 
 // Returns whether these bytes are all this one.
@@ -226,15 +231,37 @@ pub fn left_in(alloc: Global, driver: Driver<MemImage>) -> Result<Vec<u8>, Fail>
     }
 }
 
+// Runs a batch by a driver, and returns whether its outcome is as expected.
+fn is_run(alloc: Global, batch: &Batch, driver: &mut Driver<MemImage>) -> Result<bool, Fail> {
+    let outcome = batch.run(alloc, driver)?;
+    Ok(batch.is_outcome(&outcome))
+}
+
+// Returns whether a driver leaves these blocks.
+fn are_left(alloc: Global, driver: Driver<MemImage>, blocks: &[u8; 8]) -> Result<bool, Fail> {
+    let left = left_in(alloc, driver)?;
+    Ok(left == bytes_of(alloc, blocks)?)
+}
+
+// Starts a driver for a batch.
+fn driver_for(alloc: Global, batch: &Batch) -> Result<Driver<MemImage>, Fail> {
+    let blocks = bytes_of(alloc, &batch.blocks)?;
+    driver_of(alloc, &blocks)
+}
+
+// Runs a batch, and returns whether its outcome and its blocks are as expected.
+fn is_as_expected(alloc: Global, batch: &Batch) -> Result<bool, Fail> {
+    let mut driver = driver_for(alloc, batch)?;
+    if !is_run(alloc, batch, &mut driver)? {
+        return Ok(false);
+    }
+    are_left(alloc, driver, &batch.left)
+}
+
 #[test]
 fn batches(rt: HostRuntime) -> Result<(), Fail> {
-    let alloc = rt.alloc();
     for (n, batch) in BATCHES.iter().enumerate() {
-        let mut driver = driver_of(alloc, &bytes_of(alloc, &batch.blocks)?)?;
-        let outcome = batch.run(alloc, &mut driver)?;
-        assert!(rt; batch.is_outcome(&outcome), "batch {n}");
-        let left = left_in(alloc, driver)?;
-        assert!(rt; left == bytes_of(alloc, &batch.left)?, "batch {n}: blocks");
+        assert!(rt; is_as_expected(rt.alloc(), batch)?, "batch {n}");
     }
     Ok(())
 }

@@ -4,7 +4,7 @@ use std::test::Fail;
 use uda_grammar::{Amount, Line, ScriptError, Statement, parse};
 
 /// Texts of one line, each with its statement.
-const LINES: [(&str, Statement); 13] = [
+static LINES: [(&str, Statement); 13] = [
     (
         "online 65535 protect\n",
         Statement::Online {
@@ -97,7 +97,7 @@ const LINES: [(&str, Statement); 13] = [
 ];
 
 /// Texts with a line that has none of the forms, and that line's number.
-const BAD: [(&str, u64); 22] = [
+static BAD: [(&str, u64); 22] = [
     ("writeb 1 20 16385", 1),
     ("readb 1 20 02", 1),
     ("fillb 1 20 2 a5", 1),
@@ -126,7 +126,7 @@ const BAD: [(&str, u64); 22] = [
 const TWO: &[u8] = b"# x\r\n\nstatus 2\n#\nstatus 3";
 
 /// The two lines.
-const LINES_OF_TWO: [Line; 2] = [
+static LINES_OF_TWO: [Line; 2] = [
     Line {
         number: 3,
         statement: Statement::Status { unit: 2 },
@@ -145,16 +145,20 @@ fn are_lines(alloc: Global, text: &[u8], lines: &[Line]) -> bool {
     }
 }
 
+// Returns whether a text has no script, since this line of it is none.
+fn is_bad(alloc: Global, text: &str, line: u64) -> bool {
+    parse(alloc, text.as_bytes()).err() == Some(ScriptError::Syntax { line })
+}
+
 #[test]
 fn lines(rt: HostRuntime) {
-    for (text, statement) in LINES {
+    for &(text, statement) in &LINES {
         let number = 1;
         let line = Line { number, statement };
-        assert!(rt; are_lines(rt.alloc(), text.as_bytes(), &[line]), "{text:?}");
+        assert!(rt; are_lines(rt.alloc(), text.as_bytes(), &[line]), "{text}");
     }
-    for (text, line) in BAD {
-        let error = parse(rt.alloc(), text.as_bytes()).err();
-        assert_eq!(rt; error, Some(ScriptError::Syntax { line }), "{text:?}");
+    for &(text, line) in &BAD {
+        assert!(rt; is_bad(rt.alloc(), text, line), "{text}");
     }
     assert!(rt; are_lines(rt.alloc(), TWO, &LINES_OF_TWO));
     assert!(rt; are_lines(rt.alloc(), b"", &[]));
@@ -170,6 +174,14 @@ fn many(alloc: Global, count: usize, end: &str) -> Result<Vec<u8>, AllocError> {
     Ok(text)
 }
 
+// Returns the number of requests of a text.
+fn requests_of(alloc: Global, text: &[u8]) -> Result<usize, ScriptError> {
+    match parse(alloc, text) {
+        Ok(script) => Ok(script.lines().len()),
+        Err(error) => Err(error),
+    }
+}
+
 #[test]
 fn a_script_has_4096_requests(rt: HostRuntime) -> Result<(), Fail> {
     for (count, end, wanted) in [
@@ -179,11 +191,10 @@ fn a_script_has_4096_requests(rt: HostRuntime) -> Result<(), Fail> {
         (4097, "bad\n", Err(ScriptError::TooManyLines)),
     ] {
         let text = many(rt.alloc(), count, end)?;
-        let requests = match parse(rt.alloc(), &text) {
-            Ok(script) => Ok(script.lines().len()),
-            Err(error) => Err(error),
-        };
-        assert_eq!(rt; requests, wanted, "{count} requests and {end:?}");
+        assert!(rt;
+            requests_of(rt.alloc(), &text) == wanted,
+            "{count} requests, {end}"
+        );
     }
     Ok(())
 }

@@ -48,7 +48,7 @@ const READ: Case = Case {
     ..PROBE
 };
 
-const CASES: [Case; 15] = [
+static CASES: [Case; 15] = [
     // a full device is reported once
     Case {
         out: Manner::Room(0),
@@ -148,6 +148,13 @@ fn file_of(rt: &HostRuntime, word: &str, bytes: &[u8]) -> io::Result<PathBuf> {
     Ok(path)
 }
 
+// Returns the bytes of a file, and removes it.
+fn take_file(rt: &HostRuntime, path: &PathBuf) -> io::Result<Vec<u8>> {
+    let bytes = fs::read(rt, path.as_path())?;
+    fs::remove_file(rt, path.as_path())?;
+    Ok(bytes)
+}
+
 // Returns the bytes of blocks, each filled with one byte.
 fn bytes_of(alloc: Global, blocks: &[u8]) -> Result<Vec<u8>, AllocError> {
     let mut bytes = Vec::new(alloc);
@@ -164,6 +171,18 @@ struct Outcome {
     left: Vec<u8>,
 }
 
+// Removes the files of a run of this status, and returns its result.
+fn take_files(
+    rt: &HostRuntime,
+    status: u8,
+    script: &PathBuf,
+    image: &PathBuf,
+) -> io::Result<Outcome> {
+    take_file(rt, script)?;
+    let left = take_file(rt, image)?;
+    Ok(Outcome { status, left })
+}
+
 impl Case {
     // Runs the program.
     fn run(&self, rt: &HostRuntime, out: &mut Sink, report: &mut Sink) -> Result<Outcome, Fail> {
@@ -178,10 +197,7 @@ impl Case {
                 let image = file_of(rt, "image", &bytes_of(rt.alloc(), blocks)?)?;
                 let words = ["run", script.as_str(), image.as_str()];
                 let status = program(rt, &words, input, out, report);
-                let left = fs::read(rt, image.as_path())?;
-                fs::remove_file(rt, script.as_path())?;
-                fs::remove_file(rt, image.as_path())?;
-                Ok(Outcome { status, left })
+                Ok(take_files(rt, status, &script, &image)?)
             }
         }
     }
@@ -197,16 +213,19 @@ impl Case {
     }
 }
 
+// Runs the program for a case, and returns whether its status, its streams and its image are as expected.
+fn is_as_expected(rt: &HostRuntime, case: &Case) -> Result<bool, Fail> {
+    let mut out = Sink::new(rt.alloc(), case.out);
+    let mut report = Sink::new(rt.alloc(), case.report);
+    let outcome = case.run(rt, &mut out, &mut report)?;
+    let left = bytes_of(rt.alloc(), case.left)?;
+    Ok(outcome.status == case.status && case.are_written(&out, &report) && outcome.left == left)
+}
+
 #[test]
 fn streams_that_fail(rt: HostRuntime) -> Result<(), Fail> {
     for (n, case) in CASES.iter().enumerate() {
-        let mut out = Sink::new(rt.alloc(), case.out);
-        let mut report = Sink::new(rt.alloc(), case.report);
-        let outcome = case.run(&rt, &mut out, &mut report)?;
-        let is_written = case.are_written(&out, &report);
-        let is_left = outcome.left == bytes_of(rt.alloc(), case.left)?;
-        let found = (outcome.status, is_written, is_left);
-        assert_eq!(rt; found, (case.status, true, true), "case {n}");
+        assert!(rt; is_as_expected(&rt, case)?, "case {n}");
     }
     Ok(())
 }
@@ -218,11 +237,11 @@ fn unreadable_arguments_are_reported(rt: HostRuntime) -> Result<(), Fail> {
         (io::ErrorKind::OutOfMemory, 1, "uda: out of memory\n"),
     ] {
         let mut report = Vec::new(rt.alloc());
-        assert_eq!(rt;
-            unreadable_arguments(&io::Error::from(kind), &mut report),
-            status
+        let reported = unreadable_arguments(&io::Error::from(kind), &mut report);
+        assert!(rt;
+            reported == status && report.as_slice() == text.as_bytes(),
+            "{text}"
         );
-        assert_eq!(rt; report.as_slice(), text.as_bytes());
     }
     Ok(())
 }

@@ -1,5 +1,5 @@
 //! The reads of a script's text, compared with those of a loop that reads it byte by byte.
-use super::batches::driver_of;
+use super::batches::driver_of_fives;
 use super::streams::{Manner, Sink};
 use arrayvec::ArrayVec;
 use std::alloc::{AllocError, Global};
@@ -67,6 +67,27 @@ fn read_line<T: Read>(text: &mut T, line: &mut ArrayVec<u8, 64>) -> Result<bool,
     Err(TextError::Unreadable)
 }
 
+// Appends the request that a line makes, if any. Returns what follows the line.
+fn keep_request(
+    number: u64,
+    line: &[u8],
+    is_ended: bool,
+    lines: &mut Vec<Line>,
+) -> Result<Next, TextError> {
+    match parse_line(number, line) {
+        Ok(Some(request)) => lines.push(request).map_err(|_| ScriptError::NoMemory)?,
+        Ok(None) => {}
+        Err(_) => {
+            let expected = explain(line);
+            return Ok(Next::Fault {
+                line: number,
+                expected,
+            });
+        }
+    }
+    Ok(if is_ended { Next::More } else { Next::End })
+}
+
 impl<T: Read> Slow<T> {
     // Reads one line, and appends the request that it makes, if any.
     fn read_statement(&mut self, lines: &mut Vec<Line>) -> Result<Next, TextError> {
@@ -74,17 +95,7 @@ impl<T: Read> Slow<T> {
         let mut line = ArrayVec::<u8, 64>::new();
         let is_ended = read_line(&mut self.text, &mut line)?;
         self.lines_read = number;
-        let Ok(request) = parse_line(number, &line) else {
-            let expected = explain(&line);
-            return Ok(Next::Fault {
-                line: number,
-                expected,
-            });
-        };
-        if let Some(request) = request {
-            lines.push(request).map_err(|_| ScriptError::NoMemory)?;
-        }
-        Ok(if is_ended { Next::More } else { Next::End })
+        keep_request(number, &line, is_ended, lines)
     }
 
     // Reads lines until they make 64 requests, the text ends, or a line is not a statement.
@@ -103,16 +114,21 @@ impl<T: Read> Slow<T> {
     }
 }
 
-// Writes the bytes and the lines of answers. The first has this number.
-fn print(answers: &[Answer], first: usize, streams: &mut Streams<'_>) -> io::Result<()> {
+// Writes the bytes of answers.
+fn print_bytes(answers: &[Answer], out: &mut Sink) -> io::Result<()> {
     for answer in answers {
         if let Answer::Data { bytes, .. } = answer {
-            streams.out.write_all(bytes)?;
+            out.write_all(bytes)?;
         }
     }
+    Ok(())
+}
+
+// Writes the lines of answers. The first has this number.
+fn print_lines(answers: &[Answer], first: usize, report: &mut Sink) -> io::Result<()> {
     let mut number = first;
     for answer in answers {
-        writeln!(streams.report, "{number} {answer}")?;
+        writeln!(report, "{number} {answer}")?;
         number = number.saturating_add(1);
     }
     Ok(())
@@ -120,6 +136,25 @@ fn print(answers: &[Answer], first: usize, streams: &mut Streams<'_>) -> io::Res
 
 /// The streams of a run.
 type Streams<'a> = Channels<&'a [u8], Sink, Sink, Unwatched>;
+
+// Executes the requests of lines. The first answer has this number. Returns how many answers there are, and
+// whether all succeeded.
+fn run_lines(
+    alloc: Global,
+    lines: &[Line],
+    first: usize,
+    streams: &mut Streams<'_>,
+    driver: &mut Driver<MemImage>,
+) -> Result<(usize, bool), TextError> {
+    let requests = read_requests(alloc, lines, &mut streams.input)?;
+    let answers = driver.run(&requests).map_err(|_| ScriptError::NoMemory)?;
+    print_bytes(&answers, &mut streams.out).map_err(|_| ScriptError::Write)?;
+    print_lines(&answers, first, &mut streams.report).map_err(|_| ScriptError::Write)?;
+    Ok((
+        answers.len(),
+        answers.iter().all(|answer| is_success(answer)),
+    ))
+}
 
 // The slower form of `run_text`, in the plain style.
 fn run_slowly<T: Read + Drop>(
@@ -137,11 +172,9 @@ fn run_slowly<T: Read + Drop>(
     let mut outcome = ScriptOutcome::AllSucceeded;
     for _ in 0..u64::MAX {
         let next = source.read_batch(&mut lines)?;
-        let requests = read_requests(alloc, &lines, &mut streams.input)?;
-        let answers = driver.run(&requests).map_err(|_| ScriptError::NoMemory)?;
-        print(&answers, first, streams).map_err(|_| ScriptError::Write)?;
-        first = first.saturating_add(answers.len());
-        if !answers.iter().all(|answer| is_success(answer)) {
+        let (count, succeeded) = run_lines(alloc, &lines, first, streams, driver)?;
+        first = first.saturating_add(count);
+        if !succeeded {
             outcome = ScriptOutcome::SomeFailed;
         }
         match next {
@@ -168,7 +201,7 @@ fn is_success(answer: &Answer) -> bool {
 // ---- readers that note what is asked of them
 
 /// How a reader brings its bytes.
-#[derive(Clone, Copy, Debug, PartialEq, Eq)]
+#[derive(Clone, Copy, PartialEq)]
 struct Pace {
     /// The most bytes that a read brings.
     most: usize,
@@ -179,7 +212,7 @@ struct Pace {
 }
 
 /// The bytes that a reader has left, how it brings them, and the reads that it saw.
-#[derive(Debug, Drop, PartialEq, Eq)]
+#[derive(Drop, PartialEq)]
 struct Note<'t> {
     left: &'t [u8],
     pace: Pace,
@@ -195,21 +228,32 @@ struct Noted<'n, 't> {
     note: &'n mut Note<'t>,
 }
 
+impl Note<'_> {
+    // Notes a read, and returns how many bytes it may bring.
+    fn next(&mut self, length: usize) -> io::Result<usize> {
+        self.reads.push(length)?;
+        if self.pace.halts && self.reads.len() % 2 == 0 {
+            return Err(io::Error::from(ErrorKind::Interrupted));
+        }
+        if self.pace.until == 0 {
+            return Err(io::Error::from(ErrorKind::InvalidData));
+        }
+        let count = self.pace.most.min(self.pace.until);
+        self.pace.until = self
+            .pace
+            .until
+            .saturating_sub(count.min(length).min(self.left.len()));
+        Ok(count)
+    }
+}
+
 impl Read for Noted<'_, '_> {
     fn read(&mut self, buf: &mut [u8]) -> io::Result<usize> {
         let note = &mut *self.note;
-        note.reads.push(buf.len())?;
-        if note.pace.halts && note.reads.len() % 2 == 0 {
-            return Err(io::Error::from(ErrorKind::Interrupted));
-        }
-        if note.pace.until == 0 {
-            return Err(io::Error::from(ErrorKind::InvalidData));
-        }
-        let most = note.pace.most.min(note.pace.until);
+        let most = note.next(buf.len())?;
         let count = most.min(note.left.len()).min(buf.len());
         buf[..count].copy_from_slice(&note.left[..count]);
         note.left = &note.left[count..];
-        note.pace.until = note.pace.until.saturating_sub(count);
         Ok(count)
     }
 }
@@ -229,7 +273,7 @@ impl BufRead for Noted<'_, '_> {
 // ---- the comparison
 
 /// The function that runs a text.
-#[derive(Clone, Copy, Debug, PartialEq, Eq)]
+#[derive(Clone, Copy)]
 enum Form {
     Slow,
     Plain,
@@ -237,7 +281,7 @@ enum Form {
 }
 
 /// The kind of reader.
-#[derive(Clone, Copy, Debug)]
+#[derive(Clone, Copy)]
 enum Kind {
     /// A reader that keeps a note, without a buffer.
     Bare,
@@ -249,7 +293,7 @@ enum Kind {
     Chain(usize),
 }
 
-const KINDS: [Kind; 8] = [
+static KINDS: [Kind; 8] = [
     Kind::Bare,
     Kind::Buffer(0),
     Kind::Buffer(1),
@@ -260,7 +304,7 @@ const KINDS: [Kind; 8] = [
     Kind::Chain(8_192),
 ];
 
-const PACES: [Pace; 4] = [
+static PACES: [Pace; 4] = [
     Pace {
         most: usize::MAX,
         halts: false,
@@ -294,7 +338,7 @@ impl Kind {
 }
 
 // The result of a run, with what its reader noted.
-#[derive(Debug, Drop, PartialEq, Eq)]
+#[derive(Drop, PartialEq)]
 struct Ran<'t> {
     done: Result<ScriptOutcome, TextError>,
     written: Vec<u8>,
@@ -332,6 +376,44 @@ fn run_buffer<T: Read + Drop>(
     }
 }
 
+// Runs a text from a buffer of this capacity.
+fn run_buffer_of(
+    alloc: Global,
+    (form, capacity): (Form, usize),
+    noted: Noted<'_, '_>,
+    streams: &mut Streams<'_>,
+    driver: &mut Driver<MemImage>,
+) -> io::Result<Result<ScriptOutcome, TextError>> {
+    let text = BufReader::with_capacity(alloc, capacity, noted)?;
+    Ok(run_buffer(alloc, form, text, streams, driver))
+}
+
+// Runs a text from such a buffer that is lent. Returns how many bytes the buffer has left, too.
+fn run_lent(
+    alloc: Global,
+    (form, capacity): (Form, usize),
+    noted: Noted<'_, '_>,
+    streams: &mut Streams<'_>,
+    driver: &mut Driver<MemImage>,
+) -> io::Result<(Result<ScriptOutcome, TextError>, usize)> {
+    let mut text = BufReader::with_capacity(alloc, capacity, noted)?;
+    let done = run_any(alloc, form, &mut text, streams, driver);
+    Ok((done, text.buffer().len()))
+}
+
+// Runs a text whose first line comes before such a buffer.
+fn run_chain(
+    alloc: Global,
+    (form, capacity): (Form, usize),
+    noted: Noted<'_, '_>,
+    streams: &mut Streams<'_>,
+    driver: &mut Driver<MemImage>,
+) -> io::Result<Result<ScriptOutcome, TextError>> {
+    let first: &[u8] = b"online 0\n";
+    let text = first.chain(BufReader::with_capacity(alloc, capacity, noted)?);
+    Ok(run_any(alloc, form, text, streams, driver))
+}
+
 // Runs the text of a reader of this kind. Returns the result, and how many bytes a lent buffer has left.
 fn run_kind(
     alloc: Global,
@@ -341,23 +423,13 @@ fn run_kind(
     driver: &mut Driver<MemImage>,
 ) -> io::Result<(Result<ScriptOutcome, TextError>, usize)> {
     let noted = Noted { note };
-    Ok(match kind {
-        Kind::Bare => (run_any(alloc, form, noted, streams, driver), 0),
-        Kind::Buffer(capacity) => {
-            let text = BufReader::with_capacity(alloc, capacity, noted)?;
-            (run_buffer(alloc, form, text, streams, driver), 0)
-        }
-        Kind::Lent(capacity) => {
-            let mut text = BufReader::with_capacity(alloc, capacity, noted)?;
-            let done = run_any(alloc, form, &mut text, streams, driver);
-            (done, text.buffer().len())
-        }
-        Kind::Chain(capacity) => {
-            let first: &[u8] = b"online 0\n";
-            let text = first.chain(BufReader::with_capacity(alloc, capacity, noted)?);
-            (run_any(alloc, form, text, streams, driver), 0)
-        }
-    })
+    let done = match kind {
+        Kind::Bare => run_any(alloc, form, noted, streams, driver),
+        Kind::Buffer(most) => run_buffer_of(alloc, (form, most), noted, streams, driver)?,
+        Kind::Lent(most) => return run_lent(alloc, (form, most), noted, streams, driver),
+        Kind::Chain(most) => run_chain(alloc, (form, most), noted, streams, driver)?,
+    };
+    Ok((done, 0))
 }
 
 // Runs a text, and returns the result.
@@ -402,8 +474,8 @@ impl Drivers {
     // Starts both, over eight blocks each.
     fn start(alloc: Global) -> Result<Drivers, Fail> {
         Ok(Drivers {
-            slow: driver_of(alloc, &[5; 4096])?,
-            other: driver_of(alloc, &[5; 4096])?,
+            slow: driver_of_fives(alloc)?,
+            other: driver_of_fives(alloc)?,
         })
     }
 
@@ -414,25 +486,36 @@ impl Drivers {
         script: &[u8],
         first: usize,
     ) -> Result<(), Fail> {
-        let alloc = rt.alloc();
         for (n, kind) in KINDS.iter().enumerate() {
             let setting = (*kind, PACES[(first % 4 + n) % 4]);
             for form in kind.forms() {
-                let slow = run(alloc, Form::Slow, setting, script, &mut self.slow)?;
-                let other = run(alloc, *form, setting, script, &mut self.other)?;
-                assert!(rt; other == slow, "{form:?}, {setting:?}");
+                let are_same = self.are_same(rt.alloc(), *form, setting, script)?;
+                assert!(rt; are_same, "reader {n}, pace {first}");
             }
         }
         Ok(())
+    }
+
+    // Runs the slower form and another, and returns whether the results are the same.
+    fn are_same(
+        &mut self,
+        alloc: Global,
+        form: Form,
+        setting: (Kind, Pace),
+        script: &[u8],
+    ) -> Result<bool, Fail> {
+        let slow = run(alloc, Form::Slow, setting, script, &mut self.slow)?;
+        let other = run(alloc, form, setting, script, &mut self.other)?;
+        Ok(other == slow)
     }
 }
 
 // ---- the texts
 
-const HEADS: [&str; 3] = ["online 0\n", "\n\n# a comment\nonline 0\n\n", ""];
+static HEADS: [&str; 3] = ["online 0\n", "\n\n# a comment\nonline 0\n\n", ""];
 
 // What follows a comment that brings the text to a length.
-const TAILS: [&[u8]; 9] = [
+static TAILS: [&[u8]; 9] = [
     b"",
     b"\n",
     b"\n\n#",
@@ -445,7 +528,7 @@ const TAILS: [&[u8]; 9] = [
 ];
 
 // Of the long texts, each length has three of the tails.
-const LENGTHS: [usize; 10] = [0, 63, 64, 65, 4_095, 4_096, 4_097, 8_191, 8_192, 8_193];
+static LENGTHS: [usize; 10] = [0, 63, 64, 65, 4_095, 4_096, 4_097, 8_191, 8_192, 8_193];
 
 // Returns a text: the head, a comment up to this length, and the tail.
 fn made_text(alloc: Global, head: &str, length: usize, tail: &[u8]) -> Result<Vec<u8>, AllocError> {
@@ -458,40 +541,63 @@ fn made_text(alloc: Global, head: &str, length: usize, tail: &[u8]) -> Result<Ve
     Ok(text)
 }
 
+impl Drivers {
+    // Compares the forms over the texts of each length and tail.
+    fn compare_texts(&mut self, rt: &(impl Alloc<A = Global> + Abort)) -> Result<(), Fail> {
+        let mut count = 0usize;
+        for &length in &LENGTHS {
+            for (n, tail) in TAILS.iter().enumerate() {
+                count = count.saturating_add(1);
+                if length > 1_000 && (length % 3 + n) % 3 != 0 {
+                    continue;
+                }
+                let text = made_text(rt.alloc(), HEADS[n % 3], length, tail)?;
+                self.compare(rt, &text, count)?;
+            }
+        }
+        Ok(())
+    }
+
+    // Compares the forms over a text, with each pace first.
+    fn compare_each_pace(
+        &mut self,
+        rt: &(impl Alloc<A = Global> + Abort),
+        text: &[u8],
+    ) -> Result<(), Fail> {
+        for first in 0..4 {
+            self.compare(rt, text, first)?;
+        }
+        Ok(())
+    }
+
+    // Compares the forms over the texts of several batches.
+    fn compare_long_texts(&mut self, rt: &(impl Alloc<A = Global> + Abort)) -> Result<(), Fail> {
+        self.compare_each_pace(rt, &long_text(rt.alloc(), "status 0\n")?)?;
+        self.compare_each_pace(rt, &long_text(rt.alloc(), "read 0 0 1\n")?)
+    }
+}
+
 /// Texts of any length, whose lines end in a buffer, at its end or behind it, from readers with and without
 /// buffers, lent ones, and two in a row. Their reads are short, interrupted, or fail. Results, outputs, the
 /// reads and what is left are those of the slower form.
 #[test]
 fn texts_are_as_read_byte_by_byte(rt: HostRuntime) -> Result<(), Fail> {
-    let alloc = rt.alloc();
-    let mut drivers = Drivers::start(alloc)?;
-    let mut count = 0usize;
-    for length in LENGTHS {
-        for (n, tail) in TAILS.iter().enumerate() {
-            count = count.saturating_add(1);
-            if length > 1_000 && (length % 3 + n) % 3 != 0 {
-                continue;
-            }
-            let text = made_text(alloc, HEADS[n % 3], length, tail)?;
-            drivers.compare(&rt, &text, count)?;
-        }
+    let mut drivers = Drivers::start(rt.alloc())?;
+    drivers.compare_texts(&rt)
+}
+
+// Returns a text of several batches, each of whose lines but the first is this one.
+fn long_text(alloc: Global, line: &str) -> Result<Vec<u8>, AllocError> {
+    let mut text = Vec::from_slice(alloc, b"online 0\n")?;
+    for _ in 0..200 {
+        text.extend_from_slice(line.as_bytes())?;
     }
-    Ok(())
+    Ok(text)
 }
 
 /// A text of several batches.
 #[test]
 fn long_texts_are_as_read_byte_by_byte(rt: HostRuntime) -> Result<(), Fail> {
-    let alloc = rt.alloc();
-    let mut drivers = Drivers::start(alloc)?;
-    for line in ["status 0\n", "read 0 0 1\n"] {
-        let mut text = Vec::from_slice(alloc, b"online 0\n")?;
-        for _ in 0..200 {
-            text.extend_from_slice(line.as_bytes())?;
-        }
-        for first in 0..4 {
-            drivers.compare(&rt, &text, first)?;
-        }
-    }
-    Ok(())
+    let mut drivers = Drivers::start(rt.alloc())?;
+    drivers.compare_long_texts(&rt)
 }

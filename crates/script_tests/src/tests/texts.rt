@@ -1,5 +1,5 @@
 //! Scripts that are read from a stream while they run: batches and their boundaries.
-use super::batches::{driver_of, left_in};
+use super::batches::{driver_of_fives, left_in};
 use super::streams::{Manner, Sink, Source};
 use std::alloc::Global;
 use std::io::{BufRead, BufReader};
@@ -59,7 +59,7 @@ const WRITES: Text = Text {
     ..ONLINE
 };
 
-const TEXTS: [Text; 14] = [
+static TEXTS: [Text; 14] = [
     ONLINE,
     // one batch, and one request more
     Text {
@@ -247,42 +247,68 @@ impl Text {
     }
 }
 
+// Runs a text by a driver, and returns whether its result is as expected.
+fn is_run(alloc: Global, text: &Text, driver: &mut Driver<MemImage>) -> Result<bool, Fail> {
+    let script = text.script(alloc)?;
+    Ok(text.is_result(&text.run(alloc, script.as_slice(), driver)?))
+}
+
+// Returns whether the first block that a driver leaves begins with the byte of a text that was run.
+fn is_left(alloc: Global, text: &Text, driver: Driver<MemImage>) -> Result<bool, Fail> {
+    let first = if text.held == 0 { 5 } else { 7 };
+    Ok(left_in(alloc, driver)?.starts_with(&[first]))
+}
+
+// Runs a text, and returns whether its result and its blocks are as expected.
+fn is_as_expected(alloc: Global, text: &Text) -> Result<bool, Fail> {
+    let mut driver = driver_of_fives(alloc)?;
+    if !is_run(alloc, text, &mut driver)? {
+        return Ok(false);
+    }
+    is_left(alloc, text, driver)
+}
+
 #[test]
 fn texts(rt: HostRuntime) -> Result<(), Fail> {
-    let alloc = rt.alloc();
     for (n, text) in TEXTS.iter().enumerate() {
-        let mut driver = driver_of(alloc, &[5; 4096])?;
-        let script = text.script(alloc)?;
-        let got = text.run(alloc, script.as_slice(), &mut driver)?;
-        assert!(rt; text.is_result(&got), "text {n}");
-        let left = left_in(alloc, driver)?;
-        assert!(rt;
-            left.starts_with(&[if text.held == 0 { 5 } else { 7 }]),
-            "text {n}: blocks"
-        );
+        assert!(rt; is_as_expected(rt.alloc(), text)?, "text {n}");
     }
     Ok(())
+}
+
+// Runs a text in parts, by a buffer of this capacity, and returns whether its result is as expected.
+fn is_run_in_parts(
+    alloc: Global,
+    text: &Text,
+    capacity: usize,
+    driver: &mut Driver<MemImage>,
+) -> Result<bool, Fail> {
+    let script = text.script(alloc)?;
+    let source = Source::new(Manner::Halting(3), &script);
+    let script = BufReader::with_capacity(alloc, capacity, source)?;
+    Ok(text.is_result(&text.run(alloc, script, driver)?))
+}
+
+// Does the same by a new driver.
+fn is_same_in_parts(alloc: Global, text: &Text, capacity: usize) -> Result<bool, Fail> {
+    let mut driver = driver_of_fives(alloc)?;
+    is_run_in_parts(alloc, text, capacity, &mut driver)
 }
 
 /// A reader that has no buffer, or one that is shorter than most lines, gives the same.
 #[test]
 fn texts_in_parts(rt: HostRuntime) -> Result<(), Fail> {
-    let alloc = rt.alloc();
     for (n, text) in TEXTS.iter().enumerate() {
         for capacity in [0, 1, 5] {
-            let mut driver = driver_of(alloc, &[5; 4096])?;
-            let script = text.script(alloc)?;
-            let source = Source::new(Manner::Halting(3), &script);
-            let script = BufReader::with_capacity(alloc, capacity, source)?;
-            let got = text.run(alloc, script, &mut driver)?;
-            assert!(rt; text.is_result(&got), "text {n}, capacity {capacity}");
+            let is_same = is_same_in_parts(rt.alloc(), text, capacity)?;
+            assert!(rt; is_same, "text {n}, capacity {capacity}");
         }
     }
     Ok(())
 }
 
 // Lines that are not statements, with the expected parts.
-const EXPECTED: [(&str, &str); 9] = [
+static EXPECTED: [(&str, &str); 9] = [
     (
         "raed 0 0 1",
         "column 1: expected a request, such as read or online",
@@ -317,7 +343,7 @@ const EXPECTED: [(&str, &str); 9] = [
 
 #[test]
 fn expected_parts(rt: HostRuntime) -> Result<(), Fail> {
-    for (line, wanted) in EXPECTED {
+    for &(line, wanted) in &EXPECTED {
         let got = format!(in rt.alloc(); "{}", explain(line.as_bytes()))?;
         assert!(rt; got.as_str() == wanted, "{line}");
     }

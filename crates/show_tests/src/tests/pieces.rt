@@ -7,7 +7,7 @@ use std::process::Abort;
 use std::test::Fail;
 
 /// A writer with room for some bytes. It refuses a piece that doesn't fit, as an `ArrayString` does.
-#[derive(Debug, PartialEq, Drop)]
+#[derive(PartialEq, Drop)]
 struct Pieces {
     text: ArrayString<256>,
     ends: ArrayVec<usize, 96>,
@@ -42,7 +42,8 @@ pub(super) fn compare(
     expected: &impl fmt::Display,
     room: usize,
 ) -> Result<(), Fail> {
-    assert_eq!(rt; written(value, room), written(expected, room));
+    let are_same = written(value, room) == written(expected, room);
+    assert!(rt; are_same, "in {room} bytes: {expected}");
     Ok(())
 }
 

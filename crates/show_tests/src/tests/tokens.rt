@@ -51,11 +51,24 @@ fn digits(token: &str, radix: u32) -> Result<u16, TokenError>
     }
 }
 
+// What the random tokens are made of.
+const CHARACTERS: &str = "0123456701234567012345670123456789abcdefABCDEFgG+- #\u{e9}";
+
+// Makes a random token.
+fn make_token(token: &mut String, rng: &mut Pcg32) -> Result<(), Fail> {
+    token.clear();
+    let length = [2, 2, 2, 6, 6, 6, 1, 3][rng.next_u32() as usize % 8];
+    for _ in 0..length {
+        let at = rng.next_u32() as usize % 53;
+        token.push(CHARACTERS.chars().nth(at).unwrap_or('0'))?;
+    }
+    Ok(())
+}
+
 /// Random tokens of up to six characters, most of them digits, give the same packets and errors, and as
 /// many bytes of the next packet.
 #[test]
 fn tokens_are_as_parsed(rt: HostRuntime) -> Result<(), Fail> {
-    let characters = "0123456701234567012345670123456789abcdefABCDEFgG+- #\u{e9}";
     let mut rng = Pcg32::seed_from_u64(2);
     let mut reader = PacketReader::new();
     let mut parsing = ParsingReader {
@@ -64,15 +77,10 @@ fn tokens_are_as_parsed(rt: HostRuntime) -> Result<(), Fail> {
     };
     let mut token = String::new(rt.alloc());
     for _ in 0..20_000 {
-        token.clear();
-        let length = [2, 2, 2, 6, 6, 6, 1, 3][rng.next_u32() as usize % 8];
-        for _ in 0..length {
-            let at = rng.next_u32() as usize % 53;
-            token.push(characters.chars().nth(at).unwrap_or('0'))?;
-        }
-        let expected = parsing.push_token(token.as_str());
-        assert!(rt; reader.push_token(token.as_str()) == expected, "{token}");
-        assert_eq!(rt; reader.filled(), parsing.filled);
+        make_token(&mut token, &mut rng)?;
+        let is_same = reader.push_token(token.as_str()) == parsing.push_token(token.as_str())
+            && reader.filled() == parsing.filled;
+        assert!(rt; is_same, "{token}");
     }
     Ok(())
 }

@@ -1,9 +1,10 @@
 //! Reading of the arguments.
 
 use crate::block_range::BlockRange;
-use crate::grammar::{copy_grammar, create_grammar, dump_grammar, grammar};
+use crate::grammar::{grammar, verb_grammar};
 use crate::image_name::ImageName;
 use crate::task::{Copy, Create, Dump, DumpFormat, Run, Task};
+use crate::verbs::{COPY, CREATE, DUMP};
 use clap::error::ErrorKind;
 use clap::{ArgMatches, Error};
 use std::alloc::Global;
@@ -49,12 +50,16 @@ fn usage_of<'w>(
     arguments: &'w [&'w str],
     drives: &'w [&'static str],
 ) -> Option<String> {
-    let verb = match *arguments.get(1)? {
-        "dump" => dump_grammar(alloc).ok()?.bin_name("uda50 dump"),
-        "create" => create_grammar(alloc, drives).ok()?.bin_name("uda50 create"),
+    let command = match *arguments.get(1)? {
+        "dump" => verb_grammar(alloc, &DUMP, drives)
+            .ok()?
+            .bin_name("uda50 dump"),
+        "create" => verb_grammar(alloc, &CREATE, drives)
+            .ok()?
+            .bin_name("uda50 create"),
         _ => return None,
     };
-    verb.ok()?.render_usage().ok()
+    command.ok()?.render_usage().ok()
 }
 
 fn read_task<'w>(
@@ -116,7 +121,7 @@ fn wrong_range(alloc: Global, text: &str) -> Result<Error, Error> {
     let message = format!(in alloc;
         "invalid value '{text}' for '--blocks <A..B>': expected a range of blocks, as 0..400176"
     )?;
-    let mut verb = copy_grammar(alloc)?.bin_name("uda50 copy")?;
+    let mut verb = verb_grammar(alloc, &COPY, &[])?.bin_name("uda50 copy")?;
     Ok(verb.error(ErrorKind::ValueValidation, message.as_str())?)
 }
 

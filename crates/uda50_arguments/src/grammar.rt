@@ -1,6 +1,6 @@
 //! The verbs with their arguments.
 
-use crate::verbs::{Argument, Form, VERBS, Verb};
+use crate::verbs::{Argument, Flag, Form, OptionValue, Verb, verbs};
 use clap::builder::ValueParser;
 use clap::{Arg, ArgAction, ArgGroup, Command, value_parser};
 use std::alloc::{AllocError, Global};
@@ -16,16 +16,21 @@ const STATUSES: &str = "Exit status: 0 if all is well, 1 after a fault, 2 for wr
 
 /// Builds the whole command line. `drives` are the names of the drive types.
 pub(crate) fn grammar<'w>(alloc: Global, drives: &'w [&'w str]) -> Result<Command<'w>, AllocError> {
-    let mut program = Command::new(alloc, "uda50")
+    let mut program = program(alloc);
+    for verb in verbs() {
+        program = program.subcommand(verb_grammar(alloc, verb, drives)?)?;
+    }
+    Ok(program)
+}
+
+// Builds the program without its verbs.
+fn program<'w>(alloc: Global) -> Command<'w> {
+    Command::new(alloc, "uda50")
         .version(PROGRAM_VERSION)
         .about("Works on disk images through a simulated DEC UDA50 disk controller")
         .after_help(STATUSES)
         .subcommand_required(true)
-        .arg_required_else_help(true);
-    for verb in &VERBS {
-        program = program.subcommand(verb_grammar(alloc, verb, drives)?)?;
-    }
-    Ok(program)
+        .arg_required_else_help(true)
 }
 
 /// Builds a verb. `drives` are the names of the drive types.
@@ -34,23 +39,31 @@ pub(crate) fn verb_grammar<'w>(
     verb: &Verb,
     drives: &'w [&'w str],
 ) -> Result<Command<'w>, AllocError> {
+    let command = with_arguments(alloc, verb, drives)?;
+    if verb.needs_size {
+        command.group(size(alloc)?)
+    } else {
+        Ok(command)
+    }
+}
+
+// Builds a verb with its arguments.
+fn with_arguments<'w>(
+    alloc: Global,
+    verb: &Verb,
+    drives: &'w [&'w str],
+) -> Result<Command<'w>, AllocError> {
     let mut command = Command::new(alloc, verb.name).about(verb.about);
     for argument in verb.arguments {
         command = command.arg(argument_grammar(alloc, argument, drives)?)?;
     }
-    if verb.one_of.is_empty() {
-        return Ok(command);
-    }
-    command.group(group(alloc, verb.one_of)?)
+    Ok(command)
 }
 
-// Builds a group of options, one of which is required.
-fn group<'w>(alloc: Global, options: &[&'static str]) -> Result<ArgGroup<'w>, AllocError> {
-    let mut group = ArgGroup::new(alloc, "size").required(true);
-    for option in options {
-        group = group.arg(option)?;
-    }
-    Ok(group)
+// Builds the group of the options of `create` that give the size, one of which is required.
+fn size<'w>(alloc: Global) -> Result<ArgGroup<'w>, AllocError> {
+    let size = ArgGroup::new(alloc, "size").arg("drive")?.arg("blocks")?;
+    Ok(size.required(true))
 }
 
 // Builds an argument.
@@ -59,20 +72,18 @@ fn argument_grammar<'w>(
     argument: &Argument,
     drives: &'w [&'w str],
 ) -> Result<Arg<'w>, AllocError> {
-    let name = argument.name;
-    let arg = Arg::new(alloc, name).help(argument.help);
-    Ok(match argument.form {
-        Form::Value => arg.required(true),
-        Form::Values { most } => values(arg, most),
-        Form::ValueOr(default) => arg.default_value(default),
-        Form::Number { least } => number(arg, least),
-        Form::Flag => flag(arg, name),
-        Form::ShortFlag(short) => flag(arg, name).short(short),
-        Form::OtherFlag(short, other) => flag(arg, name).short(short).conflicts_with(other)?,
-        Form::Option(value) => option(arg, name, value),
-        Form::DriveOption(value) => drive(option(arg, name, value), drives),
-        Form::NumberOption(value) => number(option(arg, name, value), 1),
-    })
+    let arg = Arg::new(alloc, argument.name).help(argument.help);
+    match &argument.form {
+        Form::Value => Ok(arg.required(true)),
+        Form::Values { most } => Ok(values(arg, *most)),
+        Form::ValueOr(default) => Ok(arg.default_value(default)),
+        Form::Number { least } => Ok(number(arg, *least)),
+        Form::Flag(form) => flag(arg.long(argument.name), form),
+        Form::Option(name, value) => {
+            let arg = arg.long(argument.name).value_name(name);
+            Ok(option(arg, value, drives))
+        }
+    }
 }
 
 // Makes an argument required, with values up to a number of them.
@@ -83,22 +94,27 @@ fn values<'w>(arg: Arg<'w>, most: usize) -> Arg<'w> {
 }
 
 // Makes an argument an option without a value.
-fn flag<'w>(arg: Arg<'w>, name: &'w str) -> Arg<'w> {
-    arg.long(name).action(ArgAction::SetTrue)
+fn flag<'w>(arg: Arg<'w>, form: &Flag) -> Result<Arg<'w>, AllocError> {
+    let arg = arg.action(ArgAction::SetTrue);
+    match form {
+        Flag::Long => Ok(arg),
+        Flag::Short(short) => Ok(arg.short(*short)),
+        Flag::ShortAgainst(short, other) => arg.short(*short).conflicts_with(other),
+    }
 }
 
-// Makes an argument an option with a value.
-fn option<'w>(arg: Arg<'w>, name: &'w str, value: &'w str) -> Arg<'w> {
-    arg.long(name).value_name(value)
+// Gives an option the form of its value.
+fn option<'w>(arg: Arg<'w>, value: &OptionValue, drives: &'w [&'w str]) -> Arg<'w> {
+    match value {
+        OptionValue::Text => arg,
+        OptionValue::Drive => arg
+            .value_parser(ValueParser::Names(drives))
+            .ignore_case(true),
+        OptionValue::Blocks => number(arg, 1),
+    }
 }
 
 // Makes the value of an argument a number of blocks.
 fn number<'w>(arg: Arg<'w>, least: i64) -> Arg<'w> {
     arg.value_parser(value_parser!(u32).range(least..=MAX_BLOCKS))
-}
-
-// Makes the value of an argument the name of a drive type.
-fn drive<'w>(arg: Arg<'w>, drives: &'w [&'w str]) -> Arg<'w> {
-    arg.value_parser(ValueParser::Names(drives))
-        .ignore_case(true)
 }

@@ -8,8 +8,8 @@ pub(crate) struct Verb {
     pub(crate) about: &'static str,
     /// The arguments, in the order of the help.
     pub(crate) arguments: &'static [Argument],
-    /// The options of which one is required. Without any, none is.
-    pub(crate) one_of: &'static [&'static str],
+    /// Whether one of the options `drive` and `blocks` is required.
+    pub(crate) needs_size: bool,
 }
 
 /// An argument of a verb.
@@ -39,17 +39,29 @@ pub(crate) enum Form {
         least: i64,
     },
     /// An option without a value.
-    Flag,
-    /// An option without a value that has a short form.
-    ShortFlag(char),
-    /// An option without a value that has a short form, and that excludes another option.
-    OtherFlag(char, &'static str),
-    /// An option with a value, which the help calls so.
-    Option(&'static str),
-    /// An option whose value is the name of a drive type.
-    DriveOption(&'static str),
-    /// An option whose value is a number of blocks, from 1.
-    NumberOption(&'static str),
+    Flag(Flag),
+    /// An option with a value, which the help calls by this name.
+    Option(&'static str, OptionValue),
+}
+
+/// The form of an option without a value.
+pub(crate) enum Flag {
+    /// It has no short form.
+    Long,
+    /// It has this short form.
+    Short(char),
+    /// It has this short form, and excludes the option with this name.
+    ShortAgainst(char, &'static str),
+}
+
+/// The value of an option.
+pub(crate) enum OptionValue {
+    /// Any text.
+    Text,
+    /// The name of a drive type.
+    Drive,
+    /// A number of blocks, from 1.
+    Blocks,
 }
 
 /// The argument for the script of `run` and `trace`.
@@ -66,11 +78,13 @@ const UNITS: Argument = Argument {
     help: "The images of units 0 to 3: FILE, lock:FILE to protect it, or - for no drive",
 };
 
-/// The verbs, in the order of the help.
-pub(crate) const VERBS: [Verb; 7] = [RUN, COPY, INFO, DUMP, CREATE, DECODE, TRACE];
+/// Returns the verbs, in the order of the help.
+pub(crate) fn verbs() -> [&'static Verb; 7] {
+    [&RUN, &COPY, &INFO, &DUMP, &CREATE, &DECODE, &TRACE]
+}
 
 /// The verb `run`.
-const RUN: Verb = Verb {
+static RUN: Verb = Verb {
     name: "run",
     about: "Executes a script of requests on one to four images",
     arguments: &[
@@ -78,20 +92,20 @@ const RUN: Verb = Verb {
         UNITS,
         Argument {
             name: "names",
-            form: Form::Flag,
+            form: Form::Flag(Flag::Long),
             help: "Adds the name of the status to each line",
         },
         Argument {
             name: "quiet",
-            form: Form::ShortFlag('q'),
+            form: Form::Flag(Flag::Short('q')),
             help: "Reports only the requests that failed",
         },
     ],
-    one_of: &[],
+    needs_size: false,
 };
 
 /// The verb `copy`.
-pub(crate) const COPY: Verb = Verb {
+pub(crate) static COPY: Verb = Verb {
     name: "copy",
     about: "Copies an image; if a transfer fails, block by block",
     arguments: &[
@@ -107,30 +121,30 @@ pub(crate) const COPY: Verb = Verb {
         },
         Argument {
             name: "blocks",
-            form: Form::Option("A..B"),
+            form: Form::Option("A..B", OptionValue::Text),
             help: "Copies only blocks A to B-1",
         },
         Argument {
             name: "verify",
-            form: Form::Flag,
+            form: Form::Flag(Flag::Long),
             help: "Reads the copy back and compares it",
         },
         Argument {
             name: "continue",
-            form: Form::Flag,
+            form: Form::Flag(Flag::Long),
             help: "Continues after blocks that can't be read, and lists them",
         },
         Argument {
             name: "force",
-            form: Form::Flag,
+            form: Form::Flag(Flag::Long),
             help: "Writes to TO even if it exists",
         },
     ],
-    one_of: &[],
+    needs_size: false,
 };
 
 /// The verb `info`.
-const INFO: Verb = Verb {
+static INFO: Verb = Verb {
     name: "info",
     about: "Prints the size of images, drive types of that size, and what they hold",
     arguments: &[Argument {
@@ -138,11 +152,11 @@ const INFO: Verb = Verb {
         form: Form::Values { most: usize::MAX },
         help: "The images",
     }],
-    one_of: &[],
+    needs_size: false,
 };
 
 /// The verb `dump`.
-pub(crate) const DUMP: Verb = Verb {
+pub(crate) static DUMP: Verb = Verb {
     name: "dump",
     about: "Prints blocks in hexadecimal and as text",
     arguments: &[
@@ -163,25 +177,25 @@ pub(crate) const DUMP: Verb = Verb {
         },
         Argument {
             name: "octal",
-            form: Form::ShortFlag('o'),
+            form: Form::Flag(Flag::Short('o')),
             help: "Prints words in octal",
         },
         Argument {
             name: "raw",
-            form: Form::OtherFlag('r', "octal"),
+            form: Form::Flag(Flag::ShortAgainst('r', "octal")),
             help: "Writes the blocks as they are",
         },
         Argument {
             name: "force",
-            form: Form::Flag,
+            form: Form::Flag(Flag::Long),
             help: "Writes raw blocks even to a terminal",
         },
     ],
-    one_of: &[],
+    needs_size: false,
 };
 
 /// The verb `create`.
-pub(crate) const CREATE: Verb = Verb {
+pub(crate) static CREATE: Verb = Verb {
     name: "create",
     about: "Makes an image of zeros",
     arguments: &[
@@ -192,25 +206,25 @@ pub(crate) const CREATE: Verb = Verb {
         },
         Argument {
             name: "drive",
-            form: Form::DriveOption("DRIVE"),
+            form: Form::Option("DRIVE", OptionValue::Drive),
             help: "Makes it as large as this drive",
         },
         Argument {
             name: "blocks",
-            form: Form::NumberOption("N"),
+            form: Form::Option("N", OptionValue::Blocks),
             help: "Makes it N blocks large",
         },
         Argument {
             name: "force",
-            form: Form::Flag,
+            form: Form::Flag(Flag::Long),
             help: "Overwrites an existing file",
         },
     ],
-    one_of: &["drive", "blocks"],
+    needs_size: true,
 };
 
 /// The verb `decode`.
-const DECODE: Verb = Verb {
+static DECODE: Verb = Verb {
     name: "decode",
     about: "Prints the fields of MSCP packets, given as hexadecimal bytes or octal words",
     arguments: &[Argument {
@@ -218,13 +232,13 @@ const DECODE: Verb = Verb {
         form: Form::ValueOr("-"),
         help: "The file, or - for standard input",
     }],
-    one_of: &[],
+    needs_size: false,
 };
 
 /// The verb `trace`.
-const TRACE: Verb = Verb {
+static TRACE: Verb = Verb {
     name: "trace",
     about: "Executes a script, and prints each turn of the controller's port",
     arguments: &[SCRIPT, UNITS],
-    one_of: &[],
+    needs_size: false,
 };

@@ -226,6 +226,7 @@ CRATES = {
     "uda50_verbs": (3, 9, "its verbs"),
     "uda50_copy": (3, 8, "copies a drive"),
     "uda50_arguments": (4, 8, "its command line"),
+    "uda50_decode": (4, 9, "prints packets"),
     "uda50_show": (4, 7, "what it prints"),
     "uda_plain": (0, 2, "in-order run"),
     "mem_packet_image_tests": (0, 3.1, ""),
@@ -242,11 +243,13 @@ CRATES = {
     "script_tests": (0, 9, ""),
     "workloads": (0, 8.54, ""),
     "show_tests": (3, 7.2, ""),
+    "decode_tests": (4, 9.6, ""),
 }
 # the arrows that leave by the right side and go down between two columns, each with its x
-LANES = {("uda_driver", "uda_posting"): 500, ("uda_script_run", "uda_grammar"): 740}
+LANES = {("uda_driver", "uda_posting"): 500, ("uda_script_run", "uda_grammar"): 740,
+         ("uda50_decode", "uda50_show"): 1158}
 # the arrows that go over the top and down at the right, each with the x where it goes up, its y, and the x where it goes down
-OVER = {("workloads", "uda50_show"): (270, 85, 1165)}
+OVER = {("workloads", "uda50_show"): (270, 85, 1169)}
 PROGRAMS = {"uda", "uda50", "uda_c"}
 AROUND = re.compile(r"_tests$|_example$|^bench$|^workloads$|^scenarios$|^refused_growths$|^uda_agreement$")
 

@@ -6,6 +6,7 @@ mod grammar;
 mod image_name;
 mod reading;
 mod task;
+mod verbs;
 
 pub use block_range::BlockRange;
 pub use image_name::ImageName;

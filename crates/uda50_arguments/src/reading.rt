@@ -1,12 +1,13 @@
 //! Reading of the arguments.
 
 use crate::block_range::BlockRange;
-use crate::grammar::{copy_grammar, create_grammar, dump_grammar, grammar};
+use crate::grammar::{grammar, verb_grammar};
 use crate::image_name::ImageName;
 use crate::task::{Copy, Create, Dump, DumpFormat, Run, Task};
+use crate::verbs::{COPY, CREATE, DUMP, Verb};
 use clap::error::ErrorKind;
-use clap::{ArgMatches, Error};
-use std::alloc::Global;
+use clap::{ArgMatches, Command, Error};
+use std::alloc::{AllocError, Global};
 use uda50_show::DriveTypeEntry;
 
 /// The result of reading the arguments.
@@ -49,12 +50,24 @@ fn usage_of<'w>(
     arguments: &'w [&'w str],
     drives: &'w [&'static str],
 ) -> Option<String> {
-    let verb = match *arguments.get(1)? {
-        "dump" => dump_grammar(alloc).ok()?.bin_name("uda50 dump"),
-        "create" => create_grammar(alloc, drives).ok()?.bin_name("uda50 create"),
+    match *arguments.get(1)? {
+        "dump" => named(alloc, &DUMP, "uda50 dump", drives),
+        "create" => named(alloc, &CREATE, "uda50 create", drives),
         _ => return None,
-    };
-    verb.ok()?.render_usage().ok()
+    }
+    .ok()?
+    .render_usage()
+    .ok()
+}
+
+// Builds a verb with the name that its usage has.
+fn named<'w>(
+    alloc: Global,
+    verb: &Verb,
+    name: &'w str,
+    drives: &'w [&'w str],
+) -> Result<Command<'w>, AllocError> {
+    verb_grammar(alloc, verb, drives)?.bin_name(name)
 }
 
 fn read_task<'w>(
@@ -62,10 +75,27 @@ fn read_task<'w>(
     arguments: &'w [&'w str],
     drives: &'w [&'static str],
 ) -> Result<Task<'w>, Error> {
-    let matches = grammar(alloc, drives)?.try_get_matches_from(arguments)?;
-    let Some((verb, found)) = matches.subcommand() else {
-        return Err(grammar(alloc, &[])?.error(ErrorKind::MissingSubcommand, "a verb is missing")?);
-    };
+    let matches = parse(alloc, arguments, drives)?;
+    match matches.subcommand() {
+        Some((verb, found)) => read_verb(alloc, verb, found),
+        None => Err(no_verb(alloc)?),
+    }
+}
+
+fn parse<'w>(
+    alloc: Global,
+    arguments: &'w [&'w str],
+    drives: &'w [&'static str],
+) -> Result<ArgMatches<'w>, Error> {
+    grammar(alloc, drives)?.try_get_matches_from(arguments)
+}
+
+// Returns the error of arguments without a verb.
+fn no_verb(alloc: Global) -> Result<Error, AllocError> {
+    grammar(alloc, &[])?.error(ErrorKind::MissingSubcommand, "a verb is missing")
+}
+
+fn read_verb<'w>(alloc: Global, verb: &str, found: &ArgMatches<'w>) -> Result<Task<'w>, Error> {
     match verb {
         "run" => read_run(alloc, found),
         "copy" => read_copy(alloc, found),
@@ -112,12 +142,16 @@ fn read_copy<'w>(alloc: Global, found: &ArgMatches<'w>) -> Result<Task<'w>, Erro
 }
 
 // Returns the error of an invalid range.
-fn wrong_range(alloc: Global, text: &str) -> Result<Error, Error> {
+fn wrong_range(alloc: Global, text: &str) -> Result<Error, AllocError> {
     let message = format!(in alloc;
         "invalid value '{text}' for '--blocks <A..B>': expected a range of blocks, as 0..400176"
     )?;
-    let mut verb = copy_grammar(alloc)?.bin_name("uda50 copy")?;
-    Ok(verb.error(ErrorKind::ValueValidation, message.as_str())?)
+    copy_error(alloc, message.as_str())
+}
+
+// Returns an error of the values of `copy`.
+fn copy_error(alloc: Global, message: &str) -> Result<Error, AllocError> {
+    named(alloc, &COPY, "uda50 copy", &[])?.error(ErrorKind::ValueValidation, message)
 }
 
 fn read_dump<'w>(found: &ArgMatches<'w>) -> Task<'w> {
@@ -156,7 +190,10 @@ fn read_create<'w>(found: &ArgMatches<'w>) -> Task<'w> {
 
 // Returns the value of an argument that is required or has a default, or the empty text.
 fn text<'w>(found: &ArgMatches<'w>, name: &str) -> &'w str {
-    found.get_str(name).unwrap_or("")
+    match found.get_str(name) {
+        Some(text) => text,
+        None => "",
+    }
 }
 
 // Returns the image of an argument.

@@ -17,14 +17,7 @@ pub(crate) fn create<'w>(rt: &HostRuntime, create: &Create<'w>) -> Result<Outcom
         Ok(_) if !create.force => return Err(Fault::new(path, Reason::Exists)),
         Ok(metadata) if !metadata.is_file() => return Err(Fault::new(path, Reason::NotPlain)),
         Ok(_) => (emptied(rt, path)?, false),
-        Err(_) => (
-            OpenOptions::new()
-                .write(true)
-                .create_new(true)
-                .open(rt, path)
-                .map_err(|error| Fault::system(path, error))?,
-            true,
-        ),
+        Err(_) => (new_file(rt, path)?, true),
     };
     match file.set_len(512 * u64::from(create.blocks)) {
         Ok(()) => Ok(Outcome::Done),
@@ -37,15 +30,21 @@ pub(crate) fn create<'w>(rt: &HostRuntime, create: &Create<'w>) -> Result<Outcom
     }
 }
 
+/// Makes a file that doesn't exist yet.
+pub(crate) fn new_file<'w>(rt: &HostRuntime, path: &'w str) -> Result<File, Fault<'w>> {
+    let made = OpenOptions::new()
+        .write(true)
+        .create_new(true)
+        .open(rt, path);
+    Fault::of_call(path, made)
+}
+
 // Opens a file whose lock nobody else holds, and empties it.
 fn emptied<'w>(rt: &HostRuntime, path: &'w str) -> Result<File, Fault<'w>> {
-    let file = OpenOptions::new()
-        .write(true)
-        .open(rt, path)
-        .map_err(|error| Fault::system(path, error))?;
+    let file = Fault::of_call(path, OpenOptions::new().write(true).open(rt, path))?;
     if let Err(TryLockError::WouldBlock) = file.try_lock() {
         return Err(Fault::new(path, Reason::InUse));
     }
-    file.set_len(0).map_err(|error| Fault::system(path, error))?;
+    Fault::of_call(path, file.set_len(0))?;
     Ok(file)
 }

@@ -1,52 +1,10 @@
 //! `uda50 decode`: prints packets by their fields.
 
-#[cfg(test)]
-mod tests;
-
 use crate::fault::{Fault, Reason, STANDARD_INPUT};
 use crate::outcome::Outcome;
-use std::alloc::Global;
 use std::fs::{File, OpenFile};
-use std::io;
-use std::io::{BufRead, BufReader, BufWriter, Read, Write};
-use uda50_show::{Packet, PacketReader};
-
-/// The most bytes that are kept for the next line. The memory of a longer line is given back.
-const LINE_ROOM: usize = 4_096;
-
-/// The bytes of the longest text before a packet, `packet 18446744073709551615, `.
-const HEAD_ROOM: usize = 29;
-
-/// The most bytes of packets that go out in one write. A pipe takes this many in one piece.
-const GATHERED: usize = 4_096;
-
-// The state of reading packets.
-#[derive(Debug, Drop)]
-struct DecodeProgress {
-    reader: PacketReader,
-    packets: u64,
-    invalid: bool,
-}
-
-impl DecodeProgress {
-    // Makes the state before the first packet.
-    fn new() -> DecodeProgress {
-        DecodeProgress {
-            reader: PacketReader::new(),
-            packets: 0,
-            invalid: false,
-        }
-    }
-
-    // Returns the outcome at the end of the text.
-    fn outcome<'w>(&self, name: &'w str) -> Result<Outcome, Fault<'w>> {
-        match self.reader.filled() {
-            0 if self.invalid => Ok(Outcome::Failed),
-            0 => Ok(Outcome::Done),
-            bytes => Err(Fault::new(name, Reason::ShortPacket(bytes))),
-        }
-    }
-}
+use std::io::{BufReader, BufWriter, Write};
+use uda50_decode::{DecodeError, Decoded};
 
 /// Prints the packets of a file, or of standard input.
 pub(crate) fn decode<'w, W: Write + Drop>(
@@ -56,90 +14,31 @@ pub(crate) fn decode<'w, W: Write + Drop>(
 ) -> Result<Outcome, Fault<'w>> {
     if path == "-" {
         let input = BufReader::new(rt.alloc(), rt.stdin())?;
-        return decode_from(rt.alloc(), STANDARD_INPUT, input, out);
+        return outcome(STANDARD_INPUT, uda50_decode::decode(rt.alloc(), input, out));
     }
-    let file = File::open(rt, path).map_err(|error| Fault::system(path, error))?;
+    let file = Fault::of_call(path, File::open(rt, path))?;
     let input = BufReader::new(rt.alloc(), file)?;
-    decode_from(rt.alloc(), path, input, out)
+    outcome(path, uda50_decode::decode(rt.alloc(), input, out))
 }
 
-// Prints the packets of a text. What it printed goes out before it may have to wait for more of the text,
-// before a fault of the text, and at the end.
-fn decode_from<'w, R: Read + Drop, W: Write + Drop>(
-    alloc: Global,
-    name: &'w str,
-    mut input: BufReader<R>,
-    out: &mut BufWriter<W>,
-) -> Result<Outcome, Fault<'w>> {
-    let mut progress = DecodeProgress::new();
-    let mut line = String::new(alloc);
-    let mut number = 0u64;
-    for _ in 0..u64::MAX {
-        if !input.buffer().contains(&b'\n') {
-            out.flush()?;
-        }
-        let read = match input.read_line(&mut line) {
-            Ok(read) => read,
-            Err(error) => {
-                out.flush()?;
-                return Err(Fault::system(name, error));
-            }
-        };
-        if read == 0 {
-            return progress.outcome(name);
-        }
-        number = number.saturating_add(1);
-        decode_line(name, number, line.as_str(), &mut progress, out)?;
-        if line.capacity() > LINE_ROOM {
-            line = String::new(alloc);
-        }
-        line.clear();
+// Returns the outcome of a text, which has this name.
+fn outcome<'w>(name: &'w str, done: Result<Decoded, DecodeError>) -> Result<Outcome, Fault<'w>> {
+    match done {
+        Ok(Decoded { invalid: true, .. }) => Ok(Outcome::Failed),
+        Ok(_) => Ok(Outcome::Done),
+        Err(error) => Err(fault(name, error)),
     }
-    Err(Fault::new(name, Reason::Unreadable))
 }
 
-// Reads the tokens of a line, and prints the packets that they complete. `#` begins a comment.
-fn decode_line<'w, W: Write + Drop>(
-    name: &'w str,
-    line: u64,
-    text: &str,
-    progress: &mut DecodeProgress,
-    out: &mut BufWriter<W>,
-) -> Result<(), Fault<'w>> {
-    let tokens = match text.split_once('#') {
-        Some((tokens, _)) => tokens,
-        None => text,
-    };
-    let mut word = 0u64;
-    for token in tokens.split_ascii_whitespace() {
-        word = word.saturating_add(1);
-        let packet = match progress.reader.push_token(token) {
-            Ok(packet) => packet,
-            Err(error) => {
-                out.flush()?;
-                return Err(Fault::new(name, Reason::Token { line, word, error }));
-            }
-        };
-        if let Some(packet) = packet {
-            progress.packets = progress.packets.saturating_add(1);
-            progress.invalid |= !packet.is_valid();
-            put_packet(out, progress.packets, &packet)?;
+// Returns the fault for an error of a text, which has this name.
+fn fault<'w>(name: &'w str, error: DecodeError) -> Fault<'w> {
+    match error {
+        DecodeError::Read(error) => Fault::system(name, error),
+        DecodeError::Write(error) => Fault::from(error),
+        DecodeError::Token { line, word, error } => {
+            Fault::new(name, Reason::Token { line, word, error })
         }
+        DecodeError::ShortPacket(bytes) => Fault::new(name, Reason::ShortPacket(bytes)),
+        DecodeError::TooManyLines => Fault::new(name, Reason::Unreadable),
     }
-    Ok(())
-}
-
-// Prints a packet. If it might be too long for the write of the packets that are gathered, these go out
-// first. So each write ends with a packet.
-fn put_packet<W: Write + Drop>(
-    out: &mut BufWriter<W>,
-    number: u64,
-    packet: &Packet,
-) -> io::Result<()> {
-    let text = packet.text();
-    if out.buffer().len() + HEAD_ROOM + text.len() > GATHERED {
-        out.flush()?;
-    }
-    write!(out, "packet {number}, ")?;
-    out.write_all(text.as_bytes())
 }

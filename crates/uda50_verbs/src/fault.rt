@@ -134,6 +134,14 @@ impl<'w> Fault<'w> {
         }
     }
 
+    /// Returns the result of a call of the system on a file, with the fault if it failed.
+    pub(crate) fn of_call<T>(name: &'w str, called: io::Result<T>) -> Result<T, Fault<'w>> {
+        match called {
+            Ok(value) => Ok(value),
+            Err(error) => Err(Fault::system(name, error)),
+        }
+    }
+
     /// Returns whether the fault concerns this file or stream.
     pub fn is_of(&self, name: &str) -> bool {
         self.name == name

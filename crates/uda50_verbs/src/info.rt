@@ -3,7 +3,8 @@
 use crate::fault::Fault;
 use crate::image::{is_writable, open, read_block_or_zeros};
 use crate::outcome::Outcome;
-use std::fmt;
+use std::fmt::Display;
+use std::io;
 use std::io::Write;
 use uda_image::BlockStore;
 use uda50_arguments::ImageName;
@@ -49,28 +50,29 @@ fn describe<'w, W: Write>(
         (false, false) => "no",
     };
     writeln!(out, "  writable: {writable}")?;
-    write_contents(out, &zero, &one, &thirty_one)
+    Ok(write_contents(out, &zero, &one, &thirty_one)?)
 }
 
 // Writes the lines of an image's size.
-fn write_size<'w, W: Write>(out: &mut W, path: &str, blocks: u32) -> Result<(), Fault<'w>> {
-    let bytes = 512 * u64::from(blocks);
-    writeln!(
-        out,
-        "{path}: {} blocks, {} bytes",
-        Grouped(u64::from(blocks)),
-        Grouped(bytes)
-    )?;
-    Ok(writeln!(out, "  drive types of this size: {}", TypesOfSize(blocks))?)
+fn write_size<W: Write>(out: &mut W, path: &str, blocks: u32) -> io::Result<()> {
+    let bytes = Grouped(512 * u64::from(blocks));
+    let count = Grouped(u64::from(blocks));
+    writeln!(out, "{path}: {count} blocks, {bytes} bytes")?;
+    write_types(out, blocks)
+}
+
+// Writes the line of the drive types of a size.
+fn write_types<W: Write>(out: &mut W, blocks: u32) -> io::Result<()> {
+    writeln!(out, "  drive types of this size: {}", TypesOfSize(blocks))
 }
 
 // Writes a line for each structure found in blocks 0, 1 and 31.
-fn write_contents<'w, W: Write>(
+fn write_contents<W: Write>(
     out: &mut W,
     zero: &[u8; 512],
     one: &[u8; 512],
     thirty_one: &[u8; 512],
-) -> Result<(), Fault<'w>> {
+) -> io::Result<()> {
     let found = [
         write_found(out, 0, BootBlock::read(zero))?,
         write_found(out, 0, DiskLabel::in_block_0(zero))?,
@@ -85,16 +87,14 @@ fn write_contents<'w, W: Write>(
 }
 
 // Writes the line of a structure in a block, and returns whether there is one.
-fn write_found<'w, W: Write, D: fmt::Display + Drop>(
+fn write_found<W: Write, D: Display + Drop>(
     out: &mut W,
     block: u32,
     found: Option<D>,
-) -> Result<bool, Fault<'w>> {
-    match found {
-        Some(found) => {
-            writeln!(out, "  block {block}: {found}")?;
-            Ok(true)
-        }
-        None => Ok(false),
-    }
+) -> io::Result<bool> {
+    let Some(found) = found else {
+        return Ok(false);
+    };
+    writeln!(out, "  block {block}: {found}")?;
+    Ok(true)
 }

@@ -15,8 +15,6 @@ mod run;
 mod script;
 mod streams;
 mod target;
-#[cfg(test)]
-mod test_streams;
 mod trace;
 
 pub use entry::{program, unreadable_arguments};

@@ -21,7 +21,7 @@ pub(crate) fn run<'w>(rt: &HostRuntime, run: &Run<'w>) -> Result<Outcome, Fault<
         let text = BufReader::new(rt.alloc(), rt.stdin())?;
         return run_from(rt, run, text, no_data, drives);
     }
-    let file = File::open(rt, run.script).map_err(|error| Fault::system(run.script, error))?;
+    let file = Fault::of_call(run.script, File::open(rt, run.script))?;
     let text = BufReader::new(rt.alloc(), file)?;
     run_from(rt, run, text, rt.stdin(), drives)
 }

@@ -1,5 +1,6 @@
 //! The target file of a copy.
 
+use crate::create::new_file;
 use crate::fault::{Fault, Reason};
 use crate::image::open;
 use std::fs;
@@ -23,17 +24,7 @@ pub(crate) fn open_target<'w>(
         return Err(Fault::new(path, Reason::Protected));
     }
     match fs::metadata(rt, path) {
-        Err(_) => {
-            let new = OpenOptions::new()
-                .write(true)
-                .create_new(true)
-                .open(rt, path);
-            set_blocks(
-                path,
-                &new.map_err(|error| Fault::system(path, error))?,
-                size,
-            )?;
-        }
+        Err(_) => set_blocks(path, &new_file(rt, path)?, size)?,
         Ok(_) if !copy.force => return Err(Fault::new(path, Reason::Exists)),
         Ok(metadata) if !metadata.is_file() => return Err(Fault::new(path, Reason::NotPlain)),
         Ok(metadata) => {
@@ -68,10 +59,7 @@ fn is_another<'w>(rt: &HostRuntime, copy: &Copy<'w>, dev: u64, ino: u64) -> Resu
 
 // Opens a file whose lock nobody else holds.
 fn locked<'w>(rt: &HostRuntime, path: &'w str) -> Result<File, Fault<'w>> {
-    let file = OpenOptions::new()
-        .write(true)
-        .open(rt, path)
-        .map_err(|error| Fault::system(path, error))?;
+    let file = Fault::of_call(path, OpenOptions::new().write(true).open(rt, path))?;
     match file.try_lock() {
         Err(TryLockError::WouldBlock) => Err(Fault::new(path, Reason::InUse)),
         _ => Ok(file),
@@ -80,6 +68,5 @@ fn locked<'w>(rt: &HostRuntime, path: &'w str) -> Result<File, Fault<'w>> {
 
 // Sets the length of a file to `blocks` blocks.
 fn set_blocks<'w>(path: &'w str, file: &File, blocks: u32) -> Result<(), Fault<'w>> {
-    file.set_len(512 * u64::from(blocks))
-        .map_err(|error| Fault::system(path, error))
+    Fault::of_call(path, file.set_len(512 * u64::from(blocks)))
 }

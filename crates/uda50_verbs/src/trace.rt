@@ -26,7 +26,7 @@ pub(crate) fn trace<'w, W: Write>(
         let text = BufReader::new(rt.alloc(), rt.stdin())?;
         return trace_job(rt, job(script, units, text), no_data, drives, out);
     }
-    let file = File::open(rt, script).map_err(|error| Fault::system(script, error))?;
+    let file = Fault::of_call(script, File::open(rt, script))?;
     let text = BufReader::new(rt.alloc(), file)?;
     trace_job(rt, job(script, units, text), rt.stdin(), drives, out)
 }
@@ -79,15 +79,22 @@ struct Printer<'o, W> {
 
 impl<'o, W: Write> Printer<'o, W> {
     fn print(&mut self, trace: &Trace, credits: u32) -> io::Result<()> {
-        let turn = self.turns;
-        write!(self.out, "turn {turn}: {trace}")?;
+        print_turn(self.out, self.turns, trace)?;
         if let Trace::Executed(end) | Trace::Delivered(end) | Trace::InvalidCommand(end) = trace {
-            let name = status::name(end.status);
-            write!(self.out, " ({name})")?;
+            print_status(self.out, end.status)?;
         }
         let word = if credits == 1 { "credit" } else { "credits" };
         writeln!(self.out, ", {credits} {word}")
     }
+}
+
+fn print_turn<W: Write>(out: &mut W, turn: u64, trace: &Trace) -> io::Result<()> {
+    write!(out, "turn {turn}: {trace}")
+}
+
+fn print_status<W: Write>(out: &mut W, code: u16) -> io::Result<()> {
+    let name = status::name(code);
+    write!(out, " ({name})")
 }
 
 impl<'o, W: Write> Watch for Printer<'o, W> {

@@ -1,48 +1,55 @@
 //! The packets of texts, compared with a form that flushes after each packet and has memory of its own for
 //! each line. Each write of that form is a packet.
-use super::{DecodeProgress, LINE_ROOM, PacketReader, decode_from};
-use crate::fault::{Fault, Reason};
-use crate::outcome::Outcome;
 use crate::test_streams::{Bits, Sink};
 use std::alloc::{AllocError, Global};
 use std::io;
 use std::io::{BufRead, BufReader, BufWriter, Write};
 use std::process::Abort;
 use std::test::Fail;
+use uda50_decode::{DecodeError, Decoded, LINE_ROOM, decode};
+use uda50_show::PacketReader;
 
-// The slower form of `decode_from`.
-fn decode_lines<'w, R: BufRead + Drop, W: Write>(
+/// The state of the slower form.
+#[derive(Drop)]
+struct Progress {
+    reader: PacketReader,
+    packets: u64,
+    invalid: bool,
+}
+
+// The slower form of `decode`.
+fn decode_lines<R: BufRead + Drop, W: Write>(
     alloc: Global,
-    name: &'w str,
     input: R,
     out: &mut W,
-) -> Result<Outcome, Fault<'w>> {
-    let mut progress = DecodeProgress {
+) -> Result<Decoded, DecodeError> {
+    let mut progress = Progress {
         reader: PacketReader::new(),
         packets: 0,
         invalid: false,
     };
     let mut number = 0u64;
     for line in input.lines(alloc) {
-        let line = line.map_err(|error| Fault::system(name, error))?;
+        let line = line.map_err(DecodeError::Read)?;
         number = number.saturating_add(1);
-        decode_line(name, number, line.as_str(), &mut progress, out)?;
+        decode_line(number, line.as_str(), &mut progress, out)?;
     }
     match progress.reader.filled() {
-        0 if progress.invalid => Ok(Outcome::Failed),
-        0 => Ok(Outcome::Done),
-        bytes => Err(Fault::new(name, Reason::ShortPacket(bytes))),
+        0 => Ok(Decoded {
+            packets: progress.packets,
+            invalid: progress.invalid,
+        }),
+        bytes => Err(DecodeError::ShortPacket(bytes)),
     }
 }
 
 // The slower form of a line.
-fn decode_line<'w, W: Write>(
-    name: &'w str,
+fn decode_line<W: Write>(
     line: u64,
     text: &str,
-    progress: &mut DecodeProgress,
+    progress: &mut Progress,
     out: &mut W,
-) -> Result<(), Fault<'w>> {
+) -> Result<(), DecodeError> {
     let tokens = match text.split_once('#') {
         Some((tokens, _)) => tokens,
         None => text,
@@ -52,7 +59,7 @@ fn decode_line<'w, W: Write>(
         word = word.saturating_add(1);
         let packet = match progress.reader.push_token(token) {
             Ok(packet) => packet,
-            Err(error) => return Err(Fault::new(name, Reason::Token { line, word, error })),
+            Err(error) => return Err(DecodeError::Token { line, word, error }),
         };
         if let Some(packet) = packet {
             progress.packets = progress.packets.saturating_add(1);
@@ -128,7 +135,7 @@ impl Printed {
     fn of(
         alloc: Global,
         mut out: BufWriter<Sink>,
-        done: Result<Outcome, Fault<'_>>,
+        done: Result<Decoded, DecodeError>,
     ) -> Result<Printed, AllocError> {
         let left = out.buffer().len();
         let _ = out.flush();
@@ -154,9 +161,9 @@ fn print_twice(alloc: Global, text: &[u8], streams: Streams) -> io::Result<(Prin
     };
     let sink = || Sink::new(alloc, room, writes_before_refusal);
     let mut out = BufWriter::new(alloc, sink())?;
-    let done = decode_from(alloc, "text", BufReader::new(alloc, bits())?, &mut out);
+    let done = decode(alloc, BufReader::new(alloc, bits())?, &mut out);
     let mut slow_out = BufWriter::new(alloc, sink())?;
-    let slow = decode_lines(alloc, "text", BufReader::new(alloc, bits())?, &mut slow_out);
+    let slow = decode_lines(alloc, BufReader::new(alloc, bits())?, &mut slow_out);
     Ok((
         Printed::of(alloc, out, done)?,
         Printed::of(alloc, slow_out, slow)?,

@@ -1,0 +1,244 @@
+//! The table of the verbs and of their arguments.
+
+/// A verb.
+pub(crate) struct Verb {
+    /// The name.
+    pub(crate) name: &'static str,
+    /// The help.
+    pub(crate) about: &'static str,
+    /// The arguments, in the order of the help.
+    pub(crate) arguments: &'static [Argument],
+    /// Whether one of the options `drive` and `blocks` is required.
+    pub(crate) needs_size: bool,
+}
+
+/// An argument of a verb.
+pub(crate) struct Argument {
+    /// The name.
+    pub(crate) name: &'static str,
+    /// The form.
+    pub(crate) form: Form,
+    /// The help.
+    pub(crate) help: &'static str,
+}
+
+/// The form of an argument.
+pub(crate) enum Form {
+    /// A required value.
+    Value,
+    /// One or more values, up to a number of them.
+    Values {
+        /// The number.
+        most: usize,
+    },
+    /// A value with this default.
+    ValueOr(&'static str),
+    /// A number of blocks, which may be absent.
+    Number {
+        /// The least number.
+        least: i64,
+    },
+    /// An option without a value.
+    Flag(Flag),
+    /// An option with a value, which the help calls by this name.
+    Option(&'static str, OptionValue),
+}
+
+/// The form of an option without a value.
+pub(crate) enum Flag {
+    /// It has no short form.
+    Long,
+    /// It has this short form.
+    Short(char),
+    /// It has this short form, and excludes the option with this name.
+    ShortAgainst(char, &'static str),
+}
+
+/// The value of an option.
+pub(crate) enum OptionValue {
+    /// Any text.
+    Text,
+    /// The name of a drive type.
+    Drive,
+    /// A number of blocks, from 1.
+    Blocks,
+}
+
+/// The argument for the script of `run` and `trace`.
+const SCRIPT: Argument = Argument {
+    name: "SCRIPT",
+    form: Form::Value,
+    help: "The file with the script, or - for standard input",
+};
+
+/// The argument for the images of `run` and `trace`.
+const UNITS: Argument = Argument {
+    name: "IMAGE",
+    form: Form::Values { most: 4 },
+    help: "The images of units 0 to 3: FILE, lock:FILE to protect it, or - for no drive",
+};
+
+/// Returns the verbs, in the order of the help.
+pub(crate) fn verbs() -> [&'static Verb; 7] {
+    [&RUN, &COPY, &INFO, &DUMP, &CREATE, &DECODE, &TRACE]
+}
+
+/// The verb `run`.
+static RUN: Verb = Verb {
+    name: "run",
+    about: "Executes a script of requests on one to four images",
+    arguments: &[
+        SCRIPT,
+        UNITS,
+        Argument {
+            name: "names",
+            form: Form::Flag(Flag::Long),
+            help: "Adds the name of the status to each line",
+        },
+        Argument {
+            name: "quiet",
+            form: Form::Flag(Flag::Short('q')),
+            help: "Reports only the requests that failed",
+        },
+    ],
+    needs_size: false,
+};
+
+/// The verb `copy`.
+pub(crate) static COPY: Verb = Verb {
+    name: "copy",
+    about: "Copies an image; if a transfer fails, block by block",
+    arguments: &[
+        Argument {
+            name: "FROM",
+            form: Form::Value,
+            help: "The image to read",
+        },
+        Argument {
+            name: "TO",
+            form: Form::Value,
+            help: "The image to write",
+        },
+        Argument {
+            name: "blocks",
+            form: Form::Option("A..B", OptionValue::Text),
+            help: "Copies only blocks A to B-1",
+        },
+        Argument {
+            name: "verify",
+            form: Form::Flag(Flag::Long),
+            help: "Reads the copy back and compares it",
+        },
+        Argument {
+            name: "continue",
+            form: Form::Flag(Flag::Long),
+            help: "Continues after blocks that can't be read, and lists them",
+        },
+        Argument {
+            name: "force",
+            form: Form::Flag(Flag::Long),
+            help: "Writes to TO even if it exists",
+        },
+    ],
+    needs_size: false,
+};
+
+/// The verb `info`.
+static INFO: Verb = Verb {
+    name: "info",
+    about: "Prints the size of images, drive types of that size, and what they hold",
+    arguments: &[Argument {
+        name: "IMAGE",
+        form: Form::Values { most: usize::MAX },
+        help: "The images",
+    }],
+    needs_size: false,
+};
+
+/// The verb `dump`.
+pub(crate) static DUMP: Verb = Verb {
+    name: "dump",
+    about: "Prints blocks in hexadecimal and as text",
+    arguments: &[
+        Argument {
+            name: "IMAGE",
+            form: Form::Value,
+            help: "The image",
+        },
+        Argument {
+            name: "LBN",
+            form: Form::Number { least: 0 },
+            help: "The first block; without it, all blocks",
+        },
+        Argument {
+            name: "COUNT",
+            form: Form::Number { least: 1 },
+            help: "The number of blocks; without it, 1",
+        },
+        Argument {
+            name: "octal",
+            form: Form::Flag(Flag::Short('o')),
+            help: "Prints words in octal",
+        },
+        Argument {
+            name: "raw",
+            form: Form::Flag(Flag::ShortAgainst('r', "octal")),
+            help: "Writes the blocks as they are",
+        },
+        Argument {
+            name: "force",
+            form: Form::Flag(Flag::Long),
+            help: "Writes raw blocks even to a terminal",
+        },
+    ],
+    needs_size: false,
+};
+
+/// The verb `create`.
+pub(crate) static CREATE: Verb = Verb {
+    name: "create",
+    about: "Makes an image of zeros",
+    arguments: &[
+        Argument {
+            name: "IMAGE",
+            form: Form::Value,
+            help: "The file to make",
+        },
+        Argument {
+            name: "drive",
+            form: Form::Option("DRIVE", OptionValue::Drive),
+            help: "Makes it as large as this drive",
+        },
+        Argument {
+            name: "blocks",
+            form: Form::Option("N", OptionValue::Blocks),
+            help: "Makes it N blocks large",
+        },
+        Argument {
+            name: "force",
+            form: Form::Flag(Flag::Long),
+            help: "Overwrites an existing file",
+        },
+    ],
+    needs_size: true,
+};
+
+/// The verb `decode`.
+static DECODE: Verb = Verb {
+    name: "decode",
+    about: "Prints the fields of MSCP packets, given as hexadecimal bytes or octal words",
+    arguments: &[Argument {
+        name: "FILE",
+        form: Form::ValueOr("-"),
+        help: "The file, or - for standard input",
+    }],
+    needs_size: false,
+};
+
+/// The verb `trace`.
+static TRACE: Verb = Verb {
+    name: "trace",
+    about: "Executes a script, and prints each turn of the controller's port",
+    arguments: &[SCRIPT, UNITS],
+    needs_size: false,
+};

@@ -1,0 +1,33 @@
+//! The errors of a text of packets.
+
+use std::io;
+use uda50_show::TokenError;
+
+/// The reason why the packets of a text were not all printed.
+#[derive(Debug, Drop)]
+pub enum DecodeError {
+    /// The text can't be read.
+    Read(io::Error),
+    /// The packets can't be written.
+    Write(io::Error),
+    /// A token is neither a byte nor a word.
+    Token {
+        /// The line, from 1.
+        line: u64,
+        /// The number of the token on its line, from 1.
+        word: u64,
+        /// The error of the token.
+        error: TokenError,
+    },
+    /// The text ends inside a packet, after this many bytes of it.
+    ShortPacket(usize),
+    /// The text has more lines than can be counted.
+    TooManyLines,
+}
+
+/// An error of the writer. One of the reader is made by name.
+impl From<io::Error> for DecodeError {
+    fn from(error: io::Error) -> Self {
+        DecodeError::Write(error)
+    }
+}

@@ -1,0 +1,134 @@
+//! Reading of the lines of a text, and printing of the packets that they complete.
+
+use crate::error::DecodeError;
+use std::alloc::Global;
+use std::io;
+use std::io::{BufRead, BufReader, BufWriter, Read, Write};
+use uda50_show::{Packet, PacketReader};
+
+/// The most bytes that are kept for the next line. The memory of a longer line is given back.
+pub const LINE_ROOM: usize = 4_096;
+
+/// The bytes of the longest text before a packet, `packet 18446744073709551615, `.
+const HEAD_ROOM: usize = 29;
+
+/// The most bytes of packets that go out in one write. A pipe takes this many in one piece.
+const GATHERED: usize = 4_096;
+
+/// What a text has, if all of it is packets.
+#[derive(Clone, Copy, Debug)]
+pub struct Decoded {
+    /// The number of packets.
+    pub packets: u64,
+    /// Whether one of them is invalid.
+    pub invalid: bool,
+}
+
+// The state of reading packets.
+#[derive(Drop)]
+struct DecodeProgress {
+    reader: PacketReader,
+    packets: u64,
+    invalid: bool,
+}
+
+impl DecodeProgress {
+    // Makes the state before the first packet.
+    fn new() -> DecodeProgress {
+        DecodeProgress {
+            reader: PacketReader::new(),
+            packets: 0,
+            invalid: false,
+        }
+    }
+
+    // Returns the result at the end of the text.
+    fn end(&self) -> Result<Decoded, DecodeError> {
+        match self.reader.filled() {
+            0 => Ok(Decoded {
+                packets: self.packets,
+                invalid: self.invalid,
+            }),
+            bytes => Err(DecodeError::ShortPacket(bytes)),
+        }
+    }
+}
+
+/// Prints the packets of a text. What it printed goes out before it may have to wait for more of the text,
+/// before an error of the text, and at the end.
+pub fn decode<R: Read + Drop, W: Write + Drop>(
+    alloc: Global,
+    mut input: BufReader<R>,
+    out: &mut BufWriter<W>,
+) -> Result<Decoded, DecodeError> {
+    let mut progress = DecodeProgress::new();
+    let mut line = String::new(alloc);
+    let mut number = 0u64;
+    for _ in 0..u64::MAX {
+        if !input.buffer().contains(&b'\n') {
+            out.flush()?;
+        }
+        let read = match input.read_line(&mut line) {
+            Ok(read) => read,
+            Err(error) => {
+                out.flush()?;
+                return Err(DecodeError::Read(error));
+            }
+        };
+        if read == 0 {
+            return progress.end();
+        }
+        number = number.saturating_add(1);
+        decode_line(number, line.as_str(), &mut progress, out)?;
+        if line.capacity() > LINE_ROOM {
+            line = String::new(alloc);
+        }
+        line.clear();
+    }
+    Err(DecodeError::TooManyLines)
+}
+
+// Reads the tokens of a line, and prints the packets that they complete. `#` begins a comment.
+fn decode_line<W: Write + Drop>(
+    line: u64,
+    text: &str,
+    progress: &mut DecodeProgress,
+    out: &mut BufWriter<W>,
+) -> Result<(), DecodeError> {
+    let tokens = match text.split_once('#') {
+        Some((tokens, _)) => tokens,
+        None => text,
+    };
+    let mut word = 0u64;
+    for token in tokens.split_ascii_whitespace() {
+        word = word.saturating_add(1);
+        let packet = match progress.reader.push_token(token) {
+            Ok(packet) => packet,
+            Err(error) => {
+                out.flush()?;
+                return Err(DecodeError::Token { line, word, error });
+            }
+        };
+        if let Some(packet) = packet {
+            progress.packets = progress.packets.saturating_add(1);
+            progress.invalid |= !packet.is_valid();
+            put_packet(out, progress.packets, &packet)?;
+        }
+    }
+    Ok(())
+}
+
+// Prints a packet. If it might be too long for the write of the packets that are gathered, these go out
+// first. So each write ends with a packet.
+fn put_packet<W: Write + Drop>(
+    out: &mut BufWriter<W>,
+    number: u64,
+    packet: &Packet,
+) -> io::Result<()> {
+    let text = packet.text();
+    if out.buffer().len() + HEAD_ROOM + text.len() > GATHERED {
+        out.flush()?;
+    }
+    write!(out, "packet {number}, ")?;
+    out.write_all(text.as_bytes())
+}

@@ -67,7 +67,8 @@ class Crates:
             words += ["-L", f"dependency={self.library(name).parent}"]
         words += ["-L", f"dependency={kit()}/rlibs", "--links", f"{crate}="]
         words += ["--crate-type", "staticlib"] if self.is_static(crate) else []
-        return [*words, "--antt-project", f"{kit()}/rattle/logic/antt-project.json", "--logic-built", f"{kit()}/logic_built"]
+        words += ["--antt-project", f"{kit()}/rattle/logic/antt-project.json"]
+        return [*words, "--logic-built", f"{kit()}/logic_built"]
 
 
 def main():

@@ -3,9 +3,9 @@
 
     tools/prover_times.py PID        until it is told to end, it watches the provers that PID and its children start
 
-It ends at SIGTERM, and then prints a table: for each crate the seconds of its library, of its tests, of its program, of
-the proofs that its must-fail edits begin with, and of the rounds of edits. It reads /proc four times a second, so up to
-a quarter of a second of each prover is missing.
+It ends at SIGTERM, or when PID has ended, and then prints a table: for each crate the seconds of its library, of its
+tests, of its program or archive, of the proofs that its must-fail edits begin with, and of the rounds of edits. It
+reads /proc four times a second, so up to a quarter of a second of each prover is missing.
 """
 import os
 import re
@@ -25,13 +25,14 @@ def kind_of(words, folder):
         return "edits: proof" if seed.endswith("/seed") else "edits: rounds"
     if "--test" in words:
         return "tests"
-    if seed:
-        return "edits: proof"
-    return "library" if words[1:2] == ["build"] and "src/lib.rt" in words and "staticlib" not in words else "program"
+    if "src/main.rt" in words or "staticlib" in words:
+        return "program"
+    # What `rt check` proves in its place, and the libraries that it builds, are for edits.
+    return "edits: proof" if seed else "library"
 
 
 def times_of(pid):
-    """Returns the parent of a process, when it began, and its processor seconds with those of the children that it has
+    """Returns the parent of a process, when it began, and its processor seconds, with those of the children that it has
     waited for."""
     with open(f"/proc/{pid}/stat") as it:
         fields = it.read().rpartition(")")[2].split()
@@ -50,6 +51,7 @@ class Watch:
         self.top, self.known, self.seconds = top, {}, {}
 
     def look(self):
+        """Reads the seconds of each prover, and returns whether the top process is there."""
         found = {}
         for name in os.listdir("/proc"):
             if name.isdigit():
@@ -58,27 +60,30 @@ class Watch:
                 except (OSError, IndexError, ValueError):
                     pass
         for pid, (_, begun, seconds) in found.items():
-            if self.is_below(pid, found) and self.key(pid):
-                self.seconds[pid, begun, self.key(pid)] = seconds
+            if self.is_below(pid, found) and self.key(pid, begun):
+                self.seconds[pid, begun, self.key(pid, begun)] = seconds
+        return self.top in found
 
     def is_below(self, pid, found):
         """Returns whether the process is one of those to watch: below the top one, and itself not below a prover."""
         is_prover = False
         while pid in found and pid != self.top:
             pid = found[pid][0]
-            is_prover = is_prover or bool(self.known.get(pid))
+            is_prover = is_prover or pid in found and (pid, found[pid][1]) in self.known
         return pid == self.top and not is_prover
 
-    def key(self, pid):
+    def key(self, pid, begun):
         """Returns the crate and kind of a prover, or None of any other process."""
-        if not self.known.get(pid):
+        if (pid, begun) not in self.known:
             try:
                 words = command_of(pid)
-                is_prover = os.path.basename(words[0]) == "rattle" and "--crate-name" in words
-                self.known[pid] = (words[words.index("--crate-name") + 1], kind_of(words, os.readlink(f"/proc/{pid}/cwd"))) if is_prover else None
+                if os.path.basename(words[0]) != "rattle" or "--crate-name" not in words:
+                    return None
+                crate = words[words.index("--crate-name") + 1]
+                self.known[pid, begun] = crate, kind_of(words, os.readlink(f"/proc/{pid}/cwd"))
             except (OSError, IndexError):
-                self.known[pid] = None
-        return self.known[pid]
+                return None
+        return self.known[pid, begun]
 
     def table(self):
         """Returns the table's lines."""
@@ -97,8 +102,7 @@ def main():
         sys.exit(__doc__)
     watch, is_over = Watch(int(sys.argv[1])), []
     signal.signal(signal.SIGTERM, lambda *_: is_over.append(True))
-    while not is_over:
-        watch.look()
+    while not is_over and watch.look():
         time.sleep(0.25)
     print("\n".join(watch.table()))
 

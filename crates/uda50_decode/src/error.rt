@@ -25,7 +25,7 @@ pub enum DecodeError {
     TooManyLines,
 }
 
-/// An error of the writer. One of the reader is made by name.
+/// Makes the error of a failed write. That of a failed read is made as `DecodeError::Read`.
 impl From<io::Error> for DecodeError {
     fn from(error: io::Error) -> Self {
         DecodeError::Write(error)

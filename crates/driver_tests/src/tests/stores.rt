@@ -230,6 +230,7 @@ impl Case {
         }
     }
 
+    // Makes the file, executes the runs, and removes it.
     fn over_file(&self, rt: &HostRuntime, bytes: &[u8]) -> Result<Option<usize>, Fail> {
         let path = scratch_file(rt, bytes)?;
         let wrong = self.run_shortened(rt, &path)?;
@@ -238,11 +239,11 @@ impl Case {
         self.judge(rt.alloc(), wrong, &left)
     }
 
-    // Shortens the file once it is open, and executes the runs.
+    // Shortens the file once a driver is started over it, and executes the runs.
     fn run_shortened(&self, rt: &HostRuntime, path: &PathBuf) -> Result<Option<usize>, Fail> {
         let image = FileImage::open(rt, path.as_str(), false)?;
-        shorten(rt, path)?;
         let mut driver = start_file(rt.alloc(), image)?;
+        shorten(rt, path)?;
         self.run(rt.alloc(), &mut driver)
     }
 }

@@ -487,10 +487,11 @@ impl Drivers {
         first: usize,
     ) -> Result<(), Fail> {
         for (n, kind) in KINDS.iter().enumerate() {
-            let setting = (*kind, PACES[(first % 4 + n) % 4]);
-            for form in kind.forms() {
+            let pace = (first % 4 + n) % 4;
+            let setting = (*kind, PACES[pace]);
+            for (m, form) in kind.forms().iter().enumerate() {
                 let are_same = self.are_same(rt.alloc(), *form, setting, script)?;
-                assert!(rt; are_same, "reader {n}, pace {first}");
+                assert!(rt; are_same, "reader {n}, pace {pace}, form {m}");
             }
         }
         Ok(())

@@ -247,7 +247,7 @@ CRATES = {
 }
 # the arrows that leave by the right side and go down between two columns, each with its x
 LANES = {("uda_driver", "uda_posting"): 500, ("uda_script_run", "uda_grammar"): 740,
-         ("uda50_decode", "uda50_show"): 1158}
+         ("uda50_verbs", "uda50_arguments"): 948, ("uda50_decode", "uda50_show"): 1158}
 # the arrows that go over the top and down at the right, each with the x where it goes up, its y, and the x where it goes down
 OVER = {("workloads", "uda50_show"): (270, 85, 1169)}
 PROGRAMS = {"uda", "uda50", "uda_c"}

@@ -303,8 +303,8 @@ fn packets_are_as_flushed_one_by_one(rt: HostRuntime) -> Result<(), Fail> {
     Ok(())
 }
 
-/// A write that is refused once, wherever it is, and whatever follows it: more packets, a token that is
-/// wrong, or an end inside a packet.
+/// A write that is refused once, wherever it is, and whatever follows it: more packets, a wrong token, or a
+/// part of a packet.
 #[test]
 fn a_refused_write_repeats_nothing(rt: HostRuntime) -> Result<(), Fail> {
     for (width, tokens, at) in WIDTHS {

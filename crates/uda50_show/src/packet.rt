@@ -315,7 +315,8 @@ impl Pieces {
     // Adds the lines of a transfer's parameters, if the command is one.
     fn transfer_lines(&mut self, transfer: Option<Transfer>)
         requires room { array_vec_len self.old.0 + 9 ≤ 24 }
-        ensures text { pieces_text self.new.0.items ≡ pieces_text self.old.0.items ++ transfer_lines transfer }
+        ensures text { pieces_text self.new.0.items
+            ≡ pieces_text self.old.0.items ++ transfer_lines transfer }
     {
         if let Some(transfer) = transfer {
             self.line("  byte count  ", Piece::Decimal(transfer.bytes));
@@ -339,7 +340,8 @@ impl Pieces {
     // Adds what stands before the fault in the title of an invalid command of this name.
     fn title(&mut self, kind: BadKind, name: &'static str)
         requires room { array_vec_len self.old.0 + 3 ≤ 24 }
-        ensures text { pieces_text self.new.0.items ≡ pieces_text self.old.0.items ++ bad_title kind name.now }
+        ensures text { pieces_text self.new.0.items
+            ≡ pieces_text self.old.0.items ++ bad_title kind name.now }
         ensures count { array_vec_len self.new.0 ≤ array_vec_len self.old.0 + 3 }
     {
         match kind {

@@ -578,7 +578,7 @@ impl Drivers {
     }
 }
 
-/// Texts of any length, whose lines end in a buffer, at its end or behind it, from readers with and without
+/// Texts of any length, whose lines end in a buffer, at its end or after it, from readers with and without
 /// buffers, lent ones, and two in a row. Their reads are short, interrupted, or fail. Results, outputs, the
 /// reads and what is left are those of the slower form.
 #[test]

@@ -27,6 +27,11 @@ pub enum DecodeError {
 
 /// Makes the error of a failed write. That of a failed read is made as `DecodeError::Read`.
 impl From<io::Error> for DecodeError {
+    ghost use Rattle.std.specs.Prelude.{◌≡◌};
+    ghost use Rattle.uda50_decode.specs.declared.error.DecodeError.TheVariants as error;
+
+    ghost from_gives = { λ given made. made ≡ error.Write given };
+
     fn from(error: io::Error) -> Self {
         DecodeError::Write(error)
     }

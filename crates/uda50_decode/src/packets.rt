@@ -1,4 +1,6 @@
 //! Reading of the lines of a text, and printing of the packets that they complete.
+ghost use Rattle.std.specs.Prelude.{◌<◌, IfErr};
+ghost use Rattle.uda50_decode.specs.Errors.{IsCounted};
 
 use crate::error::DecodeError;
 use std::alloc::Global;
@@ -43,7 +45,9 @@ impl DecodeProgress {
     }
 
     // Returns the result at the end of the text.
-    fn end(&self) -> Result<Decoded, DecodeError> {
+    fn end(&self) -> Result<Decoded, DecodeError>
+        ensures errors { IfErr result IsCounted }
+    {
         match self.reader.filled() {
             0 => Ok(Decoded {
                 packets: self.packets,
@@ -60,7 +64,9 @@ pub fn decode<R: Read + Drop, W: Write + Drop>(
     alloc: Global,
     mut input: BufReader<R>,
     out: &mut BufWriter<W>,
-) -> Result<Decoded, DecodeError> {
+) -> Result<Decoded, DecodeError>
+    ensures errors { IfErr result IsCounted }
+{
     let mut progress = DecodeProgress::new();
     let mut line = String::new(alloc);
     let mut number = 0u64;
@@ -94,7 +100,10 @@ fn decode_line<W: Write + Drop>(
     text: &str,
     progress: &mut DecodeProgress,
     out: &mut BufWriter<W>,
-) -> Result<(), DecodeError> {
+) -> Result<(), DecodeError>
+    requires { 0 < line }
+    ensures errors { IfErr result IsCounted }
+{
     let tokens = match text.split_once('#') {
         Some((tokens, _)) => tokens,
         None => text,

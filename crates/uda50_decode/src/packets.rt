@@ -1,11 +1,12 @@
 //! Reading of the lines of a text, and printing of the packets that they complete.
-ghost use Rattle.std.specs.Prelude.{◌<◌, IfErr};
+ghost use Rattle.std.specs.Prelude.{◌≡◌, ◌<◌, true, IfOk, IfErr};
 ghost use Rattle.uda50_decode.specs.Errors.{IsCounted};
 
 use crate::error::DecodeError;
 use std::alloc::Global;
 use std::io;
 use std::io::{BufRead, BufReader, BufWriter, Read, Write};
+use std::marker::Model;
 use uda50_show::{Packet, PacketReader};
 
 /// The most bytes that are kept for the next line. The memory of a longer line is given back.
@@ -34,6 +35,16 @@ struct DecodeProgress {
     invalid: bool,
 }
 
+impl Model for DecodeProgress {
+    ghost use Rattle.std.specs.Prelude.{ℕ, ◌≡◌, ◌<◌, true};
+
+    ghost Value = { ℕ };
+
+    ghost view = { λ progress. progress.packets };
+
+    ghost invariant = { λ progress. progress.invalid ≡ true → 0 < progress.packets };
+}
+
 impl DecodeProgress {
     // Makes the state before the first packet.
     fn new() -> DecodeProgress {
@@ -46,6 +57,7 @@ impl DecodeProgress {
 
     // Returns the result at the end of the text.
     fn end(&self) -> Result<Decoded, DecodeError>
+        ensures invalid { IfOk result (λ decoded. decoded.invalid ≡ true → 0 < decoded.packets) }
         ensures errors { IfErr result IsCounted }
     {
         match self.reader.filled() {
@@ -65,6 +77,7 @@ pub fn decode<R: Read + Drop, W: Write + Drop>(
     mut input: BufReader<R>,
     out: &mut BufWriter<W>,
 ) -> Result<Decoded, DecodeError>
+    ensures invalid { IfOk result (λ decoded. decoded.invalid ≡ true → 0 < decoded.packets) }
     ensures errors { IfErr result IsCounted }
 {
     let mut progress = DecodeProgress::new();

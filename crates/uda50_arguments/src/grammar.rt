@@ -1,6 +1,6 @@
 //! The verbs with their arguments.
 
-use crate::verbs::{Argument, Flag, Form, OptionValue, Verb, verbs};
+use crate::verbs::{Argument, Flag, Form, OptionValue, Positional, Verb, verbs};
 use clap::builder::ValueParser;
 use clap::{Arg, ArgAction, ArgGroup, Command, value_parser};
 use std::alloc::{AllocError, Global};
@@ -16,11 +16,11 @@ const STATUSES: &str = "Exit status: 0 if all is well, 1 after a fault, 2 for wr
 
 /// Builds the whole command line. `drives` are the names of the drive types.
 pub(crate) fn grammar<'w>(alloc: Global, drives: &'w [&'w str]) -> Result<Command<'w>, AllocError> {
-    let mut program = program(alloc);
+    let mut grammars = Vec::new(alloc);
     for verb in verbs() {
-        program = program.subcommand(verb_grammar(alloc, verb, drives)?)?;
+        push_verb(alloc, &mut grammars, verb, drives)?;
     }
-    Ok(program)
+    program(alloc).subcommands(grammars)
 }
 
 // Builds the program without its verbs.
@@ -33,37 +33,77 @@ fn program<'w>(alloc: Global) -> Command<'w> {
         .arg_required_else_help(true)
 }
 
+// Adds a verb.
+fn push_verb<'w>(
+    alloc: Global,
+    grammars: &mut Vec<Command<'w>>,
+    verb: &Verb,
+    drives: &'w [&'w str],
+) -> Result<(), AllocError> {
+    let grammar = verb_grammar(alloc, verb, drives)?;
+    grammars.push(grammar).map_err(AllocError::from)
+}
+
 /// Builds a verb. `drives` are the names of the drive types.
 pub(crate) fn verb_grammar<'w>(
     alloc: Global,
     verb: &Verb,
     drives: &'w [&'w str],
 ) -> Result<Command<'w>, AllocError> {
-    let command = with_arguments(alloc, verb, drives)?;
-    if verb.needs_size {
-        command.group(size(alloc)?)
-    } else {
-        Ok(command)
-    }
+    let arguments = arguments(alloc, verb, drives)?;
+    let groups = groups(alloc, verb)?;
+    let command = with_arguments(alloc, verb, arguments)?;
+    command.groups(groups)
 }
 
 // Builds a verb with its arguments.
 fn with_arguments<'w>(
     alloc: Global,
     verb: &Verb,
-    drives: &'w [&'w str],
+    arguments: Vec<Arg<'w>>,
 ) -> Result<Command<'w>, AllocError> {
-    let mut command = Command::new(alloc, verb.name).about(verb.about);
-    for argument in verb.arguments {
-        command = command.arg(argument_grammar(alloc, argument, drives)?)?;
-    }
-    Ok(command)
+    Command::new(alloc, verb.name)
+        .about(verb.about)
+        .args(arguments)
 }
 
-// Builds the group of the options of `create` that give the size, one of which is required.
+// Builds the groups of a verb: if it needs a size, the options that give it, one of which is required.
+fn groups<'w>(alloc: Global, verb: &Verb) -> Result<Vec<ArgGroup<'w>>, AllocError> {
+    let mut groups = Vec::new(alloc);
+    if verb.needs_size {
+        groups.push(size(alloc)?)?;
+    }
+    Ok(groups)
+}
+
+// Builds the group of the options that give the size.
 fn size<'w>(alloc: Global) -> Result<ArgGroup<'w>, AllocError> {
     let size = ArgGroup::new(alloc, "size").arg("drive")?.arg("blocks")?;
     Ok(size.required(true))
+}
+
+// Builds the arguments of a verb, in the order of the help.
+fn arguments<'w>(
+    alloc: Global,
+    verb: &Verb,
+    drives: &'w [&'w str],
+) -> Result<Vec<Arg<'w>>, AllocError> {
+    let mut arguments = Vec::new(alloc);
+    for argument in verb.arguments {
+        push_argument(alloc, &mut arguments, argument, drives)?;
+    }
+    Ok(arguments)
+}
+
+// Adds an argument.
+fn push_argument<'w>(
+    alloc: Global,
+    arguments: &mut Vec<Arg<'w>>,
+    argument: &Argument,
+    drives: &'w [&'w str],
+) -> Result<(), AllocError> {
+    let argument = argument_grammar(alloc, argument, drives)?;
+    arguments.push(argument).map_err(AllocError::from)
 }
 
 // Builds an argument.
@@ -72,18 +112,26 @@ fn argument_grammar<'w>(
     argument: &Argument,
     drives: &'w [&'w str],
 ) -> Result<Arg<'w>, AllocError> {
-    let arg = Arg::new(alloc, argument.name).help(argument.help);
     match &argument.form {
-        Form::Value => Ok(arg.required(true)),
-        Form::Values { most } => Ok(values(arg, *most)),
-        Form::ValueOr(default) => Ok(arg.default_value(default)),
-        Form::Number { least } => Ok(number(arg, *least)),
-        Form::Flag(form) => flag(arg.long(argument.name), form),
-        Form::Option(name, value) => {
-            let arg = arg.long(argument.name).value_name(name);
-            Ok(option(arg, value, drives))
-        }
+        Form::Positional(form) => Ok(positional(alloc, argument, form)),
+        Form::Flag(form) => flag(alloc, argument, form),
+        Form::Option(name, value) => Ok(option(alloc, argument, name, value, drives)),
     }
+}
+
+// Builds an argument that is known by its place.
+fn positional<'w>(alloc: Global, argument: &Argument, form: &Positional) -> Arg<'w> {
+    match form {
+        Positional::Value => described(alloc, argument).required(true),
+        Positional::Values { most } => values(described(alloc, argument), *most),
+        Positional::ValueOr(default) => described(alloc, argument).default_value(default),
+        Positional::Number { least } => number(described(alloc, argument), *least),
+    }
+}
+
+// Builds an argument without its form.
+fn described<'w>(alloc: Global, argument: &Argument) -> Arg<'w> {
+    Arg::new(alloc, argument.name).help(argument.help)
 }
 
 // Makes an argument required, with values up to a number of them.
@@ -93,25 +141,56 @@ fn values<'w>(arg: Arg<'w>, most: usize) -> Arg<'w> {
         .action(ArgAction::Append)
 }
 
-// Makes an argument an option without a value.
-fn flag<'w>(arg: Arg<'w>, form: &Flag) -> Result<Arg<'w>, AllocError> {
-    let arg = arg.action(ArgAction::SetTrue);
+// Builds an option without a value.
+fn flag<'w>(alloc: Global, argument: &Argument, form: &Flag) -> Result<Arg<'w>, AllocError> {
     match form {
-        Flag::Long => Ok(arg),
-        Flag::Short(short) => Ok(arg.short(*short)),
-        Flag::ShortAgainst(short, other) => arg.short(*short).conflicts_with(other),
+        Flag::Long => Ok(long_flag(alloc, argument)),
+        Flag::Short(short) => Ok(short_flag(alloc, argument, *short)),
+        Flag::ShortAgainst(short, other) => {
+            short_flag(alloc, argument, *short).conflicts_with(other)
+        }
     }
 }
 
-// Gives an option the form of its value.
-fn option<'w>(arg: Arg<'w>, value: &OptionValue, drives: &'w [&'w str]) -> Arg<'w> {
+// Builds an option without a value and with a short form.
+fn short_flag<'w>(alloc: Global, argument: &Argument, short: char) -> Arg<'w> {
+    long_flag(alloc, argument).short(short)
+}
+
+// Builds an option without a value and without a short form.
+fn long_flag<'w>(alloc: Global, argument: &Argument) -> Arg<'w> {
+    long(alloc, argument).action(ArgAction::SetTrue)
+}
+
+// Builds an option without its form.
+fn long<'w>(alloc: Global, argument: &Argument) -> Arg<'w> {
+    described(alloc, argument).long(argument.name)
+}
+
+// Builds an option with a value, which the help calls by this name.
+fn option<'w>(
+    alloc: Global,
+    argument: &Argument,
+    name: &'w str,
+    value: &OptionValue,
+    drives: &'w [&'w str],
+) -> Arg<'w> {
     match value {
-        OptionValue::Text => arg,
-        OptionValue::Drive => arg
-            .value_parser(ValueParser::Names(drives))
-            .ignore_case(true),
-        OptionValue::Blocks => number(arg, 1),
+        OptionValue::Text => named(alloc, argument, name),
+        OptionValue::Drive => one_of(named(alloc, argument, name), drives),
+        OptionValue::Blocks => number(named(alloc, argument, name), 1),
     }
+}
+
+// Builds an option with any value, which the help calls by this name.
+fn named<'w>(alloc: Global, argument: &Argument, name: &'w str) -> Arg<'w> {
+    long(alloc, argument).value_name(name)
+}
+
+// Makes the value of an argument one of some names, in upper or lower case.
+fn one_of<'w>(arg: Arg<'w>, names: &'w [&'w str]) -> Arg<'w> {
+    arg.value_parser(ValueParser::Names(names))
+        .ignore_case(true)
 }
 
 // Makes the value of an argument a number of blocks.

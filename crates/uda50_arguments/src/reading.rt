@@ -51,13 +51,18 @@ fn usage_of<'w>(
     drives: &'w [&'static str],
 ) -> Option<String> {
     match *arguments.get(1)? {
-        "dump" => named(alloc, &DUMP, "uda50 dump", drives),
-        "create" => named(alloc, &CREATE, "uda50 create", drives),
-        _ => return None,
+        "dump" => usage(named(alloc, &DUMP, "uda50 dump", drives)),
+        "create" => usage(named(alloc, &CREATE, "uda50 create", drives)),
+        _ => None,
     }
-    .ok()?
-    .render_usage()
-    .ok()
+}
+
+// Returns the usage of a verb.
+fn usage<'w>(verb: Result<Command<'w>, AllocError>) -> Option<String> {
+    match verb {
+        Ok(mut verb) => verb.render_usage().ok(),
+        Err(_) => None,
+    }
 }
 
 // Builds a verb with the name that its usage has.
@@ -67,7 +72,8 @@ fn named<'w>(
     name: &'w str,
     drives: &'w [&'w str],
 ) -> Result<Command<'w>, AllocError> {
-    verb_grammar(alloc, verb, drives)?.bin_name(name)
+    let verb = verb_grammar(alloc, verb, drives)?;
+    verb.bin_name(name)
 }
 
 fn read_task<'w>(
@@ -76,10 +82,7 @@ fn read_task<'w>(
     drives: &'w [&'static str],
 ) -> Result<Task<'w>, Error> {
     let matches = parse(alloc, arguments, drives)?;
-    match matches.subcommand() {
-        Some((verb, found)) => read_verb(alloc, verb, found),
-        None => Err(no_verb(alloc)?),
-    }
+    read_matches(alloc, &matches)
 }
 
 fn parse<'w>(
@@ -87,80 +90,146 @@ fn parse<'w>(
     arguments: &'w [&'w str],
     drives: &'w [&'static str],
 ) -> Result<ArgMatches<'w>, Error> {
-    grammar(alloc, drives)?.try_get_matches_from(arguments)
+    let program = grammar(alloc, drives)?;
+    program.try_get_matches_from(arguments)
+}
+
+fn read_matches<'w>(alloc: Global, matches: &ArgMatches<'w>) -> Result<Task<'w>, Error> {
+    match matches.subcommand() {
+        Some((verb, found)) => read_verb(alloc, verb, found),
+        None => Err(no_verb(alloc)),
+    }
 }
 
 // Returns the error of arguments without a verb.
-fn no_verb(alloc: Global) -> Result<Error, AllocError> {
-    grammar(alloc, &[])?.error(ErrorKind::MissingSubcommand, "a verb is missing")
+fn no_verb(alloc: Global) -> Error {
+    let program = grammar(alloc, &[]);
+    error_of(program, ErrorKind::MissingSubcommand, "a verb is missing")
+}
+
+// Returns an error of the program or of a verb, or the error that there is no memory for it.
+fn error_of<'w>(command: Result<Command<'w>, AllocError>, kind: ErrorKind, message: &str) -> Error {
+    match command {
+        Ok(mut command) => command.error(kind, message).unwrap_or_else(Error::from),
+        Err(error) => Error::from(error),
+    }
 }
 
 fn read_verb<'w>(alloc: Global, verb: &str, found: &ArgMatches<'w>) -> Result<Task<'w>, Error> {
     match verb {
-        "run" => read_run(alloc, found),
         "copy" => read_copy(alloc, found),
-        "info" => Ok(Task::Info {
-            images: images(alloc, found)?,
-        }),
-        "dump" => Ok(read_dump(found)),
-        "create" => Ok(read_create(found)),
-        "trace" => Ok(Task::Trace {
-            script: text(found, "SCRIPT"),
-            units: units(alloc, found)?,
-        }),
-        _ => Ok(Task::Decode {
-            file: text(found, "FILE"),
-        }),
+        "dump" => Ok(Task::Dump(read_dump(found))),
+        "create" => Ok(Task::Create(read_create(found))),
+        _ => Ok(read_files(alloc, verb, found)?),
     }
 }
 
-fn read_run<'w>(alloc: Global, found: &ArgMatches<'w>) -> Result<Task<'w>, Error> {
+// Reads a verb whose arguments are files.
+fn read_files<'w>(
+    alloc: Global,
+    verb: &str,
+    found: &ArgMatches<'w>,
+) -> Result<Task<'w>, AllocError> {
+    match verb {
+        "run" => read_run(alloc, found),
+        "info" => read_info(alloc, found),
+        "trace" => read_trace(alloc, found),
+        _ => Ok(read_decode(found)),
+    }
+}
+
+fn read_run<'w>(alloc: Global, found: &ArgMatches<'w>) -> Result<Task<'w>, AllocError> {
+    let units = units(alloc, found)?;
     Ok(Task::Run(Run {
         script: text(found, "SCRIPT"),
-        units: units(alloc, found)?,
+        units,
         names: found.get_flag("names"),
         quiet: found.get_flag("quiet"),
     }))
 }
 
+fn read_info<'w>(alloc: Global, found: &ArgMatches<'w>) -> Result<Task<'w>, AllocError> {
+    let images = images(alloc, found)?;
+    Ok(Task::Info { images })
+}
+
+fn read_trace<'w>(alloc: Global, found: &ArgMatches<'w>) -> Result<Task<'w>, AllocError> {
+    let units = units(alloc, found)?;
+    let script = text(found, "SCRIPT");
+    Ok(Task::Trace { script, units })
+}
+
+fn read_decode<'w>(found: &ArgMatches<'w>) -> Task<'w> {
+    Task::Decode {
+        file: text(found, "FILE"),
+    }
+}
+
 fn read_copy<'w>(alloc: Global, found: &ArgMatches<'w>) -> Result<Task<'w>, Error> {
-    let blocks = match found.get_str("blocks") {
-        None => None,
-        Some(text) => match BlockRange::parse(text) {
-            None => return Err(wrong_range(alloc, text)?),
-            range => range,
-        },
+    let blocks = read_range(alloc, found)?;
+    Ok(Task::Copy(copy_of(found, blocks)))
+}
+
+// Reads the range of blocks of `copy`. Returns `None` if there is none.
+fn read_range<'w>(alloc: Global, found: &ArgMatches<'w>) -> Result<Option<BlockRange>, Error> {
+    let Some(text) = found.get_str("blocks") else {
+        return Ok(None);
     };
-    Ok(Task::Copy(Copy {
+    match BlockRange::parse(text) {
+        None => Err(wrong_range(alloc, text)),
+        range => Ok(range),
+    }
+}
+
+// Reads the arguments of `copy` except for the range of blocks.
+fn copy_of<'w>(found: &ArgMatches<'w>, blocks: Option<BlockRange>) -> Copy<'w> {
+    Copy {
         from: image(found, "FROM"),
         to: image(found, "TO"),
         blocks,
         verify: found.get_flag("verify"),
         skips_lost: found.get_flag("continue"),
         force: found.get_flag("force"),
-    }))
+    }
 }
 
 // Returns the error of an invalid range.
-fn wrong_range(alloc: Global, text: &str) -> Result<Error, AllocError> {
+fn wrong_range(alloc: Global, text: &str) -> Error {
     let message = format!(in alloc;
         "invalid value '{text}' for '--blocks <A..B>': expected a range of blocks, as 0..400176"
-    )?;
-    copy_error(alloc, message.as_str())
+    );
+    match message {
+        Ok(message) => copy_error(alloc, message.as_str()),
+        Err(error) => Error::from(error),
+    }
 }
 
 // Returns an error of the values of `copy`.
-fn copy_error(alloc: Global, message: &str) -> Result<Error, AllocError> {
-    named(alloc, &COPY, "uda50 copy", &[])?.error(ErrorKind::ValueValidation, message)
+fn copy_error(alloc: Global, message: &str) -> Error {
+    let verb = named(alloc, &COPY, "uda50 copy", &[]);
+    error_of(verb, ErrorKind::ValueValidation, message)
 }
 
-fn read_dump<'w>(found: &ArgMatches<'w>) -> Task<'w> {
+fn read_dump<'w>(found: &ArgMatches<'w>) -> Dump<'w> {
+    Dump {
+        image: image(found, "IMAGE"),
+        blocks: read_blocks(found),
+        format: read_format(found),
+    }
+}
+
+// Reads the blocks of `dump`. Returns `None` for all of them.
+fn read_blocks<'w>(found: &ArgMatches<'w>) -> Option<BlockRange> {
     let count = found.get_one::<u32>("COUNT").unwrap_or(1);
-    let blocks = match found.get_one::<u32>("LBN") {
+    match found.get_one::<u32>("LBN") {
         Some(start) => BlockRange::of_count(start, count),
         None => None,
-    };
-    let format = if found.get_flag("raw") {
+    }
+}
+
+// Reads the format of `dump`.
+fn read_format<'w>(found: &ArgMatches<'w>) -> DumpFormat {
+    if found.get_flag("raw") {
         DumpFormat::Raw {
             force: found.get_flag("force"),
         }
@@ -168,24 +237,19 @@ fn read_dump<'w>(found: &ArgMatches<'w>) -> Task<'w> {
         DumpFormat::Octal
     } else {
         DumpFormat::Hexadecimal
-    };
-    Task::Dump(Dump {
-        image: image(found, "IMAGE"),
-        blocks,
-        format,
-    })
+    }
 }
 
-fn read_create<'w>(found: &ArgMatches<'w>) -> Task<'w> {
+fn read_create<'w>(found: &ArgMatches<'w>) -> Create<'w> {
     let blocks = match DriveTypeEntry::named(text(found, "drive")) {
         Some(drive) => drive.blocks,
         None => found.get_one::<u32>("blocks").unwrap_or(0),
     };
-    Task::Create(Create {
+    Create {
         image: image(found, "IMAGE"),
         blocks,
         force: found.get_flag("force"),
-    })
+    }
 }
 
 // Returns the value of an argument that is required or has a default, or the empty text.
@@ -202,7 +266,7 @@ fn image<'w>(found: &ArgMatches<'w>, name: &str) -> ImageName<'w> {
 }
 
 // Returns the images of the arguments IMAGE.
-fn images<'w>(alloc: Global, found: &ArgMatches<'w>) -> Result<Vec<ImageName<'w>>, Error> {
+fn images<'w>(alloc: Global, found: &ArgMatches<'w>) -> Result<Vec<ImageName<'w>>, AllocError> {
     let mut images = Vec::new(alloc);
     for name in found.get_strs("IMAGE").unwrap_or(&[]) {
         images.push(ImageName::parse(name))?;
@@ -211,11 +275,21 @@ fn images<'w>(alloc: Global, found: &ArgMatches<'w>) -> Result<Vec<ImageName<'w>
 }
 
 // Returns the images of units 0 to 3.
-fn units<'w>(alloc: Global, found: &ArgMatches<'w>) -> Result<Vec<Option<ImageName<'w>>>, Error> {
+fn units<'w>(
+    alloc: Global,
+    found: &ArgMatches<'w>,
+) -> Result<Vec<Option<ImageName<'w>>>, AllocError> {
     let mut units = Vec::new(alloc);
     for name in found.get_strs("IMAGE").unwrap_or(&[]) {
-        let image = (*name != "-").then(|| ImageName::parse(name));
-        units.push(image)?;
+        units.push(unit(name))?;
     }
     Ok(units)
+}
+
+// Returns the image of a unit, or `None` for `-`.
+fn unit<'w>(name: &'w str) -> Option<ImageName<'w>> {
+    match name {
+        "-" => None,
+        _ => Some(ImageName::parse(name)),
+    }
 }

@@ -24,6 +24,16 @@ pub(crate) struct Argument {
 
 /// The form of an argument.
 pub(crate) enum Form {
+    /// It is known by its place.
+    Positional(Positional),
+    /// An option without a value.
+    Flag(Flag),
+    /// An option with a value, which the help calls by this name.
+    Option(&'static str, OptionValue),
+}
+
+/// The form of an argument that is known by its place.
+pub(crate) enum Positional {
     /// A required value.
     Value,
     /// One or more values, up to a number of them.
@@ -38,10 +48,6 @@ pub(crate) enum Form {
         /// The least number.
         least: i64,
     },
-    /// An option without a value.
-    Flag(Flag),
-    /// An option with a value, which the help calls by this name.
-    Option(&'static str, OptionValue),
 }
 
 /// The form of an option without a value.
@@ -67,14 +73,14 @@ pub(crate) enum OptionValue {
 /// The argument for the script of `run` and `trace`.
 const SCRIPT: Argument = Argument {
     name: "SCRIPT",
-    form: Form::Value,
+    form: Form::Positional(Positional::Value),
     help: "The file with the script, or - for standard input",
 };
 
 /// The argument for the images of `run` and `trace`.
 const UNITS: Argument = Argument {
     name: "IMAGE",
-    form: Form::Values { most: 4 },
+    form: Form::Positional(Positional::Values { most: 4 }),
     help: "The images of units 0 to 3: FILE, lock:FILE to protect it, or - for no drive",
 };
 
@@ -111,12 +117,12 @@ pub(crate) static COPY: Verb = Verb {
     arguments: &[
         Argument {
             name: "FROM",
-            form: Form::Value,
+            form: Form::Positional(Positional::Value),
             help: "The image to read",
         },
         Argument {
             name: "TO",
-            form: Form::Value,
+            form: Form::Positional(Positional::Value),
             help: "The image to write",
         },
         Argument {
@@ -149,7 +155,7 @@ static INFO: Verb = Verb {
     about: "Prints the size of images, drive types of that size, and what they hold",
     arguments: &[Argument {
         name: "IMAGE",
-        form: Form::Values { most: usize::MAX },
+        form: Form::Positional(Positional::Values { most: usize::MAX }),
         help: "The images",
     }],
     needs_size: false,
@@ -162,17 +168,17 @@ pub(crate) static DUMP: Verb = Verb {
     arguments: &[
         Argument {
             name: "IMAGE",
-            form: Form::Value,
+            form: Form::Positional(Positional::Value),
             help: "The image",
         },
         Argument {
             name: "LBN",
-            form: Form::Number { least: 0 },
+            form: Form::Positional(Positional::Number { least: 0 }),
             help: "The first block; without it, all blocks",
         },
         Argument {
             name: "COUNT",
-            form: Form::Number { least: 1 },
+            form: Form::Positional(Positional::Number { least: 1 }),
             help: "The number of blocks; without it, 1",
         },
         Argument {
@@ -201,7 +207,7 @@ pub(crate) static CREATE: Verb = Verb {
     arguments: &[
         Argument {
             name: "IMAGE",
-            form: Form::Value,
+            form: Form::Positional(Positional::Value),
             help: "The file to make",
         },
         Argument {
@@ -229,7 +235,7 @@ static DECODE: Verb = Verb {
     about: "Prints the fields of MSCP packets, given as hexadecimal bytes or octal words",
     arguments: &[Argument {
         name: "FILE",
-        form: Form::ValueOr("-"),
+        form: Form::Positional(Positional::ValueOr("-")),
         help: "The file, or - for standard input",
     }],
     needs_size: false,

@@ -4,6 +4,7 @@ use crate::fault::{Fault, Reason};
 use crate::image::open;
 use crate::outcome::Outcome;
 use crate::progress::CopyProgress;
+use crate::script::Drives;
 use crate::target::open_target;
 use std::ops::Range;
 use uda_driver::Driver;
@@ -16,22 +17,46 @@ use uda50_copy::{Copier, CopyError, Side};
 pub(crate) fn copy<'w>(rt: &HostRuntime, copy: &Copy<'w>) -> Result<Outcome, Fault<'w>> {
     let source = open(rt, copy.from.path, false)?;
     let size = source.size();
-    let Range { start: first, end } = blocks_to_copy(copy, size)?;
+    let blocks = blocks_to_copy(copy, size)?;
     let target = open_target(rt, copy, size)?;
-    let mut progress = CopyProgress::start(rt, copy.from.path, first..end);
+    copy_to(rt, copy, blocks, source, target)
+}
+
+// Copies blocks of an image to another one, and syncs that one.
+fn copy_to<'w>(
+    rt: &HostRuntime,
+    copy: &Copy<'w>,
+    blocks: Range<u32>,
+    source: FileImage,
+    target: FileImage,
+) -> Result<Outcome, Fault<'w>> {
+    let Range { start: first, end } = blocks;
+    let progress = CopyProgress::start(rt, copy.from.path, first..end);
     let mut copier = start(rt, copy, source, target)?;
+    let outcome = copy_and_verify(rt, copy, &mut copier, progress, first..end)?;
+    sync_target(copy, copier, outcome)
+}
+
+// Copies blocks, and compares them if that is asked for.
+fn copy_and_verify<'w>(
+    rt: &HostRuntime,
+    copy: &Copy<'w>,
+    copier: &mut Copier<FileImage>,
+    mut progress: CopyProgress<'_, 'w>,
+    blocks: Range<u32>,
+) -> Result<Outcome, Fault<'w>> {
+    let Range { start: first, end } = blocks;
     let copied = copier.copy(first..end, &mut progress);
     let lost = progress.end();
-    copied.map_err(|error| fault(copy, error))?;
-    if copy.verify {
-        verify(rt, copy, &mut copier, first..end)?;
+    let verified = match copied {
+        Ok(()) if copy.verify => verify(rt, copy, copier, first..end),
+        copied => copied,
+    };
+    match verified {
+        Ok(()) if lost > 0 => Ok(Outcome::Failed),
+        Ok(()) => Ok(Outcome::Done),
+        Err(error) => Err(fault(copy, error)),
     }
-    sync_target(copy, copier)?;
-    Ok(if lost > 0 {
-        Outcome::Failed
-    } else {
-        Outcome::Done
-    })
 }
 
 // Starts a driver over both images, and brings them online.
@@ -41,6 +66,14 @@ fn start<'w>(
     source: FileImage,
     target: FileImage,
 ) -> Result<Copier<FileImage>, Fault<'w>> {
+    match Driver::start(rt.alloc(), drives_of(source, target)) {
+        Ok(driver) => online(rt, copy, driver),
+        Err(_) => Err(Fault::new("uda50", Reason::NoMemory)),
+    }
+}
+
+// Returns the drives of a copy: unit 0 with the source, and unit 1 with the target.
+fn drives_of(source: FileImage, target: FileImage) -> Drives {
     let source = Drive {
         store: source,
         hard: true,
@@ -49,9 +82,15 @@ fn start<'w>(
         store: target,
         hard: false,
     };
-    let Ok(driver) = Driver::start(rt.alloc(), [Some(source), Some(target), None, None]) else {
-        return Err(Fault::new("uda50", Reason::NoMemory));
-    };
+    [Some(source), Some(target), None, None]
+}
+
+// Brings both drives of a driver online.
+fn online<'w>(
+    rt: &HostRuntime,
+    copy: &Copy<'w>,
+    driver: Driver<FileImage>,
+) -> Result<Copier<FileImage>, Fault<'w>> {
     Copier::new(rt.alloc(), driver, copy.skips_lost).map_err(|error| fault(copy, error))
 }
 
@@ -76,23 +115,36 @@ fn verify<'w>(
     copy: &Copy<'w>,
     copier: &mut Copier<FileImage>,
     blocks: Range<u32>,
-) -> Result<(), Fault<'w>> {
+) -> Result<(), CopyError> {
     let Range { start: first, end } = blocks;
     let mut progress = CopyProgress::start(rt, copy.to.path, first..end);
     let compared = copier.compare(first..end, &mut progress);
     progress.end();
-    compared.map_err(|error| fault(copy, error))
+    compared
 }
 
-// Syncs the written blocks to the medium.
-fn sync_target<'w>(copy: &Copy<'w>, copier: Copier<FileImage>) -> Result<(), Fault<'w>> {
+// Syncs the written blocks to the medium. Returns the outcome of the copy, if that succeeds.
+fn sync_target<'w>(
+    copy: &Copy<'w>,
+    copier: Copier<FileImage>,
+    outcome: Outcome,
+) -> Result<Outcome, Fault<'w>> {
     let mut drives = copier.into_driver().into_stores();
+    if are_synced(&mut drives) {
+        Ok(outcome)
+    } else {
+        Err(Fault::new(copy.to.path, Reason::NotSynced))
+    }
+}
+
+// Syncs drives up to the first failure. Returns whether there was none.
+fn are_synced(drives: &mut Drives) -> bool {
     for drive in drives.iter_mut().flatten() {
         if drive.store.sync().is_err() {
-            return Err(Fault::new(copy.to.path, Reason::NotSynced));
+            return false;
         }
     }
-    Ok(())
+    true
 }
 
 // Returns the fault for an error, with the file that it concerns.
@@ -102,7 +154,12 @@ fn fault<'w>(copy: &Copy<'w>, error: CopyError) -> Fault<'w> {
         Some(Side::Target) => copy.to.path,
         None => "uda50",
     };
-    let reason = match error {
+    Fault::new(name, reason(error))
+}
+
+// Returns the reason for an error.
+fn reason(error: CopyError) -> Reason {
+    match error {
         CopyError::NoMemory => Reason::NoMemory,
         CopyError::Read(_, block) => Reason::Block {
             block,
@@ -114,6 +171,5 @@ fn fault<'w>(copy: &Copy<'w>, error: CopyError) -> Fault<'w> {
         },
         CopyError::Differs(block) => Reason::Differs(block),
         CopyError::Rejected(_, status) => Reason::Rejected(status),
-    };
-    Fault::new(name, reason)
+    }
 }

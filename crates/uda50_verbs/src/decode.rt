@@ -2,7 +2,7 @@
 
 use crate::fault::{Fault, Reason, STANDARD_INPUT};
 use crate::outcome::Outcome;
-use std::fs::{File, OpenFile};
+use crate::streams::open_text;
 use std::io::{BufReader, BufWriter, Write};
 use uda50_decode::{DecodeError, Decoded};
 
@@ -13,12 +13,19 @@ pub(crate) fn decode<'w, W: Write + Drop>(
     out: &mut BufWriter<W>,
 ) -> Result<Outcome, Fault<'w>> {
     if path == "-" {
-        let input = BufReader::new(rt.alloc(), rt.stdin())?;
-        return outcome(STANDARD_INPUT, uda50_decode::decode(rt.alloc(), input, out));
+        return decode_input(rt, out);
     }
-    let file = Fault::of_call(path, File::open(rt, path))?;
-    let input = BufReader::new(rt.alloc(), file)?;
+    let input = open_text(rt, path)?;
     outcome(path, uda50_decode::decode(rt.alloc(), input, out))
+}
+
+// Prints the packets of standard input.
+fn decode_input<'w, W: Write + Drop>(
+    rt: &HostRuntime,
+    out: &mut BufWriter<W>,
+) -> Result<Outcome, Fault<'w>> {
+    let input = BufReader::new(rt.alloc(), rt.stdin())?;
+    outcome(STANDARD_INPUT, uda50_decode::decode(rt.alloc(), input, out))
 }
 
 // Returns the outcome of a text, which has this name.

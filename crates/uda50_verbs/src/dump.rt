@@ -6,7 +6,8 @@ use crate::outcome::Outcome;
 use std::fmt::Display;
 use std::io;
 use std::io::{BufWriter, IsTerminal, Write};
-use uda_image::BlockStore;
+use std::ops::Range;
+use uda_image::{BlockStore, FileImage};
 use uda50_arguments::{BlockRange, Dump, DumpFormat};
 use uda50_show::{HexRow, OctalRow};
 
@@ -16,22 +17,46 @@ pub(crate) fn dump<'w, W: Write + Drop>(
     dump: &Dump<'w>,
     out: &mut BufWriter<W>,
 ) -> Result<Outcome, Fault<'w>> {
-    let path = dump.image.path;
-    let mut image = open(rt, path, false)?;
-    let blocks = image.size();
+    let mut image = open(rt, dump.image.path, false)?;
+    dump_image(rt, dump, &mut image, out)
+}
+
+// Prints blocks of this image.
+fn dump_image<'w, W: Write + Drop>(
+    rt: &HostRuntime,
+    dump: &Dump<'w>,
+    image: &mut FileImage,
+    out: &mut BufWriter<W>,
+) -> Result<Outcome, Fault<'w>> {
     if dump.format == (DumpFormat::Raw { force: false }) && rt.stdout().is_terminal() {
         return Err(Fault::new(STANDARD_OUTPUT, Reason::Terminal));
     }
-    let (start, end) = match dump.blocks {
-        None => (0, blocks),
-        Some(range) if range.is_within(blocks) => (range.start, range.end),
-        Some(range) => return Err(Fault::new(path, Reason::PastEnd { range, blocks })),
-    };
+    let Range { start, end } = blocks_to_dump(dump, image.size())?;
     for block in start..end {
-        let bytes = read_block_or_zeros(&mut image, path, block)?;
-        dump_block(out, block, &bytes, dump.format)?;
+        copy_block(image, dump, block, out)?;
     }
     Ok(Outcome::Done)
+}
+
+// Returns the blocks to print, after a check that the image has all of them.
+fn blocks_to_dump<'w>(dump: &Dump<'w>, blocks: u32) -> Result<Range<u32>, Fault<'w>> {
+    match dump.blocks {
+        None => Ok(0..blocks),
+        Some(range) if range.is_within(blocks) => Ok(range.start..range.end),
+        Some(range) => Err(Fault::new(dump.image.path, Reason::PastEnd { range, blocks })),
+    }
+}
+
+// Reads a block, and writes it.
+fn copy_block<'w, W: Write + Drop>(
+    image: &mut FileImage,
+    dump: &Dump<'w>,
+    block: u32,
+    out: &mut BufWriter<W>,
+) -> Result<(), Fault<'w>> {
+    let bytes = read_block_or_zeros(image, dump.image.path, block)?;
+    dump_block(out, block, &bytes, dump.format)?;
+    Ok(())
 }
 
 // Writes a block.

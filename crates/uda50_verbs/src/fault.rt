@@ -161,13 +161,21 @@ impl<'w> Fault<'w> {
 impl Reason {
     /// Returns the reason for an error of the system.
     pub fn of(error: io::Error) -> Reason {
-        match error.kind() {
-            ErrorKind::NotFound => Reason::NoSuchFile,
-            ErrorKind::PermissionDenied => Reason::PermissionDenied,
-            ErrorKind::AlreadyExists => Reason::Exists,
-            ErrorKind::OutOfMemory => Reason::NoMemory,
-            ErrorKind::IsADirectory => Reason::NotPlain,
-            _ => Reason::System(error),
+        match Reason::of_kind(error.kind()) {
+            Some(reason) => reason,
+            None => Reason::System(error),
+        }
+    }
+
+    // Returns the reason for a kind of errors, or `None` if the error has the text.
+    fn of_kind(kind: ErrorKind) -> Option<Reason> {
+        match kind {
+            ErrorKind::NotFound => Some(Reason::NoSuchFile),
+            ErrorKind::PermissionDenied => Some(Reason::PermissionDenied),
+            ErrorKind::AlreadyExists => Some(Reason::Exists),
+            ErrorKind::OutOfMemory => Some(Reason::NoMemory),
+            ErrorKind::IsADirectory => Some(Reason::NotPlain),
+            _ => None,
         }
     }
 }

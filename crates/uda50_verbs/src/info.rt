@@ -6,7 +6,7 @@ use crate::outcome::Outcome;
 use std::fmt::Display;
 use std::io;
 use std::io::Write;
-use uda_image::BlockStore;
+use uda_image::{BlockStore, FileImage};
 use uda50_arguments::ImageName;
 use uda50_show::{BootBlock, DiskLabel, Grouped, HomeBlock, TypesOfSize};
 
@@ -18,18 +18,35 @@ pub(crate) fn info<'w, W: Write>(
 ) -> Result<Outcome, Fault<'w>> {
     let mut outcome = Outcome::Done;
     for image in images {
-        let described = describe(rt, *image, out);
-        match described {
-            Ok(()) => {}
-            Err(fault) if fault.is_of(image.path) => {
-                out.flush()?;
-                let _ = eprintln!(rt; "uda50: {fault}");
-                outcome = Outcome::FaultReported;
-            }
-            Err(fault) => return Err(fault),
+        if describe_or_report(rt, *image, out)? == Outcome::FaultReported {
+            outcome = Outcome::FaultReported;
         }
     }
     Ok(outcome)
+}
+
+// Writes the lines of an image, or prints its fault's line.
+fn describe_or_report<'w, W: Write>(
+    rt: &HostRuntime,
+    image: ImageName<'w>,
+    out: &mut W,
+) -> Result<Outcome, Fault<'w>> {
+    match describe(rt, image, out) {
+        Ok(()) => Ok(Outcome::Done),
+        Err(fault) if fault.is_of(image.path) => report(rt, out, &fault),
+        Err(fault) => Err(fault),
+    }
+}
+
+// Prints a fault's line after what is written already.
+fn report<'w, W: Write>(
+    rt: &HostRuntime,
+    out: &mut W,
+    fault: &Fault<'_>,
+) -> Result<Outcome, Fault<'w>> {
+    out.flush()?;
+    let _ = eprintln!(rt; "uda50: {fault}");
+    Ok(Outcome::FaultReported)
 }
 
 // Writes the lines of an image.
@@ -38,19 +55,64 @@ fn describe<'w, W: Write>(
     name: ImageName<'w>,
     out: &mut W,
 ) -> Result<(), Fault<'w>> {
-    let path = name.path;
-    let mut image = open(rt, path, false)?;
-    let zero = read_block_or_zeros(&mut image, path, 0)?;
-    let one = read_block_or_zeros(&mut image, path, 1)?;
-    let thirty_one = read_block_or_zeros(&mut image, path, 31)?;
-    write_size(out, path, image.size())?;
-    let writable = match (name.protected, is_writable(rt, name)) {
+    let mut image = open(rt, name.path, false)?;
+    describe_image(rt, name, &mut image, out)
+}
+
+// Writes the lines of this image.
+fn describe_image<'w, W: Write>(
+    rt: &HostRuntime,
+    name: ImageName<'w>,
+    image: &mut FileImage,
+    out: &mut W,
+) -> Result<(), Fault<'w>> {
+    let blocks = read_blocks(image, name.path)?;
+    write_lines(rt, name, image.size(), &blocks, out)?;
+    Ok(())
+}
+
+// The blocks that can hold a structure.
+#[derive(Drop)]
+struct Blocks {
+    zero: [u8; 512],
+    one: [u8; 512],
+    thirty_one: [u8; 512],
+}
+
+// Reads the blocks that can hold a structure.
+fn read_blocks<'w>(image: &mut FileImage, path: &'w str) -> Result<Blocks, Fault<'w>> {
+    Ok(Blocks {
+        zero: read_block_or_zeros(image, path, 0)?,
+        one: read_block_or_zeros(image, path, 1)?,
+        thirty_one: read_block_or_zeros(image, path, 31)?,
+    })
+}
+
+// Writes the lines of an image of `size` blocks.
+fn write_lines<W: Write>(
+    rt: &HostRuntime,
+    name: ImageName<'_>,
+    size: u32,
+    blocks: &Blocks,
+    out: &mut W,
+) -> io::Result<()> {
+    write_size(out, name.path, size)?;
+    write_writable(out, writable(rt, name))?;
+    write_contents(out, blocks)
+}
+
+// Returns whether an image can be written, in a word.
+fn writable(rt: &HostRuntime, name: ImageName<'_>) -> &'static str {
+    match (name.protected, is_writable(rt, name)) {
         (true, _) => "no (lock:)",
         (false, true) => "yes",
         (false, false) => "no",
-    };
-    writeln!(out, "  writable: {writable}")?;
-    Ok(write_contents(out, &zero, &one, &thirty_one)?)
+    }
+}
+
+// Writes the line that says whether an image can be written.
+fn write_writable<W: Write>(out: &mut W, writable: &str) -> io::Result<()> {
+    writeln!(out, "  writable: {writable}")
 }
 
 // Writes the lines of an image's size.
@@ -67,23 +129,34 @@ fn write_types<W: Write>(out: &mut W, blocks: u32) -> io::Result<()> {
 }
 
 // Writes a line for each structure found in blocks 0, 1 and 31.
-fn write_contents<W: Write>(
-    out: &mut W,
-    zero: &[u8; 512],
-    one: &[u8; 512],
-    thirty_one: &[u8; 512],
-) -> io::Result<()> {
-    let found = [
-        write_found(out, 0, BootBlock::read(zero))?,
-        write_found(out, 0, DiskLabel::in_block_0(zero))?,
-        write_found(out, 1, HomeBlock::read(one))?,
-        write_found(out, 1, DiskLabel::in_block_1(one))?,
-        write_found(out, 31, DiskLabel::in_block_31(thirty_one))?,
-    ];
-    if found.iter().all(|found| !*found) {
-        writeln!(out, "  contents: not recognized")?;
+fn write_contents<W: Write>(out: &mut W, blocks: &Blocks) -> io::Result<()> {
+    let is_in_0 = write_block_0(out, &blocks.zero)?;
+    let is_in_1 = write_block_1(out, &blocks.one)?;
+    let is_in_31 = write_found(out, 31, DiskLabel::in_block_31(&blocks.thirty_one))?;
+    if is_in_0 || is_in_1 || is_in_31 {
+        Ok(())
+    } else {
+        write_unknown(out)
     }
-    Ok(())
+}
+
+// Writes the line of an image without a known structure.
+fn write_unknown<W: Write>(out: &mut W) -> io::Result<()> {
+    writeln!(out, "  contents: not recognized")
+}
+
+// Writes the lines of the structures in block 0, and returns whether there is one.
+fn write_block_0<W: Write>(out: &mut W, block: &[u8; 512]) -> io::Result<bool> {
+    let is_boot = write_found(out, 0, BootBlock::read(block))?;
+    let is_label = write_found(out, 0, DiskLabel::in_block_0(block))?;
+    Ok(is_boot || is_label)
+}
+
+// Writes the lines of the structures in block 1, and returns whether there is one.
+fn write_block_1<W: Write>(out: &mut W, block: &[u8; 512]) -> io::Result<bool> {
+    let is_home = write_found(out, 1, HomeBlock::read(block))?;
+    let is_label = write_found(out, 1, DiskLabel::in_block_1(block))?;
+    Ok(is_home || is_label)
 }
 
 // Writes the line of a structure in a block, and returns whether there is one.

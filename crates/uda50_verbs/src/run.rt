@@ -3,7 +3,7 @@
 use crate::fault::{Fault, STANDARD_INPUT};
 use crate::outcome::Outcome;
 use crate::script::{Drives, Job, execute_script, open_drives};
-use std::fs::{File, OpenFile};
+use crate::streams::open_text;
 use std::io::{BufReader, BufWriter, Read};
 use uda_driver::Unwatched;
 use uda_script_run::{Channels, ReportStyle};
@@ -17,12 +17,22 @@ const BUFFER: usize = 4_096;
 pub(crate) fn run<'w>(rt: &HostRuntime, run: &Run<'w>) -> Result<Outcome, Fault<'w>> {
     let drives = open_drives(rt, run.units.as_slice())?;
     if run.script == "-" {
-        let no_data: &[u8] = &[];
-        let text = BufReader::new(rt.alloc(), rt.stdin())?;
-        return run_from(rt, run, text, no_data, drives);
+        run_input(rt, run, drives)
+    } else {
+        run_file(rt, run, drives)
     }
-    let file = Fault::of_call(run.script, File::open(rt, run.script))?;
-    let text = BufReader::new(rt.alloc(), file)?;
+}
+
+// Executes the script on standard input.
+fn run_input<'w>(rt: &HostRuntime, run: &Run<'w>, drives: Drives) -> Result<Outcome, Fault<'w>> {
+    let no_data: &[u8] = &[];
+    let text = BufReader::new(rt.alloc(), rt.stdin())?;
+    run_from(rt, run, text, no_data, drives)
+}
+
+// Executes the script in a file.
+fn run_file<'w>(rt: &HostRuntime, run: &Run<'w>, drives: Drives) -> Result<Outcome, Fault<'w>> {
+    let text = open_text(rt, run.script)?;
     run_from(rt, run, text, rt.stdin(), drives)
 }
 

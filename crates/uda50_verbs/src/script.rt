@@ -32,15 +32,25 @@ pub(crate) fn execute_script<'w, T: Read + Drop, R: Read, W: Write, V: Write, H:
     drives: Drives,
     channels: &mut Channels<R, W, V, H>,
 ) -> Result<ScriptOutcome, Fault<'w>> {
+    match Driver::start(rt.alloc(), drives) {
+        Ok(driver) => execute_on(rt, job, driver, channels),
+        Err(_) => Err(Fault::new("uda50", Reason::NoMemory)),
+    }
+}
+
+// Executes a script through a driver, and syncs the images that it wrote.
+fn execute_on<'w, T: Read + Drop, R: Read, W: Write, V: Write, H: Watch>(
+    rt: &HostRuntime,
+    job: Job<'_, 'w, T>,
+    mut driver: Driver<FileImage>,
+    channels: &mut Channels<R, W, V, H>,
+) -> Result<ScriptOutcome, Fault<'w>> {
     let Job {
         name,
         text,
         units,
         style,
     } = job;
-    let Ok(mut driver) = Driver::start(rt.alloc(), drives) else {
-        return Err(Fault::new("uda50", Reason::NoMemory));
-    };
     let done = run_buffered_text(rt.alloc(), style, text, channels, &mut driver);
     let outcome = done.map_err(|error| fault_of(name, error));
     sync(rt, driver.into_stores(), units, outcome)
@@ -51,29 +61,25 @@ pub(crate) fn open_drives<'w>(
     rt: &HostRuntime,
     units: &[Option<ImageName<'w>>],
 ) -> Result<Drives, Fault<'w>> {
-    Ok([
-        open_drive(rt, units, 0)?,
-        open_drive(rt, units, 1)?,
-        open_drive(rt, units, 2)?,
-        open_drive(rt, units, 3)?,
-    ])
+    let mut drives = [None, None, None, None];
+    for (drive, unit) in drives.iter_mut().zip(units) {
+        if let Some(image) = unit {
+            open_drive(rt, *image, drive)?;
+        }
+    }
+    Ok(drives)
 }
 
+// Opens an image as the drive of a unit.
 fn open_drive<'w>(
     rt: &HostRuntime,
-    units: &[Option<ImageName<'w>>],
-    unit: usize,
-) -> Result<Option<Drive<FileImage>>, Fault<'w>> {
-    match units.get(unit) {
-        Some(Some(image)) => {
-            let store = open(rt, image.path, !image.protected)?;
-            Ok(Some(Drive {
-                store,
-                hard: image.protected,
-            }))
-        }
-        _ => Ok(None),
-    }
+    image: ImageName<'w>,
+    drive: &mut Option<Drive<FileImage>>,
+) -> Result<(), Fault<'w>> {
+    let store = open(rt, image.path, !image.protected)?;
+    let hard = image.protected;
+    *drive = Some(Drive { store, hard });
+    Ok(())
 }
 
 // Syncs each image that was written. Of the faults, the script's and then those of the images, the last is
@@ -84,19 +90,43 @@ fn sync<'w>(
     units: &[Option<ImageName<'w>>],
     outcome: Result<ScriptOutcome, Fault<'w>>,
 ) -> Result<ScriptOutcome, Fault<'w>> {
-    let mut done = outcome;
+    let mut last = None;
     for (drive, unit) in drives.iter_mut().zip(units) {
         let (Some(drive), Some(image)) = (drive, unit) else {
             continue;
         };
         if drive.store.sync().is_err() {
-            if let Err(earlier) = &done {
-                let _ = eprintln!(rt; "uda50: {earlier}");
-            }
-            done = Err(Fault::new(image.path, Reason::NotSynced));
+            print_earlier(rt, last, &outcome);
+            last = Some(image.path);
         }
     }
-    done
+    match last {
+        Some(path) => Err(not_synced(path)),
+        None => outcome,
+    }
+}
+
+// Prints the fault before the next one: that of the last image that could not be synced, or the script's.
+fn print_earlier<'w>(
+    rt: &HostRuntime,
+    last: Option<&'w str>,
+    outcome: &Result<ScriptOutcome, Fault<'w>>,
+) {
+    match (last, outcome) {
+        (Some(path), _) => print_fault(rt, &not_synced(path)),
+        (None, Err(fault)) => print_fault(rt, fault),
+        (None, Ok(_)) => {}
+    }
+}
+
+// Prints the line of a fault.
+fn print_fault(rt: &HostRuntime, fault: &Fault<'_>) {
+    let _ = eprintln!(rt; "uda50: {fault}");
+}
+
+// Returns the fault of an image that could not be synced.
+fn not_synced<'w>(path: &'w str) -> Fault<'w> {
+    Fault::new(path, Reason::NotSynced)
 }
 
 // Returns the fault of a script that stopped.

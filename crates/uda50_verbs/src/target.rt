@@ -1,10 +1,10 @@
 //! The target file of a copy.
 
-use crate::create::new_file;
+use crate::create::{locked, new_file, set_blocks};
 use crate::fault::{Fault, Reason};
 use crate::image::open;
 use std::fs;
-use std::fs::{File, OpenFile, OpenOptions, TryLockError};
+use std::fs::{File, Metadata};
 use std::os::unix::fs::MetadataExt;
 use uda_image::{BlockStore, FileImage};
 use uda50_arguments::Copy;
@@ -23,18 +23,56 @@ pub(crate) fn open_target<'w>(
     if copy.to.protected {
         return Err(Fault::new(path, Reason::Protected));
     }
-    match fs::metadata(rt, path) {
-        Err(_) => set_blocks(path, &new_file(rt, path)?, size)?,
-        Ok(_) if !copy.force => return Err(Fault::new(path, Reason::Exists)),
-        Ok(metadata) if !metadata.is_file() => return Err(Fault::new(path, Reason::NotPlain)),
-        Ok(metadata) => {
-            is_another(rt, copy, metadata.dev(), metadata.ino())?;
-            if copy.blocks.is_none() {
-                set_blocks(path, &locked(rt, path)?, size)?;
-            }
-        }
-    }
+    prepare(rt, copy, size)?;
     let target = open(rt, path, true)?;
+    with_blocks(copy, target)
+}
+
+// Makes the file of the target, or gives it its length.
+fn prepare<'w>(rt: &HostRuntime, copy: &Copy<'w>, size: u32) -> Result<(), Fault<'w>> {
+    let path = copy.to.path;
+    match fs::metadata(rt, path) {
+        Err(_) => set_length(path, &new_file(rt, path)?, size),
+        Ok(_) if !copy.force => Err(Fault::new(path, Reason::Exists)),
+        Ok(metadata) if !metadata.is_file() => Err(Fault::new(path, Reason::NotPlain)),
+        Ok(metadata) => prepare_existing(rt, copy, &metadata, size),
+    }
+}
+
+// Gives an existing target its length.
+fn prepare_existing<'w>(
+    rt: &HostRuntime,
+    copy: &Copy<'w>,
+    metadata: &Metadata,
+    size: u32,
+) -> Result<(), Fault<'w>> {
+    let path = copy.to.path;
+    if is_source(rt, copy, metadata.dev(), metadata.ino()) {
+        return Err(Fault::new(path, Reason::SameFile));
+    }
+    if copy.blocks.is_none() {
+        set_length(path, &locked(rt, path)?, size)
+    } else {
+        Ok(())
+    }
+}
+
+// Returns whether a file is the source, by the same name or by another.
+fn is_source(rt: &HostRuntime, copy: &Copy<'_>, dev: u64, ino: u64) -> bool {
+    match fs::metadata(rt, copy.from.path) {
+        Ok(source) => source.dev() == dev && source.ino() == ino,
+        Err(_) => false,
+    }
+}
+
+// Sets the length of the target to `blocks` blocks.
+fn set_length<'w>(path: &'w str, file: &File, blocks: u32) -> Result<(), Fault<'w>> {
+    Fault::of_call(path, set_blocks(file, blocks))
+}
+
+// Returns the target, if it has all blocks of the copy.
+fn with_blocks<'w>(copy: &Copy<'w>, target: FileImage) -> Result<FileImage, Fault<'w>> {
+    let path = copy.to.path;
     match copy.blocks {
         Some(range) if range.end > target.size() => Err(Fault::new(
             path,
@@ -45,28 +83,4 @@ pub(crate) fn open_target<'w>(
         )),
         _ => Ok(target),
     }
-}
-
-// Fails if the target is the source, by the same name or by another.
-fn is_another<'w>(rt: &HostRuntime, copy: &Copy<'w>, dev: u64, ino: u64) -> Result<(), Fault<'w>> {
-    match fs::metadata(rt, copy.from.path) {
-        Ok(source) if source.dev() == dev && source.ino() == ino => {
-            Err(Fault::new(copy.to.path, Reason::SameFile))
-        }
-        _ => Ok(()),
-    }
-}
-
-// Opens a file whose lock nobody else holds.
-fn locked<'w>(rt: &HostRuntime, path: &'w str) -> Result<File, Fault<'w>> {
-    let file = Fault::of_call(path, OpenOptions::new().write(true).open(rt, path))?;
-    match file.try_lock() {
-        Err(TryLockError::WouldBlock) => Err(Fault::new(path, Reason::InUse)),
-        _ => Ok(file),
-    }
-}
-
-// Sets the length of a file to `blocks` blocks.
-fn set_blocks<'w>(path: &'w str, file: &File, blocks: u32) -> Result<(), Fault<'w>> {
-    Fault::of_call(path, file.set_len(512 * u64::from(blocks)))
 }

@@ -4,7 +4,7 @@ use crate::fault::Fault;
 use crate::outcome::Outcome;
 use crate::run::script_name;
 use crate::script::{Drives, Job, execute_script, open_drives};
-use std::fs::{File, OpenFile};
+use crate::streams::open_text;
 use std::io;
 use std::io::{BufReader, Read, Write};
 use uda_driver::{Trace, Watch};
@@ -22,12 +22,33 @@ pub(crate) fn trace<'w, W: Write>(
 ) -> Result<Outcome, Fault<'w>> {
     let drives = open_drives(rt, units)?;
     if script == "-" {
-        let no_data: &[u8] = &[];
-        let text = BufReader::new(rt.alloc(), rt.stdin())?;
-        return trace_job(rt, job(script, units, text), no_data, drives, out);
+        trace_input(rt, units, drives, out)
+    } else {
+        trace_file(rt, script, units, drives, out)
     }
-    let file = Fault::of_call(script, File::open(rt, script))?;
-    let text = BufReader::new(rt.alloc(), file)?;
+}
+
+// Executes the script on standard input.
+fn trace_input<'w, W: Write>(
+    rt: &HostRuntime,
+    units: &[Option<ImageName<'w>>],
+    drives: Drives,
+    out: &mut W,
+) -> Result<Outcome, Fault<'w>> {
+    let no_data: &[u8] = &[];
+    let text = BufReader::new(rt.alloc(), rt.stdin())?;
+    trace_job(rt, job("-", units, text), no_data, drives, out)
+}
+
+// Executes the script in a file.
+fn trace_file<'w, W: Write>(
+    rt: &HostRuntime,
+    script: &'w str,
+    units: &[Option<ImageName<'w>>],
+    drives: Drives,
+    out: &mut W,
+) -> Result<Outcome, Fault<'w>> {
+    let text = open_text(rt, script)?;
     trace_job(rt, job(script, units, text), rt.stdin(), drives, out)
 }
 

@@ -176,14 +176,14 @@ fn option<'w>(
     drives: &'w [&'w str],
 ) -> Arg<'w> {
     match value {
-        OptionValue::Text => named(alloc, argument, name),
-        OptionValue::Drive => one_of(named(alloc, argument, name), drives),
-        OptionValue::Blocks => number(named(alloc, argument, name), 1),
+        OptionValue::Text => with_value_name(alloc, argument, name),
+        OptionValue::Drive => one_of(with_value_name(alloc, argument, name), drives),
+        OptionValue::Blocks => number(with_value_name(alloc, argument, name), 1),
     }
 }
 
 // Builds an option with any value, which the help calls by this name.
-fn named<'w>(alloc: Global, argument: &Argument, name: &'w str) -> Arg<'w> {
+fn with_value_name<'w>(alloc: Global, argument: &Argument, name: &'w str) -> Arg<'w> {
     long(alloc, argument).value_name(name)
 }
 

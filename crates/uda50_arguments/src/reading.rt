@@ -50,19 +50,12 @@ fn usage_of<'w>(
     arguments: &'w [&'w str],
     drives: &'w [&'static str],
 ) -> Option<String> {
-    match *arguments.get(1)? {
-        "dump" => usage(named(alloc, &DUMP, "uda50 dump", drives)),
-        "create" => usage(named(alloc, &CREATE, "uda50 create", drives)),
-        _ => None,
-    }
-}
-
-// Returns the usage of a verb.
-fn usage<'w>(verb: Result<Command<'w>, AllocError>) -> Option<String> {
-    match verb {
-        Ok(mut verb) => verb.render_usage().ok(),
-        Err(_) => None,
-    }
+    let (verb, name) = match *arguments.get(1)? {
+        "dump" => (&DUMP, "uda50 dump"),
+        "create" => (&CREATE, "uda50 create"),
+        _ => return None,
+    };
+    named(alloc, verb, name, drives).ok()?.render_usage().ok()
 }
 
 // Builds a verb with the name that its usage has.
@@ -97,43 +90,23 @@ fn parse<'w>(
 fn read_matches<'w>(alloc: Global, matches: &ArgMatches<'w>) -> Result<Task<'w>, Error> {
     match matches.subcommand() {
         Some((verb, found)) => read_verb(alloc, verb, found),
-        None => Err(no_verb(alloc)),
+        None => Err(no_verb(alloc)?),
     }
 }
 
 // Returns the error of arguments without a verb.
-fn no_verb(alloc: Global) -> Error {
-    let program = grammar(alloc, &[]);
-    error_of(program, ErrorKind::MissingSubcommand, "a verb is missing")
-}
-
-// Returns an error of the program or of a verb, or the error that there is no memory for it.
-fn error_of<'w>(command: Result<Command<'w>, AllocError>, kind: ErrorKind, message: &str) -> Error {
-    match command {
-        Ok(mut command) => command.error(kind, message).unwrap_or_else(Error::from),
-        Err(error) => Error::from(error),
-    }
+fn no_verb(alloc: Global) -> Result<Error, AllocError> {
+    grammar(alloc, &[])?.error(ErrorKind::MissingSubcommand, "a verb is missing")
 }
 
 fn read_verb<'w>(alloc: Global, verb: &str, found: &ArgMatches<'w>) -> Result<Task<'w>, Error> {
     match verb {
+        "run" => Ok(read_run(alloc, found)?),
         "copy" => read_copy(alloc, found),
-        "dump" => Ok(Task::Dump(read_dump(found))),
-        "create" => Ok(Task::Create(read_create(found))),
-        _ => Ok(read_files(alloc, verb, found)?),
-    }
-}
-
-// Reads a verb whose arguments are files.
-fn read_files<'w>(
-    alloc: Global,
-    verb: &str,
-    found: &ArgMatches<'w>,
-) -> Result<Task<'w>, AllocError> {
-    match verb {
-        "run" => read_run(alloc, found),
-        "info" => read_info(alloc, found),
-        "trace" => read_trace(alloc, found),
+        "info" => Ok(read_info(alloc, found)?),
+        "dump" => Ok(read_dump(found)),
+        "create" => Ok(read_create(found)),
+        "trace" => Ok(read_trace(alloc, found)?),
         _ => Ok(read_decode(found)),
     }
 }
@@ -167,7 +140,14 @@ fn read_decode<'w>(found: &ArgMatches<'w>) -> Task<'w> {
 
 fn read_copy<'w>(alloc: Global, found: &ArgMatches<'w>) -> Result<Task<'w>, Error> {
     let blocks = read_range(alloc, found)?;
-    Ok(Task::Copy(copy_of(found, blocks)))
+    Ok(Task::Copy(Copy {
+        from: image(found, "FROM"),
+        to: image(found, "TO"),
+        blocks,
+        verify: found.get_flag("verify"),
+        skips_lost: found.get_flag("continue"),
+        force: found.get_flag("force"),
+    }))
 }
 
 // Reads the range of blocks of `copy`. Returns `None` if there is none.
@@ -176,46 +156,30 @@ fn read_range<'w>(alloc: Global, found: &ArgMatches<'w>) -> Result<Option<BlockR
         return Ok(None);
     };
     match BlockRange::parse(text) {
-        None => Err(wrong_range(alloc, text)),
+        None => Err(wrong_range(alloc, text)?),
         range => Ok(range),
     }
 }
 
-// Reads the arguments of `copy` except for the range of blocks.
-fn copy_of<'w>(found: &ArgMatches<'w>, blocks: Option<BlockRange>) -> Copy<'w> {
-    Copy {
-        from: image(found, "FROM"),
-        to: image(found, "TO"),
-        blocks,
-        verify: found.get_flag("verify"),
-        skips_lost: found.get_flag("continue"),
-        force: found.get_flag("force"),
-    }
-}
-
 // Returns the error of an invalid range.
-fn wrong_range(alloc: Global, text: &str) -> Error {
+fn wrong_range(alloc: Global, text: &str) -> Result<Error, AllocError> {
     let message = format!(in alloc;
         "invalid value '{text}' for '--blocks <A..B>': expected a range of blocks, as 0..400176"
-    );
-    match message {
-        Ok(message) => copy_error(alloc, message.as_str()),
-        Err(error) => Error::from(error),
-    }
+    )?;
+    copy_error(alloc, message.as_str())
 }
 
 // Returns an error of the values of `copy`.
-fn copy_error(alloc: Global, message: &str) -> Error {
-    let verb = named(alloc, &COPY, "uda50 copy", &[]);
-    error_of(verb, ErrorKind::ValueValidation, message)
+fn copy_error(alloc: Global, message: &str) -> Result<Error, AllocError> {
+    named(alloc, &COPY, "uda50 copy", &[])?.error(ErrorKind::ValueValidation, message)
 }
 
-fn read_dump<'w>(found: &ArgMatches<'w>) -> Dump<'w> {
-    Dump {
+fn read_dump<'w>(found: &ArgMatches<'w>) -> Task<'w> {
+    Task::Dump(Dump {
         image: image(found, "IMAGE"),
         blocks: read_blocks(found),
         format: read_format(found),
-    }
+    })
 }
 
 // Reads the blocks of `dump`. Returns `None` for all of them.
@@ -240,16 +204,16 @@ fn read_format<'w>(found: &ArgMatches<'w>) -> DumpFormat {
     }
 }
 
-fn read_create<'w>(found: &ArgMatches<'w>) -> Create<'w> {
+fn read_create<'w>(found: &ArgMatches<'w>) -> Task<'w> {
     let blocks = match DriveTypeEntry::named(text(found, "drive")) {
         Some(drive) => drive.blocks,
         None => found.get_one::<u32>("blocks").unwrap_or(0),
     };
-    Create {
+    Task::Create(Create {
         image: image(found, "IMAGE"),
         blocks,
         force: found.get_flag("force"),
-    }
+    })
 }
 
 // Returns the value of an argument that is required or has a default, or the empty text.

@@ -27,7 +27,7 @@ pub struct Decoded {
     pub invalid: bool,
 }
 
-// The state of reading packets.
+// The state of reading packets. Contracts see the number of packets. If one was invalid, it isn't 0.
 #[derive(Drop)]
 struct DecodeProgress {
     reader: PacketReader,

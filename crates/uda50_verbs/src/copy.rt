@@ -34,7 +34,8 @@ fn copy_to<'w>(
     let progress = CopyProgress::start(rt, copy.from.path, first..end);
     let mut copier = start(rt, copy, source, target)?;
     let outcome = copy_and_verify(rt, copy, &mut copier, progress, first..end)?;
-    sync_target(copy, copier, outcome)
+    sync_target(copy, copier)?;
+    Ok(outcome)
 }
 
 // Copies blocks, and compares them if that is asked for.
@@ -66,10 +67,10 @@ fn start<'w>(
     source: FileImage,
     target: FileImage,
 ) -> Result<Copier<FileImage>, Fault<'w>> {
-    match Driver::start(rt.alloc(), drives_of(source, target)) {
-        Ok(driver) => online(rt, copy, driver),
-        Err(_) => Err(Fault::new("uda50", Reason::NoMemory)),
-    }
+    let Ok(driver) = Driver::start(rt.alloc(), drives_of(source, target)) else {
+        return Err(Fault::new("uda50", Reason::NoMemory));
+    };
+    Copier::new(rt.alloc(), driver, copy.skips_lost).map_err(|error| fault(copy, error))
 }
 
 // Returns the drives of a copy: unit 0 with the source, and unit 1 with the target.
@@ -83,15 +84,6 @@ fn drives_of(source: FileImage, target: FileImage) -> Drives {
         hard: false,
     };
     [Some(source), Some(target), None, None]
-}
-
-// Brings both drives of a driver online.
-fn online<'w>(
-    rt: &HostRuntime,
-    copy: &Copy<'w>,
-    driver: Driver<FileImage>,
-) -> Result<Copier<FileImage>, Fault<'w>> {
-    Copier::new(rt.alloc(), driver, copy.skips_lost).map_err(|error| fault(copy, error))
 }
 
 // Returns the blocks to copy, after a check that the source has all of them.
@@ -123,28 +115,15 @@ fn verify<'w>(
     compared
 }
 
-// Syncs the written blocks to the medium. Returns the outcome of the copy, if that succeeds.
-fn sync_target<'w>(
-    copy: &Copy<'w>,
-    copier: Copier<FileImage>,
-    outcome: Outcome,
-) -> Result<Outcome, Fault<'w>> {
+// Syncs the written blocks to the medium.
+fn sync_target<'w>(copy: &Copy<'w>, copier: Copier<FileImage>) -> Result<(), Fault<'w>> {
     let mut drives = copier.into_driver().into_stores();
-    if are_synced(&mut drives) {
-        Ok(outcome)
-    } else {
-        Err(Fault::new(copy.to.path, Reason::NotSynced))
-    }
-}
-
-// Syncs drives up to the first failure. Returns whether there was none.
-fn are_synced(drives: &mut Drives) -> bool {
     for drive in drives.iter_mut().flatten() {
         if drive.store.sync().is_err() {
-            return false;
+            return Err(Fault::new(copy.to.path, Reason::NotSynced));
         }
     }
-    true
+    Ok(())
 }
 
 // Returns the fault for an error, with the file that it concerns.

@@ -2,8 +2,8 @@
 
 use crate::fault::{Fault, Reason};
 use crate::outcome::Outcome;
-use std::fs::{File, OpenFile, OpenOptions, TryLockError};
-use std::{fs, io};
+use std::fs;
+use std::fs::{File, Metadata, OpenFile, OpenOptions, TryLockError};
 use uda50_arguments::Create;
 
 /// Makes an image of zeros. With `--force`, an existing file becomes one.
@@ -13,45 +13,54 @@ pub(crate) fn create<'w>(rt: &HostRuntime, create: &Create<'w>) -> Result<Outcom
         return Err(Fault::new(path, Reason::Protected));
     }
     match fs::metadata(rt, path) {
-        Ok(metadata) => overwrite(rt, create, metadata.is_file()),
+        Ok(metadata) => overwrite(rt, create, &metadata),
         Err(_) => create_new(rt, create),
     }
 }
 
-// Makes an existing file an image of zeros, if it is a plain file and may be overwritten.
+// Makes an existing file an image of zeros.
 fn overwrite<'w>(
     rt: &HostRuntime,
     create: &Create<'w>,
-    is_file: bool,
+    metadata: &Metadata,
 ) -> Result<Outcome, Fault<'w>> {
     let path = create.image.path;
-    if !create.force {
-        return Err(Fault::new(path, Reason::Exists));
-    }
-    if !is_file {
-        return Err(Fault::new(path, Reason::NotPlain));
-    }
+    check_existing(path, create.force, metadata)?;
     let file = emptied(rt, path)?;
-    Fault::of_call(path, set_blocks(&file, create.blocks))?;
+    set_blocks(path, &file, create.blocks)?;
     Ok(Outcome::Done)
 }
 
-// Makes an image of zeros in a new file. Removes the file if it can't be made as long.
+// Makes an image of zeros in a new file. Removes the file if its length can't be set.
 fn create_new<'w>(rt: &HostRuntime, create: &Create<'w>) -> Result<Outcome, Fault<'w>> {
     let path = create.image.path;
     let file = new_file(rt, path)?;
-    match set_blocks(&file, create.blocks) {
-        Ok(()) => Ok(Outcome::Done),
-        Err(error) => {
-            let _ = fs::remove_file(rt, path);
-            Err(Fault::system(path, error))
-        }
+    let done = set_blocks(path, &file, create.blocks);
+    if done.is_err() {
+        let _ = fs::remove_file(rt, path);
+    }
+    done?;
+    Ok(Outcome::Done)
+}
+
+/// Fails if an existing file may not be overwritten: without `--force`, and if it isn't a plain file.
+pub(crate) fn check_existing<'w>(
+    path: &'w str,
+    force: bool,
+    metadata: &Metadata,
+) -> Result<(), Fault<'w>> {
+    if !force {
+        Err(Fault::new(path, Reason::Exists))
+    } else if !metadata.is_file() {
+        Err(Fault::new(path, Reason::NotPlain))
+    } else {
+        Ok(())
     }
 }
 
 /// Sets the length of a file to `blocks` blocks.
-pub(crate) fn set_blocks(file: &File, blocks: u32) -> io::Result<()> {
-    file.set_len(512 * u64::from(blocks))
+pub(crate) fn set_blocks<'w>(path: &'w str, file: &File, blocks: u32) -> Result<(), Fault<'w>> {
+    Fault::of_call(path, file.set_len(512 * u64::from(blocks)))
 }
 
 /// Makes a file that doesn't exist yet.
@@ -63,21 +72,16 @@ pub(crate) fn new_file<'w>(rt: &HostRuntime, path: &'w str) -> Result<File, Faul
     Fault::of_call(path, made)
 }
 
-// Opens a file whose lock nobody else holds, and empties it.
+// Opens and locks a file, and empties it.
 fn emptied<'w>(rt: &HostRuntime, path: &'w str) -> Result<File, Fault<'w>> {
     let file = locked(rt, path)?;
     Fault::of_call(path, file.set_len(0))?;
     Ok(file)
 }
 
-/// Opens a file whose lock nobody else holds.
+/// Opens and locks a file. Fails if somebody else holds its lock. A file that has no locks is only opened.
 pub(crate) fn locked<'w>(rt: &HostRuntime, path: &'w str) -> Result<File, Fault<'w>> {
     let file = Fault::of_call(path, OpenOptions::new().write(true).open(rt, path))?;
-    locked_file(path, file)
-}
-
-// Locks a file, unless somebody else holds its lock.
-fn locked_file<'w>(path: &'w str, file: File) -> Result<File, Fault<'w>> {
     match file.try_lock() {
         Err(TryLockError::WouldBlock) => Err(Fault::new(path, Reason::InUse)),
         _ => Ok(file),

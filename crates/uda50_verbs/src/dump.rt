@@ -21,7 +21,7 @@ pub(crate) fn dump<'w, W: Write + Drop>(
     dump_image(rt, dump, &mut image, out)
 }
 
-// Prints blocks of this image.
+// Prints blocks of an open image, unless raw ones would go to a terminal.
 fn dump_image<'w, W: Write + Drop>(
     rt: &HostRuntime,
     dump: &Dump<'w>,
@@ -31,9 +31,8 @@ fn dump_image<'w, W: Write + Drop>(
     if dump.format == (DumpFormat::Raw { force: false }) && rt.stdout().is_terminal() {
         return Err(Fault::new(STANDARD_OUTPUT, Reason::Terminal));
     }
-    let Range { start, end } = blocks_to_dump(dump, image.size())?;
-    for block in start..end {
-        copy_block(image, dump, block, out)?;
+    for block in blocks_to_dump(dump, image.size())? {
+        dump_block(image, dump, block, out)?;
     }
     Ok(Outcome::Done)
 }
@@ -48,19 +47,19 @@ fn blocks_to_dump<'w>(dump: &Dump<'w>, blocks: u32) -> Result<Range<u32>, Fault<
 }
 
 // Reads a block, and writes it.
-fn copy_block<'w, W: Write + Drop>(
+fn dump_block<'w, W: Write + Drop>(
     image: &mut FileImage,
     dump: &Dump<'w>,
     block: u32,
     out: &mut BufWriter<W>,
 ) -> Result<(), Fault<'w>> {
     let bytes = read_block_or_zeros(image, dump.image.path, block)?;
-    dump_block(out, block, &bytes, dump.format)?;
+    write_block(out, block, &bytes, dump.format)?;
     Ok(())
 }
 
 // Writes a block.
-fn dump_block<W: Write + Drop>(
+fn write_block<W: Write + Drop>(
     out: &mut BufWriter<W>,
     block: u32,
     bytes: &[u8; 512],

@@ -88,7 +88,7 @@ fn report(rt: &HostRuntime, fault: &Fault<'_>) -> u8
     if fault.is_closed_output() {
         return 0;
     }
-    let _ = eprintln!(rt; "uda50: {fault}");
+    fault.print(rt);
     FAULT
 }
 

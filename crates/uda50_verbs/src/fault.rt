@@ -142,6 +142,11 @@ impl<'w> Fault<'w> {
         }
     }
 
+    /// Prints the line of the fault to standard error.
+    pub(crate) fn print(&self, rt: &HostRuntime) {
+        let _ = eprintln!(rt; "uda50: {self}");
+    }
+
     /// Returns whether the fault concerns this file or stream.
     pub fn is_of(&self, name: &str) -> bool {
         self.name == name
@@ -167,7 +172,7 @@ impl Reason {
         }
     }
 
-    // Returns the reason for a kind of errors, or `None` if the error has the text.
+    // Returns the reason for a kind of errors, or `None` if the system's own text is printed.
     fn of_kind(kind: ErrorKind) -> Option<Reason> {
         match kind {
             ErrorKind::NotFound => Some(Reason::NoSuchFile),

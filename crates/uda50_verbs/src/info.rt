@@ -45,7 +45,7 @@ fn report<'w, W: Write>(
     fault: &Fault<'_>,
 ) -> Result<Outcome, Fault<'w>> {
     out.flush()?;
-    let _ = eprintln!(rt; "uda50: {fault}");
+    fault.print(rt);
     Ok(Outcome::FaultReported)
 }
 
@@ -56,32 +56,22 @@ fn describe<'w, W: Write>(
     out: &mut W,
 ) -> Result<(), Fault<'w>> {
     let mut image = open(rt, name.path, false)?;
-    describe_image(rt, name, &mut image, out)
-}
-
-// Writes the lines of this image.
-fn describe_image<'w, W: Write>(
-    rt: &HostRuntime,
-    name: ImageName<'w>,
-    image: &mut FileImage,
-    out: &mut W,
-) -> Result<(), Fault<'w>> {
-    let blocks = read_blocks(image, name.path)?;
+    let blocks = read_blocks(&mut image, name.path)?;
     write_lines(rt, name, image.size(), &blocks, out)?;
     Ok(())
 }
 
 // The blocks that can hold a structure.
 #[derive(Drop)]
-struct Blocks {
+struct StructureBlocks {
     zero: [u8; 512],
     one: [u8; 512],
     thirty_one: [u8; 512],
 }
 
 // Reads the blocks that can hold a structure.
-fn read_blocks<'w>(image: &mut FileImage, path: &'w str) -> Result<Blocks, Fault<'w>> {
-    Ok(Blocks {
+fn read_blocks<'w>(image: &mut FileImage, path: &'w str) -> Result<StructureBlocks, Fault<'w>> {
+    Ok(StructureBlocks {
         zero: read_block_or_zeros(image, path, 0)?,
         one: read_block_or_zeros(image, path, 1)?,
         thirty_one: read_block_or_zeros(image, path, 31)?,
@@ -93,7 +83,7 @@ fn write_lines<W: Write>(
     rt: &HostRuntime,
     name: ImageName<'_>,
     size: u32,
-    blocks: &Blocks,
+    blocks: &StructureBlocks,
     out: &mut W,
 ) -> io::Result<()> {
     write_size(out, name.path, size)?;
@@ -101,7 +91,7 @@ fn write_lines<W: Write>(
     write_contents(out, blocks)
 }
 
-// Returns whether an image can be written, in a word.
+// Returns the text that says whether an image can be written.
 fn writable(rt: &HostRuntime, name: ImageName<'_>) -> &'static str {
     match (name.protected, is_writable(rt, name)) {
         (true, _) => "no (lock:)",
@@ -129,11 +119,11 @@ fn write_types<W: Write>(out: &mut W, blocks: u32) -> io::Result<()> {
 }
 
 // Writes a line for each structure found in blocks 0, 1 and 31.
-fn write_contents<W: Write>(out: &mut W, blocks: &Blocks) -> io::Result<()> {
-    let is_in_0 = write_block_0(out, &blocks.zero)?;
-    let is_in_1 = write_block_1(out, &blocks.one)?;
-    let is_in_31 = write_found(out, 31, DiskLabel::in_block_31(&blocks.thirty_one))?;
-    if is_in_0 || is_in_1 || is_in_31 {
+fn write_contents<W: Write>(out: &mut W, blocks: &StructureBlocks) -> io::Result<()> {
+    let found_in_0 = write_block_0(out, &blocks.zero)?;
+    let found_in_1 = write_block_1(out, &blocks.one)?;
+    let found_in_31 = write_found(out, 31, DiskLabel::in_block_31(&blocks.thirty_one))?;
+    if found_in_0 || found_in_1 || found_in_31 {
         Ok(())
     } else {
         write_unknown(out)
@@ -147,16 +137,16 @@ fn write_unknown<W: Write>(out: &mut W) -> io::Result<()> {
 
 // Writes the lines of the structures in block 0, and returns whether there is one.
 fn write_block_0<W: Write>(out: &mut W, block: &[u8; 512]) -> io::Result<bool> {
-    let is_boot = write_found(out, 0, BootBlock::read(block))?;
-    let is_label = write_found(out, 0, DiskLabel::in_block_0(block))?;
-    Ok(is_boot || is_label)
+    let has_boot = write_found(out, 0, BootBlock::read(block))?;
+    let has_label = write_found(out, 0, DiskLabel::in_block_0(block))?;
+    Ok(has_boot || has_label)
 }
 
 // Writes the lines of the structures in block 1, and returns whether there is one.
 fn write_block_1<W: Write>(out: &mut W, block: &[u8; 512]) -> io::Result<bool> {
-    let is_home = write_found(out, 1, HomeBlock::read(block))?;
-    let is_label = write_found(out, 1, DiskLabel::in_block_1(block))?;
-    Ok(is_home || is_label)
+    let has_home = write_found(out, 1, HomeBlock::read(block))?;
+    let has_label = write_found(out, 1, DiskLabel::in_block_1(block))?;
+    Ok(has_home || has_label)
 }
 
 // Writes the line of a structure in a block, and returns whether there is one.

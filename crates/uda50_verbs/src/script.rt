@@ -64,22 +64,17 @@ pub(crate) fn open_drives<'w>(
     let mut drives = [None, None, None, None];
     for (drive, unit) in drives.iter_mut().zip(units) {
         if let Some(image) = unit {
-            open_drive(rt, *image, drive)?;
+            *drive = Some(open_drive(rt, *image)?);
         }
     }
     Ok(drives)
 }
 
-// Opens an image as the drive of a unit.
-fn open_drive<'w>(
-    rt: &HostRuntime,
-    image: ImageName<'w>,
-    drive: &mut Option<Drive<FileImage>>,
-) -> Result<(), Fault<'w>> {
+// Opens an image as a drive.
+fn open_drive<'w>(rt: &HostRuntime, image: ImageName<'w>) -> Result<Drive<FileImage>, Fault<'w>> {
     let store = open(rt, image.path, !image.protected)?;
     let hard = image.protected;
-    *drive = Some(Drive { store, hard });
-    Ok(())
+    Ok(Drive { store, hard })
 }
 
 // Syncs each image that was written. Of the faults, the script's and then those of the images, the last is
@@ -113,15 +108,10 @@ fn print_earlier<'w>(
     outcome: &Result<ScriptOutcome, Fault<'w>>,
 ) {
     match (last, outcome) {
-        (Some(path), _) => print_fault(rt, &not_synced(path)),
-        (None, Err(fault)) => print_fault(rt, fault),
+        (Some(path), _) => not_synced(path).print(rt),
+        (None, Err(fault)) => fault.print(rt),
         (None, Ok(_)) => {}
     }
-}
-
-// Prints the line of a fault.
-fn print_fault(rt: &HostRuntime, fault: &Fault<'_>) {
-    let _ = eprintln!(rt; "uda50: {fault}");
 }
 
 // Returns the fault of an image that could not be synced.

@@ -1,4 +1,4 @@
-//! The standard streams.
+//! The standard streams, and text files.
 
 use crate::fault::Fault;
 use std::fs::{File, OpenFile};
@@ -13,7 +13,7 @@ pub(crate) fn fill_closed_streams(rt: &HostRuntime) -> Option<[File; 3]> {
     Some([nothing(rt)?, nothing(rt)?, nothing(rt)?])
 }
 
-/// Opens a text file, with a buffer.
+/// Opens a text file through a buffer.
 pub(crate) fn open_text<'w>(rt: &HostRuntime, path: &'w str) -> Result<BufReader<File>, Fault<'w>> {
     let file = Fault::of_call(path, File::open(rt, path))?;
     Ok(BufReader::new(rt.alloc(), file)?)

@@ -1,10 +1,10 @@
 //! The target file of a copy.
 
-use crate::create::{locked, new_file, set_blocks};
+use crate::create::{check_existing, locked, new_file, set_blocks};
 use crate::fault::{Fault, Reason};
 use crate::image::open;
 use std::fs;
-use std::fs::{File, Metadata};
+use std::fs::Metadata;
 use std::os::unix::fs::MetadataExt;
 use uda_image::{BlockStore, FileImage};
 use uda50_arguments::Copy;
@@ -28,18 +28,16 @@ pub(crate) fn open_target<'w>(
     with_blocks(copy, target)
 }
 
-// Makes the file of the target, or gives it its length.
+// Makes the target as long as the source, unless only some blocks of an existing file are copied.
 fn prepare<'w>(rt: &HostRuntime, copy: &Copy<'w>, size: u32) -> Result<(), Fault<'w>> {
     let path = copy.to.path;
     match fs::metadata(rt, path) {
-        Err(_) => set_length(path, &new_file(rt, path)?, size),
-        Ok(_) if !copy.force => Err(Fault::new(path, Reason::Exists)),
-        Ok(metadata) if !metadata.is_file() => Err(Fault::new(path, Reason::NotPlain)),
+        Err(_) => set_blocks(path, &new_file(rt, path)?, size),
         Ok(metadata) => prepare_existing(rt, copy, &metadata, size),
     }
 }
 
-// Gives an existing target its length.
+// Makes an existing target as long as the source, if all blocks are copied. Fails if it is the source.
 fn prepare_existing<'w>(
     rt: &HostRuntime,
     copy: &Copy<'w>,
@@ -47,27 +45,22 @@ fn prepare_existing<'w>(
     size: u32,
 ) -> Result<(), Fault<'w>> {
     let path = copy.to.path;
-    if is_source(rt, copy, metadata.dev(), metadata.ino()) {
+    check_existing(path, copy.force, metadata)?;
+    if is_source(rt, copy, metadata) {
         return Err(Fault::new(path, Reason::SameFile));
     }
-    if copy.blocks.is_none() {
-        set_length(path, &locked(rt, path)?, size)
-    } else {
-        Ok(())
+    match copy.blocks {
+        None => set_blocks(path, &locked(rt, path)?, size),
+        Some(_) => Ok(()),
     }
 }
 
-// Returns whether a file is the source, by the same name or by another.
-fn is_source(rt: &HostRuntime, copy: &Copy<'_>, dev: u64, ino: u64) -> bool {
+// Returns whether the target is the source, by the same name or by another.
+fn is_source(rt: &HostRuntime, copy: &Copy<'_>, target: &Metadata) -> bool {
     match fs::metadata(rt, copy.from.path) {
-        Ok(source) => source.dev() == dev && source.ino() == ino,
+        Ok(source) => source.dev() == target.dev() && source.ino() == target.ino(),
         Err(_) => false,
     }
-}
-
-// Sets the length of the target to `blocks` blocks.
-fn set_length<'w>(path: &'w str, file: &File, blocks: u32) -> Result<(), Fault<'w>> {
-    Fault::of_call(path, set_blocks(file, blocks))
 }
 
 // Returns the target, if it has all blocks of the copy.

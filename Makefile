@@ -4,8 +4,8 @@
 #   make install    installs both programs and the man page below PREFIX, /usr/local, and below DESTDIR
 #   make scenarios  the program that executes scenarios, as out/scenarios, without proofs: about a minute
 #   make library    the library for C as out/libuda50.a, without proofs: half a minute
-#   make test       the tests, without proofs: seven minutes; make check is the same
-#   make proofs     the full check: every proof from nothing, tests, must-fail edits, library for C: 2 to 3 hours
+#   make test       the tests, without proofs: four minutes; make check is the same
+#   make proofs     the full check: every proof from nothing, tests, must-fail edits, library for C: 2 hours
 #   make clean      removes out/
 # `make -C c` builds the proved library for C. All of it needs the command rt of the Rattle toolchain on the path.
 sources := $(shell find crates -name '*.rt') crates.txt

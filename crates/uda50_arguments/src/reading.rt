@@ -55,7 +55,17 @@ fn usage_of<'w>(
         "create" => (&CREATE, "uda50 create"),
         _ => return None,
     };
-    named(alloc, verb, name, drives).ok()?.render_usage().ok()
+    usage(alloc, verb, name, drives).ok()
+}
+
+// Returns the usage of a verb, which it calls by this name.
+fn usage<'w>(
+    alloc: Global,
+    verb: &Verb,
+    name: &'w str,
+    drives: &'w [&'w str],
+) -> Result<String, AllocError> {
+    named(alloc, verb, name, drives)?.render_usage()
 }
 
 // Builds a verb with the name that its usage has.
@@ -96,22 +106,32 @@ fn read_matches<'w>(alloc: Global, matches: &ArgMatches<'w>) -> Result<Task<'w>,
 
 // Returns the error of arguments without a verb.
 fn no_verb(alloc: Global) -> Result<Error, AllocError> {
-    grammar(alloc, &[])?.error(ErrorKind::MissingSubcommand, "a verb is missing")
+    let program = grammar(alloc, &[])?;
+    error_of(program, ErrorKind::MissingSubcommand, "a verb is missing")
+}
+
+// Returns an error of the program or of a verb.
+fn error_of<'w>(
+    mut command: Command<'w>,
+    kind: ErrorKind,
+    message: &str,
+) -> Result<Error, AllocError> {
+    command.error(kind, message)
 }
 
 fn read_verb<'w>(alloc: Global, verb: &str, found: &ArgMatches<'w>) -> Result<Task<'w>, Error> {
     match verb {
-        "run" => Ok(read_run(alloc, found)?),
+        "run" => read_run(alloc, found),
         "copy" => read_copy(alloc, found),
-        "info" => Ok(read_info(alloc, found)?),
+        "info" => read_info(alloc, found),
         "dump" => Ok(read_dump(found)),
         "create" => Ok(read_create(found)),
-        "trace" => Ok(read_trace(alloc, found)?),
+        "trace" => read_trace(alloc, found),
         _ => Ok(read_decode(found)),
     }
 }
 
-fn read_run<'w>(alloc: Global, found: &ArgMatches<'w>) -> Result<Task<'w>, AllocError> {
+fn read_run<'w>(alloc: Global, found: &ArgMatches<'w>) -> Result<Task<'w>, Error> {
     let units = units(alloc, found)?;
     Ok(Task::Run(Run {
         script: text(found, "SCRIPT"),
@@ -121,12 +141,12 @@ fn read_run<'w>(alloc: Global, found: &ArgMatches<'w>) -> Result<Task<'w>, Alloc
     }))
 }
 
-fn read_info<'w>(alloc: Global, found: &ArgMatches<'w>) -> Result<Task<'w>, AllocError> {
+fn read_info<'w>(alloc: Global, found: &ArgMatches<'w>) -> Result<Task<'w>, Error> {
     let images = images(alloc, found)?;
     Ok(Task::Info { images })
 }
 
-fn read_trace<'w>(alloc: Global, found: &ArgMatches<'w>) -> Result<Task<'w>, AllocError> {
+fn read_trace<'w>(alloc: Global, found: &ArgMatches<'w>) -> Result<Task<'w>, Error> {
     let units = units(alloc, found)?;
     let script = text(found, "SCRIPT");
     Ok(Task::Trace { script, units })
@@ -171,7 +191,8 @@ fn wrong_range(alloc: Global, text: &str) -> Result<Error, AllocError> {
 
 // Returns an error of the values of `copy`.
 fn copy_error(alloc: Global, message: &str) -> Result<Error, AllocError> {
-    named(alloc, &COPY, "uda50 copy", &[])?.error(ErrorKind::ValueValidation, message)
+    let verb = named(alloc, &COPY, "uda50 copy", &[])?;
+    error_of(verb, ErrorKind::ValueValidation, message)
 }
 
 fn read_dump<'w>(found: &ArgMatches<'w>) -> Task<'w> {

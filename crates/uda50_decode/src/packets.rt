@@ -82,8 +82,7 @@ pub fn decode<R: Read + Drop, W: Write + Drop>(
 {
     let mut progress = DecodeProgress::new();
     let mut line = String::new(alloc);
-    let mut number = 0u64;
-    for _ in 0..u64::MAX {
+    for lines_before in 0..u64::MAX {
         if !input.buffer().contains(&b'\n') {
             out.flush()?;
         }
@@ -97,8 +96,7 @@ pub fn decode<R: Read + Drop, W: Write + Drop>(
         if read == 0 {
             return progress.end();
         }
-        number = number.saturating_add(1);
-        decode_line(number, line.as_str(), &mut progress, out)?;
+        decode_line(lines_before, line.as_str(), &mut progress, out)?;
         if line.capacity() > LINE_ROOM {
             line = String::new(alloc);
         }
@@ -107,16 +105,17 @@ pub fn decode<R: Read + Drop, W: Write + Drop>(
     Err(DecodeError::TooManyLines)
 }
 
-// Reads the tokens of a line, and prints the packets that they complete. `#` begins a comment.
+// Reads the tokens of the line that follows `lines_before` lines, and prints the packets that they complete.
+// `#` begins a comment.
 fn decode_line<W: Write + Drop>(
-    line: u64,
+    lines_before: u64,
     text: &str,
     progress: &mut DecodeProgress,
     out: &mut BufWriter<W>,
 ) -> Result<(), DecodeError>
-    requires { 0 < line }
     ensures errors { IfErr result IsCounted }
 {
+    let line = lines_before.saturating_add(1);
     let tokens = match text.split_once('#') {
         Some((tokens, _)) => tokens,
         None => text,

@@ -1,0 +1,2 @@
+pub mod FileCall
+pub mod StoredCalls

@@ -1,5 +1,6 @@
 //! The three lowest crates, one module for each.
 mod images;
+mod mem_file;
 mod memory;
 mod slices;
 mod texts;

@@ -19,6 +19,8 @@ impl BlockStore for Counting {
 
     ghost is_image = { λ store _. HasWholeBlocks-blocks_of store.image };
 
+    ghost is_image_if_sound = { λ store _. HasWholeBlocks-blocks_of store.image };
+
     fn size(&self) -> u32 {
         self.image.size()
     }

@@ -148,6 +148,7 @@ impl BlockStore for RecordingImage {
       blocks = [];
       size = block_count_of store.image;
       faithful = false;
+      honest = false;
       never_fails = false;
       failures = 0;
       failing_call = None;
@@ -156,6 +157,8 @@ impl BlockStore for RecordingImage {
     ghost within_limit = { λ store. block_count-le store.image };
 
     ghost is_image = { λ _. no_image };
+
+    ghost is_image_if_sound = { λ _. no_image };
 
     fn size(&self) -> u32 {
         self.image.size()

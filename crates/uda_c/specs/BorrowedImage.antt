@@ -26,6 +26,7 @@ borrowed_state image = record {
   blocks = blocks_of image.bytes;
   size = block_count_of image.bytes;
   faithful = true;
+  honest = true;
   never_fails = is_none image.left;
   failures = failures_of image.left;
   failing_call = image.left;

@@ -134,6 +134,8 @@ impl BlockStore for BorrowedImage {
 
     ghost is_image = { λ image _. HasWholeBlocks-blocks_of image.bytes };
 
+    ghost is_image_if_sound = { λ image _. HasWholeBlocks-blocks_of image.bytes };
+
     #[tactic(auto, using(crate::proofs::Images::within_limit))]
     fn size(&self) -> u32 {
         self.size

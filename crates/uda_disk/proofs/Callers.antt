@@ -1,6 +1,6 @@
 -- The laws for callers.
 use Rattle.std.proofs.Common.{◌≡◌, ℕ, ◌+◌, ◌*◌, ◌%◌, Bool, true, false, List, [], ◌∷◌, ◌++◌, length, take, drop, replicate, Option, None, refl, sym, ap, ap₂, ◌∙◌, arith, length-append}
-use Rattle.std.specs.Prelude.{◌-◌, All, slice_get, nat_eq, nat_lt, nat_le, ◌&&◌}
+use Rattle.std.specs.Prelude.{◌-◌, All, nat_eq, nat_lt, nat_le, ◌&&◌}
 use Rattle.std.specs.List.{concat}
 use Rattle.std.specs.Option.{option_map_or}
 use Rattle.std.specs.Simd.{first_chunks}
@@ -51,7 +51,7 @@ allowed_is_done r e disk disks is a short here =
 pub whole_count : WholeCount
 whole_count n = omega arith
 
-length-concat : (blocks : List (List ℕ)) → All (λ block. length block ≡ 512) blocks → length (concat blocks)
+pub length-concat : (blocks : List (List ℕ)) → All (λ block. length block ≡ 512) blocks → length (concat blocks)
     ≡ 512 * length blocks
 length-concat [] h = omega arith
 length-concat (b ∷ bs) h =

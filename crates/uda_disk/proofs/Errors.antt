@@ -34,7 +34,7 @@ abbrev chosen : TransferOutcome → Request → Disks → Bool → Answer × Dis
 chosen o r disks b = if b then (TooLong, disks) else serve_by o r (check_result disks r) disks
 
 -- a request that reports no drive error is as if it had not failed
-step-clean : (o : TransferOutcome) (r : Request) (disks : Disks) → is_error (step_as o r disks).0 ≡ false
+pub step-clean : (o : TransferOutcome) (r : Request) (disks : Disks) → is_error (step_as o r disks).0 ≡ false
     → step_as o r disks ≡ step r disks
 step-clean Done r disks h = refl
 step-clean (Lost k left) r disks h = by (too_long r) h

@@ -10,3 +10,4 @@ pub mod Outcomes
 pub mod Callers
 pub mod Protected
 pub mod Examples
+pub mod Successes

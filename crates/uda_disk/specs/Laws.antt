@@ -1,17 +1,18 @@
 -- Laws of in-order runs, for callers who reason about their own lists of requests. MSCP Basic Disk
 -- Functions Manual: transfer commands, write protection.
-use Rattle.std.specs.Prelude.{◌≡◌, ℕ, ◌+◌, ◌-◌, ◌*◌, ◌%◌, ◌<◌, ◌≤◌, true, false, List, [], ◌∷◌, ◌++◌, length, All}
+use Rattle.std.specs.Prelude.{◌≡◌, ◌≢◌, ℕ, ◌+◌, ◌-◌, ◌*◌, ◌%◌, ◌<◌, ◌≤◌, true, false, List, [], ◌∷◌, ◌++◌, length, All}
 use Rattle.std.specs.Prelude.{Option, Some, None}
 use Rattle.std.specs.Prelude.{slice_get, slice_set}
 use Rattle.std.specs.List.{concat}
+use Rattle.uda_mem.specs.Put.{part, put}
 use Rattle.uda_image.specs.Store.{HasWholeBlocks}
 use Rattle.uda_disk.specs.Status.{SUCCESS}
 use Rattle.uda_disk.specs.Disk.{Disk, Disks}
 use Rattle.uda_disk.specs.Request.{Act, Read, Write, Request, Extent, extent_of, is_writing, blocks_for}
 use Rattle.uda_disk.specs.Request.{in_blocks}
-use Rattle.uda_disk.specs.Answer.{Answer, Data}
+use Rattle.uda_disk.specs.Answer.{Answer, Data, Moved}
 use Rattle.uda_disk.specs.RequestEffect.{TransferOutcome, Done, answer_on, disk_after}
-use Rattle.uda_disk.specs.InOrderRun.{too_long, step, run_in_order}
+use Rattle.uda_disk.specs.InOrderRun.{FixedRequest, requests_of, too_long, step_as, step, run_in_order, run_in_order_as}
 
 -- no check rejects a transfer: the unit is online, the byte count even, the range on the unit, and the
 -- blocks that it would change aren't protected
@@ -90,3 +91,73 @@ abbrev pub LastHasLastPlace : Type 0
 LastHasLastPlace =
     (answers front : List Answer) (last : Answer)
     → answers ≡ front ++ last ∷ [] → slice_get answers (length answers - 1) ≡ Some last
+
+-- the blocks of a unit; none if it has no drive
+abbrev pub blocks_in : Option (Option Disk) → List (List ℕ)
+blocks_in (Some (Some disk)) = disk.blocks
+blocks_in _ = []
+
+abbrev pub blocks_at : Disks → ℕ → List (List ℕ)
+blocks_at disks u = blocks_in (slice_get disks u)
+
+-- the size of a unit; 0 if it has no drive
+abbrev pub size_in : Option (Option Disk) → ℕ
+size_in (Some (Some disk)) = disk.size
+size_in _ = 0
+
+abbrev pub size_at : Disks → ℕ → ℕ
+size_at disks u = size_in (slice_get disks u)
+
+-- the disk of a unit, if it has a drive, has as many blocks as its size says, each of 512 bytes
+abbrev pub HasWholeDisk : Option (Option Disk) → Type 0
+HasWholeDisk (Some (Some disk)) = HasWholeBlocks disk.size disk.blocks
+HasWholeDisk _ = Unit {0}
+
+-- the blocks of each unit are the same, and whole disks are still whole
+pub record HasSameBlocks (disks left : Disks) : Type 0 where
+  pub same : (u : ℕ) → blocks_at left u ≡ blocks_at disks u
+  pub whole : (u : ℕ) → HasWholeDisk (slice_get disks u) → HasWholeDisk (slice_get left u)
+  pub sizes_stay : (u : ℕ) → size_at left u ≡ size_at disks u
+
+-- a request that isn't a Write or an Erase leaves all blocks unchanged
+abbrev pub BlocksStay : Type 0
+BlocksStay =
+    (o : TransferOutcome) (r : Request) (disks : Disks) → is_writing r.act ≡ false
+    → HasSameBlocks disks (step_as o r disks).1
+
+-- in a run of such requests, in which transfers may fail, each answer is that of its request on those blocks
+abbrev pub AnsweredOnSameBlocks : Type 0
+AnsweredOnSameBlocks =
+    (xs : List FixedRequest) (disks : Disks) (k : ℕ) (r : Request) (answer : Answer)
+    → All (λ q. is_writing q.act ≡ false) (requests_of xs) → slice_get (requests_of xs) k ≡ Some r
+    → slice_get (run_in_order_as disks xs).0 k ≡ Some answer
+    → (o : TransferOutcome) × ((now : Disks) × (HasSameBlocks disks now × ((step_as o r now).0 ≡ answer)))
+
+-- and it leaves the blocks unchanged
+abbrev pub RunBlocksStay : Type 0
+RunBlocksStay =
+    (xs : List FixedRequest) (disks : Disks) → All (λ q. is_writing q.act ≡ false) (requests_of xs)
+    → HasSameBlocks disks (run_in_order_as disks xs).1
+
+-- a Read of whole blocks that succeeds returns their bytes; the blocks are on the unit
+abbrev pub SuccessfulRead : Type 0
+SuccessfulRead =
+    (o : TransferOutcome) (u lbn count : ℕ) (disks : Disks) (bytes : List ℕ)
+    → (step_as o (record { unit = u; act = Read lbn (512 * count) }) disks).0 ≡ Data SUCCESS bytes
+    → HasWholeDisk (slice_get disks u)
+    → (lbn + count ≤ length (blocks_at disks u)) × (bytes ≡ concat (part (blocks_at disks u) lbn count))
+
+-- the blocks of a unit after these bytes were written from this block on: they are within its size, and no other unit
+-- changed
+pub record IsWritten (u lbn : ℕ) (payload : List ℕ) (disks left : Disks) : Type 0 where
+  pub within : lbn + blocks_for (length payload) ≤ size_at disks u
+  pub written : blocks_at left u ≡ put (blocks_at disks u) lbn (in_blocks payload)
+  pub size_stays : size_at left u ≡ size_at disks u
+  pub others_stay : (v : ℕ) → v ≢ u → slice_get left v ≡ slice_get disks v
+
+-- a Write that succeeds replaces the blocks of its range, and no others
+abbrev pub SuccessfulWrite : Type 0
+SuccessfulWrite =
+    (o : TransferOutcome) (u lbn : ℕ) (payload : List ℕ) (disks : Disks) (n : ℕ)
+    → (step_as o (record { unit = u; act = Write lbn payload }) disks).0 ≡ Moved SUCCESS n
+    → IsWritten u lbn payload disks (step_as o (record { unit = u; act = Write lbn payload }) disks).1

@@ -1,7 +1,7 @@
 -- The units of a controller: each has a store of blocks and a mode. Requests see their disks. MSCP Basic
 -- Disk Functions Manual: unit states, write protection.
 use Rattle.std.specs.Prelude.{◌≡◌, ℕ, Bool, true, List, Option, Some, None, map, option_map, slice_get, All}
-use Rattle.uda_image.specs.Store.{StoreState, HasWholeBlocks}
+use Rattle.uda_image.specs.Store.{StoreState, HasWholeBlocks, is_sound}
 use Rattle.uda_disk.specs.declared.mode.Mode.{Mode}
 use Rattle.uda_disk.specs.Disk.{Disk, Disks}
 
@@ -28,6 +28,19 @@ is_faithful _ = true
 abbrev pub AllFaithful : Units → Type 0
 AllFaithful units = (u : ℕ) → is_faithful (slice_get units u) ≡ true
 
+-- the store of this unit is sound: it is faithful, or it has been honest until now; true if there is no store
+abbrev pub is_sound_at : Option (Option UnitState) → Bool
+is_sound_at (Some (Some unit)) = is_sound unit.store
+is_sound_at _ = true
+
+abbrev pub AllSound : Units → Type 0
+AllSound units = (u : ℕ) → is_sound_at (slice_get units u) ≡ true
+
+-- each store that is sound afterwards was sound before
+abbrev pub AreSoundBefore : Units → Units → Type 0
+AreSoundBefore units units_after =
+    (u : ℕ) → is_sound_at (slice_get units_after u) ≡ true → is_sound_at (slice_get units u) ≡ true
+
 -- the store of this unit never fails; true if there is no store
 abbrev pub is_infallible : Option (Option UnitState) → Bool
 is_infallible (Some (Some unit)) = unit.store.never_fails
@@ -50,6 +63,14 @@ IsWellFormed (Some unit) = unit.store.faithful ≡ true → HasWholeBlocks unit.
 
 abbrev pub AreWellFormed : Units → Type 0
 AreWellFormed units = All IsWellFormed units
+
+-- the same of a unit with a sound store
+abbrev pub IsWellFormedIfSound : Option UnitState → Type 0
+IsWellFormedIfSound None = Unit {0}
+IsWellFormedIfSound (Some unit) = is_sound unit.store ≡ true → HasWholeBlocks unit.store.size unit.store.blocks
+
+abbrev pub AreWellFormedIfSound : Units → Type 0
+AreWellFormedIfSound units = All IsWellFormedIfSound units
 
 -- the attributes that no request changes, whatever the store: the size, the hardware protection, whether
 -- the store is faithful, and whether it never fails

@@ -2,6 +2,7 @@
 ghost use Rattle.std.specs.Prelude.{◌≡◌, ◌<◌, ◌≤◌, ◌↔◌, false, length, Err, IfOk, IfErr};
 ghost use Rattle.uda_exec.specs.Drives.{drive_states, fresh_units, drives_in};
 ghost use Rattle.uda_disk.specs.Units.{unit_attributes, AllFaithful, AreWellFormed};
+ghost use Rattle.uda_disk.specs.Units.{AllSound, AreSoundBefore, AreWellFormedIfSound};
 ghost use Rattle.uda_disk.specs.Values.{request_values, answer_values};
 ghost use Rattle.uda_driver.specs.Run.{request_limit, AreAnswersOf, NoStoreFailed, IsInOrderRun, ReportsEveryFailure};
 ghost use Rattle.uda_driver.specs.Run.{HasTurnCounts, units_of, any_drive_error, InfallibleDidNotFail, MatchesUpToData};
@@ -69,6 +70,7 @@ impl<S: BlockStore> Driver<S> {
             units_of driver ≡ fresh_units (drive_states S.state drives)) }
         ensures four_units { IfOk result (λ driver. length (units_of driver) ≡ 4) }
         ensures well_formed { IfOk result (λ driver. AreWellFormed (units_of driver)) }
+        ensures well_formed_if_sound { IfOk result (λ driver. AreWellFormedIfSound (units_of driver)) }
         ensures refused { IfErr result (λ refusal.
             drive_states S.state refusal.drives ≡ drive_states S.state drives) }
     {
@@ -94,6 +96,11 @@ impl<S: BlockStore> Driver<S> {
     /// - If stores fail, they are those of an in-order run in which transfers may fail part-way. Each
     ///   failure of a store is reported by exactly one answer (`in_order_run_with_failures`).
     /// - A store that never fails has not failed (`infallible`).
+    ///
+    /// The same holds if each store is sound after the run: it is faithful, or it is a file that has been
+    /// honest ([`FileImage`](uda_image::FileImage)). See `in_order_run_if_sound`,
+    /// `in_order_run_if_sound_and_no_error`, `in_order_run_with_failures_if_sound` and `infallible_if_sound`. A
+    /// store that is sound after the run was sound before it (`sound_before`).
     ///
     /// Over any stores:
     ///
@@ -129,6 +136,24 @@ impl<S: BlockStore> Driver<S> {
             → InfallibleDidNotFail (units_of self.old) (units_of self.new) }
         ensures in_order_run_with_failures { IfOk result (λ answers.
             AllFaithful (units_of self.old)
+            → ReportsEveryFailure (units_of self.old) (request_values requests.now)
+            (answer_values answers.items) (units_of self.new)) }
+        ensures sound_before { AreSoundBefore (units_of self.old) (units_of self.new) }
+        ensures well_formed_if_sound { AreWellFormedIfSound (units_of self.old)
+            → AreWellFormedIfSound (units_of self.new) }
+        ensures in_order_run_if_sound { IfOk result (λ answers.
+            AllSound (units_of self.new) → NoStoreFailed (units_of self.old) (units_of self.new)
+            → IsInOrderRun (units_of self.old) (request_values requests.now)
+            (answer_values answers.items) (units_of self.new)) }
+        ensures in_order_run_if_sound_and_no_error { IfOk result (λ answers.
+            AllSound (units_of self.new)
+            → any_drive_error (answer_values answers.items) ≡ false
+            → IsInOrderRun (units_of self.old) (request_values requests.now)
+            (answer_values answers.items) (units_of self.new)) }
+        ensures infallible_if_sound { AllSound (units_of self.new)
+            → InfallibleDidNotFail (units_of self.old) (units_of self.new) }
+        ensures in_order_run_with_failures_if_sound { IfOk result (λ answers.
+            AllSound (units_of self.new)
             → ReportsEveryFailure (units_of self.old) (request_values requests.now)
             (answer_values answers.items) (units_of self.new)) }
         ensures in_order_run_up_to_data { IfOk result (λ answers.
@@ -171,6 +196,24 @@ impl<S: BlockStore> Driver<S> {
             → InfallibleDidNotFail (units_of self.old) (units_of self.new) }
         ensures in_order_run_with_failures { IfOk result (λ answers.
             AllFaithful (units_of self.old)
+            → ReportsEveryFailure (units_of self.old) (request_values requests.now)
+            (answer_values answers.items) (units_of self.new)) }
+        ensures sound_before { AreSoundBefore (units_of self.old) (units_of self.new) }
+        ensures well_formed_if_sound { AreWellFormedIfSound (units_of self.old)
+            → AreWellFormedIfSound (units_of self.new) }
+        ensures in_order_run_if_sound { IfOk result (λ answers.
+            AllSound (units_of self.new) → NoStoreFailed (units_of self.old) (units_of self.new)
+            → IsInOrderRun (units_of self.old) (request_values requests.now)
+            (answer_values answers.items) (units_of self.new)) }
+        ensures in_order_run_if_sound_and_no_error { IfOk result (λ answers.
+            AllSound (units_of self.new)
+            → any_drive_error (answer_values answers.items) ≡ false
+            → IsInOrderRun (units_of self.old) (request_values requests.now)
+            (answer_values answers.items) (units_of self.new)) }
+        ensures infallible_if_sound { AllSound (units_of self.new)
+            → InfallibleDidNotFail (units_of self.old) (units_of self.new) }
+        ensures in_order_run_with_failures_if_sound { IfOk result (λ answers.
+            AllSound (units_of self.new)
             → ReportsEveryFailure (units_of self.old) (request_values requests.now)
             (answer_values answers.items) (units_of self.new)) }
         ensures in_order_run_up_to_data { IfOk result (λ answers.

@@ -16,6 +16,7 @@ use Rattle.uda_exec.proofs.Calls.{go_none, go_more}
 use Rattle.uda_exec.proofs.Changes.{changes_by_put}
 use Rattle.uda_exec.proofs.Steps.{progress_none}
 use Rattle.uda_exec.proofs.Blocks.{AreBlocks-part, length-concat_blocks, part-part, bytes_at-within}
+use Rattle.uda_image.specs.Store.{is_sound}
 
 -- the front of a part
 take-part : {A : Type 0} (xs : List A) (at n m : ℕ) → m ≤ n → take m (part xs at n) ≡ part xs at m
@@ -138,13 +139,13 @@ module _ (t : Transfer) (k count : ℕ) (old : StoreState) (memory : List ℕ) (
 pub record Accessing (count done : ℕ) (old now : StoreState) : Type 0 where
   pub attributes : KeepsAttributes old now
   pub within : done ≤ count
-  pub accessed : old.faithful ≡ true → Accessed old done now
+  pub accessed : is_sound now ≡ true → Accessed old done now
 
 -- the same of blocks that are erased
 pub record Erasing (n count done : ℕ) (old now : StoreState) : Type 0 where
   pub attributes : KeepsAttributes old now
   pub within : done ≤ count
-  pub erased : old.faithful ≡ true → Erased old n done now
+  pub erased : is_sound now ≡ true → Erased old n done now
 
 pub erased_none : (old : StoreState) (n : ℕ) → Erased old n 0 old
 erased_none old n = record {

@@ -14,6 +14,7 @@ use Rattle.uda_exec.specs.Compare.{byte_stored, byte_held, ComparesBlocks}
 use Rattle.uda_exec.specs.Comparing.{FindsIn, count_at, ComparesBlock, FailsAtRead}
 use Rattle.uda_exec.specs.declared.compare.Verdict.TheVariants.{Equal, Differs, Lost}
 use Rattle.uda_exec.proofs.Words.{part, Transfer, StoreState, KeepsAttributes, block_count}
+use Rattle.uda_image.specs.Store.{is_sound}
 
 -- ---- one block
 
@@ -71,7 +72,7 @@ pub record Comparing (t : Transfer) (done : ℕ) (old : StoreState) (memory : Li
     : Type 0 where
   pub attributes : KeepsAttributes old now
   pub within : done ≤ block_count t
-  pub so_far : old.faithful ≡ true → SameSoFar t done old memory now
+  pub so_far : is_sound now ≡ true → SameSoFar t done old memory now
 
 pub same_at_first : (t : Transfer) (old : StoreState) (memory : List ℕ) → SameSoFar t 0 old memory old
 same_at_first t old memory =

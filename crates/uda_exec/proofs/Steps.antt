@@ -13,6 +13,8 @@ use Rattle.uda_exec.proofs.Words.{put, part, Kind, Transfer, changes_blocks, Sto
 use Rattle.uda_exec.proofs.Changes.{changes_again}
 use Rattle.uda_exec.proofs.Calls.{go_none, go_next, fails_then}
 use Rattle.uda_exec.proofs.Blocks.{AreBlocks, AreBlocks-part, AreBlocks-take, AreBlocks-in_blocks, length-bytes_at, length-concat_blocks}
+use Rattle.uda_image.specs.Store.{is_sound}
+use Rattle.uda_image.proofs.SoundLaws.{sound_before}
 
 module _ (t : Transfer) (blocks : List (List ℕ)) (memory : List ℕ) where
   -- a Write has as many blocks as its count needs
@@ -178,41 +180,43 @@ pub record OnTheWay (t : Transfer) (k : ℕ) (old now : StoreState) (memory memo
   pub within : k ≤ block_count t
   pub attributes : KeepsAttributes old now
   pub changes : ChangesAt memory t.buffer (if changes_memory t.kind then t.bytes else 0) memory_now
-  pub moves : (0 < block_count t → old.faithful ≡ true) → Progress t k old memory now memory_now
+  pub moves : (0 < block_count t → is_sound now ≡ true) → Progress t k old memory now memory_now
 
 both_natures : {old now new : StoreState} → KeepsAttributes old now → KeepsAttributes now new → KeepsAttributes old new
 both_natures was is = record {
   size_stays = is.size_stays ∙ was.size_stays;
   faithful_stays = is.faithful_stays ∙ was.faithful_stays;
+  honest_before = λ honest. was.honest_before (is.honest_before honest);
   never_fails_stays = is.never_fails_stays ∙ was.never_fails_stays;
 }
 
 module _ {t : Transfer} {k : ℕ} {old now : StoreState} {memory memory_now : List ℕ}
     (way : OnTheWay t k old now memory memory_now) {new : StoreState} (is : KeepsAttributes now new) where
   -- one block more
-  pub way_next : (image : old.faithful ≡ true → HasWholeBlocks old.size old.blocks)
+  pub way_next : (image : is_sound old ≡ true → HasWholeBlocks old.size old.blocks)
       → t.lbn + block_count t ≤ old.size → t.buffer + transfer_buffer_length t ≤ length memory → k < block_count t
       → (memory_after : List ℕ) → ChangesAt memory_now t.buffer (if changes_memory t.kind then t.bytes else 0)
       memory_after
-      → (now.faithful ≡ true → MovesBlock t k now memory_now new memory_after)
+      → (is_sound new ≡ true → MovesBlock t k now memory_now new memory_after)
       → OnTheWay t (k + 1) old new memory memory_after
   way_next image on_unit in_memory inside memory_after changes moves = record {
     within = omega (arith, inside);
     attributes = both_natures way.attributes is;
     changes = changes_again _ _ _ _ _ way.changes changes;
     moves = λ called.
-        let faithful = called (omega (arith, inside)) in
-        rw add-one (progress_next t k old memory now memory_now (image faithful) on_unit in_memory inside
-        (way.moves called) new memory_after (moves (way.attributes.faithful_stays ∙ faithful)));
+        let sound = called (omega (arith, inside)) in
+        let before = sound_before is sound in
+        rw add-one (progress_next t k old memory now memory_now (image (sound_before way.attributes before)) on_unit
+        in_memory inside (way.moves (λ some. before)) new memory_after (moves sound));
   }
 
   -- `count` blocks more, which leave memory unchanged
   pub way_on : (count : ℕ) → k + count ≤ block_count t → 0 < block_count t
-      → (now.faithful ≡ true → MovesOn t k count now new) → OnTheWay t (k + count) old new memory memory_now
+      → (is_sound new ≡ true → MovesOn t k count now new) → OnTheWay t (k + count) old new memory memory_now
   way_on count within some moves = record {
     within = within;
     attributes = both_natures way.attributes is;
     changes = way.changes;
-    moves = λ called. moves (way.attributes.faithful_stays ∙ called some) old memory memory_now
-        (way.moves called);
+    moves = λ called. moves (called some) old memory memory_now
+        (way.moves (λ some. sound_before is (called some)));
   }

@@ -22,6 +22,8 @@ use Rattle.uda_exec.proofs.Changes.{changes_nothing}
 use Rattle.uda_exec.proofs.Requests.{asks}
 use Rattle.uda_exec.proofs.Blocks.{AreBlocks, length-bytes_at, length-concat_blocks}
 use Rattle.uda_exec.proofs.Steps.{length-due_by, length-due_le, AreBlocks-due}
+use Rattle.uda_image.specs.Store.{is_sound}
+use Rattle.uda_image.proofs.SoundLaws.{sound_before, stays_sound}
 
 -- ---- the end messages
 
@@ -138,6 +140,27 @@ serves_mode c act unit memory none is =
     (sym (act_of-same c.op memory none) ∙ is) (still_if c.op none) in
     let free = free-still c act unit memory none s.no_extent in
     let no_first : lbn_of act ≡ 0 = rw s.no_extent refl in
+    let takes : TakesEffectOn c act (check_on c act unit memory) unit memory
+    (end_for c (answer_on Done act (disk_of unit))) (record unit { mode = mode_after act unit.mode }) memory =
+    subst (λ (b : CheckResult). TakesEffectOn c act b unit memory
+    (end_for c (answer_on Done act (disk_of unit))) (record unit { mode = mode_after act unit.mode })
+    memory) (sym free) (record {
+      outcome = Done;
+      fits = record { acting = λ lost. absurd (cc); count = tt };
+      end_is = refl;
+      memory_is = sym (ap (put memory (buffer_start c.op)) (s.brings unit.store.blocks)
+          ∙ put-nil memory (buffer_start c.op));
+      disk_is = ap (λ (b : List (List ℕ)). record {
+        blocks = b;
+        size = unit.store.size;
+        mode = mode_after act unit.mode;
+      })
+          (sym (ap (put unit.store.blocks (lbn_of act)) (s.stores unit.store.blocks)
+          ∙ put-nil unit.store.blocks (lbn_of act)));
+      failures_are = sym (add-zero unit.store.failures);
+      calls = rw none (go_none unit.store.failing_call);
+      infallible = λ never. refl;
+    }) in
     record {
       answers = record { reference = refl; unit = refl; body = s.answers (disk_of unit) };
       memory_stays = changes_nothing memory _ _;
@@ -151,25 +174,9 @@ serves_mode c act unit memory none is =
       unit_stays = λ idle. let not : is_accepted (Accepted (disk_of unit)) ≡ false = ap is_accepted (sym free) ∙ idle in
           absurd (cc);
       ends = λ transfers acting. let not = rw none at transfers in absurd (cc);
-      takes_effect = λ trusted. subst (λ (b : CheckResult). TakesEffectOn c act b unit memory
-          (end_for c (answer_on Done act (disk_of unit))) (record unit { mode = mode_after act unit.mode })
-          memory) (sym free) (record {
-            outcome = Done;
-            fits = record { acting = λ lost. absurd (cc); count = tt };
-            end_is = refl;
-            memory_is = sym (ap (put memory (buffer_start c.op)) (s.brings unit.store.blocks)
-                ∙ put-nil memory (buffer_start c.op));
-            disk_is = ap (λ (b : List (List ℕ)). record {
-              blocks = b;
-              size = unit.store.size;
-              mode = mode_after act unit.mode;
-            })
-                (sym (ap (put unit.store.blocks (lbn_of act)) (s.stores unit.store.blocks)
-                ∙ put-nil unit.store.blocks (lbn_of act)));
-            failures_are = sym (add-zero unit.store.failures);
-            calls = rw none (go_none unit.store.failing_call);
-            infallible = λ never. refl;
-          });
+      takes_effect = λ trusted. takes;
+      sound_before = λ sound. sound;
+      takes_effect_if_sound = λ trusted. takes;
     }
 
 -- ---- a transfer
@@ -316,6 +323,19 @@ module _ (c : Command) (t : Transfer) (unit : UnitState) (memory : List ℕ)
       let b : check_on c act unit memory ≡ Rejected refusal = barred
       ∙ ap (λ (f : Option Refusal). check_by f (disk_of unit)) h in
       let e : End = reply c (refusal_status refusal) (plain_body c.op 0) in
+      let takes : TakesEffectOn c act (check_on c act unit memory) unit memory e unit memory =
+      subst (λ (b : CheckResult). TakesEffectOn c act b unit memory e unit memory) (sym b)
+      (record {
+        outcome = Done;
+        fits = record { acting = λ lost. absurd (cc); count = tt };
+        end_is = sym (end_of-blank c memory act (refusal_status refusal)
+            (asks-transfer c.op t memory is));
+        memory_is = refl;
+        disk_is = refl;
+        failures_are = sym (add-zero unit.store.failures);
+        calls = go_none unit.store.failing_call;
+        infallible = λ never. refl;
+      }) in
       asked e unit memory (record {
         answers = Answers-plain c (refusal_status refusal) 0 zero-le;
         memory_stays = changes_nothing memory _ _;
@@ -324,18 +344,9 @@ module _ (c : Command) (t : Transfer) (unit : UnitState) (memory : List ℕ)
         unit_stays = λ idle. refl;
         ends = λ transfers acting. let not : is_accepted (Rejected refusal) ≡ true = sym (ap is_accepted b) ∙ acting in
             absurd (cc);
-        takes_effect = λ trusted. subst (λ (b : CheckResult). TakesEffectOn c act b unit memory e unit memory) (sym b)
-            (record {
-              outcome = Done;
-              fits = record { acting = λ lost. absurd (cc); count = tt };
-              end_is = sym (end_of-blank c memory act (refusal_status refusal)
-                  (asks-transfer c.op t memory is));
-              memory_is = refl;
-              disk_is = refl;
-              failures_are = sym (add-zero unit.store.failures);
-              calls = go_none unit.store.failing_call;
-              infallible = λ never. refl;
-            });
+        takes_effect = λ trusted. takes;
+        sound_before = λ sound. sound;
+        takes_effect_if_sound = λ trusted. takes;
       })
 
   -- for every store, it succeeds, or fails at a block of its range
@@ -368,23 +379,31 @@ module _ (c : Command) (t : Transfer) (unit : UnitState) (memory : List ℕ)
     pub serves_moved : (new : StoreState) (memory_left : List ℕ) → KeepsAttributes unit.store new
         → ChangesAt memory t.buffer (if changes_memory t.kind then t.bytes else 0) memory_left
         → (status bytes : ℕ) → bytes ≤ t.bytes → EndsTransfer c (reply c status (plain_body c.op bytes))
-        → ((0 < block_count t → unit.store.faithful ≡ true)
+        → ((0 < block_count t → is_sound new ≡ true)
         → TakesEffectOn c act (Accepted (disk_of unit)) unit memory (reply c status (plain_body c.op bytes))
         (record { store = new; mode = unit.mode }) memory_left)
         → (a : Act) → act_of c.op memory ≡ Some a → ServesUnit c a unit memory
         (reply c status (plain_body c.op bytes)) (record { store = new; mode = unit.mode }) memory_left
-    serves_moved new memory_left attributes changes status bytes few ends takes = asked _ _ _ (record {
-      answers = Answers-plain c status bytes (rw is few);
-      memory_stays = rw is changes;
-      attributes_stay = rw (attributes.size_stays, attributes.faithful_stays, attributes.never_fails_stays) refl;
-      mode_stays = λ transfers. refl;
-      unit_stays = λ idle. let none : is_accepted (Accepted (disk_of unit)) ≡ false = ap is_accepted (sym free) ∙ idle in
-          absurd (cc);
-      ends = λ transfers acting. ends;
-      takes_effect = λ trusted. subst (λ (b : CheckResult). TakesEffectOn c act b unit memory
-          (reply c status (plain_body c.op bytes)) (record { store = new; mode = unit.mode }) memory_left)
-          (sym free) (takes (λ some. trusted (is_called some)));
-    })
+    serves_moved new memory_left attributes changes status bytes few ends takes =
+        let on_unit : TakesEffectOn c act (Accepted (disk_of unit)) unit memory
+        (reply c status (plain_body c.op bytes)) (record { store = new; mode = unit.mode }) memory_left
+        → TakesEffectOn c act (check_on c act unit memory) unit memory
+        (reply c status (plain_body c.op bytes)) (record { store = new; mode = unit.mode }) memory_left =
+        subst (λ (b : CheckResult). TakesEffectOn c act b unit memory
+        (reply c status (plain_body c.op bytes)) (record { store = new; mode = unit.mode }) memory_left)
+        (sym free) in
+        asked _ _ _ (record {
+          answers = Answers-plain c status bytes (rw is few);
+          memory_stays = rw is changes;
+          attributes_stay = rw (attributes.size_stays, attributes.faithful_stays, attributes.never_fails_stays) refl;
+          mode_stays = λ transfers. refl;
+          unit_stays = λ idle. let none : is_accepted (Accepted (disk_of unit)) ≡ false = ap is_accepted (sym free) ∙ idle in
+              absurd (cc);
+          ends = λ transfers acting. ends;
+          takes_effect = λ trusted. on_unit (takes (λ some. stays_sound attributes (trusted (is_called some))));
+          sound_before = sound_before attributes;
+          takes_effect_if_sound = λ trusted. on_unit (takes (λ some. trusted (is_called some)));
+        })
 
     module _ (image : 0 < block_count t → HasWholeBlocks unit.store.size unit.store.blocks) (new : StoreState)
         (memory_left : List ℕ) (attributes : KeepsAttributes unit.store new) where

@@ -1,18 +1,20 @@
 -- One command on the units of an executor.
-use Rattle.std.proofs.Common.{◌≡◌, ℕ, ◌<◌, ◌≤◌, Bool, true, false, List, length, get_or, set, Option, Some, None, inl, inr, ◌⊎◌, refl, sym, ap, ap₂, subst, ◌∙◌, add-zero}
+use Rattle.std.proofs.Common.{◌≡◌, ℕ, zero, suc, ◌<◌, ◌≤◌, Bool, true, false, List, [], ◌∷◌, length, get_or, set, Option, Some, None, inl, inr, ◌⊎◌, refl, sym, ap, ap₂, subst, ◌∙◌, add-zero}
 use Rattle.std.specs.Prelude.{option_map, slice_get, map, nat_lt, ◌&&◌}
 use Rattle.std.proofs.lemmas.List.{map-set, set_past}
 use Rattle.std.proofs.lemmas.Option.{slice_get_within, slice_get-map, slice_get-get_or}
 use Rattle.std.proofs.lemmas.Bool.{cases_lt}
 use Rattle.std.specs.Prelude.{unwrap_or}
 use Rattle.uda_exec.specs.SetUnit.{unit_set, protection_asked, with_protection}
-use Rattle.std.proofs.lemmas.List.Elements.{All-map, All-weaker}
+use Rattle.std.proofs.lemmas.List.Elements.{All-map, All-set, All-weaker}
 use Rattle.uda_packet.specs.declared.command.Op.TheVariants.{Controller}
 use Rattle.uda_disk.specs.Status.{SUCCESS}
 use Rattle.uda_disk.proofs.Slots.{slice_get-set_same, slice_get-set_other, set-itself}
 use Rattle.uda_exec.proofs.Words.{Command, Op, End, Disk, Disks, Act, Refusal, refusal_status, CheckResult, Rejected, Accepted, check_at, check_with, UnitState, disk_of, disks_of, IsWellFormed, AreWellFormed, reset_unit, is_controller, blocks_asked, act_of, World, TransferOutcome, Done, Mode, disks_by, check_in, check_of, is_accepted, passes_checks_by, passes_checks, does, effect_by, effect, reply, plain_body, FailureFits, Answers, FixedAttributes, attributes_of, unit_attributes, is_faithful, is_infallible, world_of, check_on, ServesUnit, Executes, disk_by}
-use Rattle.uda_disk.specs.Units.{failing_call_at}
-use Rattle.uda_exec.specs.Execution.{CallsStore, blocks_called}
+use Rattle.uda_image.specs.Store.{is_sound}
+use Rattle.uda_image.proofs.SoundLaws.{sound_of_faithful}
+use Rattle.uda_disk.specs.Units.{Units, AllFaithful, AllSound, failing_call_at, is_sound_at, AreSoundBefore, IsWellFormedIfSound}
+use Rattle.uda_exec.specs.Execution.{CallsStore, blocks_called, TakesEffect, TakesEffectOn}
 use Rattle.uda_exec.proofs.Calls.{go_none}
 use Rattle.uda_exec.proofs.Changes.{changes_nothing, ChangesAt-none}
 use Rattle.uda_exec.proofs.Transferred.{end_of-blank}
@@ -55,6 +57,25 @@ module _ (old new : List (Option UnitState)) (same : unit_attributes new ≡ uni
   sure_stays = sym (asked_sure (slice_get new u)) ∙ ap (asked (λ n. n.never_fails)) attributes_stay
       ∙ asked_sure (slice_get old u)
 
+sound_if_faithful : (slot : Option (Option UnitState)) → is_faithful slot ≡ true → is_sound_at slot ≡ true
+sound_if_faithful None faithful = refl
+sound_if_faithful (Some None) faithful = refl
+sound_if_faithful (Some (Some unit)) faithful = sound_of_faithful unit.store faithful
+
+-- faithful stores are sound after each request
+pub all_sound : (old new : Units) → unit_attributes new ≡ unit_attributes old → AllFaithful old → AllSound new
+all_sound old new same faithful =
+    λ u. sound_if_faithful (slice_get new u) (faithful_stays old new same u ∙ faithful u)
+
+-- if the store of the unit that is set was sound before, so were all
+sound_set : (units : List (Option UnitState)) (i : ℕ) (old new : UnitState) → slice_get units i ≡ Some (Some old)
+    → (is_sound new.store ≡ true → is_sound old.store ≡ true) → AreSoundBefore units (set units i (Some new))
+sound_set [] i old new here before u sound = sound
+sound_set (x ∷ xs) zero old new here before zero sound = ap is_sound_at here ∙ before sound
+sound_set (x ∷ xs) zero old new here before (suc u) sound = sound
+sound_set (x ∷ xs) (suc i) old new here before zero sound = sound
+sound_set (x ∷ xs) (suc i) old new here before (suc u) sound = sound_set xs i old new here before u sound
+
 -- a command without an action on a unit, or a rejected one, changes nothing
 pub record Idle (c : Command) (w : World) (e : End) : Type 0 where
   pub idle : passes_checks c w ≡ false
@@ -89,6 +110,17 @@ idle-barred c w act slot refusal asks here bars =
     (ap (λ (b : CheckResult). does Done c act b w) is ∙ ap (λ (e : End). (e, w))
     (end_of-blank c w.memory act (refusal_status refusal) asks))
 
+takes_idle : (c : Command) (units : List (Option UnitState)) (memory : List ℕ) (e : End)
+    → Idle c (world_of units memory) e → TakesEffect c units memory e units memory
+takes_idle c units memory e h = record {
+  outcome = Done;
+  fits = record { acting = λ lost. absurd (cc); count = tt };
+  effect_is = sym h.stays;
+  failures_are = sym (add-zero _);
+  calls = rw h.idle (go_none _);
+  infallible = λ never. refl;
+}
+
 pub executes_idle : (c : Command) (units : List (Option UnitState)) (memory : List ℕ) (e : End)
     → Idle c (world_of units memory) e → Answers c e → Executes c units memory e units memory
 executes_idle c units memory e h answers = record {
@@ -103,14 +135,10 @@ executes_idle c units memory e h answers = record {
     ends = λ transfers acting. let not : false ≡ true = sym h.idle
         ∙ acting in absurd (cc);
   };
-  takes_effect = λ trusted. record {
-    outcome = Done;
-    fits = record { acting = λ lost. absurd (cc); count = tt };
-    effect_is = sym h.stays;
-    failures_are = sym (add-zero _);
-    calls = rw h.idle (go_none _);
-    infallible = λ never. refl;
-  };
+  takes_effect = λ trusted. takes_idle c units memory e h;
+  sound_before = λ u sound. sound;
+  well_formed_if_sound = λ whole. whole;
+  takes_effect_if_sound = λ trusted. takes_idle c units memory e h;
 }
 
 -- the units afterwards, by the unit's disk
@@ -140,9 +168,36 @@ module _ (c : Command) (act : Act) (units : List (Option UnitState)) (memory : L
   effected o = ap (λ (a : Option Act). effect_by o c a (world_of units memory)) asks
       ∙ ap (λ (b : CheckResult). does o c act b (world_of units memory)) barred
 
-  pub executes_on : ServesUnit c act unit memory e unit_after memory_left
+  takes_on : TakesEffectOn c act (check_on c act unit memory) unit memory e unit_after memory_left
+      → TakesEffect c units memory e (set units c.unit (Some unit_after)) memory_left
+  takes_on t =
+      let b = check_on c act unit memory in
+      let make_world : List ℕ → Disks → World = λ m d. record { memory = m; disks = d } in
+      let make_pair : End → World → End × World = λ a b. (a, b) in
+      let disks_are : disks_of (set units c.unit (Some unit_after)) ≡ disks_by t.outcome
+      (record { unit = c.unit; act = act }) b (disks_of units) =
+      map-set _ units c.unit (Some unit_after) ∙ ap (λ (d : Disk). set (disks_of units) c.unit (Some d))
+      t.disk_is ∙ sym (disks_by-disk t.outcome c.unit act b (disks_of units) (disk_of unit) disk_here) in
+      record {
+        outcome = t.outcome;
+        fits = subst (FailureFits t.outcome (blocks_asked c.op)) (sym acting) t.fits;
+        effect_is = ap₂ make_pair t.end_is (ap₂ make_world t.memory_is disks_are)
+            ∙ sym (effected t.outcome);
+        failures_are = rw (there, here) t.failures_are;
+        calls =
+            let asked : CallsStore t.outcome (blocks_called c (is_accepted b))
+            (failing_call_at (slice_get units c.unit))
+            (failing_call_at (slice_get (set units c.unit (Some unit_after)) c.unit)) =
+            rw (there, here) t.calls in
+            subst (λ (a : Bool). CallsStore t.outcome (blocks_called c a)
+            (failing_call_at (slice_get units c.unit))
+            (failing_call_at (slice_get (set units c.unit (Some unit_after)) c.unit))) (sym acting) asked;
+        infallible = λ never. let promised = rw here at never in t.infallible promised;
+      }
+
+  pub executes_on : ServesUnit c act unit memory e unit_after memory_left → IsWellFormedIfSound (Some unit_after)
       → Executes c units memory e (set units c.unit (Some unit_after)) memory_left
-  executes_on s = record {
+  executes_on s whole = record {
     answers = s.answers;
     memory_stays = s.memory_stays;
     memory_is_kept = λ unread. ChangesAt-none memory memory_left _ (rw unread at s.memory_stays);
@@ -155,33 +210,14 @@ module _ (c : Command) (act : Act) (units : List (Option UnitState)) (memory : L
           ∙ set-itself units c.unit (Some unit) here;
       ends = λ transfers acts_too. s.ends transfers (sym acting ∙ acts_too);
     };
-    takes_effect = λ trusted.
-        let t = s.takes_effect (λ calls. let faithful =
-        trusted (ap (λ (a : Bool). nat_lt 0 (blocks_asked c.op) && a) acting ∙ calls) in
-        rw here at faithful) in
-        let b = check_on c act unit memory in
-        let make_world : List ℕ → Disks → World = λ m d. record { memory = m; disks = d } in
-        let make_pair : End → World → End × World = λ a b. (a, b) in
-        let disks_are : disks_of (set units c.unit (Some unit_after)) ≡ disks_by t.outcome
-        (record { unit = c.unit; act = act }) b (disks_of units) =
-        map-set _ units c.unit (Some unit_after) ∙ ap (λ (d : Disk). set (disks_of units) c.unit (Some d))
-        t.disk_is ∙ sym (disks_by-disk t.outcome c.unit act b (disks_of units) (disk_of unit) disk_here) in
-        record {
-          outcome = t.outcome;
-          fits = subst (FailureFits t.outcome (blocks_asked c.op)) (sym acting) t.fits;
-          effect_is = ap₂ make_pair t.end_is (ap₂ make_world t.memory_is disks_are)
-              ∙ sym (effected t.outcome);
-          failures_are = rw (there, here) t.failures_are;
-          calls =
-              let asked : CallsStore t.outcome (blocks_called c (is_accepted b))
-              (failing_call_at (slice_get units c.unit))
-              (failing_call_at (slice_get (set units c.unit (Some unit_after)) c.unit)) =
-              rw (there, here) t.calls in
-              subst (λ (a : Bool). CallsStore t.outcome (blocks_called c a)
-              (failing_call_at (slice_get units c.unit))
-              (failing_call_at (slice_get (set units c.unit (Some unit_after)) c.unit))) (sym acting) asked;
-          infallible = λ never. let promised = rw here at never in t.infallible promised;
-        };
+    takes_effect = λ trusted. takes_on (s.takes_effect (λ calls.
+        let faithful = trusted (ap (λ (a : Bool). nat_lt 0 (blocks_asked c.op) && a) acting ∙ calls) in
+        rw here at faithful));
+    sound_before = sound_set units c.unit unit unit_after here s.sound_before;
+    well_formed_if_sound = All-set IsWellFormedIfSound units c.unit (Some unit_after) whole;
+    takes_effect_if_sound = λ trusted. takes_on (s.takes_effect_if_sound (λ calls.
+        let sound = trusted (ap (λ (a : Bool). nat_lt 0 (blocks_asked c.op) && a) acting ∙ calls) in
+        rw there at sound));
   }
 
 -- Set Unit Characteristics leaves the fixed attributes of the units unchanged

@@ -9,7 +9,7 @@ use Rattle.uda_packet.specs.declared.reply.Reply.{Reply}
 use Rattle.uda_packet.specs.declared.reply.ReplyBody.TheVariants.{Compare}
 use Rattle.uda_packet.specs.declared.transfer.Transfer.{Transfer}
 use Rattle.uda_packet.specs.Transfer.{transfer_of}
-use Rattle.uda_image.specs.Store.{StoreState}
+use Rattle.uda_image.specs.Store.{StoreState, is_sound}
 use Rattle.uda_disk.specs.declared.refusal.Refusal.{Refusal}
 use Rattle.uda_disk.specs.RequestEffect.{refusal_status}
 use Rattle.uda_disk.specs.Status.{SUCCESS, COMPARE_ERROR, DRIVE_ERROR, UNIT_UNKNOWN, NO_VOLUME}
@@ -76,7 +76,7 @@ failures_in Equal = 0
 failures_in (Differs n) = 0
 failures_in (Lost k) = 1
 
--- The blocks of a faithful store were compared with memory. No block changes, and the store failed once more
+-- The blocks of a sound store were compared with memory. No block changes, and the store failed once more
 -- exactly if a block failed.
 pub record ComparesBlocks (t : Transfer) (v : Verdict) (old : StoreState) (memory : List ℕ) (new : StoreState)
     : Type 0 where
@@ -96,7 +96,10 @@ pub record ComparesOn (c : Command) (v : Verdict) (unit : UnitState) (memory : L
   pub fits : FitsTransfer (compared c.op) v
   pub attributes_stay : attributes_of unit_after ≡ attributes_of unit
   pub mode_stays : unit_after.mode ≡ unit.mode
+  pub sound_before : is_sound unit_after.store ≡ true → is_sound unit.store ≡ true
   pub blocks : unit.store.faithful ≡ true
+      → ComparesBlocks (compared c.op) v unit.store memory unit_after.store
+  pub blocks_if_sound : is_sound unit_after.store ≡ true
       → ComparesBlocks (compared c.op) v unit.store memory unit_after.store
 
 -- a rejected Compare changes nothing

@@ -2,7 +2,7 @@
 -- MSCP Basic Disk Functions Manual: command ordering, end messages.
 use Rattle.std.specs.Prelude.{◌≡◌, ◌≢◌, ℕ, ◌+◌, ◌≤◌, Bool, true, false, ◌&&◌, List, length, Option, Some}
 use Rattle.std.specs.Prelude.{slice_get, nat_lt, remove, if◌then◌else◌}
-use Rattle.uda_image.specs.Store.{CallsSucceed, FailsAtCall}
+use Rattle.uda_image.specs.Store.{CallsSucceed, FailsAtCall, is_sound}
 use Rattle.uda_packet.specs.declared.command.Command.{Command}
 use Rattle.uda_packet.specs.declared.command.Op.{Op}
 use Rattle.uda_packet.specs.declared.end.End.{End}
@@ -13,7 +13,7 @@ use Rattle.uda_disk.specs.Request.{Act}
 use Rattle.uda_disk.specs.RequestEffect.{CheckResult, TransferOutcome, Done, Lost, is_lost, answer_by, is_accepted, disk_by, IsWithinRange}
 use Rattle.uda_disk.specs.RequestEffect.{transfer_status, transfer_bytes}
 use Rattle.uda_disk.specs.Units.{UnitState, Units, disk_of, disks_of, is_faithful, is_infallible, failures_at}
-use Rattle.uda_disk.specs.Units.{failing_call_at}
+use Rattle.uda_disk.specs.Units.{failing_call_at, is_sound_at, AreSoundBefore, AreWellFormedIfSound}
 use Rattle.uda_disk.specs.Units.{attributes_of, unit_attributes, modes_of}
 use Rattle.uda_exec.specs.Disks.{ExecState}
 use Rattle.uda_exec.specs.Commands.{is_transfer, blocks_asked, bytes_asked, buffer_start, memory_write_length}
@@ -75,6 +75,12 @@ abbrev pub StoreIsFaithful : Command → Units → List ℕ → Type 0
 StoreIsFaithful c units memory = nat_lt 0 (blocks_asked c.op) && passes_checks c (world_of units memory) ≡ true
     → is_faithful (slice_get units c.unit) ≡ true
 
+-- the same afterwards of a sound store
+abbrev pub StoreIsSound : Command → Units → List ℕ → Units → Type 0
+StoreIsSound c units memory units_after =
+    nat_lt 0 (blocks_asked c.op) && passes_checks c (world_of units memory) ≡ true
+    → is_sound_at (slice_get units_after c.unit) ≡ true
+
 -- a transfer succeeded, or failed at a block of its range, and its end message reports that
 pub record EndsTransfer (c : Command) (e : End) : Type 0 where
   pub outcome : TransferOutcome
@@ -94,7 +100,8 @@ pub record EffectByChecks (c : Command) (acting : Bool) (units : Units) (e : End
 -- - No other unit changes, and the fixed attributes of the command's own unit don't change.
 -- - A transfer leaves the mode unchanged; if it is accepted, it succeeds or fails.
 -- - A rejected command changes no unit. A command that calls no store, and one with a faithful store, has its
---   complete effect.
+--   complete effect. So has one whose store is sound afterwards.
+-- - A store that is sound afterwards was sound before, and then its unit is well formed.
 pub record Executes (c : Command) (units : Units) (memory : List ℕ) (e : End) (units_after : Units)
     (memory_left : List ℕ) : Type 0 where
   pub answers : Answers c e
@@ -105,6 +112,10 @@ pub record Executes (c : Command) (units : Units) (memory : List ℕ) (e : End) 
   pub modes_stay : is_transfer c.op ≡ true → modes_of units_after ≡ modes_of units
   pub by_checks : EffectByChecks c (passes_checks c (world_of units memory)) units e units_after
   pub takes_effect : StoreIsFaithful c units memory → TakesEffect c units memory e units_after memory_left
+  pub sound_before : AreSoundBefore units units_after
+  pub well_formed_if_sound : AreWellFormedIfSound units → AreWellFormedIfSound units_after
+  pub takes_effect_if_sound : StoreIsSound c units memory units_after
+      → TakesEffect c units memory e units_after memory_left
 
 -- the command at index j is executed and removed, with its additional operation
 pub record ExecutesAt (j : ℕ) (old : ExecState) (memory : List ℕ) (e : End) (new : ExecState)
@@ -131,7 +142,8 @@ pub record TakesEffectOn (c : Command) (act : Act) (b : CheckResult) (unit : Uni
 abbrev pub check_on : Command → Act → UnitState → List ℕ → CheckResult
 check_on c act unit memory = check_in c.op act (length memory) (Some (Some (disk_of unit)))
 
--- a command with this action is executed by its unit: what holds for every store, and what for a faithful one
+-- a command with this action is executed by its unit: what holds for every store, and what for a faithful or a sound
+-- one
 pub record ServesUnit (c : Command) (act : Act) (unit : UnitState) (memory : List ℕ) (e : End)
     (unit_after : UnitState) (memory_left : List ℕ) : Type 0 where
   pub answers : Answers c e
@@ -142,4 +154,8 @@ pub record ServesUnit (c : Command) (act : Act) (unit : UnitState) (memory : Lis
   pub ends : is_transfer c.op ≡ true → is_accepted (check_on c act unit memory) ≡ true → EndsTransfer c e
   pub takes_effect : (nat_lt 0 (blocks_asked c.op) && is_accepted (check_on c act unit memory) ≡ true
       → unit.store.faithful ≡ true)
+      → TakesEffectOn c act (check_on c act unit memory) unit memory e unit_after memory_left
+  pub sound_before : is_sound unit_after.store ≡ true → is_sound unit.store ≡ true
+  pub takes_effect_if_sound : (nat_lt 0 (blocks_asked c.op) && is_accepted (check_on c act unit memory) ≡ true
+      → is_sound unit_after.store ≡ true)
       → TakesEffectOn c act (check_on c act unit memory) unit memory e unit_after memory_left

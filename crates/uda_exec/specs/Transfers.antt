@@ -5,7 +5,7 @@ use Rattle.std.specs.Prelude.{slice_index_or, replicate, if◌then◌else◌}
 use Rattle.std.specs.List.{concat}
 use Rattle.uda_mem.specs.Put.{put, part}
 use Rattle.uda_image.specs.declared.store.StoreError.{StoreError}
-use Rattle.uda_image.specs.Store.{StoreState, CallsSucceed, FailsAtCall, Reads}
+use Rattle.uda_image.specs.Store.{StoreState, CallsSucceed, FailsAtCall, Reads, is_sound}
 use Rattle.uda_packet.specs.declared.end.Kind.{Kind}
 use Rattle.uda_packet.specs.declared.transfer.Transfer.{Transfer}
 use Rattle.uda_packet.specs.Transfer.{changes_blocks}
@@ -42,6 +42,7 @@ pub record ReadsInto (n at bytes : ℕ) (old : StoreState) (memory : List ℕ) (
   pub whole : length to ≡ 512
   pub landed : memory_after ≡ put memory at (take bytes to)
   pub reads : old.faithful ≡ true → Reads old n new to result
+  pub reads_if_sound : is_sound new ≡ true → Reads old n new to result
 
 -- this block is now at index k of the transfer, in memory or on the unit as the kind requires
 pub record Stands (t : Transfer) (k : ℕ) (block : List ℕ) (old : StoreState) (memory : List ℕ)

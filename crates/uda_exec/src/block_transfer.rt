@@ -4,7 +4,7 @@
 ghost use Rattle.std.specs.Prelude.{◌≡◌, ◌+◌, ◌<◌, ◌≤◌, ◌^◌, true, length, IsOk, MatchResult, IfErr};
 ghost use Rattle.std.specs.Prelude.{if◌then◌else◌};
 ghost use Rattle.uda_mem.specs.Put.{part};
-ghost use Rattle.uda_image.specs.Store.{KeepsAttributes, Reads, Writes};
+ghost use Rattle.uda_image.specs.Store.{KeepsAttributes, Reads, Writes, is_sound};
 ghost use Rattle.uda_exec.specs.Commands.{block_count, transfer_buffer_length, changes_memory};
 ghost use Rattle.uda_exec.specs.Transfers.{ChangesAt, ReadsInto, MovesBlock, FailsAtBlock};
 ghost use Rattle.uda_exec.specs.Transfers.{Accessed, Erased, MovesOn, Progress, StopsAt};
@@ -47,7 +47,7 @@ fn read_whole<S: BlockStore>(store: &mut S, n: u32, to: &mut [u8]) -> Result<(),
     requires long { length to.old ≡ 512 }
     ensures attributes { KeepsAttributes (S.state store.old) (S.state store.new) }
     ensures infallible { (S.state store.old).never_fails ≡ true → IsOk result }
-    ensures reads { (S.state store.old).faithful ≡ true
+    ensures reads { is_sound (S.state store.new) ≡ true
         → Reads (S.state store.old) n (S.state store.new) to.new result }
     ensures whole { length to.new ≡ 512 }
 {
@@ -93,7 +93,7 @@ fn write_block<S: BlockStore>(
     requires in_memory { address + bytes ≤ length memory.now }
     ensures attributes { KeepsAttributes (S.state store.old) (S.state store.new) }
     ensures infallible { (S.state store.old).never_fails ≡ true → IsOk result }
-    ensures writes { (S.state store.old).faithful ≡ true
+    ensures writes { is_sound (S.state store.new) ≡ true
         → Writes (S.state store.old) n (S.state store.new) (first_block (part memory.now address bytes))
         result }
 {
@@ -121,7 +121,7 @@ fn move_block<S: BlockStore>(
     ensures changes { ChangesAt memory.old t.buffer
         (if changes_memory t.kind then t.bytes else 0) memory.new }
     ensures infallible { (S.state store.old).never_fails ≡ true → IsOk result }
-    ensures moves { (S.state store.old).faithful ≡ true → MatchResult result
+    ensures moves { is_sound (S.state store.new) ≡ true → MatchResult result
         (λ _. MovesBlock t k (S.state store.old) memory.old (S.state store.new) memory.new)
         (λ _. FailsAtBlock t k (S.state store.old) memory.old (S.state store.new) memory.new) }
 {
@@ -142,7 +142,7 @@ fn access_at_once<S: BlockStore>(store: &mut S, n: u32, count: u32) -> u32
     requires on_unit { n + count ≤ (S.state store.old).size }
     ensures attributes { KeepsAttributes (S.state store.old) (S.state store.new) }
     ensures within { result ≤ count }
-    ensures accessed { (S.state store.old).faithful ≡ true
+    ensures accessed { is_sound (S.state store.new) ≡ true
         → Accessed (S.state store.old) result (S.state store.new) }
 {
     let mut bytes = [0; PIECE_BYTES];
@@ -164,7 +164,7 @@ fn erase_at_once<S: BlockStore>(store: &mut S, n: u32, count: u32) -> u32
     requires on_unit { n + count ≤ (S.state store.old).size }
     ensures attributes { KeepsAttributes (S.state store.old) (S.state store.new) }
     ensures within { result ≤ count }
-    ensures erased { (S.state store.old).faithful ≡ true
+    ensures erased { is_sound (S.state store.new) ≡ true
         → Erased (S.state store.old) n result (S.state store.new) }
 {
     let mut done = 0;
@@ -186,7 +186,7 @@ fn move_pieces<S: BlockStore>(t: Transfer, k: u32, store: &mut S) -> u32
     requires on_unit { t.lbn + block_count t ≤ (S.state store.old).size }
     ensures attributes { KeepsAttributes (S.state store.old) (S.state store.new) }
     ensures within { k + result ≤ block_count t }
-    ensures moves { (S.state store.old).faithful ≡ true
+    ensures moves { is_sound (S.state store.new) ≡ true
         → MovesOn t k result (S.state store.old) (S.state store.new) }
 {
     let count = block_count(t) - k;
@@ -208,7 +208,7 @@ fn move_at_once<S: BlockStore>(t: Transfer, store: &mut S, memory: &mut [u8]) ->
     ensures changes { ChangesAt memory.old t.buffer
         (if changes_memory t.kind then t.bytes else 0) memory.new }
     ensures within { result ≤ block_count t }
-    ensures moves { (0 < block_count t → (S.state store.old).faithful ≡ true)
+    ensures moves { (0 < block_count t → is_sound (S.state store.new) ≡ true)
         → Progress t result (S.state store.old) memory.old (S.state store.new) memory.new }
 {
     let count = t.bytes / BLOCK;
@@ -252,6 +252,9 @@ pub fn move_blocks<S: BlockStore>(t: Transfer, store: &mut S, memory: &mut [u8])
     ensures within { IfErr result (λ lost. lost.block < block_count t) }
     ensures infallible { (S.state store.old).never_fails ≡ true → IsOk result }
     ensures moves { (0 < block_count t → (S.state store.old).faithful ≡ true) → MatchResult result
+        (λ _. Progress t (block_count t) (S.state store.old) memory.old (S.state store.new) memory.new)
+        (λ lost. StopsAt t lost.block (S.state store.old) memory.old (S.state store.new) memory.new) }
+    ensures moves_if_sound { (0 < block_count t → is_sound (S.state store.new) ≡ true) → MatchResult result
         (λ _. Progress t (block_count t) (S.state store.old) memory.old (S.state store.new) memory.new)
         (λ lost. StopsAt t lost.block (S.state store.old) memory.old (S.state store.new) memory.new) }
 {

@@ -2,7 +2,7 @@
 //!
 //! MSCP Basic Disk Functions Manual: Compare Host Data.
 ghost use Rattle.std.specs.Prelude.{◌≡◌, ◌+◌, ◌*◌, ◌<◌, ◌≤◌, ◌^◌, true, length, MatchResult, slice_index};
-ghost use Rattle.uda_image.specs.Store.{KeepsAttributes};
+ghost use Rattle.uda_image.specs.Store.{KeepsAttributes, is_sound};
 ghost use Rattle.uda_packet.specs.Transfer.{transfer_of};
 ghost use Rattle.uda_exec.specs.Commands.{block_count};
 ghost use Rattle.uda_exec.specs.Compare.{compared, verdict_status, bytes_equal, FitsTransfer, ComparesBlocks};
@@ -78,6 +78,8 @@ pub fn compare_blocks<S: BlockStore>(t: Transfer, store: &mut S, memory: &[u8]) 
     ensures fits { FitsTransfer t result }
     ensures compares { (S.state store.old).faithful ≡ true
         → ComparesBlocks t result (S.state store.old) memory.now (S.state store.new) }
+    ensures compares_if_sound { is_sound (S.state store.new) ≡ true
+        → ComparesBlocks t result (S.state store.old) memory.now (S.state store.new) }
 {
     let mut done = 0;
     while done < block_count(t) {
@@ -104,7 +106,7 @@ fn compare_block<S: BlockStore>(
     requires addressable { t.buffer + t.bytes < 2 ^ 32 }
     ensures attributes { KeepsAttributes (S.state store.old) (S.state store.new) }
     ensures within { MatchResult result (λ found. FitsBlock t k found) (λ _. Unit) }
-    ensures compares { (S.state store.old).faithful ≡ true → MatchResult result
+    ensures compares { is_sound (S.state store.new) ≡ true → MatchResult result
         (λ found. ComparesBlock t k found (S.state store.old) memory.now (S.state store.new))
         (λ _. FailsAtRead (S.state store.old) (S.state store.new)) }
 {

@@ -7,7 +7,7 @@ ghost use Rattle.uda_mem.specs.Slices.{IsMemory};
 ghost use Rattle.uda_packet.specs.Transfer.{transfer_of};
 ghost use Rattle.uda_disk.specs.Request.{Act};
 ghost use Rattle.uda_disk.specs.RequestEffect.{Done, mode_after, answer_on};
-ghost use Rattle.uda_disk.specs.Units.{IsWellFormed, disk_of, attributes_of};
+ghost use Rattle.uda_disk.specs.Units.{IsWellFormed, IsWellFormedIfSound, disk_of, attributes_of};
 ghost use Rattle.uda_exec.specs.Commands.{act_of};
 ghost use Rattle.uda_exec.specs.Effect.{end_for};
 ghost use Rattle.uda_exec.specs.Drives.{drive_state, drive_in, fresh_unit, info_of};
@@ -66,6 +66,7 @@ impl<S: BlockStore> DriveUnit<S> {
     pub fn new(drive: Drive<S>) -> Self
         ensures unit { result ≡ fresh_unit (drive_state S.state drive) }
         ensures image { IsWellFormed (Some result) }
+        ensures image_if_sound { IsWellFormedIfSound (Some result) }
     {
         let Drive { store, hard } = drive;
         let mode = Mode {
@@ -125,6 +126,7 @@ impl<S: BlockStore> DriveUnit<S> {
         ensures serves { (act : Act) → act_of command.op memory.old ≡ Some act
             → ServesUnit command act self.old memory.old result self.new memory.new }
         ensures image { IsWellFormed (Some self.new) }
+        ensures image_if_sound { IsWellFormedIfSound (Some self.new) }
     {
         if let Some(refusal) = transfer_refusal(
             t,
@@ -152,6 +154,7 @@ impl<S: BlockStore> DriveUnit<S> {
         ensures unit { IfSome (act_of command.op []) (λ act.
             self.new ≡ record self.old { mode = mode_after act self.old.mode }) }
         ensures image { IsWellFormed (Some self.new) }
+        ensures image_if_sound { IsWellFormedIfSound (Some self.new) }
     {
         let was_online = self.mode.online;
         match command.op {
@@ -194,6 +197,7 @@ impl<S: BlockStore> DriveUnit<S> {
         ensures serves { (act : Act) → act_of command.op memory.old ≡ Some act
             → ServesUnit command act self.old memory.old result self.new memory.new }
         ensures image { IsWellFormed (Some self.new) }
+        ensures image_if_sound { IsWellFormedIfSound (Some self.new) }
     {
         match command.op.transfer() {
             Some(t) => self.transfer(command, t, memory),

@@ -5,6 +5,7 @@ ghost use Rattle.std.specs.Prelude.{◌≡◌, ℕ, ◌+◌, ◌-◌, ◌<◌, �
 ghost use Rattle.std.specs.Prelude.{IsNone, IfNone, IfSome, IsTrue, Some, None, ◌↔◌, remove, set, slice_get, unwrap_or};
 ghost use Rattle.uda_mem.specs.Slices.{IsMemory};
 ghost use Rattle.uda_disk.specs.Units.{IsWellFormed, AreWellFormed, is_faithful, is_infallible};
+ghost use Rattle.uda_disk.specs.Units.{IsWellFormedIfSound, AreWellFormedIfSound};
 ghost use Rattle.uda_exec.specs.Disks.{PENDING_LIMIT, FIRST_POSITION};
 ghost use Rattle.uda_exec.specs.Commands.{is_controller};
 ghost use Rattle.uda_exec.specs.Drives.{drive_state, drive_states, drive_in, fresh_unit, fresh_units};
@@ -74,6 +75,7 @@ impl<S: BlockStore> Model for Exec<S> {
 fn unit_from<S: BlockStore>(drive: Option<Drive<S>>) -> Option<DriveUnit<S>>
     ensures unit { result ≡ option_map fresh_unit (option_map (drive_state S.state) drive) }
     ensures image { IsWellFormed result }
+    ensures image_if_sound { IsWellFormedIfSound result }
 {
     match drive {
         None => None,
@@ -85,6 +87,7 @@ fn units_from<S: BlockStore>(drives: [Option<Drive<S>>; 4]) -> [Option<DriveUnit
     ensures units { result ≡ fresh_units (drive_states S.state drives) }
     ensures four_units { length result ≡ 4 }
     ensures well_formed { AreWellFormed result }
+    ensures well_formed_if_sound { AreWellFormedIfSound result }
 {
     let [a, b, c, d] = drives;
     [unit_from(a), unit_from(b), unit_from(c), unit_from(d)]
@@ -104,6 +107,7 @@ impl<S: BlockStore> Exec<S> {
         ensures position { result.position ≡ FIRST_POSITION }
         ensures four_units { length result.units ≡ 4 }
         ensures well_formed { AreWellFormed result.units }
+        ensures well_formed_if_sound { AreWellFormedIfSound result.units }
     {
         Exec {
             units: units_from(drives),
@@ -257,7 +261,7 @@ impl<S: BlockStore> Exec<S> {
     ///
     /// The first call that fails ends the transfer with status 0x000B, and with the byte count of the blocks
     /// before. The failing block of a Write or an Erase, or its part of a Read's buffer, may then hold
-    /// anything. Later blocks and bytes are unchanged over a faithful store. Other commands call a store only for
+    /// anything. Later blocks and bytes are unchanged over a sound store. Other commands call a store only for
     /// its size.
     ///
     /// MSCP Basic Disk Functions Manual: commands and end messages, status and event codes, command ordering.

@@ -1,3 +1,5 @@
 pub mod Chunk
 pub mod ImageLaws
 pub mod AtOnceLaws
+pub mod FileSteps
+pub mod SoundLaws

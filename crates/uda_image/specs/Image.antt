@@ -1,10 +1,12 @@
 -- Images in memory: the bytes of all blocks, one block after another.
-use Rattle.std.specs.Prelude.{ℕ, zero, suc, ◌+◌, ◌*◌, ◌/◌, min, Bool, true, false, List, [], ◌++◌, take, drop}
-use Rattle.std.specs.Prelude.{length, Some, None}
+use Rattle.std.specs.Prelude.{◌≡◌, ℕ, zero, suc, ◌+◌, ◌*◌, ◌/◌, min, Bool, true, false, List, ◌++◌, take, drop}
+use Rattle.std.specs.Prelude.{length, Option, Some, None, IfSome}
 use Rattle.std.specs.List.{splice}
 use Rattle.std.specs.Simd.{first_chunks}
 use Rattle.uda_image.specs.Limits.{store_limit}
 use Rattle.uda_image.specs.Store.{StoreState}
+use Rattle.uda_image.specs.File.{Holding, holding_after}
+use Rattle.uda_trace.specs.FileCall.{FileCall}
 
 -- the number of whole blocks in the bytes of an image, at most as many as a store has
 unfoldable pub block_count_of : List ℕ → ℕ
@@ -28,6 +30,7 @@ image_state bytes = record {
   blocks = blocks_of bytes;
   size = block_count_of bytes;
   faithful = true;
+  honest = true;
   never_fails = true;
   failures = 0;
   failing_call = None;
@@ -56,25 +59,46 @@ failing_state image = record {
   blocks = blocks_of image.bytes;
   size = block_count_of image.bytes;
   faithful = true;
+  honest = true;
   never_fails = false;
   failures = failures_by image.left;
   failing_call = Some image.left;
 }
 
 -- a file that is open as an image: its number of blocks when it was opened, whether it was opened for
--- writing, and whether it was written since it was opened or last synced
+-- writing, whether it was written since it was opened or last synced, and the bytes that it holds, if they are
+-- known. Then what is supposed of it: the bytes that it held when it was opened, and the blocks that failed writes
+-- leave. Last the calls on it since it was opened, the newest first
 pub record OpenImage : Type 0 where
   pub size : ℕ
   pub writable : Bool
   pub written : Bool
+  pub content : Option (List ℕ)
+  pub held : List ℕ
+  pub blocks_left : List ℕ
+  pub calls : List FileCall
 
--- a file as a store: nothing is known of it except its number of blocks when it was opened
+-- the number of blocks of an open image
+abbrev pub file_block_count : OpenImage → ℕ
+file_block_count image = min image.size store_limit
+
+-- what the calls on an open image tell of it
+abbrev pub holding : OpenImage → Holding
+holding image = holding_after (file_block_count image) image.held image.blocks_left image.calls
+
+-- a file as a store: it promises nothing, and its calls tell whether it has been honest
 abbrev pub file_state : OpenImage → StoreState
 file_state image = record {
-  blocks = [];
-  size = min image.size store_limit;
+  blocks = blocks_of (holding image).bytes;
+  size = file_block_count image;
   faithful = false;
+  honest = (holding image).honest;
   never_fails = false;
-  failures = 0;
+  failures = (holding image).failures;
   failing_call = None;
 }
+
+-- an open image of which the bytes are known has been honest, and holds those bytes
+abbrev pub IsAsKnown : OpenImage → Type 0
+IsAsKnown image = IfSome image.content (λ bytes.
+    ((holding image).bytes ≡ bytes) × ((holding image).honest ≡ true))

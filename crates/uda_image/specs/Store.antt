@@ -1,19 +1,25 @@
 -- A store of the blocks of a unit as contracts see it, and the effect of one call on it. MSCP Basic Disk
 -- Functions Manual: a unit is an array of logical blocks of 512 bytes, numbered from 0.
-use Rattle.std.specs.Prelude.{◌≡◌, ℕ, ◌+◌, ◌-◌, ◌<◌, Bool, List, length, Option, Some, Result}
+use Rattle.std.specs.Prelude.{◌≡◌, ℕ, ◌+◌, ◌-◌, ◌<◌, Bool, true, ◌||◌, List, length, Option, Some, Result}
 use Rattle.std.specs.Prelude.{slice_get, slice_set, option_map, IfSome, MatchResult}
 use Rattle.std.specs.List.{All}
 use Rattle.uda_image.specs.declared.store.StoreError.{StoreError}
 
--- a store: its blocks, their number, whether it is faithful, whether it never fails, how many of its calls
--- have failed, and, if it is known, which call will fail: 1 is the next one, and 0 means none
+-- a store: its blocks, their number, whether it is faithful, whether it has been honest until now, whether it
+-- never fails, how many of its calls have failed, and, if it is known, which call will fail: 1 is the next one,
+-- and 0 means none
 pub record StoreState : Type 0 where
   pub blocks : List (List ℕ)
   pub size : ℕ
   pub faithful : Bool
+  pub honest : Bool
   pub never_fails : Bool
   pub failures : ℕ
   pub failing_call : Option ℕ
+
+-- a sound store: it is faithful, or it has been honest until now
+abbrev pub is_sound : StoreState → Bool
+is_sound store = store.faithful || store.honest
 
 -- this many calls succeed: the call that is to fail is not among them, and is now that many calls nearer
 pub record CallsSucceed (calls : ℕ) (old new : Option ℕ) : Type 0 where
@@ -31,10 +37,12 @@ pub record HasWholeBlocks (size : ℕ) (blocks : List (List ℕ)) : Type 0 where
   pub counted : length blocks ≡ size
   pub whole : All (λ block. length block ≡ 512) blocks
 
--- the attributes that no call changes: the number of blocks, and what the store promises
+-- the attributes that no call changes: the number of blocks, and what the store promises. A store that is no
+-- longer honest is never honest again
 pub record KeepsAttributes (old new : StoreState) : Type 0 where
   pub size_stays : new.size ≡ old.size
   pub faithful_stays : new.faithful ≡ old.faithful
+  pub honest_before : new.honest ≡ true → old.honest ≡ true
   pub never_fails_stays : new.never_fails ≡ old.never_fails
 
 -- a read of block n that succeeded: the bytes are the block's, and nothing changed except that one call was

@@ -89,6 +89,8 @@ impl BlockStore for FailingImage {
 
     ghost is_image = { λ image _. HasWholeBlocks-blocks_of image.bytes };
 
+    ghost is_image_if_sound = { λ image _. HasWholeBlocks-blocks_of image.bytes };
+
     fn size(&self) -> u32 {
         self.inner.size()
     }

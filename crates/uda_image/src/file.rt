@@ -1,16 +1,23 @@
 //! Images in files.
-ghost use Rattle.std.specs.Prelude.{length, ◌≡◌, ◌≢◌, ◌≤◌, true, false, IsOk, OnOk, OnErr, IfOk, IfErr};
+ghost use Rattle.std.specs.Prelude.{length, ◌≡◌, ◌≢◌, ◌+◌, ◌*◌, ◌<◌, ◌≤◌, ◌↔◌, ◌||◌, true, false, [], ◌∷◌, Some, Ok, IsOk};
+ghost use Rattle.std.specs.Prelude.{OnOk, OnErr, IfOk, IfErr, is_ok, if◌then◌else◌};
+ghost use Rattle.uda_trace.specs.FileCall.{call_of};
+ghost use Rattle.uda_trace.specs.FileCall as call;
 ghost use Rattle.uda_image.specs.Limits.{block_limit, store_limit};
-ghost use Rattle.uda_image.specs.Image.{file_state};
+ghost use Rattle.uda_image.specs.Store.{KeepsAttributes, Reads, Writes, is_sound};
+ghost use Rattle.uda_image.specs.AtOnce.{TriesToRead, TriesToWrite};
+ghost use Rattle.uda_image.specs.Image.{file_state, file_block_count, IsAsKnown};
 ghost use Rattle.uda_image.specs.StoreLaws.{min-le, no_image};
+ghost use Rattle.uda_image.specs.FileLaws.{file_blocks};
 
 use crate::error::ImageError;
 use crate::length::count_blocks;
+use crate::raw_file::RawFile;
 use crate::store::{BLOCK_LIMIT, BlockStore, STORE_LIMIT, StoreError};
 use std::fs::{File, OpenFile, OpenOptions, TryLockError};
 use std::marker::Model;
-use std::os::unix::fs::FileExt;
-use std::{fs, io};
+use std::{fmt, fs, io};
+use uda_trace::{Call, FileTrace, Supposition};
 
 /// An image in a file: the logical blocks of a unit, one after another (MSCP Basic Disk Functions Manual:
 /// logical blocks).
@@ -25,17 +32,25 @@ use std::{fs, io};
 /// While the image is open it holds the advisory lock of its file, if the file system has such locks. A
 /// writable image holds it exclusively, and images for reading share it.
 ///
-/// Contracts see three facts: its size in blocks, whether it is writable, and whether it was written since
-/// it was opened or last synced.
-#[derive(Debug, Drop)]
-pub struct FileImage {
-    file: File,
+/// Contracts see its size in blocks, whether it is writable, and whether it was written since it was opened
+/// or last synced. They also see the calls on it since it was opened, and what each of them returned. From
+/// these follows whether the image has been honest: each read returned the bytes that were last written
+/// there, or else those that the file held when it was opened, and no read of several blocks that was declined
+/// changed its buffer. If the bytes of the file are known, and the image holds them and is honest, so it is
+/// after each call.
+///
+/// What the file held when it was opened, and what a write that fails leaves in a block, is supposed
+/// ([`Supposition`]). A caller who names no supposition has contracts that hold for each.
+#[derive(Drop)]
+pub struct FileImage<F: RawFile = File> {
+    file: F,
     size: u32,
     writable: bool,
     written: bool,
+    trace: FileTrace,
 }
 
-impl Model for FileImage {
+impl<F: RawFile> Model for FileImage<F> {
     ghost use Rattle.std.specs.Prelude.{◌≤◌};
     ghost use Rattle.uda_image.specs.Limits.{store_limit};
     ghost use Rattle.uda_image.specs.Image.{OpenImage};
@@ -46,9 +61,24 @@ impl Model for FileImage {
       size = image.size;
       writable = image.writable;
       written = image.written;
+      content = F.content image.file;
+      held = image.trace.held;
+      blocks_left = image.trace.blocks_left;
+      calls = image.trace.calls;
     } };
 
     ghost invariant = { λ image. image.size ≤ store_limit };
+}
+
+impl<F: RawFile + fmt::Debug> fmt::Debug for FileImage<F> {
+    fn fmt<W: fmt::Write>(&self, f: &mut fmt::Formatter<W>) -> fmt::Result {
+        f.debug_struct("FileImage")
+            .field("file", &self.file)
+            .field("size", &self.size)
+            .field("writable", &self.writable)
+            .field("written", &self.written)
+            .finish()
+    }
 }
 
 // Returns whether `path` names a plain file. It is checked before the open, which could wait for the other
@@ -82,6 +112,7 @@ impl FileImage {
     pub fn open(rt: &HostRuntime, path: &str, writable: bool) -> Result<FileImage, ImageError>
         ensures writable { IfOk result (λ image. image.writable ≡ writable) }
         ensures written { IfOk result (λ image. image.written ≡ false) }
+        ensures no_calls { IfOk result (λ image. image.calls ≡ []) }
         ensures within_limit { IfOk result (λ image. image.size ≤ block_limit) }
         ensures errors { result ≢ Err ImageError.NoMemory }
     {
@@ -92,6 +123,7 @@ impl FileImage {
     pub fn open_large(rt: &HostRuntime, path: &str, writable: bool) -> Result<FileImage, ImageError>
         ensures writable { IfOk result (λ image. image.writable ≡ writable) }
         ensures written { IfOk result (λ image. image.written ≡ false) }
+        ensures no_calls { IfOk result (λ image. image.calls ≡ []) }
         ensures within_limit { IfOk result (λ image. image.size ≤ store_limit) }
         ensures errors { result ≢ Err ImageError.NoMemory }
     {
@@ -108,6 +140,7 @@ impl FileImage {
         requires limit { limit ≤ store_limit }
         ensures writable { IfOk result (λ image. image.writable ≡ writable) }
         ensures written { IfOk result (λ image. image.written ≡ false) }
+        ensures no_calls { IfOk result (λ image. image.calls ≡ []) }
         ensures within_limit { IfOk result (λ image. image.size ≤ limit) }
         ensures errors { result ≢ Err ImageError.NoMemory }
     {
@@ -124,12 +157,65 @@ impl FileImage {
             return Err(ImageError::Open);
         }
         let size = count_blocks(metadata.len(), limit)?;
-        Ok(FileImage {
+        Ok(FileImage::over(file, size, writable))
+    }
+}
+
+impl<F: RawFile> FileImage<F> {
+    /// Makes an image of `size` blocks over `file`, which holds them. A write to it fails unless it is
+    /// writable.
+    pub fn over(file: F, size: u32, writable: bool) -> FileImage<F>
+        requires within_limit { size ≤ store_limit }
+        ensures size { result.size ≡ size }
+        ensures writable { result.writable ≡ writable }
+        ensures written { result.written ≡ false }
+        ensures content { result.content ≡ F.content file }
+        ensures no_calls { result.calls ≡ [] }
+    {
+        FileImage {
             file,
             size,
             writable,
             written: false,
-        })
+            trace: FileTrace::new(&Supposition::any()),
+        }
+    }
+
+    /// Returns this image, on which no call was made, with what is supposed of its file.
+    pub fn supposing(self, supposed: &Supposition) -> FileImage<F>
+        requires no_calls { self.calls ≡ [] }
+        ensures supposed { result ≡ record self { held = supposed.now.held; blocks_left = supposed.now.blocks_left } }
+        ensures known { length supposed.now.held ≡ 512 * file_block_count self
+            → self.content ≡ Some supposed.now.held → IsAsKnown result }
+    {
+        FileImage {
+            trace: FileTrace::new(supposed),
+            ..self
+        }
+    }
+
+    // Notes a call.
+    #[inline(always)]
+    fn note(&mut self, call: &Call<'_>)
+        ensures { self.new ≡ record self.old { calls = call_of call.now ∷ self.old.calls } }
+    {
+        self.trace.note(call);
+    }
+
+    // Notes a read of these bytes.
+    #[inline(always)]
+    fn note_read(&mut self, block: u32, bytes: &[u8])
+        ensures { self.new ≡ record self.old { calls = call.read block bytes.now ∷ self.old.calls } }
+    {
+        self.note(&Call::Read { block, bytes });
+    }
+
+    // Notes a write of these bytes.
+    #[inline(always)]
+    fn note_written(&mut self, block: u32, bytes: &[u8])
+        ensures { self.new ≡ record self.old { calls = call.written block bytes.now ∷ self.old.calls } }
+    {
+        self.note(&Call::Written { block, bytes });
     }
 
     /// Makes the system write to the medium what was written to the file, and the file's length. It does
@@ -150,63 +236,122 @@ impl FileImage {
     }
 }
 
-impl BlockStore for FileImage {
+// Returns whether a call of the system moved this number of bytes.
+fn is_whole(moved: io::Result<usize>, bytes: usize) -> bool
+    ensures { (result ≡ true) ↔ (moved ≡ Ok bytes) }
+{
+    matches!(moved, Ok(count) if count == bytes)
+}
+
+impl<F: RawFile> BlockStore for FileImage<F> {
     ghost state = { file_state };
 
     ghost within_limit = { λ image. min-le image.size };
 
     ghost is_image = { λ _. no_image };
 
+    ghost is_image_if_sound = { λ image _. file_blocks image };
+
     fn size(&self) -> u32 {
         self.size
     }
 
+    #[tactic(auto, using(crate::proofs::FileSteps::file_steps))]
     fn read(&mut self, n: u32, to: &mut [u8; 512]) -> Result<(), StoreError>
-        ensures unchanged { self.new ≡ self.old }
+        requires { n < file_block_count self.old }
+        ensures unchanged { self.new ≡ record self.old { calls = self.new.calls } }
         ensures error { IfErr result (λ e. e ≡ StoreError.Read) }
         ensures long { length to.new ≡ 512 }
+        ensures noted { self.new.calls
+            ≡ (if is_ok result then call.read n to.new else call.failed) ∷ self.old.calls }
+        ensures attributes { KeepsAttributes (file_state self.old) (file_state self.new) }
+        ensures reads_if_sound { is_sound (file_state self.new) ≡ true
+            → Reads (file_state self.old) n (file_state self.new) to.new result }
+        ensures known { IsAsKnown self.old → IsAsKnown self.new }
     {
-        match self.file.read_exact_at(to, 512 * u64::from(n)) {
-            Ok(()) => Ok(()),
-            Err(_) => Err(StoreError::Read),
+        if self.file.read_exact(to, 512 * u64::from(n)).is_err() {
+            self.note(&Call::Failed);
+            return Err(StoreError::Read);
         }
+        self.note_read(n, to);
+        Ok(())
     }
 
+    #[tactic(auto, using(crate::proofs::FileSteps::file_steps))]
     fn write(&mut self, n: u32, from: &[u8; 512]) -> Result<(), StoreError>
-        ensures written { self.old.writable ≡ true → self.new ≡ record self.old { written = true } }
+        requires { n < file_block_count self.old }
+        ensures written { self.old.writable ≡ true → self.new
+            ≡ record self.old { written = true; content = self.new.content; calls = self.new.calls } }
         ensures read_only { self.old.writable ≡ false → result ≡ Err StoreError.Write }
-        ensures unchanged { self.old.writable ≡ false → self.new ≡ self.old }
+        ensures unchanged { self.old.writable ≡ false → self.new ≡ record self.old { calls = self.new.calls } }
         ensures error { IfErr result (λ e. e ≡ StoreError.Write) }
+        ensures noted { self.new.calls ≡ (if is_ok result then call.written n from.now
+            else (if self.old.writable then call.failed_write n else call.failed)) ∷ self.old.calls }
+        ensures attributes { KeepsAttributes (file_state self.old) (file_state self.new) }
+        ensures writes_if_sound { is_sound (file_state self.new) ≡ true
+            → Writes (file_state self.old) n (file_state self.new) from.now result }
+        ensures known { IsAsKnown self.old → IsAsKnown self.new }
     {
         if !self.writable {
+            self.note(&Call::Failed);
             return Err(StoreError::Write);
         }
         self.written = true;
-        match self.file.write_all_at(from, 512 * u64::from(n)) {
-            Ok(()) => Ok(()),
-            Err(_) => Err(StoreError::Write),
+        if self.file.write_all(from, 512 * u64::from(n)).is_err() {
+            self.note(&Call::FailedWrite { block: n });
+            return Err(StoreError::Write);
         }
+        self.note_written(n, from);
+        Ok(())
     }
 
     // Makes one call of the system. If that moves only a part, the caller's reads of single blocks read all
     // again.
-    fn try_read_blocks(&mut self, n: u32, _count: u32, to: &mut [u8]) -> bool
-        ensures unchanged { self.new ≡ self.old }
+    #[tactic(auto, using(crate::proofs::FileSteps::file_steps))]
+    fn try_read_blocks(&mut self, n: u32, count: u32, to: &mut [u8]) -> bool
+        requires on_unit { n + count ≤ file_block_count self.old }
+        requires long { length to.old ≡ 512 * count }
+        ensures unchanged { self.new ≡ record self.old { calls = self.new.calls } }
         ensures long { length to.new ≡ length to.old }
+        ensures noted { self.new.calls ≡ (if result then call.read n to.new else call.declined to.new)
+            ∷ call.asked to.old ∷ self.old.calls }
+        ensures attributes { KeepsAttributes (file_state self.old) (file_state self.new) }
+        ensures reads_if_sound { is_sound (file_state self.new) ≡ true
+            → TriesToRead (file_state self.old) n count (file_state self.new) to.old to.new result }
+        ensures known { IsAsKnown self.old → IsAsKnown self.new }
     {
         let bytes = to.len();
-        matches!(self.file.read_at(to, 512 * u64::from(n)), Ok(moved) if moved == bytes)
+        self.note(&Call::Asked { bytes: to });
+        if !is_whole(self.file.read_once(to, 512 * u64::from(n)), bytes) {
+            self.note(&Call::Declined { bytes: to });
+            return false;
+        }
+        self.note_read(n, to);
+        true
     }
 
     // Makes one call of the system, in the same way.
-    fn try_write_blocks(&mut self, n: u32, _count: u32, from: &[u8]) -> bool
-        ensures written { self.old.writable ≡ true → self.new ≡ record self.old { written = true } }
+    #[tactic(auto, using(crate::proofs::FileSteps::file_steps))]
+    fn try_write_blocks(&mut self, n: u32, count: u32, from: &[u8]) -> bool
+        requires on_unit { n + count ≤ file_block_count self.old }
+        requires long { length from.now ≡ 512 * count }
+        ensures written { self.old.writable ≡ true → self.new
+            ≡ record self.old { written = true; content = self.new.content; calls = self.new.calls } }
         ensures read_only { self.old.writable ≡ false → result ≡ false }
         ensures unchanged { self.old.writable ≡ false → self.new ≡ self.old }
+        ensures noted { self.new.calls
+            ≡ (if result then call.written n from.now ∷ self.old.calls else self.old.calls) }
+        ensures attributes { KeepsAttributes (file_state self.old) (file_state self.new) }
+        ensures writes_if_sound { is_sound (file_state self.new) ≡ true
+            → TriesToWrite (file_state self.old) n count (file_state self.new) from.now result }
+        ensures known { IsAsKnown self.old → IsAsKnown self.new }
     {
         let bytes = from.len();
         self.written |= self.writable;
-        self.writable
-            && matches!(self.file.write_at(from, 512 * u64::from(n)), Ok(moved) if moved == bytes)
+        if self.writable && is_whole(self.file.write_once(from, 512 * u64::from(n)), bytes) {
+            self.note_written(n, from);
+            return true;
+        }
+        false
     }
 }

@@ -1,4 +1,5 @@
-//! Stores of the blocks of a disk unit: images in memory, images of which one call fails, and files.
+//! Stores of the blocks of a disk unit: images in memory, images of which one call fails, and files. The calls on
+//! a file tell whether it has been honest, so contracts reach files too.
 //!
 //! The tests of this crate are in `mem_packet_image_tests`.
 #![tactic(auto)]
@@ -9,10 +10,13 @@ mod failing;
 mod file;
 mod length;
 mod memory;
+mod raw_file;
 mod store;
 
 pub use error::ImageError;
 pub use failing::FailingImage;
 pub use file::FileImage;
 pub use memory::MemImage;
+pub use raw_file::RawFile;
 pub use store::{BLOCK_LIMIT, BlockStore, Drive, STORE_LIMIT, StoreError};
+pub use uda_trace::Supposition;

@@ -151,6 +151,8 @@ impl BlockStore for MemImage {
 
     ghost is_image = { λ image _. HasWholeBlocks-blocks_of image };
 
+    ghost is_image_if_sound = { λ image _. HasWholeBlocks-blocks_of image };
+
     #[tactic(auto, unfolding(crate::specs::Image::block_count_of))]
     fn size(&self) -> u32 {
         (self.bytes.len() / 512) as u32

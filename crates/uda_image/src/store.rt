@@ -1,6 +1,6 @@
 //! The trait `BlockStore` for a store of a unit's blocks, and a drive that holds one.
 ghost use Rattle.std.specs.Prelude.{length, ◌≡◌, ◌+◌, ◌*◌, ◌<◌, ◌≤◌, true, IfErr, IsOk};
-ghost use Rattle.uda_image.specs.Store.{StoreState, HasWholeBlocks, KeepsAttributes, Reads, Writes};
+ghost use Rattle.uda_image.specs.Store.{StoreState, HasWholeBlocks, KeepsAttributes, Reads, Writes, is_sound};
 ghost use Rattle.uda_image.specs.AtOnce.{TriesToRead, TriesToWrite};
 ghost use Rattle.uda_image.specs.Limits.{store_limit};
 
@@ -46,13 +46,16 @@ impl Error for StoreError {}
 /// Contracts see a store as one value, its `state`:
 ///
 /// - its blocks and their number;
-/// - whether it is faithful, and whether it never fails;
+/// - whether it is faithful, whether it has been honest until now, and whether it never fails;
 /// - how many of its calls have failed;
 /// - if it is known, which later call will fail; no other will.
 ///
 /// A faithful store returns the data that was written last. A call of it that fails changes no block except
-/// the one that was being written. Of a store that isn't faithful, such as a file that other programs may
-/// change, only the number of blocks is known. A store that never fails returns `Ok` from every call.
+/// the one that was being written. A store that never fails returns `Ok` from every call.
+///
+/// Another store, such as a file that other programs may change, is honest as long as its calls have the
+/// results that those of a faithful store would have. A store that is no longer honest is never honest again.
+/// Only its number of blocks is known then. A store is sound if it is faithful or honest.
 pub trait BlockStore {
     ghost state: { Self → StoreState };
 
@@ -70,6 +73,8 @@ pub trait BlockStore {
         ensures infallible { (state self.old).never_fails ≡ true → IsOk result }
         ensures long { length to.new ≡ 512 }
         ensures reads { (state self.old).faithful ≡ true
+            → Reads (state self.old) n (state self.new) to.new result }
+        ensures reads_if_sound { is_sound (state self.new) ≡ true
             → Reads (state self.old) n (state self.new) to.new result };
 
     /// Writes `from` to block `n`. `n` is less than the size. Fails with `Write`, and the block may then
@@ -80,6 +85,8 @@ pub trait BlockStore {
         ensures error { IfErr result (λ e. e ≡ StoreError.Write) }
         ensures infallible { (state self.old).never_fails ≡ true → IsOk result }
         ensures writes { (state self.old).faithful ≡ true
+            → Writes (state self.old) n (state self.new) from.now result }
+        ensures writes_if_sound { is_sound (state self.new) ≡ true
             → Writes (state self.old) n (state self.new) from.now result };
 
     /// Reads `count` blocks from block `n` into `to` at once, and returns whether it did so. If it did, the
@@ -93,6 +100,8 @@ pub trait BlockStore {
         ensures attributes { KeepsAttributes (state self.old) (state self.new) }
         ensures long { length to.new ≡ length to.old }
         ensures reads { (state self.old).faithful ≡ true
+            → TriesToRead (state self.old) n count (state self.new) to.old to.new result }
+        ensures reads_if_sound { is_sound (state self.new) ≡ true
             → TriesToRead (state self.old) n count (state self.new) to.old to.new result }
     {
         false
@@ -110,6 +119,8 @@ pub trait BlockStore {
         ensures attributes { KeepsAttributes (state self.old) (state self.new) }
         ensures writes { (state self.old).faithful ≡ true
             → TriesToWrite (state self.old) n count (state self.new) from.now result }
+        ensures writes_if_sound { is_sound (state self.new) ≡ true
+            → TriesToWrite (state self.old) n count (state self.new) from.now result }
     {
         false
     }
@@ -117,6 +128,9 @@ pub trait BlockStore {
     ghost within_limit: { (store : Self) → (state store).size ≤ store_limit };
 
     ghost is_image: { (store : Self) → (state store).faithful ≡ true
+        → HasWholeBlocks (state store).size (state store).blocks };
+
+    ghost is_image_if_sound: { (store : Self) → is_sound (state store) ≡ true
         → HasWholeBlocks (state store).size (state store).blocks };
 }
 

@@ -3,6 +3,7 @@ use Rattle.std.proofs.Common.{◌≡◌, ℕ, ◌+◌, ◌-◌, ◌<◌, ◌≤�
 use borrow.Rule.Slice.PartMut.{put_mid}
 use Rattle.std.proofs.lemmas.List.{same_lists, get_or_append_left, get_or-append_right, get_or-take, get_or-drop, drop-drop, take_all}
 use Rattle.std.proofs.lemmas.Bool.{cases_lt}
+use Rattle.std.proofs.Math.Seq.{take-add}
 use Rattle.uda_mem.specs.Put.{part, put, Overlap}
 
 -- an index is before a range, in it or after it
@@ -29,6 +30,11 @@ module _ {A : Type 0} where
 
   pub length-part-le : (xs : List A) (at n : ℕ) → at + n ≤ length xs → length (part xs at n) ≡ n
   length-part-le xs at n h = length-part xs at n ∙ omega arith
+
+  -- two neighbouring ranges are one
+  pub part-next : (xs : List A) (at n m : ℕ) → part xs at (n + m) ≡ part xs at n ++ part xs (at + n) m
+  unfolding part
+  part-next xs at n m = take-add n m (drop at xs) ∙ ap (λ rest. take n (drop at xs) ++ take m rest) (drop-drop n at xs)
 
   pub get_or-part : (xs : List A) (at n k : ℕ) (d : A) → k < n → get_or (part xs at n) k d
       ≡ get_or xs (at + k) d

@@ -20,14 +20,14 @@ use Rattle.uda_disk.proofs.Slots.{slice_get-set_same, slice_get-set_other}
 use Rattle.uda_disk.proofs.Runs.{length-runs}
 use Rattle.uda_disk.proofs.Lists.{put_back, All-remove, All-insert, All-at, All-front, slice_get-last, pairs_others}
 use Rattle.uda_disk.proofs.Errors.{is_error, losses_told, errors-set}
-use Rattle.uda_disk.specs.Units.{disks_of, failures_at, Units, AllFaithful, is_infallible}
+use Rattle.uda_disk.specs.Units.{disks_of, failures_at, Units, AllSound, is_infallible}
 use Rattle.uda_exec.specs.Execution.{Executes}
 use Rattle.uda_exec.specs.Order.{IsEligible}
-use Rattle.uda_exec.proofs.Units.{faithful_stays, sure_stays}
+use Rattle.uda_exec.proofs.Units.{sure_stays, all_sound}
 use Rattle.uda_model.specs.Ledger.{untold, told_by, IsToCome, NoneToCome, MayExecuteBefore}
 use Rattle.uda_model.proofs.LedgerSteps.{ledger_opens, ledger_carries_out, ledger_closes}
 use Rattle.uda_posting.specs.Posting.{answer_of, Posted, posted_command, commands_in, buffer_of, Ready}
-use Rattle.uda_posting.specs.Outstanding.{IsEarlier, IsNotAt, IsUnexecuted, AreUnexecuted, AreSeparate, UnexecutedInvariant}
+use Rattle.uda_posting.specs.Outstanding.{IsEarlier, IsNotAt, IsUnexecuted, AreUnexecuted, AreSeparate, IsExact, UnexecutedInvariant}
 use Rattle.uda_posting.specs.UpToData.{bares, is_done, has_begun, outline, outlines, ReportsTransfer, AnswerMatches, AllAnswersMatch, MatchesUpToData}
 use Rattle.uda_posting.proofs.Posts.{may_overtake}
 use Rattle.uda_posting.proofs.Seemings.{look, step_looks, run_looks, plain_each, outline_same, goes_as, IsServed, served}
@@ -70,16 +70,23 @@ untold_at : (requests : List Request) (k : ℕ) (r : Request) → slice_get requ
 untold_at requests k r asked = slice_get-map (λ (_ : Request). TooLong) requests k
     ∙ ap (option_map (λ (_ : Request). TooLong)) asked
 
+exact_start : (units : Units) (requests : List Request)
+    → IsExact units requests (untold requests, disks_of units) (untold requests) units
+exact_start units requests = record {
+  same = refl;
+  errors = λ u. omega (arith, told_none u requests);
+  infallible = λ u never. refl;
+}
+
 pub owes_start : (units : Units) (requests : List Request) → UnexecutedInvariant units requests (untold requests) units
 owes_start units requests = record {
   run = (untold requests, disks_of units);
   ledger = ledger_opens (disks_of units) requests;
   looks = refl;
-  faithful = λ _. record {
-    same = refl;
-    errors = λ u. omega (arith, told_none u requests);
-    infallible = λ u never. refl;
-  };
+  faithful = λ _. exact_start units requests;
+  sound_before = λ u sound. sound;
+  well_formed_if_sound = λ whole. whole;
+  sound = λ _. exact_start units requests;
   tell = λ k r a asked at begun.
       let both : Some TooLong ≡ Some a = sym (untold_at requests k r asked) ∙ at in
       let is : TooLong ≡ a = cc in absurd (cc (begun, ap has_begun is));
@@ -127,6 +134,25 @@ owes_done {start} {requests} {told} {units} {after} {memory} {left} {e} owes p o
     let f : FixedRequest = record { request = r; outcome = s.outcome } in
     let more = λ (it : IsServed s.outcome p units a after) (u : ℕ). one_failure u r.unit (is_error a)
     (is_lost s.outcome) units after it.lost x.others_stay it.failures_are in
+    let exact : AllSound after
+    → IsExact start requests (told_by i f run) (slice_set told i a) after = λ trusted.
+    let before = owes.sound (λ u. x.sound_before u (trusted u)) in
+    let it = s.sound (trusted r.unit) in
+    record {
+      same = ap (told_by i f) before.same ∙ ap (λ x. (set told i x.0, x.1)) (sym it.is);
+      errors = λ u. omega (
+        arith,
+        before.errors u,
+        more it u,
+        errors-set u requests told i r a own.stands own.untold,
+      );
+      infallible = λ u never.
+          let none : tells_error u r a ≡ 0 = none_told u r.unit (is_error a)
+          (λ own. it.lost ∙ ap is_lost (it.infallible
+          (ap (λ v. is_infallible (slice_get units v)) (sym own) ∙ sure_stays start units owes.all_attributes u
+          ∙ never))) in
+          omega (arith, before.infallible u never, more it u, none);
+    } in
     record {
       run = told_by i f run;
       ledger = ledger_carries_out (disks_of start) requests run i f
@@ -139,24 +165,10 @@ owes_done {start} {requests} {told} {units} {after} {memory} {left} {e} owes p o
           outlines-set run.0 i (step_of f run.1)
           ∙ ap₂ (λ l x. (set l i x.0, x.1)) (ap (λ w. w.0) owes.looks) seen
           ∙ sym (outlines-set told i (a, disks_of after));
-      faithful = λ trusted.
-          let before = owes.faithful trusted in
-          let it = s.faithful (faithful_stays start units owes.all_attributes r.unit ∙ trusted r.unit) in
-          record {
-            same = ap (told_by i f) before.same ∙ ap (λ x. (set told i x.0, x.1)) (sym it.is);
-            errors = λ u. omega (
-              arith,
-              before.errors u,
-              more it u,
-              errors-set u requests told i r a own.stands own.untold,
-            );
-            infallible = λ u never.
-                let none : tells_error u r a ≡ 0 = none_told u r.unit (is_error a)
-                (λ own. it.lost ∙ ap is_lost (it.infallible
-                (ap (λ v. is_infallible (slice_get units v)) (sym own) ∙ sure_stays start units owes.all_attributes u
-                ∙ never))) in
-                omega (arith, before.infallible u never, more it u, none);
-          };
+      faithful = λ trusted. exact (all_sound start after (x.all_attributes_stay ∙ owes.all_attributes) trusted);
+      sound_before = λ u sound. owes.sound_before u (x.sound_before u sound);
+      well_formed_if_sound = λ whole. x.well_formed_if_sound (owes.well_formed_if_sound whole);
+      sound = exact;
       tell = λ k q b asked at begun. elim (cases_eq k i) [
         | inl same ↦
             let one : Some r ≡ Some q = sym own.stands ∙ ap (slice_get requests) (sym same) ∙ asked in
@@ -387,21 +399,21 @@ module _ {start : Units} {requests : List Request} {told : List Answer} {units :
       (λ k r it. none k r (to_come_alike requests owes.run (told, disks_of units) owes.looks k r it))
       owes.ledger
 
-  pub owes_end : AllFaithful start → InOrderWithFailures (disks_of start) requests told (disks_of units)
+  pub owes_end : AllSound units → InOrderWithFailures (disks_of start) requests told (disks_of units)
   owes_end trusted = subst (λ (w : List Answer × Disks). InOrderWithFailures (disks_of start) requests w.0 w.1)
-      (owes.faithful trusted).same ran
+      (owes.sound trusted).same ran
 
   -- if no answer reports a drive error, it is the in-order run
-  pub owes_untold : AllFaithful start → ((u : ℕ) → drive_errors u requests told ≡ 0)
+  pub owes_untold : AllSound units → ((u : ℕ) → drive_errors u requests told ≡ 0)
       → (told, disks_of units) ≡ run_in_order (disks_of start) requests
   owes_untold trusted none = losses_told (disks_of start) requests told (disks_of units)
       (owes_end trusted) none
 
   -- and if no store failed, too
-  pub owes_plain : AllFaithful start → ((u : ℕ)
+  pub owes_plain : AllSound units → ((u : ℕ)
       → failures_at (slice_get units u) ≡ failures_at (slice_get start u))
       → (told, disks_of units) ≡ run_in_order (disks_of start) requests
-  owes_plain trusted none = owes_untold trusted (λ u. omega (arith, (owes.faithful trusted).errors u, none u))
+  owes_plain trusted none = owes_untold trusted (λ u. omega (arith, (owes.sound trusted).errors u, none u))
 
   -- over any stores, its outlines are those of the in-order run
   looks : outlines (told, disks_of units) ≡ outlines (run_in_order (disks_of start) requests)

@@ -17,7 +17,7 @@ use Rattle.uda_disk.specs.Answer.{Answer, TooLong, Moved, Data, blank_answer, st
 use Rattle.uda_disk.specs.Form.{SameForm, IsAnswerOf}
 use Rattle.uda_disk.specs.RequestEffect.{CheckResult, Rejected, Accepted, check_result, check_at, check_by, refusal_on, refusal_status, is_accepted, TransferOutcome, Done, Lost, is_lost, IsWithinRange, answer_by, answer_on, transfer_status, transfer_bytes, disks_by, disk_after, mode_after, serve_by, serve_as}
 use Rattle.uda_disk.specs.InOrderRun.{FixedRequest, requests_of, too_long, step_as, step, run_in_order, run_in_order_as}
-use Rattle.uda_disk.specs.Units.{Units, disks_of, is_faithful, failures_at, is_infallible, FixedAttributes, attributes_of, unit_attributes, modes_of}
+use Rattle.uda_disk.specs.Units.{Units, disks_of, is_sound_at, failures_at, is_infallible, FixedAttributes, attributes_of, unit_attributes, modes_of}
 use Rattle.uda_disk.proofs.Slots.{set-itself}
 use Rattle.uda_disk.proofs.Errors.{is_error}
 use Rattle.uda_disk.proofs.Outcomes.{error-lost}
@@ -295,14 +295,14 @@ pub record IsServed (o : TransferOutcome) (p : Posted) (units : Units) (told : A
       (slice_get units p.request.unit) + (if is_lost o then 1 else 0)
   pub infallible : is_infallible (slice_get units p.request.unit) ≡ true → o ≡ Done
 
--- a command was executed, with this answer: it is the step of its request up to data, and over a faithful
--- store exactly that step
+-- a command was executed, with this answer: it is the step of its request up to data, and over a store
+-- that is sound afterwards exactly that step
 pub record Served (p : Posted) (units : Units) (told : Answer) (after : Units) : Type 0 where
   pub outcome : TransferOutcome
   pub fits : IsWithinRange (blocks_named p.request.act) outcome
   pub looks : look (told, disks_of after) ≡ look (step_as Done p.request (disks_of units))
   pub tells : has_begun told ≡ true → ReportsTransfer p.request.act told
-  pub faithful : is_faithful (slice_get units p.request.unit) ≡ true → IsServed outcome p units told after
+  pub sound : is_sound_at (slice_get after p.request.unit) ≡ true → IsServed outcome p units told after
 
 module _ (p : Posted) (units : Units) (memory : List ℕ) (e : End) (after : Units) (left : List ℕ)
     (ready : Ready p memory) (x : Executes (posted_command p) units memory e after left) where
@@ -330,7 +330,7 @@ module _ (p : Posted) (units : Units) (memory : List ℕ) (e : End) (after : Uni
         fits = fits;
         looks = ap look is ∙ step_looks o Done r (disks_of units) (disks_of units) refl;
         tells = begun;
-        faithful = λ _. record {
+        sound = λ _. record {
           is = is;
           lost = ap (λ (y : Answer × Disks). is_error y.0) is
               ∙ error-lost o r (disks_of units) ready.short fits
@@ -355,7 +355,7 @@ module _ (p : Posted) (units : Units) (memory : List ℕ) (e : End) (after : Uni
       }
 
   -- whatever its store made of it
-  moved : is_transfer c.op ≡ true → passes_checks c own ≡ true → is_faithful (slice_get units p.request.unit) ≡ false
+  moved : is_transfer c.op ≡ true → passes_checks c own ≡ true → is_sound_at (slice_get after p.request.unit) ≡ false
       → Served p units told after
   moved moving acting none =
       let r = p.request in let ds = disks_of units in let t = x.by_checks.ends moving acting in
@@ -371,11 +371,11 @@ module _ (p : Posted) (units : Units) (memory : List ℕ) (e : End) (after : Uni
             (looks_stay after units x.all_attributes_stay (x.modes_stay moving)
             ∙ sym (disks-still r ds (slice_get ds r.unit) refl is_moved)) ∙ ap look (sym now);
         tells = λ _. tells moving t;
-        faithful = λ trusted. absurd (cc);
+        sound = λ trusted. absurd (cc);
       }
 
   pub served : Served p units told after
-  served = by (is_transfer c.op && passes_checks c own) (is_faithful (slice_get units p.request.unit)) refl refl
+  served = by (is_transfer c.op && passes_checks c own) (is_sound_at (slice_get after p.request.unit)) refl refl
     where
       still : is_transfer c.op && passes_checks c own ≡ false → Served p units told after
       still idle =
@@ -390,10 +390,10 @@ module _ (p : Posted) (units : Units) (memory : List ℕ) (e : End) (after : Uni
           (sym (passes_checks-own p own ready)) ∙ idle in
           taken t (λ begun. absurd (cc))
 
-      by : (moving faithful : Bool) → is_transfer c.op && passes_checks c own ≡ moving
-          → is_faithful (slice_get units p.request.unit) ≡ faithful → Served p units told after
-      by false faithful idle is = still idle
+      by : (moving sound : Bool) → is_transfer c.op && passes_checks c own ≡ moving
+          → is_sound_at (slice_get after p.request.unit) ≡ sound → Served p units told after
+      by false sound idle is = still idle
       by true true goes is =
           let two = and_parts (is_transfer c.op) (passes_checks c own) goes in
-          taken (x.takes_effect (λ _. is)) (λ _. tells two.0 (x.by_checks.ends two.0 two.1))
+          taken (x.takes_effect_if_sound (λ _. is)) (λ _. tells two.0 (x.by_checks.ends two.0 two.1))
       by true false goes is = let two = and_parts (is_transfer c.op) (passes_checks c own) goes in moved two.0 two.1 is

@@ -7,6 +7,7 @@ use Rattle.uda_packet.specs.declared.end.End.{End}
 use Rattle.uda_exec.specs.Commands.{buffer_start, buffer_length}
 use Rattle.uda_disk.specs.Disk.{Disks}
 use Rattle.uda_disk.specs.Units.{Units, AllFaithful, disks_of, failures_at, unit_attributes, is_infallible}
+use Rattle.uda_disk.specs.Units.{AllSound, AreSoundBefore, AreWellFormedIfSound}
 use Rattle.uda_disk.specs.Request.{Request}
 use Rattle.uda_disk.specs.Answer.{Answer, TooLong}
 use Rattle.uda_disk.specs.Order.{NoClash}
@@ -63,7 +64,7 @@ InfallibleDidNotFail units units_after =
     (u : ℕ) → is_infallible (slice_get units u) ≡ true
     → failures_at (slice_get units_after u) ≡ failures_at (slice_get units u)
 
--- Over faithful stores the run has the answers written so far and the units' disks. Each failure was
+-- Over faithful or sound stores the run has the answers written so far and the units' disks. Each failure was
 -- reported once, and a store that never fails has not failed.
 pub record IsExact (start : Units) (requests : List Request) (run : List Answer × Disks) (told : List Answer)
     (units : Units) : Type 0 where
@@ -74,12 +75,16 @@ pub record IsExact (start : Units) (requests : List Request) (run : List Answer 
 
 -- The answers written so far, and the units then. The ledger has a run that matches them up to data: blocks
 -- may differ, and so may the answers of transfers that began. Over faithful stores the run is exactly this
--- one.
+-- one. So it is if each store is sound now. A store that is sound now was sound at the start, and then its unit is
+-- well formed.
 pub record UnexecutedInvariant (start : Units) (requests : List Request) (told : List Answer) (units : Units) : Type 0 where
   pub run : List Answer × Disks
   pub ledger : Ledger (disks_of start) requests run
   pub looks : outlines run ≡ outlines (told, disks_of units)
   pub faithful : AllFaithful start → IsExact start requests run told units
+  pub sound_before : AreSoundBefore start units
+  pub well_formed_if_sound : AreWellFormedIfSound start → AreWellFormedIfSound units
+  pub sound : AllSound units → IsExact start requests run told units
   pub tell : AllTell requests told
   pub counted : length told ≡ length requests
   pub all_attributes : unit_attributes units ≡ unit_attributes start

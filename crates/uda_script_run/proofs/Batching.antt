@@ -11,8 +11,8 @@ use Rattle.std.proofs.KnownBytes.{Appends-nil, Appends-trans, Consumes-nil, Cons
 use Rattle.uda_disk.specs.Request.{Request}
 use Rattle.uda_disk.specs.Answer.{Answer}
 use Rattle.uda_disk.specs.InOrderRun.{FitsRequest}
-use Rattle.uda_disk.specs.Units.{AllFaithful, unit_attributes, disks_of}
-use Rattle.uda_exec.proofs.Units.{faithful_stays, sure_stays}
+use Rattle.uda_disk.specs.Units.{AllSound, unit_attributes, disks_of}
+use Rattle.uda_exec.proofs.Units.{all_sound, sure_stays}
 use Rattle.uda_disk.specs.Values.{request_value, request_values, answer_value, answer_values}
 use Rattle.uda_disk.specs.declared.answer.Answer.{Answer as Told}
 use Rattle.uda_disk.specs.declared.request.Request.{Request as Made}
@@ -25,7 +25,7 @@ use Rattle.uda_script_run.specs.Reading.{ReadsRequests, AreUnread}
 use Rattle.uda_script_run.specs.declared.style.ReportPart.{ReportPart}
 use Rattle.uda_script_run.specs.declared.style.ReportStyle.{ReportStyle}
 use Rattle.uda_script_run.specs.Texts.{answer_bytes, out_text, styled_line, report_lines, part_text, part_after}
-use Rattle.uda_script_run.specs.Script.{DriverRunHolds, writers, TextsBegin}
+use Rattle.uda_script_run.specs.Script.{DriverRunHolds, RunHoldsIfSound, writers, TextsBegin}
 use Rattle.uda_script_run.specs.Batches.{Served, Setting, setting, RanLines, Ran, StopsBefore, StopsWithin, StopsInError}
 use Rattle.uda_script_run.proofs.Appends.{plain-both, failures-both, errors-both, posted-both, formed-both}
 use Rattle.uda_script_run.proofs.Alikes.{in_order_run_up_to_data-both}
@@ -96,15 +96,25 @@ short_stays (line ∷ rest) b held number is = by (nat_lt held (bytes_taken line
 
 -- ---- a driver's runs
 
+lost_none : (driver : DriverState) → ReportsEveryFailure (units_of driver) [] [] (units_of driver)
+lost_none driver = record {
+  run = record { fixed = []; are_requests = refl; fit = All-nil FitsRequest; gives = refl };
+  told = λ u. omega arith;
+  infallible = λ u infallible. refl;
+}
+
 pub served_none : (driver : DriverState) → Served [] [] driver driver
 served_none driver = record {
   answer_forms = record { counted = refl; formed = λ k r answer at told. absurd (cc) };
   in_order_run = λ faithful none. refl;
   in_order_run_if_no_error = λ faithful untold. refl;
-  in_order_run_with_failures = λ faithful. record {
-    run = record { fixed = []; are_requests = refl; fit = All-nil FitsRequest; gives = refl };
-    told = λ u. omega arith;
-    infallible = λ u infallible. refl;
+  in_order_run_with_failures = λ faithful. lost_none driver;
+  if_sound = record {
+    sound_before = λ u sound. sound;
+    well_formed_if_sound = λ whole. whole;
+    in_order_run = λ sound none. refl;
+    in_order_run_if_no_error = λ sound untold. refl;
+    in_order_run_with_failures = λ sound. lost_none driver;
   };
   in_order_run_up_to_data = record { left = refl; answered = λ k r done now at_r at_done at_now. absurd (cc) };
   turns = omega arith;
@@ -122,6 +132,7 @@ served_once asked told driver after all_attributes served = record {
   in_order_run = served.in_order_run;
   in_order_run_if_no_error = served.in_order_run_if_no_error;
   in_order_run_with_failures = served.in_order_run_with_failures;
+  if_sound = served.if_sound;
   in_order_run_up_to_data = served.in_order_run_up_to_data;
   turns = served.turn_counts.turns;
   fetches = served.turn_counts.fetches;
@@ -132,14 +143,14 @@ served_once asked told driver after all_attributes served = record {
 
 module _ (a b : List Request) (told later : List Answer) (driver between after : DriverState)
     (one : Served a told driver between) (two : Served b later between after) where
-  still_faithful : AllFaithful (units_of driver) → AllFaithful (units_of between)
-  still_faithful faithful = λ u. faithful_stays (units_of driver) (units_of between) one.all_attributes u
-      ∙ faithful u
+  was_sound : AllSound (units_of after) → AllSound (units_of between)
+  was_sound sound = λ u. two.if_sound.sound_before u (sound u)
 
-  losses_more : AllFaithful (units_of driver) → ReportsEveryFailure (units_of driver) (a ++ b) (told ++ later)
+  losses_more : AllSound (units_of after) → ReportsEveryFailure (units_of driver) (a ++ b) (told ++ later)
       (units_of after)
-  losses_more faithful =
-      let first = one.in_order_run_with_failures faithful in let second = two.in_order_run_with_failures (still_faithful faithful) in
+  losses_more sound =
+      let first = one.if_sound.in_order_run_with_failures (was_sound sound) in
+      let second = two.if_sound.in_order_run_with_failures sound in
       record {
         run = failures-both a b told later _ _ _ first.run second.run;
         told = λ u. omega (
@@ -153,23 +164,37 @@ module _ (a b : List Request) (told later : List Answer) (driver between after :
             ∙ first.infallible u infallible;
       }
 
-  headline_more : AllFaithful (units_of driver) → NoStoreFailed (units_of driver) (units_of after)
+  headline_more : AllSound (units_of after) → NoStoreFailed (units_of driver) (units_of after)
       → IsInOrderRun (units_of driver) (a ++ b) (told ++ later) (units_of after)
-  headline_more faithful none =
-      let first = one.in_order_run_with_failures faithful in let second = two.in_order_run_with_failures (still_faithful faithful) in
+  headline_more sound none =
+      let first = one.if_sound.in_order_run_with_failures (was_sound sound) in
+      let second = two.if_sound.in_order_run_with_failures sound in
       plain-both a b told later (disks_of (units_of driver)) (disks_of (units_of between))
       (disks_of (units_of after))
-      (one.in_order_run faithful (λ u. omega (arith, none u, first.told u, second.told u)))
-      (two.in_order_run (still_faithful faithful) (λ u. omega (arith, none u, first.told u, second.told u)))
+      (one.if_sound.in_order_run (was_sound sound) (λ u. omega (arith, none u, first.told u, second.told u)))
+      (two.if_sound.in_order_run sound (λ u. omega (arith, none u, first.told u, second.told u)))
 
-  untold_more : AllFaithful (units_of driver) → any_drive_error (told ++ later) ≡ false
+  untold_more : AllSound (units_of after) → any_drive_error (told ++ later) ≡ false
       → IsInOrderRun (units_of driver) (a ++ b) (told ++ later) (units_of after)
-  untold_more faithful untold =
+  untold_more sound untold =
       let parts = or_parts (any_drive_error told) (any_drive_error later)
       (sym (list_any-append is_drive_error told later) ∙ untold) in
       plain-both a b told later (disks_of (units_of driver)) (disks_of (units_of between))
       (disks_of (units_of after))
-      (one.in_order_run_if_no_error faithful parts.0) (two.in_order_run_if_no_error (still_faithful faithful) parts.1)
+      (one.if_sound.in_order_run_if_no_error (was_sound sound) parts.0)
+      (two.if_sound.in_order_run_if_no_error sound parts.1)
+
+  attributes : unit_attributes (units_of after) ≡ unit_attributes (units_of driver)
+  attributes = two.all_attributes ∙ one.all_attributes
+
+  sound_more : RunHoldsIfSound (a ++ b) (told ++ later) driver after
+  sound_more = record {
+    sound_before = λ u sound. one.if_sound.sound_before u (two.if_sound.sound_before u sound);
+    well_formed_if_sound = λ whole. two.if_sound.well_formed_if_sound (one.if_sound.well_formed_if_sound whole);
+    in_order_run = headline_more;
+    in_order_run_if_no_error = untold_more;
+    in_order_run_with_failures = losses_more;
+  }
 
   pub served_more : Served (a ++ b) (told ++ later) driver after
   served_more = record {
@@ -183,15 +208,16 @@ module _ (a b : List Request) (told later : List Answer) (driver between after :
       );
       formed = formed-both a b told later one.answer_forms.counted one.answer_forms.formed two.answer_forms.formed;
     };
-    in_order_run = headline_more;
-    in_order_run_if_no_error = untold_more;
-    in_order_run_with_failures = losses_more;
+    in_order_run = λ faithful. headline_more (all_sound _ _ attributes faithful);
+    in_order_run_if_no_error = λ faithful. untold_more (all_sound _ _ attributes faithful);
+    in_order_run_with_failures = λ faithful. losses_more (all_sound _ _ attributes faithful);
+    if_sound = sound_more;
     in_order_run_up_to_data = in_order_run_up_to_data-both (units_of driver) (units_of between)
         (units_of after) a b told later one.answer_forms.counted one.in_order_run_up_to_data two.in_order_run_up_to_data;
     turns = omega (arith, one.turns, two.turns, posted-both a b);
     fetches = omega (arith, one.fetches, two.fetches, posted-both a b);
     deliveries = omega (arith, one.deliveries, two.deliveries, posted-both a b);
-    all_attributes = two.all_attributes ∙ one.all_attributes;
+    all_attributes = attributes;
     rest = λ rest. two.rest (one.rest rest);
   }
 

@@ -14,7 +14,7 @@ use Rattle.uda_grammar.specs.declared.script.Line.{Line}
 use Rattle.uda_script_run.specs.declared.style.ReportPart.{ReportPart}
 use Rattle.uda_script_run.specs.Requests.{requests, taken, first_short}
 use Rattle.uda_script_run.specs.Texts.{out_text, part_text, part_after}
-use Rattle.uda_script_run.specs.Script.{Streams, streams, writers_of, TextsBegin}
+use Rattle.uda_script_run.specs.Script.{RunHoldsIfSound, Streams, streams, writers_of, TextsBegin}
 
 -- The driver executed these requests with these answers, in any number of runs. Each fact is about the
 -- whole list: answers and disks are related to one in-order run of it.
@@ -27,6 +27,7 @@ pub record Served (asked : List Request) (told : List Answer)
       → IsInOrderRun (units_of driver) asked told (units_of driver_after)
   pub in_order_run_with_failures : AllFaithful (units_of driver)
       → ReportsEveryFailure (units_of driver) asked told (units_of driver_after)
+  pub if_sound : RunHoldsIfSound asked told driver driver_after
   pub in_order_run_up_to_data : MatchesUpToData (units_of driver) asked told (units_of driver_after)
   pub turns : driver_after.turns ≡ driver.turns + 3 * posted_count asked
   pub fetches : driver_after.fetches ≡ driver.fetches + posted_count asked

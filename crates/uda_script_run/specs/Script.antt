@@ -1,7 +1,7 @@
 -- The result of a run of a script.
 use Rattle.std.specs.Prelude.{◌≡◌, ℕ, false, List, ◌++◌, length, Option, Some, IfSome}
 use Rattle.std.specs.Io.KnownBytes.{Appends, Consumes}
-use Rattle.uda_disk.specs.Units.{AllFaithful}
+use Rattle.uda_disk.specs.Units.{AllFaithful, AllSound, AreSoundBefore, AreWellFormedIfSound}
 use Rattle.uda_disk.specs.Answer.{Answer}
 use Rattle.uda_disk.specs.Request.{Request}
 use Rattle.uda_driver.specs.Run.{DriverState, units_of, AreAnswersOf, IsInOrderRun, NoStoreFailed, ReportsEveryFailure}
@@ -16,6 +16,19 @@ use Rattle.uda_script_run.specs.declared.style.ReportPart.{ReportPart}
 use Rattle.uda_script_run.specs.Texts.{out_text, report_text, part_text, plain_style, whole_report}
 use Rattle.uda_script_run.specs.Texts.{AppendsBeginning}
 
+-- what holds of a run, or of several one after another, if each store is sound afterwards; the fields are clauses of
+-- the driver's run
+pub record RunHoldsIfSound (asked : List Request) (told : List Answer)
+    (driver driver_after : DriverState) : Type 0 where
+  pub sound_before : AreSoundBefore (units_of driver) (units_of driver_after)
+  pub well_formed_if_sound : AreWellFormedIfSound (units_of driver) → AreWellFormedIfSound (units_of driver_after)
+  pub in_order_run : AllSound (units_of driver_after) → NoStoreFailed (units_of driver) (units_of driver_after)
+      → IsInOrderRun (units_of driver) asked told (units_of driver_after)
+  pub in_order_run_if_no_error : AllSound (units_of driver_after) → any_drive_error told ≡ false
+      → IsInOrderRun (units_of driver) asked told (units_of driver_after)
+  pub in_order_run_with_failures : AllSound (units_of driver_after)
+      → ReportsEveryFailure (units_of driver) asked told (units_of driver_after)
+
 -- the driver executed these requests with these answers; the fields are clauses of its run
 pub record DriverRunHolds (asked : List Request) (told : List Answer)
     (driver driver_after : DriverState) : Type 0 where
@@ -26,6 +39,7 @@ pub record DriverRunHolds (asked : List Request) (told : List Answer)
       → IsInOrderRun (units_of driver) asked told (units_of driver_after)
   pub in_order_run_with_failures : AllFaithful (units_of driver)
       → ReportsEveryFailure (units_of driver) asked told (units_of driver_after)
+  pub if_sound : RunHoldsIfSound asked told driver driver_after
   pub in_order_run_up_to_data : MatchesUpToData (units_of driver) asked told (units_of driver_after)
   pub turn_counts : HasTurnCounts asked driver driver_after
   pub rest : IsAtRest driver_after

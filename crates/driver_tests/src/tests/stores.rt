@@ -26,6 +26,8 @@ impl BlockStore for Recorder {
 
     ghost is_image = { λ recorder _. HasWholeBlocks-blocks_of recorder.image };
 
+    ghost is_image_if_sound = { λ recorder _. HasWholeBlocks-blocks_of recorder.image };
+
     fn size(&self) -> u32 {
         self.image.size()
     }

@@ -53,7 +53,7 @@ fn bytes_of(alloc: Global, blocks: &[u16]) -> Result<Vec<u8>, AllocError> {
 
 /// A call of a store, with its result.
 #[derive(Clone, Copy)]
-enum Call {
+pub(super) enum Call {
     /// The number of blocks.
     Size(u32),
     /// A block is read.
@@ -131,8 +131,8 @@ fn are_two(bytes: &[u8; 1024], blocks: Option<(u16, u16)>) -> bool {
     first == block_of(one).as_slice() && last == block_of(other).as_slice()
 }
 
-// Makes calls of a store, and returns the index of the first with a wrong answer.
-fn first_wrong<S: BlockStore>(store: &mut S, calls: &[Call]) -> Option<usize> {
+/// Makes calls of a store, and returns the index of the first with a wrong answer.
+pub(super) fn first_wrong<S: BlockStore>(store: &mut S, calls: &[Call]) -> Option<usize> {
     for (n, call) in calls.iter().enumerate() {
         if !call.is_answered(store) {
             return Some(n);

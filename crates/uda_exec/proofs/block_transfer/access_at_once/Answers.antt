@@ -1,12 +1,13 @@
 use Rattle.std.proofs.Common.{◌∙◌, refl, arith}
 use Rattle.uda_exec.proofs.AtOnce.{accessed_none, accessed_more}
+use Rattle.uda_image.proofs.SoundLaws.{sound_before}
 use Rattle.uda_exec.proofs.block_transfer.access_at_once.Goals as goal
 
 pub loop-done-init : goal.loop-done-init
 loop-done-init g c = record {
-  attributes = record { size_stays = refl; faithful_stays = refl; never_fails_stays = refl };
+  attributes = record { size_stays = refl; faithful_stays = refl; honest_before = λ honest. honest; never_fails_stays = refl };
   within = omega arith;
-  accessed = λ faithful. accessed_none _;
+  accessed = λ sound. accessed_none _;
 }
 
 pub loop-done-preserved : goal.loop-done-preserved
@@ -17,11 +18,12 @@ loop-done-preserved g c =
         size_stays = is.size_stays ∙ was.size_stays;
         faithful_stays = is.faithful_stays
             ∙ was.faithful_stays;
+        honest_before = λ honest. was.honest_before (is.honest_before honest);
         never_fails_stays = is.never_fails_stays ∙ was.never_fails_stays;
       };
       within = omega arith;
-      accessed = λ faithful.
+      accessed = λ sound.
           let read = rw c.if-not-try_read_blocks.false at
-          (c.try_read_blocks.ensures.reads (was.faithful_stays ∙ faithful)) in
-          accessed_more _ _ _ _ _ _ _ (c.loop-done.invariant.accessed faithful) read;
+          (c.try_read_blocks.ensures.reads_if_sound sound) in
+          accessed_more _ _ _ _ _ _ _ (c.loop-done.invariant.accessed (sound_before is sound)) read;
     }

@@ -1,13 +1,14 @@
 use Rattle.std.proofs.Common.{◌∙◌, ◌*◌, refl, arith}
 use Rattle.std.proofs.lemmas.List.{take-replicate}
 use Rattle.uda_exec.proofs.AtOnce.{erased_none, erased_more}
+use Rattle.uda_image.proofs.SoundLaws.{sound_before}
 use Rattle.uda_exec.proofs.block_transfer.erase_at_once.Goals as goal
 
 pub loop-done-init : goal.loop-done-init
 loop-done-init g c = record {
-  attributes = record { size_stays = refl; faithful_stays = refl; never_fails_stays = refl };
+  attributes = record { size_stays = refl; faithful_stays = refl; honest_before = λ honest. honest; never_fails_stays = refl };
   within = omega arith;
-  erased = λ faithful. erased_none _ _;
+  erased = λ sound. erased_none _ _;
 }
 
 pub loop-done-preserved : goal.loop-done-preserved
@@ -18,12 +19,13 @@ loop-done-preserved g c =
         size_stays = is.size_stays ∙ was.size_stays;
         faithful_stays = is.faithful_stays
             ∙ was.faithful_stays;
+        honest_before = λ honest. was.honest_before (is.honest_before honest);
         never_fails_stays = is.never_fails_stays ∙ was.never_fails_stays;
       };
       within = omega arith;
-      erased = λ faithful.
+      erased = λ sound.
           let write = rw c.if-not-try_write_blocks.false at
-          (c.try_write_blocks.ensures.writes (was.faithful_stays ∙ faithful)) in
+          (c.try_write_blocks.ensures.writes_if_sound sound) in
           erased_more _ _ _ _ _ _ _ (take-replicate (512 * c.min-piece.result) 16384 0
-          (omega (arith, c.min-piece.ensures))) (c.loop-done.invariant.erased faithful) write;
+          (omega (arith, c.min-piece.ensures))) (c.loop-done.invariant.erased (sound_before is sound)) write;
     }

@@ -4,6 +4,7 @@ use Rattle.std.proofs.lemmas.List.{length-replicate, take_all}
 use Rattle.uda_mem.specs.Put.{part, put}
 use Rattle.uda_mem.proofs.PutLaws.{length-part-le, put_mid-put}
 use Rattle.uda_exec.proofs.Blocks.{keeps_front}
+use Rattle.uda_image.proofs.SoundLaws.{stays_sound}
 use Rattle.uda_exec.proofs.block_transfer.read_block.Goals as goal
 
 pub returns-in_err-read-clause-reads : goal.returns-in_err-read-clause-reads
@@ -20,6 +21,8 @@ returns-in_err-read-clause-reads g c =
       landed = keeps_front c.args.memory.now c.args.address c.args.bytes c.requires.in_memory;
       reads = λ faithful. let exit = err_from_is_err_and c.from_residual.result c.from_residual.ensures.1 in
           rw exit.1 (c.in_err-read.ensures.reads faithful);
+      reads_if_sound = λ sound. let exit = err_from_is_err_and c.from_residual.result c.from_residual.ensures.1 in
+          rw exit.1 (c.in_err-read.ensures.reads_if_sound sound);
     }
 
 pub returns-then-bytes-ge-BLOCK-clause-reads : goal.returns-then-bytes-ge-BLOCK-clause-reads
@@ -31,5 +34,6 @@ returns-then-bytes-ge-BLOCK-clause-reads g c =
       whole = whole;
       landed = put_mid-put memory c.args.address _ to (omega (arith, whole)) (omega arith)
           ∙ ap (put memory c.args.address) (sym (take_all c.args.bytes to (omega (arith, whole))));
-      reads = c.read_whole.ensures.reads;
+      reads = λ faithful. c.read_whole.ensures.reads (stays_sound c.read_whole.ensures.attributes faithful);
+      reads_if_sound = c.read_whole.ensures.reads;
     }

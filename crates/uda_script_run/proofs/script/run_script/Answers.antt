@@ -1,5 +1,5 @@
 use Rattle.std.proofs.Common.{◌+◌, ◌<◌, ◌^◌, length, arith, rules, ◌∙◌, refl}
-use Rattle.std.proofs.lemmas.Result.{err_from_is_err_and}
+use Rattle.std.proofs.lemmas.Result.{err_from_is_err_and, on_ok_weaker}
 use Rattle.uda_script_run.proofs.Endings.{requests_few, ends_whole, ends_broken, ends_unserved, reads_script, serves_lent}
 use Rattle.uda_script_run.proofs.Batching.{answers_few}
 use Rattle.uda_script_run.proofs.script.run_script.Goals as goal
@@ -69,3 +69,7 @@ print-requires g c =
     (reads_script _ _ _ _ _ c.lines.ensures.lines c.in_ok-requests.ensures.made) c.deref.ensures.value
     c.deref-2.ensures.value c.in_ok-answers.ensures.answers countable in
     record { countable = h }
+
+pub returns-clause-four_units : goal.returns-clause-four_units
+returns-clause-four_units g c =
+    on_ok_weaker c.print.result (λ done. c.in_ok-answers.ensures.four_units) c.print.ensures.out

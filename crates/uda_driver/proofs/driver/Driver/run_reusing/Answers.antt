@@ -2,6 +2,7 @@ use Rattle.std.proofs.lemmas.Result.{err_from_is_err_and}
 use Rattle.std.proofs.Common.{sym, ◌∙◌, rules}
 use Rattle.std.proofs.lemmas.List.{length-map}
 use Rattle.uda_disk.specs.Values.{request_value, answer_value}
+use Rattle.uda_exec.proofs.Units.{all_sound}
 use Rattle.uda_posting.proofs.Owing.{owes_end, owes_plain, owes_untold, owes_seems, owes_formed}
 use Rattle.uda_driver.proofs.Told.{untold_errors}
 use Rattle.uda_driver.proofs.driver.Driver.run_reusing.Goals as goal
@@ -21,25 +22,47 @@ returns-clause-answer_forms g c = record {
   formed = owes_formed c.drive.ensures.owes c.drive.ensures.none_to_come;
 }
 
-pub returns-clause-in_order_run : goal.returns-clause-in_order_run
-returns-clause-in_order_run g c = rw (← c.self.view_is)
-    (λ faithful none. owes_plain c.drive.ensures.owes c.drive.ensures.none_to_come faithful none)
+pub returns-clause-sound_before : goal.returns-clause-sound_before
+returns-clause-sound_before g c = rw (← c.self.view_is) c.drive.ensures.owes.sound_before
 
-pub returns-clause-in_order_run_with_failures : goal.returns-clause-in_order_run_with_failures
-returns-clause-in_order_run_with_failures g c = rw (← c.self.view_is) (λ faithful. record {
-  run = owes_end c.drive.ensures.owes c.drive.ensures.none_to_come faithful;
-  told = (c.drive.ensures.owes.faithful faithful).errors;
-  infallible = (c.drive.ensures.owes.faithful faithful).infallible;
+pub returns-clause-well_formed_if_sound : goal.returns-clause-well_formed_if_sound
+returns-clause-well_formed_if_sound g c = rw (← c.self.view_is) c.drive.ensures.owes.well_formed_if_sound
+
+pub returns-clause-in_order_run_if_sound : goal.returns-clause-in_order_run_if_sound
+returns-clause-in_order_run_if_sound g c = rw (← c.self.view_is)
+    (owes_plain c.drive.ensures.owes c.drive.ensures.none_to_come)
+
+pub returns-clause-in_order_run_with_failures_if_sound : goal.returns-clause-in_order_run_with_failures_if_sound
+returns-clause-in_order_run_with_failures_if_sound g c = rw (← c.self.view_is) (λ sound. record {
+  run = owes_end c.drive.ensures.owes c.drive.ensures.none_to_come sound;
+  told = (c.drive.ensures.owes.sound sound).errors;
+  infallible = (c.drive.ensures.owes.sound sound).infallible;
 })
 
-pub returns-clause-in_order_run_if_no_error : goal.returns-clause-in_order_run_if_no_error
-returns-clause-in_order_run_if_no_error g c = rw (← c.self.view_is)
-    (λ faithful none. owes_untold c.drive.ensures.owes c.drive.ensures.none_to_come faithful
+pub returns-clause-in_order_run_if_sound_and_no_error : goal.returns-clause-in_order_run_if_sound_and_no_error
+returns-clause-in_order_run_if_sound_and_no_error g c = rw (← c.self.view_is)
+    (λ sound none. owes_untold c.drive.ensures.owes c.drive.ensures.none_to_come sound
     (λ u. untold_errors u _ _ none))
 
+pub returns-clause-infallible_if_sound : goal.returns-clause-infallible_if_sound
+returns-clause-infallible_if_sound g c = rw (← c.self.view_is) (λ sound.
+    (c.drive.ensures.owes.sound sound).infallible)
+
+pub returns-clause-in_order_run : goal.returns-clause-in_order_run
+returns-clause-in_order_run g c faithful =
+    returns-clause-in_order_run_if_sound g c (all_sound _ _ (search rules) faithful)
+
+pub returns-clause-in_order_run_with_failures : goal.returns-clause-in_order_run_with_failures
+returns-clause-in_order_run_with_failures g c faithful =
+    returns-clause-in_order_run_with_failures_if_sound g c (all_sound _ _ (search rules) faithful)
+
+pub returns-clause-in_order_run_if_no_error : goal.returns-clause-in_order_run_if_no_error
+returns-clause-in_order_run_if_no_error g c faithful =
+    returns-clause-in_order_run_if_sound_and_no_error g c (all_sound _ _ (search rules) faithful)
+
 pub returns-clause-infallible : goal.returns-clause-infallible
-returns-clause-infallible g c = rw (← c.self.view_is) (λ faithful.
-    (c.drive.ensures.owes.faithful faithful).infallible)
+returns-clause-infallible g c faithful =
+    returns-clause-infallible_if_sound g c (all_sound _ _ (search rules) faithful)
 
 pub returns-clause-in_order_run_up_to_data : goal.returns-clause-in_order_run_up_to_data
 returns-clause-in_order_run_up_to_data g c = rw (← c.self.view_is)

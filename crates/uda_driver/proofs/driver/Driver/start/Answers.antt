@@ -1,6 +1,6 @@
-use Rattle.std.proofs.Common.{◌∙◌, List, Option, ap, map, length, rules}
+use Rattle.std.proofs.Common.{◌∙◌, List, Option, ap, map, length, rules, subst, sym}
 use Rattle.std.proofs.lemmas.List.{length-map}
-use Rattle.uda_disk.specs.Units.{UnitState}
+use Rattle.uda_disk.specs.Units.{UnitState, AreWellFormedIfSound}
 use Rattle.uda_exec.specs.Disks.{ExecState}
 use Rattle.uda_exec.specs.Drives.{reset_unit, drives_in}
 use Rattle.uda_driver.proofs.Drives.{drives_in_fresh, reset_fresh}
@@ -26,3 +26,8 @@ invariant_of-result g c = record {
   well_formed = c.in-Ok.ensures.well_formed;
   consistent = c.in-Ok.ensures.consistent;
 }
+
+pub returns-in-Ok-clause-well_formed_if_sound : goal.returns-in-Ok-clause-well_formed_if_sound
+returns-in-Ok-clause-well_formed_if_sound g c =
+    subst AreWellFormedIfSound (c.new.ensures.units ∙ sym (returns-in-Ok-clause-units g c))
+    c.new.ensures.well_formed_if_sound

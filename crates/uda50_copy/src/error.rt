@@ -1,5 +1,6 @@
 //! The errors of a copy.
 ghost use Rattle.std.specs.Prelude.{◌≡◌};
+ghost use Rattle.uda50_copy.specs.Copy.{unit_of};
 
 use std::alloc::AllocError;
 use std::fmt;
@@ -20,6 +21,7 @@ impl Side {
     pub fn unit(self) -> u16
         ensures source { self ≡ Side.Source → result ≡ 0 }
         ensures target { self ≡ Side.Target → result ≡ 1 }
+        ensures unit { result ≡ unit_of self }
     {
         match self {
             Side::Source => 0,

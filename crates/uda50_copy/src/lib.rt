@@ -1,6 +1,7 @@
 //! Copying of blocks from one drive to another through the driver, and comparing them.
 //!
-//! The source is unit 0 and the target unit 1.
+//! The source is unit 0 and the target unit 1. After a copy the target holds the blocks of the source, if it
+//! succeeds, lost blocks aren't to be skipped, and each store is sound afterwards (`specs/Copy.antt`).
 #![tactic(auto)]
 
 mod copier;

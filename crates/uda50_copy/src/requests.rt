@@ -1,4 +1,10 @@
 //! The requests of a copy, and the results in their answers.
+ghost use Rattle.std.specs.Prelude.{◌≡◌, ◌*◌, ◌<◌, ◌≤◌, length, All, IfOk, OnOk};
+ghost use Rattle.uda_disk.specs.Answer.{Data, Moved};
+ghost use Rattle.uda_disk.specs.Status.{SUCCESS};
+ghost use Rattle.uda_disk.specs.Values.{request_value, request_values, answer_value, answer_values};
+ghost use Rattle.uda50_copy.specs.Copy.{unit_of, read_from, write_of, AreReads, ArePairedReads, AreWritten, IsReading, IsSuccess};
+ghost use Rattle.uda50_copy.specs.Copy.{WritesNothing};
 
 use crate::error::{CopyError, Side};
 use std::alloc::{AllocError, Global};
@@ -9,7 +15,10 @@ use uda_disk::{Answer, Request, TRANSFER_LIMIT, status};
 pub(crate) const REQUEST_BLOCKS: u32 = TRANSFER_LIMIT / 512;
 
 /// Returns a Read of blocks.
-pub(crate) fn make_read(side: Side, lbn: u32, count: u32) -> Request {
+pub(crate) fn make_read(side: Side, lbn: u32, count: u32) -> Request
+    ensures read { request_value result ≡ read_from (unit_of side) lbn count }
+    ensures writes_nothing { WritesNothing (request_value result) }
+{
     Request::Read {
         unit: side.unit(),
         lbn,
@@ -18,7 +27,9 @@ pub(crate) fn make_read(side: Side, lbn: u32, count: u32) -> Request {
 }
 
 /// Returns a Write of blocks to the target.
-pub(crate) fn make_write(lbn: u32, payload: Vec<u8>) -> Request {
+pub(crate) fn make_write(lbn: u32, payload: Vec<u8>) -> Request
+    ensures write { request_value result ≡ write_of lbn payload.items }
+{
     Request::Write {
         unit: Side::Target.unit(),
         lbn,
@@ -26,20 +37,46 @@ pub(crate) fn make_write(lbn: u32, payload: Vec<u8>) -> Request {
     }
 }
 
-/// Returns Reads of these blocks from each of these drives, of at most `piece` blocks each.
-pub(crate) fn reads(
+/// Returns Reads of these blocks from the source, of at most `piece` blocks each.
+pub(crate) fn source_reads(
     alloc: Global,
-    sides: &[Side],
     blocks: Range<u32>,
     piece: u32,
-) -> Result<Vec<Request>, AllocError> {
+) -> Result<Vec<Request>, AllocError>
+    requires some { 0 < piece }
+    ensures reads { IfOk result (λ requests.
+        AreReads blocks.start blocks.end piece (request_values requests.items)) }
+{
     let mut requests = Vec::new(alloc);
-    let end = blocks.end;
-    for lbn in blocks.step_by(piece.max(1) as usize) {
-        let count = piece.min(end.saturating_sub(lbn));
-        for side in sides {
-            requests.push(make_read(*side, lbn, count))?;
-        }
+    let mut lbn = blocks.start;
+    while lbn < blocks.end {
+        let count = piece.min(blocks.end - lbn);
+        requests.push(make_read(Side::Source, lbn, count))?;
+        lbn += count;
+    }
+    Ok(requests)
+}
+
+/// Returns Reads of these blocks from both drives, of at most `piece` blocks each: for each piece one from the
+/// source and one from the target.
+pub(crate) fn paired_reads(
+    alloc: Global,
+    blocks: Range<u32>,
+    piece: u32,
+) -> Result<Vec<Request>, AllocError>
+    requires some { 0 < piece }
+    ensures reads { IfOk result (λ requests.
+        ArePairedReads piece (request_values requests.items) blocks.start blocks.end) }
+    ensures writes_nothing { IfOk result (λ requests.
+        All WritesNothing (request_values requests.items)) }
+{
+    let mut requests = Vec::new(alloc);
+    let mut lbn = blocks.start;
+    while lbn < blocks.end {
+        let count = piece.min(blocks.end - lbn);
+        requests.push(make_read(Side::Source, lbn, count))?;
+        requests.push(make_read(Side::Target, lbn, count))?;
+        lbn += count;
     }
     Ok(requests)
 }
@@ -54,7 +91,9 @@ pub(crate) enum Reading {
 }
 
 /// Returns the result of a Read, or the error that the controller rejected it.
-pub(crate) fn reading_of(side: Side, answer: Answer) -> Result<Reading, CopyError> {
+pub(crate) fn reading_of(side: Side, answer: Answer) -> Result<Reading, CopyError>
+    ensures reading { IfOk result (IsReading (answer_value answer)) }
+{
     match answer {
         Answer::Data {
             status: status::SUCCESS,
@@ -68,8 +107,23 @@ pub(crate) fn reading_of(side: Side, answer: Answer) -> Result<Reading, CopyErro
     }
 }
 
+/// Checks the answers of Writes.
+pub(crate) fn all_written(writes: &[Request], answers: &[Answer]) -> Result<(), CopyError>
+    requires counted { length answers.now ≡ length writes.now }
+    ensures written { OnOk result (AreWritten (request_values writes.now) (answer_values answers.now)) }
+{
+    for (k, request) in writes.iter().enumerate() {
+        if let Request::Write { lbn, .. } = request {
+            written(*lbn, &answers[k])?;
+        }
+    }
+    Ok(())
+}
+
 /// Checks the answer of a Write of blocks from `lbn`.
-pub(crate) fn written(lbn: u32, answer: &Answer) -> Result<(), CopyError> {
+pub(crate) fn written(lbn: u32, answer: &Answer) -> Result<(), CopyError>
+    ensures written { OnOk result (IsSuccess (answer_value answer.now)) }
+{
     match answer {
         Answer::Moved {
             status: status::SUCCESS,

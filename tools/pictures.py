@@ -205,6 +205,7 @@ def read():
 # each crate with its column, its row and what it is
 CRATES = {
     "uda_mem": (1, 0, "host memory"),
+    "uda_trace": (0, 0, "calls on a file"),
     "uda_image": (1, 1, "stores of blocks"),
     "uda_disk": (1, 2, "requests and answers"),
     "uda_packet": (1, 3, "messages"),
@@ -237,6 +238,7 @@ CRATES = {
     "scenarios": (0, 5.5, ""),
     "driver_tests": (0, 7.36, ""),
     "driver_example": (0, 7, ""),
+    "file_example": (0, 6.28, ""),
     "bench": (0, 6.64, ""),
     "refused_growths": (0, 7.82, ""),
     "uda_agreement": (0, 8.18, ""),

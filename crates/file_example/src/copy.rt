@@ -18,7 +18,8 @@ const PIECE: u32 = 32;
 /// Copies the first 64 blocks of unit 0 to unit 1, by two Reads and two Writes. Returns whether all of them
 /// succeeded.
 ///
-/// If both files have been honest until then, the first 64 blocks of unit 1 are those of unit 0.
+/// If it returns true, and both files have been honest until then, the first 64 blocks of unit 1 are those of
+/// unit 0.
 pub fn copy(driver: &mut Driver<FileImage>) -> Result<bool, RunError>
     requires well_formed { AreWellFormedIfSound (units_of driver.old) }
     ensures copied { IfOk result (λ done. done ≡ true → AllSound (units_of driver.new)

@@ -22,7 +22,18 @@ fn main(rt: HostRuntime) -> Result<()> {
         return Ok(());
     };
     let mut driver = start(&rt, source, target)?;
-    println!(rt; "copied: {}", copy(&mut driver)?)?;
+    let copied = copy(&mut driver)?;
+    sync(driver)?;
+    println!(rt; "copied: {copied}")?;
+    Ok(())
+}
+
+// Makes the system write to the medium what was written.
+fn sync(driver: Driver<FileImage>) -> Result<()> {
+    let mut drives = driver.into_stores();
+    for drive in drives.iter_mut().flatten() {
+        drive.store.sync()?;
+    }
     Ok(())
 }
 

@@ -1,4 +1,4 @@
-//! The three lowest crates, one module for each.
+//! The lowest crates: memory and slices, packets, and images, also over a file in memory.
 mod images;
 mod mem_file;
 mod memory;

@@ -139,7 +139,7 @@ WritesPieces blocks [] from to = to ≡ from
 WritesPieces blocks (r ∷ rest) from to = (count : ℕ) × ((from + count ≤ length blocks)
     × ((r ≡ write_of from (concat (part blocks from count))) × WritesPieces blocks rest (from + count) to))
 
--- the later Writes are the earlier ones with more pieces: those from `from` up to `to`
+-- if the earlier Writes are pieces that end before `from`, the later ones are pieces that end before `to`
 abbrev pub AddsPieces : List (List ℕ) → List Request → List Request → ℕ → ℕ → Type 0
 AddsPieces blocks old new from to =
     (start : ℕ) → WritesPieces blocks old start from → WritesPieces blocks new start to

@@ -76,7 +76,7 @@ impl<S: BlockStore + Drop> Copier<S> {
     /// Copies blocks of the source to the same block numbers of the target.
     ///
     /// The target then holds those blocks of the source, if the copy succeeds, lost blocks aren't to be skipped,
-    /// and each store is sound afterwards.
+    /// units are well formed, and each store is sound afterwards.
     pub fn copy<W: Observer>(
         &mut self,
         blocks: Range<u32>,
@@ -98,8 +98,8 @@ impl<S: BlockStore + Drop> Copier<S> {
 
     /// Compares blocks of the source with the same block numbers of the target. It changes no block.
     ///
-    /// If it succeeds, these blocks are equal, if lost blocks aren't to be skipped, and each store is sound
-    /// afterwards.
+    /// If it succeeds, these blocks are equal, if lost blocks aren't to be skipped, units are well formed, and each
+    /// store is sound afterwards.
     pub fn compare<W: Observer>(
         &mut self,
         blocks: Range<u32>,

@@ -1,7 +1,8 @@
 //! Copying of blocks from one drive to another through the driver, and comparing them.
 //!
 //! The source is unit 0 and the target unit 1. After a copy the target holds the blocks of the source, if it
-//! succeeds, lost blocks aren't to be skipped, and each store is sound afterwards (`specs/Copy.antt`).
+//! succeeds, lost blocks aren't to be skipped, units are well formed, and each store is sound afterwards
+//! (`specs/Copy.antt`).
 #![tactic(auto)]
 
 mod copier;

@@ -133,7 +133,7 @@ AnsweredOnSameBlocks =
     → slice_get (run_in_order_as disks xs).0 k ≡ Some answer
     → (o : TransferOutcome) × ((now : Disks) × (HasSameBlocks disks now × ((step_as o r now).0 ≡ answer)))
 
--- and it leaves the blocks unchanged
+-- a run of requests that are no Writes or Erases leaves all blocks unchanged
 abbrev pub RunBlocksStay : Type 0
 RunBlocksStay =
     (xs : List FixedRequest) (disks : Disks) → All (λ q. is_writing q.act ≡ false) (requests_of xs)

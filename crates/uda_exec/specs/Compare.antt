@@ -76,7 +76,7 @@ failures_in Equal = 0
 failures_in (Differs n) = 0
 failures_in (Lost k) = 1
 
--- The blocks of a sound store were compared with memory. No block changes, and the store failed once more
+-- The blocks of a store that is sound afterwards were compared with memory. No block changes, and the store failed once more
 -- exactly if a block failed.
 pub record ComparesBlocks (t : Transfer) (v : Verdict) (old : StoreState) (memory : List ℕ) (new : StoreState)
     : Type 0 where

@@ -75,7 +75,7 @@ abbrev pub StoreIsFaithful : Command → Units → List ℕ → Type 0
 StoreIsFaithful c units memory = nat_lt 0 (blocks_asked c.op) && passes_checks c (world_of units memory) ≡ true
     → is_faithful (slice_get units c.unit) ≡ true
 
--- the same afterwards of a sound store
+-- if a command calls a store, that store is sound afterwards
 abbrev pub StoreIsSound : Command → Units → List ℕ → Units → Type 0
 StoreIsSound c units memory units_after =
     nat_lt 0 (blocks_asked c.op) && passes_checks c (world_of units memory) ≡ true
@@ -101,7 +101,7 @@ pub record EffectByChecks (c : Command) (acting : Bool) (units : Units) (e : End
 -- - A transfer leaves the mode unchanged; if it is accepted, it succeeds or fails.
 -- - A rejected command changes no unit. A command that calls no store, and one with a faithful store, has its
 --   complete effect. So has one whose store is sound afterwards.
--- - A store that is sound afterwards was sound before, and then its unit is well formed.
+-- - A store that is sound afterwards was sound before. Units that were well formed if sound still are.
 pub record Executes (c : Command) (units : Units) (memory : List ℕ) (e : End) (units_after : Units)
     (memory_left : List ℕ) : Type 0 where
   pub answers : Answers c e

@@ -261,7 +261,7 @@ impl<S: BlockStore> Exec<S> {
     ///
     /// The first call that fails ends the transfer with status 0x000B, and with the byte count of the blocks
     /// before. The failing block of a Write or an Erase, or its part of a Read's buffer, may then hold
-    /// anything. Later blocks and bytes are unchanged over a sound store. Other commands call a store only for
+    /// anything. Later blocks and bytes are unchanged if the store is sound afterwards. Other commands call a store only for
     /// its size.
     ///
     /// MSCP Basic Disk Functions Manual: commands and end messages, status and event codes, command ordering.

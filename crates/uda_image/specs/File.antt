@@ -1,12 +1,12 @@
--- What the calls on an image file tell of the bytes that it holds. MSCP Basic Disk Functions Manual: a unit is an
+-- What follows from the calls on an image file about the bytes that it holds. MSCP Basic Disk Functions Manual: a unit is an
 -- array of logical blocks of 512 bytes, numbered from 0.
 use Rattle.std.specs.Prelude.{◌≡◌, ℕ, ◌+◌, ◌*◌, ◌≤◌, Bool, true, ◌&&◌, List, [], ◌∷◌, ◌++◌, length, take, drop, replicate, bytes_eq}
 use Rattle.std.specs.Prelude.{Option, Some, IfSome}
 use Rattle.uda_mem.specs.Put.{part, put}
 use Rattle.uda_trace.specs.FileCall.{FileCall, read, written, asked, declined, failed, failed_write}
 
--- what the calls on a file tell: the bytes that it holds, if it is honest; whether it is; how many calls failed; how
--- many of those were writes; and the bytes that were in the buffer of the last read of several blocks
+-- What follows from the calls on a file: the bytes that it holds, if it is honest; whether it is. How many calls
+-- failed, and how many of those were writes. The bytes that were in the buffer of the last read of several blocks.
 pub record Holding : Type 0 where
   pub bytes : List ℕ
   pub honest : Bool
@@ -23,8 +23,8 @@ abbrev pub block_left : List ℕ → ℕ → List ℕ
 block_left left k = fitted 1 (drop (512 * k) left)
 
 -- A file is honest as long as each read returns the bytes that were last written there, or else the bytes that the
--- file held when it was opened, and each read that is declined leaves its buffer unchanged. A failed read tells
--- nothing of the bytes. A failed write leaves some block.
+-- file held when it was opened. A failed read says nothing about the bytes. A failed write leaves some block, which
+-- later reads must return. A read that is declined must leave its buffer unchanged.
 abbrev pub after_call : List ℕ → FileCall → Holding → Holding
 after_call left (read block bytes) old =
     record old { honest = old.honest && bytes_eq (part old.bytes (512 * block) (length bytes)) bytes }

@@ -82,11 +82,11 @@ pub record OpenImage : Type 0 where
 abbrev pub file_block_count : OpenImage → ℕ
 file_block_count image = min image.size store_limit
 
--- what the calls on an open image tell of it
+-- what follows from the calls on an open image
 abbrev pub holding : OpenImage → Holding
 holding image = holding_after (file_block_count image) image.held image.blocks_left image.calls
 
--- a file as a store: it promises nothing, and its calls tell whether it has been honest
+-- a file as a store: it promises nothing, and its calls decide whether it has been honest
 abbrev pub file_state : OpenImage → StoreState
 file_state image = record {
   blocks = blocks_of (holding image).bytes;
@@ -98,7 +98,7 @@ file_state image = record {
   failing_call = None;
 }
 
--- an open image of which the bytes are known has been honest, and holds those bytes
+-- if the bytes of the file are known: the image has been honest, and holds those bytes
 abbrev pub IsAsKnown : OpenImage → Type 0
 IsAsKnown image = IfSome image.content (λ bytes.
     ((holding image).bytes ≡ bytes) × ((holding image).honest ≡ true))

@@ -1,4 +1,4 @@
--- Proofs of the trait's two laws, for the `impl`s to name.
+-- Proofs of the trait's laws, for the `impl`s to name.
 use Rattle.std.proofs.Common.{◌≡◌, ◌*◌, ◌≤◌, ℕ, zero, suc, min, List, length, drop, take, true, false}
 use Rattle.std.proofs.Common.{refl, ap, arith, length-drop}
 use Rattle.std.specs.List.{All}
@@ -13,7 +13,7 @@ use Rattle.uda_image.specs.Image.{block_count_of, blocks_of}
 pub min-le : (size : ℕ) → min size store_limit ≤ store_limit
 min-le size = omega arith
 
--- the law says nothing of a store that isn't faithful
+-- the laws of blocks say nothing of a store that is neither faithful nor sound
 pub no_image : {size : ℕ} {blocks : List (List ℕ)} → false ≡ true → HasWholeBlocks size blocks
 no_image h = absurd (cc)
 

@@ -33,11 +33,11 @@ use uda_trace::{Call, FileTrace, Supposition};
 /// writable image holds it exclusively, and images for reading share it.
 ///
 /// Contracts see its size in blocks, whether it is writable, and whether it was written since it was opened
-/// or last synced. They also see the calls on it since it was opened, and what each of them returned. From
-/// these follows whether the image has been honest: each read returned the bytes that were last written
-/// there, or else those that the file held when it was opened, and no read of several blocks that was declined
-/// changed its buffer. If the bytes of the file are known, and the image holds them and is honest, so it is
-/// after each call.
+/// or last synced. They also see the calls on it since it was opened, and what came of them, except for writes of several
+/// blocks that were declined. From these follows whether the image has been honest. Each read returned the bytes
+/// that were last written there, or else those that the file held when it was opened. After a failed write that
+/// is the block that it left. No read of several blocks that was declined changed its buffer. If the bytes of the
+/// file are known, a call keeps an image honest that holds them.
 ///
 /// What the file held when it was opened, and what a write that fails leaves in a block, is supposed
 /// ([`Supposition`]). A caller who names no supposition has contracts that hold for each.

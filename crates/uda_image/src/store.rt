@@ -53,9 +53,10 @@ impl Error for StoreError {}
 /// A faithful store returns the data that was written last. A call of it that fails changes no block except
 /// the one that was being written. A store that never fails returns `Ok` from every call.
 ///
-/// Another store, such as a file that other programs may change, is honest as long as its calls have the
-/// results that those of a faithful store would have. A store that is no longer honest is never honest again.
-/// Only its number of blocks is known then. A store is sound if it is faithful or honest.
+/// Another store, such as a file that other programs may change, may say that it has been honest until now. Then
+/// its calls have had the results that those of a faithful store would have had. A store that is no longer
+/// honest is never honest again. Only its number of blocks is known then. A store is sound if it is faithful or
+/// honest.
 pub trait BlockStore {
     ghost state: { Self → StoreState };
 

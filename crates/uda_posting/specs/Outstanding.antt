@@ -75,8 +75,8 @@ pub record IsExact (start : Units) (requests : List Request) (run : List Answer 
 
 -- The answers written so far, and the units then. The ledger has a run that matches them up to data: blocks
 -- may differ, and so may the answers of transfers that began. Over faithful stores the run is exactly this
--- one. So it is if each store is sound now. A store that is sound now was sound at the start, and then its unit is
--- well formed.
+-- one. So it is if each store is sound now. A store that is sound now was sound at the start. Units that were well
+-- formed if sound still are.
 pub record UnexecutedInvariant (start : Units) (requests : List Request) (told : List Answer) (units : Units) : Type 0 where
   pub run : List Answer × Disks
   pub ledger : Ledger (disks_of start) requests run

@@ -16,8 +16,8 @@ use Rattle.uda_script_run.specs.declared.style.ReportPart.{ReportPart}
 use Rattle.uda_script_run.specs.Texts.{out_text, report_text, part_text, plain_style, whole_report}
 use Rattle.uda_script_run.specs.Texts.{AppendsBeginning}
 
--- what holds of a run, or of several one after another, if each store is sound afterwards; the fields are clauses of
--- the driver's run
+-- What holds of sound stores in a run, or in several one after another: whose stores were sound before, and what the
+-- run is if each store is sound afterwards. The fields are clauses of the driver's run.
 pub record RunHoldsIfSound (asked : List Request) (told : List Answer)
     (driver driver_after : DriverState) : Type 0 where
   pub sound_before : AreSoundBefore (units_of driver) (units_of driver_after)

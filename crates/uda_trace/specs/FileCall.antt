@@ -4,7 +4,7 @@ use Rattle.uda_trace.specs.declared.trace.Call.{Call}
 use Rattle.uda_trace.specs.declared.trace.Call.TheVariants as call
 
 -- A read or a write of these bytes, from this block on. A read of several blocks that is asked for, and one that
--- is declined, with the bytes of its buffer then. A failed call that changed nothing. A failed write of this block.
+-- is declined, with the bytes of its buffer then. A failed call that changed no block. A failed write of this block.
 pub data FileCall : Type 0 where
   read : ℕ → List ℕ → FileCall
   written : ℕ → List ℕ → FileCall

@@ -28,7 +28,8 @@ impl Supposition {
         Supposition {}
     }
 
-    /// Returns a supposition of which nothing is said: what is proved of it holds for each.
+    /// Returns a supposition of which nothing is said: what is proved of it holds for each. It has no clause, so
+    /// that this is so.
     pub fn any() -> Supposition {
         Supposition::of(&[], &[])
     }
@@ -45,7 +46,7 @@ pub enum Call<'a> {
     Asked { bytes: &'a [u8] },
     /// That read was declined, and its buffer then holds these bytes.
     Declined { bytes: &'a [u8] },
-    /// A call failed that changed nothing.
+    /// A call failed that changed no block.
     Failed,
     /// A write of this block failed.
     FailedWrite { block: u32 },

@@ -1,5 +1,5 @@
 /* uda50_file.c: files as images, by mapping them. See uda50_file.h. */
-#define _POSIX_C_SOURCE 200809L
+#define _GNU_SOURCE /* for fallocate, which is Linux's */
 #include "uda50_file.h"
 
 #include <errno.h>
@@ -72,6 +72,28 @@ int uda50_file_open(uda50_file *file, const char *path, bool read_only)
     return fault;
 }
 
+/* The first call asks for all of the file, since most file systems undo a call that fails. Each signal halves what the
+   next call asks for, so that one of them ends between two signals. */
+int uda50_file_reserve(uda50_file *file)
+{
+    off_t length = file->read_only ? 0 : (off_t)file->length;
+    off_t piece = length;
+
+    for (off_t from = 0; from < length;) {
+        if (piece > length - from)
+            piece = length - from;
+        if (fallocate(file->descriptor, 0, from, piece) == 0)
+            from += piece;
+        else if (errno == EOPNOTSUPP || errno == ENOSYS)
+            return UDA50_FILE_NO_RESERVE;
+        else if (errno != EINTR)
+            return UDA50_FILE_ROOM;
+        else if (piece > BLOCK)
+            piece /= 2;
+    }
+    return UDA50_FILE_OK;
+}
+
 uint32_t uda50_file_attach(uda50 *handle, uint32_t unit, uda50_file *file)
 {
     return uda50_attach(handle, unit, &file->image, file->read_only);
@@ -113,6 +135,10 @@ const char *uda50_file_text(int fault)
         return "the file can't be mapped";
     case UDA50_FILE_LOCKED:
         return "the file is in use";
+    case UDA50_FILE_ROOM:
+        return "no room can be reserved";
+    case UDA50_FILE_NO_RESERVE:
+        return "the file system can't reserve room";
     default:
         return "what was written can't be written out";
     }

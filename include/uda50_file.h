@@ -27,7 +27,9 @@ enum {
     UDA50_FILE_TOO_LARGE = 3, /* it has more than UDA50_MAX_BLOCKS blocks */
     UDA50_FILE_MAP = 4,       /* it can't be mapped */
     UDA50_FILE_SYNC = 5,      /* what was written can't be written to the file, so it may be lost */
-    UDA50_FILE_LOCKED = 6     /* another program, or another uda50_file, has a lock that excludes this one */
+    UDA50_FILE_LOCKED = 6,    /* another program, or another uda50_file, has a lock that excludes this one */
+    UDA50_FILE_ROOM = 7,      /* its room can't be reserved; errno is the system's reason, such as ENOSPC */
+    UDA50_FILE_NO_RESERVE = 8 /* its file system can't reserve room; errno is the system's reason */
 };
 
 /* Opens a file and maps it: for reading only, if `read_only` is set, or else for reading and writing. While it is
@@ -39,6 +41,16 @@ enum {
    holds, so close an open one first. Returns UDA50_FILE_OK; or the first that holds of UDA50_FILE_OPEN,
    UDA50_FILE_LOCKED, UDA50_FILE_LENGTH, UDA50_FILE_TOO_LARGE and UDA50_FILE_MAP, and then *file is closed. */
 int uda50_file_open(uda50_file *file, const char *path, bool read_only);
+
+/* Reserves the room of a file that is open for writing, also while a unit has the image. A hole is a part of a file
+   without room on the disk: if the disk is full, a Write to it ends the program by SIGBUS. The bytes, the length and
+   the map are as they were.
+
+   Returns UDA50_FILE_OK, UDA50_FILE_NO_RESERVE or UDA50_FILE_ROOM. After UDA50_FILE_OK such a file has no hole;
+   docs/C.md lists what can bring a SIGBUS all the same. After UDA50_FILE_NO_RESERVE the program decides whether to go
+   on. After UDA50_FILE_ROOM a part of the room may be reserved. After these two errno is the system's reason. Does
+   nothing to a file that is open for reading only, whose holes stay, or to a closed one, and returns UDA50_FILE_OK. */
+int uda50_file_reserve(uda50_file *file);
 
 /* Attaches the file's image to a unit, write-protected if the file was opened for reading only: a Write to a
    read-only map would end the program. Returns what uda50_attach does. */
@@ -52,7 +64,7 @@ int uda50_file_sync(uda50_file *file);
    and returns UDA50_FILE_OK. */
 int uda50_file_close(uda50_file *file);
 
-/* Returns the text of a number of UDA50_FILE_OK to UDA50_FILE_LOCKED, such as "the file is in use". */
+/* Returns the text of a number of UDA50_FILE_OK to UDA50_FILE_NO_RESERVE, such as "the file is in use". */
 const char *uda50_file_text(int fault);
 
 #ifdef __cplusplus

@@ -1,6 +1,6 @@
 /* files.c: which system calls c/uda50_file.c makes, with which flags and in which order, and what it returns if one
    fails. It is linked with --wrap of each of them: a wrapper logs the call, and fails it if `failing` names it. */
-#define _POSIX_C_SOURCE 200809L
+#define _GNU_SOURCE
 #include "guest.h"
 #include "uda50_file.h"
 
@@ -16,6 +16,7 @@
 static char calls[512];
 static const char *failing = "";
 static int error;
+static int times = -1; /* how often it fails: -1 is always */
 static size_t mapped; /* the bytes of the last map */
 
 int __real_open(const char *path, int flags, ...);
@@ -24,13 +25,15 @@ int __real_flock(int descriptor, int operation);
 void *__real_mmap(void *at, size_t length, int access, int flags, int descriptor, off_t from);
 int __real_munmap(void *at, size_t length);
 int __real_msync(void *at, size_t length, int flags);
+int __real_fallocate(int descriptor, int mode, off_t from, off_t length);
 
 /* Logs a call with its flags. Returns whether it is to fail. */
 static bool fails(const char *call, const char *flags)
 {
     strcat(strcat(strcat(calls, call), flags), " ");
-    if (strcmp(failing, call) != 0)
+    if (strcmp(failing, call) != 0 || times == 0)
         return false;
+    times -= times > 0;
     errno = error;
     return true;
 }
@@ -80,6 +83,17 @@ int __wrap_munmap(void *at, size_t length)
 int __wrap_msync(void *at, size_t length, int flags)
 {
     return fails("sync", flags == MS_SYNC && length == mapped ? "" : "?") ? -1 : __real_msync(at, length, flags);
+}
+
+/* The file system of this test may lack the call. That counts as a success: room.c has file systems of its own. */
+int __wrap_fallocate(int descriptor, int mode, off_t from, off_t length)
+{
+    char name[64];
+
+    snprintf(name, sizeof name, "%s:%ld+%ld", mode == 0 ? "" : "?", (long)from, (long)length);
+    if (fails("reserve", name))
+        return -1;
+    return __real_fallocate(descriptor, mode, from, length) != 0 && errno != EOPNOTSUPP ? -1 : 0;
 }
 
 /* Compares the calls since the last comparison. */
@@ -267,15 +281,106 @@ static void failed_syncs(void)
     CLOSED();
 }
 
+/* What is returned if the call that reserves fails in this way. */
+static int fault_by(int with)
+{
+    int fault;
+
+    failing = "reserve";
+    error = with;
+    errno = 0;
+    fault = uda50_file_reserve(&file);
+    failing = "";
+    EXPECT(errno, with);
+    CALLS("reserve:0+2048 ");
+    return fault;
+}
+
+static void failed_reservations(void)
+{
+    static const int faults[] = { ENOSPC, EDQUOT, EFBIG, EIO, ENOMEM, EINVAL };
+
+    for (size_t n = 0; n < sizeof faults / sizeof *faults; n++)
+        EXPECT(fault_by(faults[n]), UDA50_FILE_ROOM);
+    EXPECT(fault_by(EOPNOTSUPP), UDA50_FILE_NO_RESERVE);
+    EXPECT(fault_by(ENOSYS), UDA50_FILE_NO_RESERVE);
+}
+
+/* Each signal that interrupts the call halves the next one, down to a block. */
+static void interrupted_reservations(void)
+{
+    static const char *const wanted[] = {
+        "reserve:0+2048 ",
+        "reserve:0+2048 reserve:0+1024 reserve:1024+1024 ",
+        "reserve:0+2048 reserve:0+1024 reserve:0+512 reserve:512+512 reserve:1024+512 reserve:1536+512 ",
+        "reserve:0+2048 reserve:0+1024 reserve:0+512 reserve:0+512 reserve:512+512 reserve:1024+512 reserve:1536+512 ",
+    };
+
+    failing = "reserve";
+    error = EINTR;
+    for (int n = 0; n < 4; n++) {
+        times = n;
+        EXPECT(uda50_file_reserve(&file), UDA50_FILE_OK);
+        CALLS(wanted[n]);
+    }
+    failing = "";
+    times = -1;
+}
+
+/* The file and its map are as they were, and a unit may have the image. */
+static void reservations(void)
+{
+    uda50 handle = { 0 };
+    struct stat status;
+    uint8_t *at;
+
+    make_file(4 * BLOCK);
+    EXPECT(open_failing("", 0, false), UDA50_FILE_OK);
+    calls[0] = '\0';
+    at = file.image.at;
+    memset(at + BLOCK, 'r', BLOCK);
+    interrupted_reservations();
+    failed_reservations();
+    EXPECT(uda50_new(&handle, true), UDA50_OK);
+    EXPECT(uda50_file_attach(&handle, 0, &file), UDA50_OK);
+    EXPECT(uda50_file_reserve(&file), UDA50_FILE_OK);
+    CALLS("reserve:0+2048 ");
+    EXPECT(uda50_detach(&handle, 0, &file.image), UDA50_OK);
+    EXPECT(uda50_free(&handle, (uda50_image[UDA50_UNITS]){ { NULL, 0 } }), UDA50_OK);
+    EXPECT(file.image.at == at && file.image.length == 4 * BLOCK, true);
+    for (uint32_t n = 0; n < 4 * BLOCK; n++)
+        EXPECT(at[n], n / BLOCK == 1 ? 'r' : 0);
+    EXPECT(stat(path, &status) == 0 && status.st_size == 4 * BLOCK, true);
+    EXPECT(uda50_file_close(&file), UDA50_FILE_OK);
+    CALLS("sync unmap close ");
+}
+
+/* A file that is open for reading only, one without bytes, and a closed one. */
+static void no_reservations(void)
+{
+    EXPECT(uda50_file_reserve(&file), UDA50_FILE_OK);
+    CALLS("");
+    EXPECT(open_failing("", 0, true), UDA50_FILE_OK);
+    EXPECT(uda50_file_reserve(&file), UDA50_FILE_OK);
+    EXPECT(uda50_file_close(&file), UDA50_FILE_OK);
+    CALLS("open:rcn lock:shared map:r sync unmap close ");
+    make_file(0);
+    EXPECT(open_failing("", 0, false), UDA50_FILE_OK);
+    EXPECT(uda50_file_reserve(&file), UDA50_FILE_OK);
+    EXPECT(uda50_file_close(&file), UDA50_FILE_OK);
+    CALLS("open:wcn lock:alone close ");
+}
+
 static void texts(void)
 {
     static const char *const wanted[] = {
         "done", "the file can't be opened", "the length is no multiple of 512",
         "the file has more than 2147483647 blocks",
         "the file can't be mapped", "what was written can't be written out", "the file is in use",
+        "no room can be reserved", "the file system can't reserve room",
     };
 
-    for (int fault = UDA50_FILE_OK; fault <= UDA50_FILE_LOCKED; fault++)
+    for (int fault = UDA50_FILE_OK; fault <= UDA50_FILE_NO_RESERVE; fault++)
         EXPECT(strcmp(uda50_file_text(fault), wanted[fault]), 0);
 }
 
@@ -288,6 +393,8 @@ int main(void)
     lengths();
     locks();
     failed_syncs();
+    reservations();
+    no_reservations();
     texts();
     unlink(path);
     unlink(fifo);

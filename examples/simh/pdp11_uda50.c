@@ -16,6 +16,9 @@
 #include "uda50.h"
 #include "uda50_file.h"
 
+#include <errno.h>
+#include <sys/file.h>
+#include <sys/stat.h>
 #include <unistd.h>
 
 #if !defined(__BYTE_ORDER__) || __BYTE_ORDER__ != __ORDER_LITTLE_ENDIAN__
@@ -531,16 +534,77 @@ static bool is_locked(UNIT *unit)
     return (unit->flags & (UNIT_RO | UNIT_LOCKED)) != 0 || unit->drive_type == UDA50_RRD40;
 }
 
-/* The file is mapped, behind SIMH's own attach, and as long as its drive where it may be written. */
-static int map_file(UNIT *unit, uda50_file *file)
+/* Takes the lock that the library takes, by SIMH's own descriptor, while the length of a file is changed. */
+static bool lock_file(UNIT *unit)
+{
+    return flock(fileno(unit->fileref), LOCK_EX | LOCK_NB) == 0 || errno != EWOULDBLOCK;
+}
+
+static off_t length_of(UNIT *unit)
+{
+    struct stat status;
+
+    return fstat(fileno(unit->fileref), &status) == 0 && S_ISREG(status.st_mode) ? status.st_size : -1;
+}
+
+/* Makes a file as long as its drive, unless another program has it locked. *before is the length that it had. If it
+   returns UDA50_FILE_ROOM, errno is the system's reason. */
+static int extend(UNIT *unit, off_t *before)
+{
+    int descriptor = fileno(unit->fileref);
+    int reason = 0;
+
+    if (!lock_file(unit))
+        return UDA50_FILE_LOCKED;
+    *before = length_of(unit);
+    if (*before >= 0 && *before < (off_t)unit->capac && ftruncate(descriptor, (off_t)unit->capac) != 0)
+        reason = errno;
+    flock(descriptor, LOCK_UN);
+    errno = reason;
+    return reason == 0 ? UDA50_FILE_OK : UDA50_FILE_ROOM;
+}
+
+/* Cuts a file back that `extend` made longer, unless another program has it locked by now. */
+static void cut_back(UNIT *unit, off_t before)
+{
+    int descriptor = fileno(unit->fileref);
+
+    if (before < 0 || before >= (off_t)unit->capac || !lock_file(unit))
+        return;
+    if (length_of(unit) == (off_t)unit->capac && ftruncate(descriptor, before) != 0)
+        perror(unit->filename);
+    flock(descriptor, LOCK_UN);
+}
+
+/* Prints what is wrong with a unit's file. If its room can't be reserved, errno is the system's reason. */
+static void print_fault(UNIT *unit, int fault)
+{
+    const char *reason = fault == UDA50_FILE_ROOM ? strerror(errno) : "";
+    const char *between = fault == UDA50_FILE_ROOM ? ": " : "";
+
+    printf("%s: %s%s%s\n", of_unit(unit)->device->name, uda50_file_text(fault), between, reason);
+}
+
+/* Maps a unit's file, which SIMH has attached. If it may be written, it is made as long as its drive before, and its
+   room is reserved. If the file system can't reserve room, a line says so: there a full disk may end the program. If
+   anything else fails, a line says so too, and the file is closed and as long as it was. */
+static bool map_file(UNIT *unit, uda50_file *file)
 {
     bool read_only = is_locked(unit);
-    int descriptor = fileno(unit->fileref);
-    off_t wanted = (off_t)unit->capac;
+    off_t before = -1;
+    int fault = read_only ? UDA50_FILE_OK : extend(unit, &before);
 
-    if (!read_only && lseek(descriptor, 0, SEEK_END) < wanted && ftruncate(descriptor, wanted) != 0)
-        return UDA50_FILE_SYNC;
-    return uda50_file_open(file, unit->filename, read_only);
+    if (fault == UDA50_FILE_OK)
+        fault = uda50_file_open(file, unit->filename, read_only);
+    if (fault == UDA50_FILE_OK)
+        fault = uda50_file_reserve(file);
+    if (fault != UDA50_FILE_OK)
+        print_fault(unit, fault);
+    if (fault == UDA50_FILE_OK || fault == UDA50_FILE_NO_RESERVE)
+        return true;
+    uda50_file_close(file);
+    cut_back(unit, before);
+    return false;
 }
 
 /* Starts the turns that deliver an attention message, if one is due. */
@@ -558,13 +622,10 @@ t_stat rq_attach(UNIT *unit, char *path)
     uint32 number = number_of(unit);
     t_stat status = attach_unit(unit, path);
     uda50_file *file = &it->files[number];
-    int fault;
 
     if (status != SCPE_OK)
         return status;
-    fault = map_file(unit, file);
-    if (fault != UDA50_FILE_OK) {
-        printf("%s: %s\n", it->device->name, uda50_file_text(fault));
+    if (!map_file(unit, file)) {
         detach_unit(unit);
         return SCPE_OPENERR;
     }
@@ -587,7 +648,7 @@ t_stat rq_detach(UNIT *unit)
     if (uda50_detach(&it->uda, number, &it->files[number].image) == UDA50_OK) {
         int fault = uda50_file_close(&it->files[number]);
         if (fault != UDA50_FILE_OK)
-            printf("%s: %s\n", it->device->name, uda50_file_text(fault));
+            print_fault(unit, fault);
     }
     return detach_unit(unit);
 }

@@ -1,0 +1,427 @@
+/* device.c: tests examples/simh/pdp11_uda50.c without SIMH, of which pdp11_defs.h beside it has what that file uses:
+   which unit is booted, a state that doesn't fit, a change of the bus, and files that are locked or have no room.
+   Usage: device [full]    with `full`, ./small is a tmpfs of 2 MB, and ./bare a ramfs */
+#include "pdp11_defs.h"
+#undef printf
+
+#include "../c-calls/guest.h"
+#include "rq_bootrom.h"
+
+#include <errno.h>
+#include <fcntl.h>
+#include <stdarg.h>
+#include <sys/file.h>
+#include <sys/stat.h>
+#include <unistd.h>
+
+enum { WORDS = 0100000, RING = 02000, MESSAGE = 02104, COMMAND = 02304, DATA = 04000, WRITE_LIMIT = 32 };
+enum { RX50 = 409600, QBUS = 2, LOCKED = 1 << UNIT_V_UF, PROTECTED = 6, STATE_UNIT = 7 };
+
+extern DEVICE rq_dev, rqb_dev;
+t_stat rq_rd(int32 *data, int32 address, int32 access);
+t_stat rq_wr(int32 data, int32 address, int32 access);
+t_stat rq_set_type(UNIT *unit, int32 type, char *text, void *desc);
+
+/* ---- SIMH's part ---- */
+
+static uint16 words[WORDS];
+uint16 *M = words;
+uint32 cpu_bme, cpu_opt = BUS_U;
+t_addr cpu_memsize = 2 * WORDS;
+int32 int_req[IPL_HLVL], tmr_poll = 1, clk_tps = 60, saved_PC, sim_switches;
+UNIT cpu_unit;
+FILE *sim_deb;
+static char printed[512];
+
+int print_line(const char *format, ...)
+{
+    size_t length = strlen(printed);
+    va_list list;
+    int count;
+
+    va_start(list, format);
+    count = vsnprintf(printed + length, sizeof printed - length, format, list);
+    va_end(list);
+    return count;
+}
+
+t_stat attach_unit(UNIT *unit, char *path)
+{
+    unit->fileref = fopen(path, "rb+");
+    if (unit->fileref == NULL)
+        unit->fileref = fopen(path, "wb+");
+    if (unit->fileref == NULL)
+        return SCPE_OPENERR;
+    unit->filename = path;
+    unit->flags |= UNIT_ATT;
+    return SCPE_OK;
+}
+
+t_stat detach_unit(UNIT *unit)
+{
+    if ((unit->flags & UNIT_ATT) == 0)
+        return SCPE_OK;
+    unit->flags &= ~(uint32)(UNIT_ATT | UNIT_RO);
+    return fclose(unit->fileref) == 0 ? SCPE_OK : SCPE_IOERR;
+}
+
+int32 sim_is_active(UNIT *unit)
+{
+    return unit->time;
+}
+
+t_stat sim_activate(UNIT *unit, int32 time)
+{
+    unit->time = time;
+    return SCPE_OK;
+}
+
+t_stat sim_cancel(UNIT *unit)
+{
+    unit->time = 0;
+    return SCPE_OK;
+}
+
+t_stat auto_config(char *name, int32 count)
+{
+    return SCPE_OK;
+}
+
+t_stat set_addr(UNIT *unit, int32 value, char *text, void *desc)
+{
+    return SCPE_NOFNC;
+}
+
+t_stat set_addr_flt(UNIT *unit, int32 value, char *text, void *desc)
+{
+    return SCPE_NOFNC;
+}
+
+t_stat show_addr(FILE *to, UNIT *unit, int32 value, void *desc)
+{
+    return SCPE_NOFNC;
+}
+
+t_stat show_vec(FILE *to, UNIT *unit, int32 value, void *desc)
+{
+    return SCPE_NOFNC;
+}
+
+t_value get_uint(char *text, uint32 radix, t_value limit, t_stat *status)
+{
+    *status = SCPE_ARG;
+    return 0;
+}
+
+/* There is no map: the bus shows the memory. */
+int32 Map_ReadW(uint32 from, int32 bytes, uint16 *to)
+{
+    memcpy(to, M + from / 2, (size_t)bytes);
+    return 0;
+}
+
+int32 Map_WriteW(uint32 to, int32 bytes, uint16 *from)
+{
+    memcpy(M + to / 2, from, (size_t)bytes);
+    return 0;
+}
+
+/* Lets the events of a device happen until none is due. */
+static void settle(DEVICE *device)
+{
+    bool found = true;
+
+    for (int round = 0; found && round < 1000; round++) {
+        found = false;
+        for (uint32 n = 0; n < device->count; n++) {
+            UNIT *unit = device->units + n;
+
+            if (unit->time == 0)
+                continue;
+            found = true;
+            unit->time = 0;
+            EXPECT(unit->action(unit), SCPE_OK);
+        }
+    }
+    EXPECT(found, false);
+}
+
+/* ---- the guest's part ---- */
+
+static int32 register_of(DEVICE *device, int32 offset)
+{
+    return (int32)((DIB *)device->ctxt)->ba + offset;
+}
+
+static void start_up(DEVICE *device)
+{
+    static const int32 steps[] = { 0100000, RING, 0, 1 };
+    int32 sa = -1;
+
+    EXPECT(rq_wr(0, register_of(device, 0), 0), SCPE_OK);
+    for (int n = 0; n < 4; n++) {
+        EXPECT(rq_wr(steps[n], register_of(device, 2), 0), SCPE_OK);
+        settle(device);
+    }
+    EXPECT(rq_rd(&sa, register_of(device, 2), 0), SCPE_OK);
+    EXPECT(sa, 0);
+}
+
+static void put(uint32 at, uint32 number)
+{
+    M[at / 2] = (uint16)number;
+    M[at / 2 + 1] = (uint16)(number >> 16);
+}
+
+/* Executes a command over rings of one. Returns the status of its end message. */
+static uint32 executed(DEVICE *device, command c)
+{
+    int32 ip;
+
+    memset(M + COMMAND / 2, 0, 48);
+    put(MESSAGE - 4, 48);
+    put(COMMAND - 4, 48);
+    put(COMMAND, c.reference);
+    put(COMMAND + 4, c.unit);
+    put(COMMAND + 8, c.opcode);
+    put(COMMAND + 12, c.bytes);
+    put(COMMAND + 16, DATA);
+    put(COMMAND + 28, c.lbn);
+    put(RING, MESSAGE | 0x80000000);
+    put(RING + 4, COMMAND | 0x80000000);
+    EXPECT(rq_rd(&ip, register_of(device, 0), 0), SCPE_OK);
+    settle(device);
+    EXPECT(M[MESSAGE / 2], c.reference);
+    return M[MESSAGE / 2 + 5];
+}
+
+/* Brings a unit online and writes the first blocks, 32 at a time. Returns the status of the last Write. */
+static uint32 written(DEVICE *device, uint16 unit, uint32 blocks)
+{
+    uint32 status = 0;
+
+    start_up(device);
+    EXPECT(executed(device, (command){ ONLINE, unit, 1, 0, 0 }), 0);
+    for (uint32 lbn = 0; lbn < blocks && status == 0; lbn += WRITE_LIMIT) {
+        memset(M + DATA / 2, (int)(lbn / WRITE_LIMIT) + 1, WRITE_LIMIT * BLOCK);
+        status = executed(device, (command){ WRITE, unit, 2 + lbn, WRITE_LIMIT * BLOCK, lbn });
+    }
+    return status;
+}
+
+/* ---- the user's part ---- */
+
+static void make_file(const char *path, off_t length)
+{
+    int descriptor = open(path, O_RDWR | O_CREAT | O_TRUNC, 0600);
+
+    EXPECT(ftruncate(descriptor, length), 0);
+    close(descriptor);
+}
+
+static long length_of(const char *path)
+{
+    struct stat status;
+
+    return stat(path, &status) == 0 ? (long)status.st_size : -1;
+}
+
+/* Compares what the device has printed since the last comparison. */
+static void expect_printed(const char *wanted, int line)
+{
+    if (strcmp(printed, wanted) != 0) {
+        printf("line %d: \"%s\" is printed and not \"%s\"\n", line, printed, wanted);
+        failures++;
+    }
+    printed[0] = '\0';
+}
+
+#define PRINTED(wanted) expect_printed(wanted, __LINE__)
+
+static const char no_reservations[] = "RQ: the file system can't reserve room\n";
+
+/* Attaches a file. The file system of the current folder may be one that can't reserve room. */
+static void attach(DEVICE *device, int number, char *path)
+{
+    EXPECT(rq_set_type(device->units + number, UDA50_RX50, NULL, NULL), SCPE_OK);
+    EXPECT(device->attach(device->units + number, path), SCPE_OK);
+    if (strcmp(printed, no_reservations) == 0)
+        printed[0] = '\0';
+    PRINTED("");
+}
+
+/* An attach is refused. Then no descriptor is left, and the file is as long as it was, and not locked. */
+static void expect_refused(DEVICE *device, char *path, long length, int line)
+{
+    int next = open(".", O_RDONLY), descriptor;
+
+    close(next);
+    expect((unsigned long)device->attach(device->units, path), SCPE_OPENERR, "the attach", line);
+    expect(device->units->flags & UNIT_ATT, 0, "attached", line);
+    expect((unsigned long)length_of(path), (unsigned long)length, "the length", line);
+    descriptor = open(path, O_RDWR);
+    expect((unsigned long)descriptor, (unsigned long)next, "a descriptor", line);
+    expect((unsigned long)flock(descriptor, LOCK_EX | LOCK_NB), 0, "the lock", line);
+    close(descriptor);
+}
+
+#define REFUSED(device, path, length) expect_refused(device, path, length, __LINE__)
+
+/* ---- the tests ---- */
+
+/* Each unit's own number goes into the bootstrap, and the address of its controller. */
+static void boots(void)
+{
+    for (int32 n = 0; n < UDA50_UNITS; n++) {
+        EXPECT(rq_dev.boot(n, &rq_dev), SCPE_OK);
+        EXPECT(M[BOOT_UNIT / 2], n);
+        EXPECT(M[BOOT_CSR / 2], IOBA_RQ & DMASK);
+        EXPECT(saved_PC, BOOT_ENTRY);
+        EXPECT(rqb_dev.boot(n, &rqb_dev), SCPE_OK);
+        EXPECT(M[BOOT_UNIT / 2], UDA50_UNITS + n);
+        EXPECT(M[BOOT_CSR / 2], IOBA_RQB & DMASK);
+    }
+}
+
+/* Restores a state with another byte at an offset. Returns the status of the deposit that ends it. */
+static t_stat restored(uint32 offset, uint8 byte)
+{
+    UNIT *unit = rq_dev.units + STATE_UNIT;
+    uint8 state[UDA50_STATE_LENGTH];
+    t_stat status = SCPE_OK;
+    t_value word;
+
+    for (t_addr at = 0; at < sizeof state; at += 2) {
+        EXPECT(rq_dev.examine(&word, at, unit, 0), SCPE_OK);
+        state[at] = (uint8)word;
+        state[at + 1] = (uint8)(word >> 8);
+    }
+    state[offset] = byte;
+    for (t_addr at = 0; at < sizeof state; at += 2) {
+        EXPECT(status, SCPE_OK);
+        status = rq_dev.deposit(state[at] | (t_value)state[at + 1] << 8, at, unit, 0);
+    }
+    return status;
+}
+
+/* A state of another version, and one of an image of another length, aren't restored in silence. */
+static void states(void)
+{
+    attach(&rq_dev, 0, "rq0");
+    EXPECT(restored(0, 1), SCPE_OK);
+    PRINTED("");
+    EXPECT(restored(0, 2), SCPE_INCOMP);
+    PRINTED("RQ: the state can't be restored: 75\n");
+    EXPECT(restored(60, 0x21), SCPE_INCOMP);
+    PRINTED("RQ: the state can't be restored: 77\n");
+    EXPECT(rq_dev.detach(rq_dev.units), SCPE_OK);
+}
+
+/* After a change of the bus a locked image is still locked, and another can be written. */
+static void buses(void)
+{
+    make_file("rq1", RX50);
+    rq_dev.units[1].flags |= LOCKED;
+    attach(&rq_dev, 0, "rq0");
+    attach(&rq_dev, 1, "rq1");
+    for (int n = 0; n < 3; n++) {
+        EXPECT(written(&rq_dev, 0, WRITE_LIMIT), 0);
+        EXPECT(written(&rq_dev, 1, WRITE_LIMIT) & 0x1f, PROTECTED);
+        cpu_opt ^= BUS_U | QBUS;
+        EXPECT(rq_dev.reset(&rq_dev), SCPE_OK);
+    }
+    EXPECT(rq_dev.detach(rq_dev.units), SCPE_OK);
+    EXPECT(rq_dev.detach(rq_dev.units + 1), SCPE_OK);
+    rq_dev.units[1].flags &= ~(uint32)LOCKED;
+    PRINTED("");
+}
+
+/* A file that another program has locked, for itself or with others, isn't made longer. */
+static void locked_files(void)
+{
+    int other;
+
+    make_file("short", 1000);
+    other = open("short", O_RDWR);
+    for (int n = 0; n < 2; n++) {
+        EXPECT(flock(other, n == 0 ? LOCK_EX : LOCK_SH), 0);
+        EXPECT(rq_dev.attach(rq_dev.units, "short"), SCPE_OPENERR);
+        PRINTED("RQ: the file is in use\n");
+        EXPECT(length_of("short"), 1000);
+    }
+    close(other);
+    attach(&rq_dev, 0, "short");
+    EXPECT(length_of("short"), RX50);
+    EXPECT(rq_dev.detach(rq_dev.units), SCPE_OK);
+}
+
+static void fill(const char *path)
+{
+    static uint8_t page[4096];
+    int descriptor = open(path, O_WRONLY | O_CREAT | O_TRUNC, 0600);
+
+    while (write(descriptor, page, sizeof page) > 0)
+        continue;
+    EXPECT(errno, ENOSPC);
+    close(descriptor);
+}
+
+static void expect_written(const char *path)
+{
+    int descriptor = open(path, O_RDONLY);
+    uint8_t block[BLOCK];
+
+    for (uint32 lbn = 0; lbn < RX50 / BLOCK; lbn++) {
+        EXPECT(read(descriptor, block, sizeof block), BLOCK);
+        EXPECT(block[0] == lbn / WRITE_LIMIT + 1 && memcmp(block, block + 1, BLOCK - 1) == 0, true);
+    }
+    close(descriptor);
+}
+
+/* A drive of 11 MB has no room on a disk of 2 MB. One of 409,600 bytes has room, and needs no more when the disk is
+   filled and the guest writes each block. */
+static void full_disk(void)
+{
+    static const char no_room[] = "RQ: no room can be reserved: No space left on device\n";
+
+    EXPECT(rq_set_type(rq_dev.units, UDA50_RD51, NULL, NULL), SCPE_OK);
+    REFUSED(&rq_dev, "small/new", 0);
+    PRINTED(no_room);
+    make_file("small/disk", 1024);
+    REFUSED(&rq_dev, "small/disk", 1024);
+    PRINTED(no_room);
+    attach(&rq_dev, 0, "small/disk");
+    fill("small/rest");
+    EXPECT(written(&rq_dev, 0, RX50 / BLOCK), 0);
+    EXPECT(rq_dev.detach(rq_dev.units), SCPE_OK);
+    expect_written("small/disk");
+    PRINTED("");
+}
+
+/* A file system that can't reserve room: the file is attached, and a line says so. */
+static void no_reservation(void)
+{
+    EXPECT(rq_dev.attach(rq_dev.units, "bare/disk"), SCPE_OK);
+    PRINTED(no_reservations);
+    EXPECT(written(&rq_dev, 0, RX50 / BLOCK), 0);
+    EXPECT(rq_dev.detach(rq_dev.units), SCPE_OK);
+    expect_written("bare/disk");
+}
+
+int main(int argc, char **argv)
+{
+    EXPECT(rq_dev.reset(&rq_dev), SCPE_OK);
+    EXPECT(rqb_dev.reset(&rqb_dev), SCPE_OK);
+    boots();
+    states();
+    buses();
+    locked_files();
+    if (argc > 1 && strcmp(argv[1], "full") == 0) {
+        full_disk();
+        no_reservation();
+    }
+    unlink("rq0");
+    unlink("rq1");
+    unlink("short");
+    return ended();
+}

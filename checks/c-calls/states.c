@@ -1,19 +1,22 @@
 /* states.c: uda50_save and uda50_restore. First the meaning of each refusal. Then STRINGS byte strings, most of them
    states that were changed at random: each is refused and changes nothing, or leads to a controller that two handles
-   continue alike for EVENTS events of a random guest. After each event it is tested what every port keeps.
+   continue alike for EVENTS events of a random guest. If the state wasn't changed, one of the two is the handle that was
+   saved. After each event it is tested what every port keeps.
    Usage: states [STRINGS [EVENTS]] */
 #include "guest.h"
 
 #include <stdlib.h>
 
-enum { DISK = 16 * BLOCK, SMALL = 8 * BLOCK, STATE = UDA50_STATE_LENGTH };
+enum { DISK = 16 * BLOCK, STATE = UDA50_STATE_LENGTH };
 
-/* A controller with two images, the second of them write-protected, and the memory of its guest. */
+/* A controller with images in the first of its units, that of unit 1 write-protected, and the memory of its guest. */
 typedef struct {
     uda50 uda;
-    uint8_t disk[DISK], small[SMALL], memory[SIZE];
+    uint8_t disks[UDA50_UNITS][DISK], memory[SIZE];
+    uint32_t units;
 } machine;
 
+static const size_t lengths[UDA50_UNITS] = { DISK, 8 * BLOCK, 12 * BLOCK, 4 * BLOCK };
 static machine first, second, worker;
 
 /* ---- Machines ---- */
@@ -25,11 +28,14 @@ static void attach(machine *it, uint32_t unit, uint8_t *at, size_t length, bool 
     EXPECT(uda50_attach(&it->uda, unit, &image, write_protected), UDA50_OK);
 }
 
-static void make(machine *it)
+static void make(machine *it, uint32_t units)
 {
     EXPECT(uda50_new(&it->uda, true), UDA50_OK);
-    attach(it, 0, it->disk, DISK, false);
-    attach(it, 1, it->small, SMALL, true);
+    it->units = units;
+    for (uint32_t unit = 0; unit < units; unit++) {
+        memset(it->disks[unit], (int)unit, DISK);
+        attach(it, unit, it->disks[unit], lengths[unit], unit == 1);
+    }
 }
 
 static void end(machine *it)
@@ -37,21 +43,20 @@ static void end(machine *it)
     uda50_image images[UDA50_UNITS] = { { NULL, 0 } };
 
     EXPECT(uda50_free(&it->uda, images), UDA50_OK);
-    EXPECT(images[0].at == it->disk && images[1].at == it->small, true);
+    for (uint32_t unit = 0; unit < it->units; unit++)
+        EXPECT(images[unit].at == it->disks[unit] && images[unit].length == lengths[unit], true);
 }
 
 /* The same images and memory, but not the same controller. */
 static void copy_bytes(machine *to, const machine *from)
 {
-    memcpy(to->disk, from->disk, DISK);
-    memcpy(to->small, from->small, SMALL);
+    memcpy(to->disks, from->disks, sizeof to->disks);
     memcpy(to->memory, from->memory, SIZE);
 }
 
 static bool same_bytes(const machine *one, const machine *other)
 {
-    return memcmp(one->disk, other->disk, DISK) == 0 && memcmp(one->small, other->small, SMALL) == 0
-           && memcmp(one->memory, other->memory, SIZE) == 0;
+    return memcmp(one->disks, other->disks, sizeof one->disks) == 0 && memcmp(one->memory, other->memory, SIZE) == 0;
 }
 
 static void save(machine *it, uint8_t *state)
@@ -111,9 +116,12 @@ static void post_one(machine *it, uint32_t n, uint32_t number)
     give(it, RESPONSES + n);
 }
 
-static void start_up(machine *it)
+/* Starts the port up. Each 256 bytes of the buffers have a byte of their own, which depends on `number`. */
+static void start_up(machine *it, uint32_t number)
 {
     memset(it->memory, 0, SIZE);
+    for (uint32_t n = BUFFER; n < SIZE; n += 256)
+        memset(it->memory + n, (uint8_t)(number + n / 256 * 7), 256);
     uda50_write_ip(&it->uda, 0);
     uda50_write_sa(&it->uda, 0x8080 | 1 << 11 | 2 << 8 | VECTOR / 4, it->memory, SIZE);
     uda50_write_sa(&it->uda, BASE, it->memory, SIZE);
@@ -128,7 +136,7 @@ static uint32_t event(machine *it, uint32_t kind, uint32_t number)
 
     switch (kind % 64) {
     case 0:
-        start_up(it);
+        start_up(it, number);
         return 0;
     case 1:
         uda50_write_sa(&it->uda, (uint16_t)number, it->memory, SIZE);
@@ -138,7 +146,7 @@ static uint32_t event(machine *it, uint32_t kind, uint32_t number)
             uda50_write_ip(&it->uda, 0);
         return 0;
     case 3:
-        return uda50_inject_failure(&it->uda, number & 1, number >> 8 & 7);
+        return uda50_inject_failure(&it->uda, number & 3, number >> 8 & 7);
     case 4: case 5: case 6: case 7:
         return uda50_take_interrupt(&it->uda, &vector) ? vector : 1;
     case 8: case 9: case 10: case 11:
@@ -238,7 +246,7 @@ static void at_work(machine *it)
 {
     static const uint32_t commands[] = { 18, 13, 13 | 2 << 16, 14 | 3 << 16 };
 
-    start_up(it);
+    start_up(it, 0);
     give(it, 0);
     for (uint32_t n = 0; n < 4; n++) {
         post_one(it, n % COMMANDS, commands[n] | 4 << 10 | n << 24);
@@ -257,7 +265,7 @@ static void refusals(void)
     static uint8_t state[STATE];
     uda50_state now;
     uda50_turn_record turn;
-    uda50_image image = { NULL, 0 }, spare = { worker.disk, BLOCK };
+    uda50_image image = { NULL, 0 }, spare = { worker.disks[2], BLOCK };
 
     at_work(&first);
     save(&first, state);
@@ -323,43 +331,48 @@ static uint32_t any_offset(const uint8_t *state)
     return way < 7 ? 10 + any(6) : 32 + any(24);
 }
 
-/* Changes nothing, a few bytes, or all. */
+/* Changes nothing, all, or a few bytes. */
 static void change(uint8_t *state)
 {
     uint32_t way = any(16);
 
-    for (uint32_t n = any(2) + 1; n > 0 && way > 1; n--) {
+    for (uint32_t n = 0; n < STATE && way == 3; n++)
+        state[n] = (uint8_t)any(256);
+    for (uint32_t n = any(2) + 1; n > 0 && way > 3; n--) {
         uint32_t at = any_offset(state);
 
-        state[at] = (uint8_t)(way < 8 ? state[at] ^ 1u << any(8) : way < 12 ? any(16) : any(256));
+        state[at] = (uint8_t)(way < 9 ? state[at] ^ 1u << any(8) : way < 12 ? any(16) : any(256));
     }
-    for (uint32_t n = 0; n < STATE && way == 1; n++)
-        state[n] = (uint8_t)any(256);
 }
 
-static uint32_t any_bytes(uint32_t strings, uint32_t events)
+/* Returns how many strings were accepted, and in *unchanged how many of these the worker itself continued from. */
+static uint32_t any_bytes(uint32_t strings, uint32_t events, uint32_t *unchanged)
 {
     static uint8_t state[STATE], before[STATE];
     uint32_t accepted = 0;
 
     for (uint32_t n = 0; n < strings && failures == 0; n++) {
         uint32_t status;
+        bool is_saved;
 
         real_state(state);
         change(state);
+        is_saved = same_state(&worker, state);
         save(&first, before);
         copy_bytes(&first, &worker);
         copy_bytes(&second, &worker);
         status = uda50_restore(&first.uda, state, STATE);
         EXPECT(uda50_restore(&second.uda, state, STATE), status);
         if (status != UDA50_OK) {
+            EXPECT(is_saved, false);
             EXPECT(status >= UDA50_OTHER_VERSION && status <= UDA50_OTHER_IMAGES, true);
             EXPECT(same_state(&first, before), true);
             continue;
         }
         accepted++;
+        *unchanged += is_saved;
         EXPECT(same_state(&first, state), true);
-        play_both(&first, &second, events);
+        play_both(&first, is_saved ? &worker : &second, events);
     }
     return accepted;
 }
@@ -368,17 +381,22 @@ int main(int count, char **arguments)
 {
     uint32_t strings = count > 1 ? (uint32_t)strtoul(arguments[1], NULL, 10) : 20000;
     uint32_t events = count > 2 ? (uint32_t)strtoul(arguments[2], NULL, 10) : 100;
-    uint32_t accepted;
+    uint32_t accepted, unchanged = 0;
 
-    make(&first);
-    make(&second);
-    make(&worker);
+    make(&first, 2);
+    make(&second, 2);
     lengths_and_handles();
     refusals();
-    accepted = any_bytes(strings, events);
+    end(&first);
+    end(&second);
+    make(&first, UDA50_UNITS);
+    make(&second, UDA50_UNITS);
+    make(&worker, UDA50_UNITS);
+    accepted = any_bytes(strings, events, &unchanged);
     if (count > 1)
-        printf("%u of %u accepted\n", accepted, strings);
+        printf("%u of %u accepted, %u of them unchanged\n", accepted, strings, unchanged);
     EXPECT(strings < 100 || (accepted > strings / 20 && accepted < strings - strings / 20), true);
+    EXPECT(strings < 100 || unchanged > strings / 20, true);
     end(&first);
     end(&second);
     end(&worker);

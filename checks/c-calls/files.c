@@ -187,6 +187,62 @@ static void read_only(void)
     CALLS("sync unmap close ");
 }
 
+/* Makes a controller with the file in a unit, whose guest writes one block of it. */
+static void write_by_guest(uda50 *handle, uint16_t unit, uint32_t lbn)
+{
+    EXPECT(uda50_new(handle, true), UDA50_OK);
+    EXPECT(uda50_file_attach(handle, unit, &file), UDA50_OK);
+    EXPECT(status_of(handle, (command){ SET_CONTROLLER, 0, 1, 0, 0 }), 0);
+    EXPECT(status_of(handle, (command){ ONLINE, unit, 2, 0, 0 }), 0);
+    memset(memory + BUFFER, 'g', BLOCK);
+    EXPECT(status_of(handle, (command){ WRITE, unit, 3, BLOCK, lbn }), 0);
+}
+
+/* While a unit has the image, a sync is one of the whole map. The image comes back into another struct than the file's,
+   and a close unmaps the file all the same. */
+static void attached_file(void)
+{
+    uda50_image images[UDA50_UNITS] = { { NULL, 0 } };
+    uda50 handle = { 0 };
+    uint8_t *at;
+
+    make_file(2 * BLOCK);
+    EXPECT(open_failing("", 0, false), UDA50_FILE_OK);
+    at = file.image.at;
+    write_by_guest(&handle, 3, 1);
+    calls[0] = '\0';
+    EXPECT(uda50_file_sync(&file), UDA50_FILE_OK);
+    CALLS("sync ");
+    EXPECT(uda50_free(&handle, images), UDA50_OK);
+    EXPECT(images[3].at == at && images[3].length == 2 * BLOCK && file.image.length == 0, true);
+    EXPECT(uda50_file_close(&file), UDA50_FILE_OK);
+    CALLS("sync unmap close ");
+    EXPECT(__real_msync(at, 2 * BLOCK, MS_ASYNC) == -1 && errno == ENOMEM, true); /* nothing is mapped there */
+}
+
+/* A file whose last block begins at 4 GB. The others have no room on the disk. */
+static void large_file(void)
+{
+    static const off_t last = (off_t)1 << 32;
+    uda50_image images[UDA50_UNITS] = { { NULL, 0 } };
+    uda50 handle = { 0 };
+    uint8_t got[BLOCK] = { 0 };
+    int descriptor;
+
+    make_file(last + BLOCK);
+    EXPECT(open_failing("", 0, false), UDA50_FILE_OK);
+    EXPECT(file.image.length, last + BLOCK);
+    write_by_guest(&handle, 0, (uint32_t)(last / BLOCK));
+    EXPECT(uda50_free(&handle, images), UDA50_OK);
+    EXPECT(images[0].length, last + BLOCK);
+    EXPECT(uda50_file_close(&file), UDA50_FILE_OK);
+    CALLS("open:wcn lock:alone map:rw sync unmap close ");
+    descriptor = __real_open(path, O_RDONLY);
+    EXPECT(pread(descriptor, got, BLOCK, last), BLOCK);
+    EXPECT(got[0] == 'g' && got[BLOCK - 1] == 'g', true);
+    __real_close(descriptor);
+}
+
 static void failed_opens(void)
 {
     EXPECT(open_failing("open", EACCES, false), UDA50_FILE_OPEN);
@@ -389,6 +445,8 @@ int main(void)
     CLOSED();
     written_and_read();
     read_only();
+    attached_file();
+    large_file();
     failed_opens();
     lengths();
     locks();

@@ -1,5 +1,6 @@
 /* guest.h: what the programs beside it share: a line for each value that isn't the wanted one, and a guest with rings
-   of four responses and two commands in a memory of its own. */
+   of four responses and two commands in a memory of its own. A program with threads defines PER_THREAD as __thread: then
+   each thread has a count of failures and a guest. */
 #ifndef GUEST_H
 #define GUEST_H
 
@@ -11,8 +12,12 @@
 enum { BLOCK = 512, SIZE = 0x4000, BASE = 0x1000, RESPONSES = 4, COMMANDS = 2, BUFFER = 0x2000, VECTOR = 0x154 };
 enum { GET_UNIT_STATUS = 3, SET_CONTROLLER = 4, ONLINE = 9, READ = 33, WRITE = 34, END = 0x80 };
 
-static int failures;
-static uint8_t memory[SIZE];
+#ifndef PER_THREAD
+#define PER_THREAD
+#endif
+
+static PER_THREAD int failures;
+static PER_THREAD uint8_t memory[SIZE];
 
 static void expect(unsigned long answer, unsigned long wanted, const char *what, int line)
 {
@@ -105,7 +110,7 @@ static inline void post(uint32_t n, command c)
 /* Starts the port up and executes one command. Returns the status that its end message has. */
 static inline uint32_t status_of(uda50 *uda, command c)
 {
-    static uint32_t response, place;
+    static PER_THREAD uint32_t response, place;
 
     if (c.opcode == SET_CONTROLLER) {
         start(uda);

@@ -3,16 +3,22 @@
 #   make uda50      the program uda50 as out/uda50, without proofs: about a minute
 #   make install    installs both programs and the man page below PREFIX, /usr/local, and below DESTDIR
 #   make scenarios  the program that executes scenarios, as out/scenarios, without proofs: about a minute
-#   make library    the library for C as out/libuda50.a, without proofs: half a minute
+#   make library    the library for C as out/libuda50.a and as a shared object, without proofs: half a minute
+#   make install-library
+#                   installs that library, its headers and uda50.pc below PREFIX and DESTDIR
 #   make test       the tests, without proofs: four minutes; make check is the same
 #   make proofs     the full check: every proof from nothing, tests, must-fail edits, library for C: 2 hours
 #   make clean      removes out/
 # `make -C c` builds the proved library for C. All of it needs the command rt of the Rattle toolchain on the path.
+top := .
+built := out
+how := built without proofs
+
 sources := $(shell find crates -name '*.rt') crates.txt
 
-PREFIX ?= /usr/local
-
 all: out/uda
+
+include c/library.mk
 
 out/uda: $(sources) tools/unproved
 	tools/unproved program uda $@
@@ -32,9 +38,9 @@ scenarios: out/scenarios
 out/scenarios: $(sources) tools/unproved
 	tools/unproved program scenarios $@
 
-library: out/libuda50.a
+library: $(built)/libuda50.a $(built)/$(shared)
 
-out/libuda50.a: $(sources) tools/unproved c/uda50_file.c include/uda50.h include/uda50_file.h
+$(built)/libuda50.a: $(sources) tools/unproved c/uda50_file.c $(headers)
 	tools/unproved library $@
 
 test check:

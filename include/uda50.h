@@ -70,7 +70,8 @@ enum {
     UDA50_NO_SUCH_TYPE = 74,     /* the drive type isn't UDA50_RX50 to UDA50_RRD40 */
     UDA50_OTHER_VERSION = 75,    /* a saved state has another version */
     UDA50_BAD_STATE = 76,        /* no controller has the saved state */
-    UDA50_OTHER_IMAGES = 77      /* the images aren't as many and as long as the saved ones, or not as protected */
+    UDA50_OTHER_IMAGES = 77,     /* the images aren't as many and as long as the saved ones, or not as protected */
+    UDA50_BAD_FIRST_UNIT = 78    /* first_unit is above 65,532: the last unit's would be above 65,535 */
 };
 
 /* What a turn did. uda50_turn and uda50_run return it. */
@@ -139,8 +140,8 @@ uint32_t uda50_new(uda50 *handle, bool compatible);
 
 /* Makes a compatible controller as uda50_new does, on this bus. The guest knows its units by the numbers from
    first_unit on: a PDP-11's second controller usually has 4 to 7. The calls of this library number the units 0 to 3
-   all the same. Returns UDA50_OK, or the first that holds of UDA50_NO_SUCH_BUS, UDA50_HAS_CONTROLLER and
-   UDA50_NO_MEMORY. */
+   all the same. first_unit is at most 65,532. Returns UDA50_OK, or the first that holds of UDA50_NO_SUCH_BUS,
+   UDA50_HAS_CONTROLLER, UDA50_BAD_FIRST_UNIT and UDA50_NO_MEMORY. */
 uint32_t uda50_new_as(uda50 *handle, uint32_t bus, uint16_t first_unit);
 
 /* Frees the controller and returns its images. images[n], which must be empty, is then the image of unit n, as the
@@ -202,10 +203,11 @@ uint32_t uda50_turn(uda50 *handle, uint8_t *memory, size_t length);
    UDA50_IDLE if `turns` is 0; or fails as uda50_turn does.
 
    Call it after each read of IP and after uda50_attach. Call it again soon while it returns UDA50_FETCHED,
-   UDA50_EXECUTED, UDA50_DELIVERED or UDA50_NOTIFIED: then the turns were used up. After UDA50_DEAD only a write of IP
-   helps. After UDA50_IDLE nothing is left to do until the guest accesses a register, unless a message waits for a
-   response descriptor, which the guest gives by a write to its memory. Then call it again now and then, while
-   `queued` or `attentions` of uda50_get_state isn't 0. */
+   UDA50_EXECUTED, UDA50_DELIVERED or UDA50_NOTIFIED: then the turns were used up. A guest can keep the port busy
+   without end, so execute instructions of the guest before the next call. After UDA50_DEAD only a write of IP helps.
+   After UDA50_IDLE nothing is left to do until the guest accesses a register, unless a message waits for a response
+   descriptor, which the guest gives by a write to its memory. Then call it again now and then, while `queued` or
+   `attentions` of uda50_get_state isn't 0. */
 uint32_t uda50_run(uda50 *handle, uint32_t turns, uint8_t *memory, size_t length);
 
 /* ---- Inspection ---- */
@@ -260,8 +262,8 @@ uint32_t uda50_format_last_turn(uda50 *handle, uint8_t *buffer, size_t length);
 
 /* ---- Save and restore ---- */
 
-/* The number of bytes of a saved state. docs/PORT.md describes them. */
-enum { UDA50_STATE_LENGTH = 1576 };
+/* The number of bytes of a saved state, and their version, which is their first word. docs/PORT.md describes them. */
+enum { UDA50_STATE_LENGTH = 1576, UDA50_STATE_VERSION = 1 };
 
 /* Copies the state of the controller to `state`, between any two calls: all that decides what a guest will see, but
    images and guest memory, which are the emulator's. Returns UDA50_OK, or the first that holds of UDA50_NO_CONTROLLER
@@ -270,12 +272,15 @@ uint32_t uda50_save(uda50 *handle, uint8_t *state, size_t length);
 
 /* Continues from a saved state. Make a controller and attach the images first, to the units that had one, as long and
    as write-protected as they were; an RRD40's image is write-protected. The controller's own state is dropped, also
-   its profile, bus, first unit and drive types. If images and guest memory have the bytes that they had when the state
-   was saved, the guest sees from then on what it would have seen. There is no last turn.
+   its profile, bus, first unit and drive types: the saved drive types replace those that were set. If images and guest
+   memory have the bytes that they had when the state was saved, the guest sees from then on what it would have seen.
+   There is no last turn.
 
-   Returns UDA50_OK, or the first that holds of UDA50_NO_CONTROLLER, UDA50_BAD_LENGTH, UDA50_OTHER_VERSION,
-   UDA50_BAD_STATE and UDA50_OTHER_IMAGES. Any bytes are accepted or refused: none lead to a controller that breaks an
-   invariant. */
+   Returns UDA50_OK, or the first that holds of UDA50_NO_CONTROLLER, UDA50_OTHER_VERSION, UDA50_BAD_LENGTH,
+   UDA50_BAD_STATE and UDA50_OTHER_IMAGES. So a state of another version may have any length.
+
+   A state that breaks a rule of docs/PORT.md or docs/C.md is UDA50_BAD_STATE. The rules don't judge what a command or an
+   end message says. So uda50_take_interrupt returns only what it says above, after any accepted state. */
 uint32_t uda50_restore(uda50 *handle, const uint8_t *state, size_t length);
 
 /* ---- Failures for tests ---- */

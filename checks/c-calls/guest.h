@@ -1,6 +1,6 @@
 /* guest.h: what the programs beside it share: a line for each value that isn't the wanted one, and a guest with rings
    of four responses and two commands in a memory of its own. A program with threads defines PER_THREAD as __thread: then
-   each thread has a count of failures and a guest. */
+   each thread has a count of failures and a guest. A program that has a `memory` already defines HAS_MEMORY. */
 #ifndef GUEST_H
 #define GUEST_H
 
@@ -17,7 +17,9 @@ enum { GET_UNIT_STATUS = 3, SET_CONTROLLER = 4, ONLINE = 9, READ = 33, WRITE = 3
 #endif
 
 static PER_THREAD int failures;
+#ifndef HAS_MEMORY
 static PER_THREAD uint8_t memory[SIZE];
+#endif
 
 static void expect(unsigned long answer, unsigned long wanted, const char *what, int line)
 {

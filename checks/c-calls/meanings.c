@@ -175,8 +175,13 @@ static void identity(void)
 
     EXPECT(uda50_set_type(&other, 0, UDA50_RA81), UDA50_NO_CONTROLLER);
     EXPECT(uda50_new_as(&other, 2, 4), UDA50_NO_SUCH_BUS);
+    EXPECT(uda50_new_as(&other, UDA50_QBUS, 65533), UDA50_BAD_FIRST_UNIT);
+    EXPECT(uda50_new_as(&other, UDA50_UNIBUS, 65535), UDA50_BAD_FIRST_UNIT);
+    EXPECT(uda50_read_sa(&other), 0); /* it has no controller */
+    EXPECT(uda50_new_as(&other, UDA50_UNIBUS, 65532), UDA50_OK);
+    EXPECT(uda50_free(&other, images), UDA50_OK);
     EXPECT(uda50_new_as(&other, UDA50_QBUS, 4), UDA50_OK);
-    EXPECT(uda50_new_as(&other, UDA50_UNIBUS, 0), UDA50_HAS_CONTROLLER);
+    EXPECT(uda50_new_as(&other, UDA50_UNIBUS, 65533), UDA50_HAS_CONTROLLER);
     EXPECT(uda50_read_sa(&other), 0x0b40);
     EXPECT(uda50_set_type(&other, 4, UDA50_RX50), UDA50_NO_SUCH_UNIT);
     EXPECT(uda50_set_type(&other, 1, UDA50_RRD40 + 1), UDA50_NO_SUCH_TYPE);

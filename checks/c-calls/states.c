@@ -238,7 +238,13 @@ static void lengths_and_handles(void)
     EXPECT(state[STATE], 0x5a);
     EXPECT(uda50_restore(&first.uda, state, STATE - 1), UDA50_BAD_LENGTH);
     EXPECT(uda50_restore(&first.uda, state, STATE + 1), UDA50_BAD_LENGTH);
+    EXPECT(uda50_restore(&first.uda, state, 1), UDA50_BAD_LENGTH);
     EXPECT(uda50_restore(&first.uda, state, STATE), UDA50_OK);
+    state[0] = UDA50_STATE_VERSION + 1;
+    EXPECT(uda50_restore(&first.uda, state, 1), UDA50_BAD_LENGTH);
+    EXPECT(uda50_restore(&first.uda, state, 2), UDA50_OTHER_VERSION);
+    EXPECT(uda50_restore(&first.uda, state, STATE - 1), UDA50_OTHER_VERSION);
+    EXPECT(uda50_restore(&first.uda, state, STATE + 1), UDA50_OTHER_VERSION);
 }
 
 /* Two commands are pending, and an end message is queued. Block call 3 of unit 0 fails. */
@@ -258,6 +264,46 @@ static void at_work(machine *it)
             EXPECT(uda50_turn(&it->uda, it->memory, SIZE), UDA50_DELIVERED);
     }
     EXPECT(uda50_inject_failure(&it->uda, 0, 3), UDA50_OK);
+}
+
+/* A state of a running controller is refused if a byte of it is one that no controller has. */
+static void impossible_at_work(uint8_t *state)
+{
+    CHANGED(14, 0xff, UDA50_BAD_STATE);          /* a vector that is no multiple of 4 */
+    CHANGED(15, 2, UDA50_BAD_STATE);             /* a vector above 0x1FC */
+    CHANGED(30, 1, UDA50_BAD_STATE);             /* attention for a unit without an image */
+    CHANGED(44, 3, UDA50_BAD_STATE);             /* a ring of three descriptors */
+    CHANGED(48, state[48] + 4, UDA50_BAD_STATE); /* a command ring that doesn't follow the response ring */
+    CHANGED(8, 0, UDA50_BAD_STATE);              /* a strict controller with a vector */
+    CHANGED(2, 6, UDA50_BAD_STATE);              /* step 4 with pending commands */
+    state[14] = state[15] = 0;
+    CHANGED(19, 1, UDA50_BAD_STATE);             /* a request without a vector */
+}
+
+/* The same of the state of a new controller, which has no images. */
+static void impossible_at_first(void)
+{
+    static uint8_t state[STATE];
+    uda50 fresh = { NULL };
+    uda50_image images[UDA50_UNITS] = { { NULL, 0 } };
+
+    EXPECT(uda50_new(&fresh, true), UDA50_OK);
+    EXPECT(uda50_save(&fresh, state, STATE), UDA50_OK);
+    EXPECT(uda50_free(&fresh, images), UDA50_OK);
+    refused(&second, state, UDA50_OTHER_IMAGES, __LINE__);
+    CHANGED(12, 0x80, UDA50_BAD_STATE); /* controller flags */
+    CHANGED(14, 8, UDA50_BAD_STATE);    /* a vector before the first word */
+    CHANGED(17, 1, UDA50_BAD_STATE);    /* polling */
+    CHANGED(28, 1, UDA50_BAD_STATE);    /* attention */
+    CHANGED(36, 1, UDA50_BAD_STATE);    /* a block of a last transfer */
+    CHANGED(40, 8, UDA50_BAD_STATE);    /* the address of a ring */
+    state[56] = state[60] = 1;          /* unit 0 has an image of one block */
+    CHANGED(57, 1, UDA50_BAD_STATE);    /* an online unit */
+    CHANGED(59, 1, UDA50_BAD_STATE);    /* a unit with software protection */
+    CHANGED(24, 14, UDA50_BAD_STATE);   /* an RRD40 that isn't write-protected */
+    state[11] = 0xff;
+    CHANGED(10, 0xfc, UDA50_OTHER_IMAGES);
+    CHANGED(10, 0xfd, UDA50_BAD_STATE); /* unit numbers that go round */
 }
 
 static void refusals(void)
@@ -283,6 +329,7 @@ static void refusals(void)
     CHANGED(58, 1, UDA50_OTHER_IMAGES);
     CHANGED(104, 1, UDA50_BAD_STATE);
     CHANGED(STATE - 1, 1, UDA50_BAD_STATE);
+    impossible_at_first();
     EXPECT(uda50_attach(&second.uda, 2, &spare, false), UDA50_OK);
     refused(&second, state, UDA50_OTHER_IMAGES, __LINE__);
     EXPECT(uda50_detach(&second.uda, 2, &spare), UDA50_OK);
@@ -302,6 +349,7 @@ static void refusals(void)
     EXPECT(now.credits, 12);
     EXPECT(uda50_get_last_turn(&second.uda, &turn), UDA50_OK);
     EXPECT(turn.kind, UDA50_NO_TURN);
+    impossible_at_work(state);
     play_both(&first, &second, 1000);
 }
 

@@ -93,7 +93,7 @@ rest_natures InvalidConnection old memory new after goes = absurd goes.rest.1
 rest_natures RingWrite old memory new after goes = absurd goes.rest.1
 rest_natures InitializationError old memory new after goes = absurd goes.rest.1
 
-fails_natures : (cause : Fatal) (old : PortState) (memory : List ℕ) (new : PortState) (after : List ℕ)
+pub fails_natures : (cause : Fatal) (old : PortState) (memory : List ℕ) (new : PortState) (after : List ℕ)
     → Fails cause old memory new after → all_attributes new ≡ all_attributes old
 fails_natures cause old memory new after (InFetch line) = fetch_natures cause old memory new after line
 fails_natures cause old memory new after (InRest goes) = rest_natures cause old memory new after goes
@@ -117,7 +117,7 @@ running_natures Idle old memory new after goes = ap all_attributes goes.rest.1.1
 running_natures DeadTurn old memory new after goes =
     ap all_attributes goes.died ∙ fails_natures goes.cause (port_turn_on old) memory goes.before after goes.fails
 
-turn_natures : (p : Phase) (turn : Turn) (old : PortState) (memory : List ℕ) (new : PortState) (after : List
+pub turn_natures : (p : Phase) (turn : Turn) (old : PortState) (memory : List ℕ) (new : PortState) (after : List
     ℕ)
     → TurnEffect p old memory turn new after → all_attributes new ≡ all_attributes old
 turn_natures Running turn old memory new after goes = running_natures turn old memory new after goes

@@ -12,12 +12,15 @@ use Rattle.uda_exec.specs.Drives.{DriveState, drive_in, fresh_unit, returned_dri
 use Rattle.uda_port.specs.Port.{PortState, port_with_drive, read_only_at}
 use Rattle.uda_c.proofs.FailingUnits.{seen, handed}
 use Rattle.uda_c.specs.ControllerState.{ControllerState}
-use Rattle.uda_c.specs.declared.call_status.CallStatus.TheVariants.{Done, NoSuchUnit, AlreadyAttached, NotAttached, NotEmpty, HasController}
+use Rattle.uda_c.specs.declared.call_status.CallStatus.{CallStatus}
+use Rattle.uda_c.specs.declared.call_status.CallStatus.TheVariants.{Done, NoSuchUnit, AlreadyAttached, NotAttached, NotEmpty, HasController, NoController}
+use Rattle.uda_c.specs.CallStatus.{status_code}
+use Rattle.uda_c.specs.declared.unit_images.UnitImages.{UnitImages}
 use Rattle.uda_c.specs.declared.slot.Slot.{Slot}
 use Rattle.uda_c.specs.declared.lent.BorrowedBytes.{BorrowedBytes}
 use Rattle.uda_c.specs.BorrowedImage.{BorrowedBlocks, IsWhole, borrowed_state}
-use Rattle.uda_c.specs.Slots.{empty_slot, lent_in, slot_of, is_empty}
-use Rattle.uda_c.specs.Controllers.{Lending, Attaches, Detaches, MakesNew, image_answer, image_in, has_image, lent_drive}
+use Rattle.uda_c.specs.Slots.{empty_slot, lent_in, slot_of, is_empty, are_empty}
+use Rattle.uda_c.specs.Controllers.{Lending, Attaches, Detaches, MakesNew, OnHandle, GivesBack, Frees, image_answer, image_in, has_image, lent_drive}
 
 -- a unit that gets an image has it
 attached : (units : List (Option UnitState)) (u : ℕ) (lending : Lending) → u < length units
@@ -123,3 +126,49 @@ detaches old u look slot after lent drive new low e empty back are put is =
           (ap (λ (s : Slot). s.held) put ∙ are);
       refused = λ no. absurd (no refl);
     }
+
+-- ---- a controller that isn't freed
+
+-- the call refuses, and nothing changes
+pub record StaysWhole (old : Option ControllerState) (images : UnitImages) (answer : CallStatus)
+    (new : Option ControllerState) (after : UnitImages) : Type 0 where
+  pub frees : Frees old images answer new after
+  pub not_zero : status_code answer ≡ 0 → ⊥
+  pub same : new ≡ old
+
+full_not_zero : (empty : Bool) (answer : CallStatus) → answer ≡ (if empty then Done else NotEmpty) → answer ≢ Done
+    → status_code answer ≡ 0 → ⊥
+full_not_zero true answer is refused zero = refused is
+full_not_zero false answer is refused zero =
+    let code : status_code answer ≡ 71 = ap status_code is in
+    absurd (omega (arith, code, zero))
+
+pub stays_whole : (old : Option ControllerState) (images : UnitImages) (answer : CallStatus)
+    (new : Option ControllerState) (after : UnitImages)
+    → OnHandle old new ((answer ≡ NoController) × (after ≡ images))
+    (λ (a b : ControllerState). GivesBack (a, images) answer (b, after)) → answer ≢ Done
+    → StaysWhole old images answer new after
+stays_whole None images answer None after gives refused = record {
+  frees = (gives.0, refl, gives.1);
+  not_zero = λ zero.
+      let code : status_code answer ≡ 64 = ap status_code gives.0 in
+      absurd (omega (arith, code, zero));
+  same = refl;
+}
+stays_whole (Some a) images answer (Some b) after gives refused =
+    let same = gives.refused refused in
+    record {
+      frees = record {
+        answer_is = gives.answer_is;
+        freed = λ done. absurd (refused done);
+        given_back = λ done. absurd (refused done);
+        refused = λ _. (
+          ap (λ (x : ControllerState × UnitImages). Some x.0) same,
+          ap (λ (x : ControllerState × UnitImages). x.1) same,
+        );
+      };
+      not_zero = full_not_zero (are_empty images) answer gives.answer_is refused;
+      same = ap (λ (x : ControllerState × UnitImages). Some x.0) same;
+    }
+stays_whole None images answer (Some b) after gives refused = absurd gives
+stays_whole (Some a) images answer None after gives refused = absurd gives

@@ -5,6 +5,7 @@ mod HandleCrosses
 pub mod Images
 pub mod RunLaws
 pub mod FailingUnits
-pub mod SavedUnits
 pub mod Lending
 pub mod FaithfulUnits
+pub mod FittingUnits
+pub mod SavedUnits

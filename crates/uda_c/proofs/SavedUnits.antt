@@ -16,6 +16,7 @@ use Rattle.uda_port.specs.Saved.{saved_port, port_restored, RestoreEffect, SameB
 use Rattle.uda_port.proofs.Saving.{restored_is_saved}
 use Rattle.uda_c.specs.declared.call_status.CallStatus.{CallStatus}
 use Rattle.uda_c.specs.declared.call_status.CallStatus.TheVariants.{Done, NotAttached}
+use Rattle.uda_c.proofs.FittingUnits.{saved_fits}
 use Rattle.uda_c.specs.ControllerState.{ControllerState}
 use Rattle.uda_c.specs.Controllers.{FailsAt, unit_answer, unit_failing, controller_failing}
 use Rattle.uda_c.specs.Saving.{failing_call_of, call_of, controller_failing_at, units_failing, calls_have_drives}
@@ -168,6 +169,7 @@ controller_is_saved saved here listed images =
       fits = ap (λ (infos : List (Option UnitInfo)). has_commands (saved_exec saved.port.exec)
           && units_fit (infos_of saved.port.exec.units) infos)
           (sym (same_infos (map call_of saved.port.exec.units) here.port.exec.units)) ∙ restored.drives;
+      units = saved_fits saved.port;
       same = subst (λ (units : List (Option UnitState)). SameButCounts saved.port
           (record (port_restored (saved_port saved.port) here.port.exec) {
             exec = record (port_restored (saved_port saved.port) here.port.exec).exec { units = units };

@@ -13,30 +13,35 @@ use Rattle.uda_port.specs.declared.profile.Profile.TheVariants.{Strict, Compatib
 use Rattle.uda_port.specs.declared.trace.Trace.{Trace}
 use Rattle.uda_port.specs.Guest.{usual_identity}
 use Rattle.uda_port.specs.Port.{PortState, CreditsAgree, port_at_start, port_with_drive, read_only_at, with_type}
-use Rattle.uda_port.specs.Interrupt.{vector_of, served}
+use Rattle.uda_port.specs.Interrupt.{vector_of, served, IsVectorAddress}
+use Rattle.uda_port.specs.Saved.{HasPossibleState}
 use Rattle.uda_port.specs.Startup.{after_sa_write}
 use Rattle.uda_port.specs.Turn.{TurnEffect}
 use Rattle.uda_port.specs.Trace.{turn_of, Traces}
 use Rattle.uda_c.specs.declared.call_status.CallStatus.{CallStatus}
 use Rattle.uda_c.specs.declared.call_status.CallStatus.TheVariants.{Done, RanTurn, NoSuchUnit, AlreadyAttached, NotAttached}
 use Rattle.uda_c.specs.declared.call_status.CallStatus.TheVariants.{NoController, HasController, NoMemory, NotEmpty}
-use Rattle.uda_c.specs.declared.call_status.CallStatus.TheVariants.{NoSuchBus, NoSuchType}
+use Rattle.uda_c.specs.declared.call_status.CallStatus.TheVariants.{NoSuchBus, NoSuchType, BadFirstUnit}
 use Rattle.uda_packet.specs.declared.drive_type.DriveType.{DriveType}
 use Rattle.uda_packet.specs.declared.guest_end.Bus.{Bus}
 use Rattle.uda_c.specs.declared.call_status.CallStatus.TheVariants.{BadLength, TooLarge}
 use Rattle.uda_c.specs.ControllerState.{ControllerState}
+use Rattle.uda_c.specs.Fits.{FitsController, numbers_fit}
 use Rattle.uda_c.specs.declared.slot.Slot.{Slot}
 use Rattle.uda_c.specs.declared.unit_images.UnitImages.{UnitImages}
 use Rattle.uda_c.specs.Slots.{empty_slot, are_empty}
 use Rattle.uda_c.specs.BorrowedImage.{borrowed_state, with_failing_call}
 
 -- The invariant of the port of every controller. It has four units, they return the blocks that were written,
--- and each has exactly as many blocks as its size. Its credits agree.
+-- and each has exactly as many blocks as its size. Its credits agree, `uda50_restore` accepts its state, and its units
+-- fit it.
 pub record IsSoundPort (port : PortState) : Type 0 where
   pub four_units : length port.exec.units ≡ 4
   pub faithful : AllFaithful port.exec.units
   pub images : AreWellFormed port.exec.units
   pub credits : CreditsAgree port
+  pub possible : HasPossibleState port
+  pub fits : FitsController port
 
 -- The effect of a call on a handle. If the handle has no controller, the first proposition holds, and it has
 -- none afterwards. If it has one, the second relation holds.
@@ -271,16 +276,26 @@ TellsVector None before told after = (told ≡ false) × (after ≡ before)
 pub record TakesInterrupt (old : ControllerState) (before : ℕ) (told : Bool) (new : ControllerState)
     (after : ℕ) : Type 0 where
   pub vector : TellsVector (vector_of old.port.interrupts) before told after
+  pub address : told ≡ true → IsVectorAddress after
   pub gone : new ≡ record old { port = record old.port { interrupts = served old.port.interrupts } }
 
 -- ---- a controller of the compatible profile
+
+-- a handle without a controller gets one of this profile, if the numbers of its units don't go round
+abbrev pub MakesIfNumbered : Bool → Profile → CallStatus → Option ControllerState → Type 0
+MakesIfNumbered true profile answer new = MakesNew None profile answer new
+MakesIfNumbered false profile answer new = (answer ≡ BadFirstUnit) × (new ≡ None)
+
+abbrev pub MakesNumbered : Option ControllerState → Profile → CallStatus → Option ControllerState → Type 0
+MakesNumbered (Some c) profile answer new = (answer ≡ HasController) × (new ≡ Some c)
+MakesNumbered None profile answer new = MakesIfNumbered (numbers_fit profile) profile answer new
 
 -- a controller on the bus that C names, whose units have the numbers from this one on; or the bus doesn't
 -- exist
 abbrev pub MakesAs : Option ControllerState → Option Bus → ℕ → CallStatus → Option ControllerState → Type 0
 MakesAs old None first answer new = (answer ≡ NoSuchBus) × (new ≡ old)
 MakesAs old (Some bus) first answer new =
-    MakesNew old (Compatible (record { bus = bus; first_unit = first })) answer new
+    MakesNumbered old (Compatible (record { bus = bus; first_unit = first })) answer new
 
 abbrev pub refusal_of_new : Option Bus → CallStatus
 refusal_of_new None = NoSuchBus

@@ -9,6 +9,7 @@ pub mod BorrowedImage
 pub mod CallStatus
 pub mod ControllerState
 pub mod Controllers
+pub mod Fits
 pub mod Saving
 pub mod Snapshot
 pub mod Last

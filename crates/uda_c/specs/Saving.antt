@@ -21,6 +21,7 @@ use Rattle.uda_c.specs.declared.saving.RestoreRefusal.{RestoreRefusal}
 use Rattle.uda_c.specs.declared.saving.RestoreRefusal.TheVariants as refusal
 use Rattle.uda_c.specs.ControllerState.{ControllerState}
 use Rattle.uda_c.specs.Controllers.{unit_failing}
+use Rattle.uda_c.specs.Fits.{FitsController, fits_controller}
 
 -- ---- save
 
@@ -88,12 +89,15 @@ abbrev pub restore_status : Result Unit RestoreRefusal → CallStatus
 restore_status (Ok done) = Done
 restore_status (Err (refusal.Bytes cause)) = refusal_of_bytes cause
 restore_status (Err refusal.CallWithoutDrive) = BadState
+restore_status (Err refusal.UnfitUnits) = BadState
 restore_status (Err (refusal.Port cause)) = refusal_of_state cause
 
--- the bytes are those of this state, and each of its calls that are to fail is one of a unit with a drive
+-- the bytes are those of this state, each of its calls that are to fail is one of a unit with a drive, and its units
+-- fit a controller
 pub record IsState (bytes : List ℕ) (state : SavedState) : Type 0 where
   pub read : IsRead bytes state
   pub drives : has_drives state ≡ true
+  pub fits : fits_controller state.port ≡ true
 
 -- the controller continues from the state
 pub record IsContinued (old : ControllerState) (bytes : List ℕ) (new : ControllerState) : Type 0 where
@@ -108,6 +112,13 @@ pub record HasCallWithoutDrive (bytes : List ℕ) : Type 0 where
   pub read : IsRead bytes state
   pub no_drive : has_drives state ≡ false
 
+-- no controller has such units
+pub record HasUnfitUnits (bytes : List ℕ) : Type 0 where
+  pub state : SavedState
+  pub read : IsRead bytes state
+  pub drives : has_drives state ≡ true
+  pub unfit : fits_controller state.port ≡ false
+
 -- no port continues from the state, or none with these images
 pub record IsNotContinued (cause : RestoreError) (old : ControllerState) (bytes : List ℕ) : Type 0 where
   pub state : SavedState
@@ -119,6 +130,7 @@ abbrev pub RestoreOutcome : Result Unit RestoreRefusal → ControllerState → L
 RestoreOutcome (Ok done) old bytes new = IsContinued old bytes new
 RestoreOutcome (Err (refusal.Bytes cause)) old bytes new = BytesEffect bytes (Err cause) × (new ≡ old)
 RestoreOutcome (Err refusal.CallWithoutDrive) old bytes new = HasCallWithoutDrive bytes × (new ≡ old)
+RestoreOutcome (Err refusal.UnfitUnits) old bytes new = HasUnfitUnits bytes × (new ≡ old)
 RestoreOutcome (Err (refusal.Port cause)) old bytes new = IsNotContinued cause old bytes × (new ≡ old)
 
 pub record Restores (old : ControllerState) (bytes : List ℕ) (answer : CallStatus) (new : ControllerState)
@@ -139,6 +151,7 @@ HasSavedImages saved here =
 pub record ContinuesAs (saved here : ControllerState) : Type 0 where
   pub drives : has_drives (controller_saved saved) ≡ true
   pub fits : exec_fits (saved_port saved.port).exec here.port.exec ≡ true
+  pub units : FitsController saved.port → fits_controller (saved_port saved.port) ≡ true
   pub same : SameButCounts saved.port (controller_restored (controller_saved saved) here).port
 
 abbrev pub ControllerIsSaved : Type 0

@@ -40,6 +40,8 @@ pub enum CallStatus {
     BadState,
     /// The units don't have images of the saved sizes and hardware write protections.
     OtherImages,
+    /// The numbers of four units from this one on would go round.
+    BadFirstUnit,
 }
 
 impl CallStatus {
@@ -71,6 +73,7 @@ impl CallStatus {
             CallStatus::OtherVersion => 75,
             CallStatus::BadState => 76,
             CallStatus::OtherImages => 77,
+            CallStatus::BadFirstUnit => 78,
         }
     }
 }

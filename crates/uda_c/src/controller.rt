@@ -1,5 +1,5 @@
 //! The controller of a handle.
-ghost use Rattle.std.specs.Prelude.{◌≡◌, ◌≢◌, ◌≤◌, ◌/◌, ◌%◌, ℕ, length, slice_get, IfSome, IfNone, IfOk, IfErr, IsTrue};
+ghost use Rattle.std.specs.Prelude.{◌≡◌, true, ◌≢◌, ◌≤◌, ◌/◌, ◌%◌, ℕ, length, slice_get, IfSome, IfNone, IfOk, IfErr, IsTrue};
 ghost use Rattle.uda_image.specs.Limits.{store_limit};
 ghost use Rattle.uda_mem.specs.Slices.{IsMemory};
 ghost use Rattle.uda_c.specs.declared.call_status.CallStatus.TheVariants.{RanTurn, Done};
@@ -8,7 +8,8 @@ ghost use Rattle.uda_c.specs.Controllers.{FailsAt, controller_failing, drive_fai
 ghost use Rattle.uda_c.specs.Saving.{Saves, RestoreOutcome, controller_saved, failing_call_of};
 ghost use Rattle.uda_c.specs.Saving.{controller_failing_at};
 ghost use Rattle.uda_port.specs.Port.{port_restarted, port_after_ip_read};
-ghost use Rattle.uda_port.specs.Interrupt.{vector_of, served};
+ghost use Rattle.uda_port.specs.Interrupt.{vector_of, served, IsVectorAddress};
+ghost use Rattle.uda_c.specs.Fits.{numbers_fit};
 ghost use Rattle.uda_c.specs.Controllers.{WritesSa, GivesBack, image_answer, image_at, image_bytes_at};
 ghost use Rattle.uda_c.specs.BorrowedImage.{borrowed_state, IsWhole};
 ghost use Rattle.uda_c.specs.Slots.{empty_slot, is_empty};
@@ -16,6 +17,7 @@ ghost use Rattle.uda_exec.specs.Drives.{drive_state};
 ghost use Rattle.uda_c.specs.Runs.{TakesTurns, RunsWhereMemory, does_nothing};
 
 use crate::call_status::CallStatus;
+use crate::fits::fits_controller;
 use crate::lent::BorrowedBytes;
 use crate::lent_image::BorrowedImage;
 use crate::saving::{RestoreRefusal, calls_have_drives};
@@ -39,17 +41,19 @@ pub struct Controller {
 impl Model for Controller {
     ghost use Rattle.uda_disk.specs.Units.{AllFaithful};
     ghost use Rattle.uda_c.specs.ControllerState.{ControllerState};
+    ghost use Rattle.uda_c.specs.Fits.{FitsController};
 
     ghost Value = { ControllerState };
 
     ghost view = { λ c. record { port = c.port; last = c.last } };
 
-    ghost invariant = { λ c. AllFaithful c.port.exec.units };
+    ghost invariant = { λ c. AllFaithful c.port.exec.units × FitsController c.port };
 }
 
 impl Controller {
     /// Returns a controller without drives, whose port is in step 1. Returns None if an allocation fails.
     pub fn new(alloc: Global, profile: Profile) -> Option<Controller>
+        requires numbers { numbers_fit profile ≡ true }
         ensures start { IfSome result (λ c. c ≡ controller_at_start profile) }
     {
         let exec = Exec::new([None, None, None, None]);
@@ -71,7 +75,6 @@ impl Controller {
     }
 
     /// Writes IP for the guest.
-    #[tactic(auto, using(crate::proofs::FaithfulUnits::start_faithful))]
     pub fn write_ip(&mut self, word: u16)
         ensures restarts { self.new ≡ record self.old { port = port_restarted self.old.port } }
     {
@@ -79,7 +82,6 @@ impl Controller {
     }
 
     /// Reads IP for the guest.
-    #[tactic(auto, using(crate::proofs::FaithfulUnits::asked_faithful))]
     pub fn read_ip(&mut self) -> u16
         ensures reads_zero { result ≡ 0 }
         ensures starts_polling { self.new ≡ record self.old { port = port_after_ip_read self.old.port.phase self.old.port } }
@@ -88,7 +90,6 @@ impl Controller {
     }
 
     /// Writes SA for the guest.
-    #[tactic(auto, using(crate::proofs::FaithfulUnits::word_faithful))]
     pub fn write_sa(&mut self, word: u16, memory: &mut [u8])
         ensures effect { WritesSa self.old memory.old word self.new memory.new }
     {
@@ -96,9 +97,9 @@ impl Controller {
     }
 
     /// Takes the pending interrupt request, if there is one, and returns its vector address.
-    #[tactic(auto, using(crate::proofs::FaithfulUnits::same_faithful))]
     pub fn take_interrupt(&mut self) -> Option<u16>
         ensures vector { result ≡ vector_of self.old.port.interrupts }
+        ensures address { IfSome result (λ vector. IsVectorAddress vector) }
         ensures request_cleared { self.new ≡ record self.old {
           port = record self.old.port { interrupts = served self.old.port.interrupts };
         } }
@@ -245,7 +246,6 @@ impl Controller {
     }
 
     /// Continues from saved bytes, over the images that are attached.
-    #[tactic(auto, using(crate::proofs::SavedUnits::restored_faithful))]
     pub fn restore(&mut self, bytes: &[u8]) -> Result<(), RestoreRefusal>
         ensures restores { RestoreOutcome result self.old bytes.now self.new }
     {
@@ -255,6 +255,9 @@ impl Controller {
         };
         if !calls_have_drives(state.port.exec.units, state.failing_calls) {
             return Err(RestoreRefusal::CallWithoutDrive);
+        }
+        if !fits_controller(&state.port) {
+            return Err(RestoreRefusal::UnfitUnits);
         }
         match self.port.restore(&state.port) {
             Ok(()) => {

@@ -1,14 +1,15 @@
 //! The functions that C calls, as `include/uda50.h` declares them. Each accepts every handle, including one
 //! that was never made or was freed.
-ghost use Rattle.std.specs.Prelude.{None, Some, false, is_some, ◌≡◌, ◌||◌};
+ghost use Rattle.std.specs.Prelude.{None, Some, true, false, is_some, ◌≡◌, ◌||◌};
 ghost use Rattle.uda_port.specs.Port.{port_restarted, port_after_ip_read};
 ghost use Rattle.uda_port.specs.Startup.{sa_shown};
 ghost use Rattle.uda_c.specs.CallStatus.{status_code};
 ghost use Rattle.uda_c.specs.Choices.{bus_of};
+ghost use Rattle.uda_c.specs.Fits.{numbers_fit};
 ghost use Rattle.uda_packet.specs.DriveTypes.{type_numbered};
 ghost use Rattle.uda_c.specs.declared.call_status.CallStatus.{CallStatus};
 ghost use Rattle.uda_c.specs.declared.call_status.CallStatus.TheVariants.{Done, NoController};
-ghost use Rattle.uda_c.specs.Controllers.{OnHandle, AreSound, HoldsSound, MakesNew, MakesAs, SetsType, refusal_of_new, profile_of, is_read_only, Frees, GivesBack};
+ghost use Rattle.uda_c.specs.Controllers.{OnHandle, AreSound, HoldsSound, MakesNew, MakesNumbered, MakesAs, SetsType, refusal_of_new, profile_of, is_read_only, Frees, GivesBack};
 ghost use Rattle.uda_c.specs.Controllers.{Attaches, Detaches, HasImage, HadBytes, WritesSa};
 ghost use Rattle.uda_c.specs.Controllers.{FailsAt, TurnsWhereMemory, TakesInterrupt};
 ghost use Rattle.uda_c.specs.Saving.{Saves, Restores};
@@ -19,6 +20,7 @@ ghost use Rattle.uda_c.specs.Last.{turn_record, TellsLine};
 use crate::call_status::CallStatus;
 use crate::choices::bus_of;
 use crate::controller::Controller;
+use crate::fits::numbers_fit;
 use crate::handle::Handle;
 use crate::last::{TurnRecord, put_last_line};
 use crate::saving::restore_status;
@@ -53,7 +55,8 @@ pub extern "C" fn uda50_new(alloc: Global, handle: &mut Handle, compatible: bool
 }
 
 /// Makes a controller of the compatible profile on a bus, whose units have the numbers from `first_unit` on.
-/// A handle that has a controller keeps it. If an allocation fails, the handle has none.
+/// A handle that has a controller keeps it. If the number of the fourth unit would be above 65,535, or if an
+/// allocation fails, the handle has none.
 #[unsafe(no_mangle)]
 pub extern "C" fn uda50_new_as(alloc: Global, handle: &mut Handle, bus: u32, first_unit: u16) -> u32
     ensures made { (answer : CallStatus) × (result ≡ status_code answer)
@@ -64,7 +67,7 @@ pub extern "C" fn uda50_new_as(alloc: Global, handle: &mut Handle, bus: u32, fir
         return refuse_new(bus).code();
     }
     match bus_of(bus) {
-        Some(bus) => make(
+        Some(bus) => make_numbered(
             alloc,
             handle,
             Profile::Compatible(Identity { bus, first_unit }),
@@ -103,11 +106,13 @@ pub extern "C" fn uda50_free(alloc: Global, handle: &mut Handle, images: &mut Un
     ensures done { result ≡ 0 → handle.new.value ≡ None }
     ensures sound { AreSound handle.old.value handle.new.value }
 {
-    let answer = give_back(handle, images);
-    if answer == CallStatus::Done {
-        free_controller(alloc, handle);
+    match give_back(handle, images) {
+        CallStatus::Done => {
+            free_controller(alloc, handle);
+            CallStatus::Done.code()
+        }
+        refusal => refusal.code(),
     }
-    answer.code()
 }
 
 /// Attaches an image to a unit, and empties C's struct. If it fails, the struct keeps its bytes.
@@ -466,9 +471,23 @@ fn profile_of(compatible: bool) -> Profile
     }
 }
 
+// Puts a new controller into an empty handle, if the numbers of its units don't go round.
+fn make_numbered(alloc: Global, handle: &mut Handle, profile: Profile) -> CallStatus
+    requires { handle.old.value ≡ None }
+    ensures made { MakesNumbered None profile result handle.new.value }
+    ensures sound { HoldsSound handle.new.value }
+{
+    if numbers_fit(profile) {
+        make(alloc, handle, profile)
+    } else {
+        CallStatus::BadFirstUnit
+    }
+}
+
 // Puts a new controller into an empty handle.
 fn make(alloc: Global, handle: &mut Handle, profile: Profile) -> CallStatus
-    requires { handle.old.value ≡ None }
+    requires empty { handle.old.value ≡ None }
+    requires numbers { numbers_fit profile ≡ true }
     ensures made { MakesNew None profile result handle.new.value }
     ensures sound { HoldsSound handle.new.value }
 {

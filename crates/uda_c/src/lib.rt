@@ -5,6 +5,7 @@ mod call_status;
 mod choices;
 mod controller;
 mod exports;
+mod fits;
 mod handle;
 mod last;
 mod lent;

@@ -15,6 +15,9 @@ pub enum RestoreRefusal {
     Bytes(BytesError),
     /// A call is to fail of a unit that has no drive.
     CallWithoutDrive,
+    /// A unit of the state doesn't fit its phase, its type or its attention message, or the numbers of the units go
+    /// round.
+    UnfitUnits,
     /// The port can't continue from the state.
     Port(RestoreError),
 }
@@ -26,7 +29,7 @@ pub fn restore_status(outcome: Result<(), RestoreRefusal>) -> CallStatus
     match outcome {
         Ok(()) => CallStatus::Done,
         Err(RestoreRefusal::Bytes(cause)) => refusal_of_bytes(cause),
-        Err(RestoreRefusal::CallWithoutDrive) => CallStatus::BadState,
+        Err(RestoreRefusal::CallWithoutDrive | RestoreRefusal::UnfitUnits) => CallStatus::BadState,
         Err(RestoreRefusal::Port(cause)) => refusal_of_state(cause),
     }
 }

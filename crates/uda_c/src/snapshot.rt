@@ -85,7 +85,7 @@ impl PortSnapshot {
             queued: port.waiting() as u32,
             sa: port.read_sa(),
             credits: u16::from(port.credits()),
-            polling: u16::from(port.is_polling()),
+            polling: flag(port.is_polling()),
             vector: port.interrupts().vector,
             attentions: attention_bits(port),
         }
@@ -100,6 +100,13 @@ fn attention_bits<S: BlockStore>(port: &Port<S>) -> u32
         + bit(port.is_attention_due(1), 2)
         + bit(port.is_attention_due(2), 4)
         + bit(port.is_attention_due(3), 8)
+}
+
+// Returns a flag as C has it.
+fn flag(set: bool) -> u16
+    ensures flag { result ≡ if set then 1 else 0 }
+{
+    if set { 1 } else { 0 }
 }
 
 // Returns a bit that is set.

@@ -6,4 +6,6 @@ pub mod TurnLaws
 pub mod PlayLaws
 pub mod DeathLaws
 pub mod TraceLaws
+pub mod PossibleLaws
+pub mod PortSteps
 pub mod Saving

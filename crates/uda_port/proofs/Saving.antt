@@ -1,12 +1,15 @@
 -- Ports that differ only in their counts have the same future.
 use Rattle.std.proofs.Common.{◌≡◌, ℕ, zero, suc, ◌+◌, ◌-◌, ◌<◌, ◌≤◌, ◌↔◌, ◌==◌, Bool, true, false, ◌&&◌, ◌||◌, List, [], ◌∷◌, length, Result, Ok, Err, refl, sym, ap, subst, ◌∙◌, arith}
-use Rattle.std.specs.Prelude.{if◌then◌else◌, not, nat_lt, nat_le, IsTrue}
+use Rattle.std.specs.Prelude.{if◌then◌else◌, not, nat_lt, IsTrue}
 use Rattle.uda_packet.specs.declared.guest_command.GuestOp.{GuestOp}
-use Rattle.std.proofs.lemmas.Bool.{lt-ltb, leb-true, eqb-true, and_parts}
+use Rattle.std.proofs.lemmas.Bool.{lt-ltb, eqb-true, eq-eqb, and_parts, and_from}
+use Rattle.uda_packet.specs.declared.command.Command.{Command}
 use Rattle.uda_packet.specs.declared.reply.Reply.{Reply}
 use Rattle.uda_packet.specs.declared.guest_command.GuestCommand.{GuestCommand}
 use Rattle.uda_exec.specs.Disks.{ExecState}
 use Rattle.uda_exec.proofs.Saving.{restored_is_saved as exec_is_saved}
+use Rattle.uda_exec.specs.Saved.{saved_exec}
+use Rattle.uda_exec.specs.declared.saved.SavedExec.{SavedExec}
 use Rattle.uda_port.specs.declared.guest.Guest.{Guest}
 use Rattle.uda_port.specs.declared.interrupt.Interrupts.{Interrupts}
 use Rattle.uda_port.specs.declared.area.Area.{Area}
@@ -17,7 +20,9 @@ use Rattle.uda_port.specs.declared.phase.Fatal.TheVariants.{PacketRead, PacketWr
 use Rattle.uda_port.specs.declared.profile.Profile.{Profile}
 use Rattle.uda_port.specs.declared.profile.Profile.TheVariants.{Strict, Compatible}
 use Rattle.uda_port.specs.declared.packet.Delivery.{Delivery}
+use Rattle.uda_port.specs.declared.port.Port.TheInside.{Inside}
 use Rattle.uda_port.specs.declared.saved.Saved.{Saved}
+use Rattle.uda_port.specs.PortInvariant.{PortInvariant}
 use Rattle.uda_port.specs.declared.turn.Turn.{Turn}
 use Rattle.uda_port.specs.declared.turn.Turn.TheVariants.{Fetched, Executed, Delivered, Notified, Idle, Dead as DeadTurn}
 use Rattle.uda_port.specs.declared.play.HostEvent.{HostEvent}
@@ -31,7 +36,9 @@ use Rattle.uda_port.specs.Interrupt.{interrupts_asked}
 use Rattle.uda_port.specs.Startup.{has_bit, area_of, has_area, refuses_second, refuses_third, asks_test, after_wrap_request, after_sa_write, failed_port, port_with_rings, memory_with_area}
 use Rattle.uda_port.specs.Turn.{Unchanged, port_with_message, port_turn_on, port_not_polling, TakesPacket, FetchRule, ExecuteRule, DeliverRule, NotifyRule, LaterRulesEffect, GoesOn, Fails, InFetch, InRest, RunningTurn, Stopped, TurnEffect}
 use Rattle.uda_port.specs.Events.{EventEffect, EventsEffect}
-use Rattle.uda_port.specs.Saved.{saved_port, port_restored, is_consistent, outstanding, credits_due, lists_ops, least_deliveries, Counts, with_counts, SameButCounts, RestoredIsSaved, SameFuture}
+use Rattle.uda_port.specs.Possible.{has_run, has_rings, has_phase, can_interrupt, rings_fit, is_base_by, is_next_to, are_unused, is_unset, guest_fits, queue_fits, is_first_position, HasNoWork}
+use Rattle.uda_port.proofs.PossibleLaws.{first_position}
+use Rattle.uda_port.specs.Saved.{work_fits, has_no_work, profile_fits, saved_port, port_restored, is_consistent, outstanding, credits_due, lists_ops, least_deliveries, Counts, with_counts, SameButCounts, RestoredIsSaved, SameFuture}
 
 -- ---- what was saved
 
@@ -58,6 +65,120 @@ restored_is_saved port exec listed same =
       };
     }
 
+-- ---- a saved port is consistent
+
+-- a saved port that hasn't run has no work
+abbrev pub SavedNoWork : Saved → Type 0
+SavedNoWork s =
+    HasNoWork s.polling (least_deliveries s.begun) s.exec.pending.items s.waiting.items s.exec.position
+
+due_of : (deliveries credits fetches outstanding : ℕ) → credits + fetches ≡ credits_granted deliveries
+    → fetches ≡ deliveries + outstanding → credits + outstanding ≡ credits_due (nat_lt 0 deliveries)
+due_of zero credits fetches outstanding granted used = omega (arith, granted, used)
+due_of (suc n) credits fetches outstanding granted used =
+    let due : credits + outstanding ≡ 15 = omega (arith, granted, used) in
+    due ∙ sym (ap credits_due (positive n))
+
+lists_none : (profile : Profile) (ops : List GuestOp) → (profile ≡ Strict → ops ≡ [])
+    → not (lists_ops profile ops) ≡ true
+lists_none Strict ops none = ap (λ (xs : List GuestOp). not (lists_ops Strict xs)) (none refl)
+lists_none (Compatible identity) ops none = refl
+
+shows_no_work : (s : Saved) → SavedNoWork s → s.begun ≡ false → has_no_work s ≡ true
+shows_no_work s none not_begun =
+    let pending = ap (λ (cs : List Command). length cs) none.none_pending in
+    let waiting = ap (λ (rs : List Reply). length rs) none.none_waiting in
+    and_from (not s.polling) _ (ap not none.not_polling)
+    (and_from (not s.begun) _ (ap not not_begun)
+    (and_from (outstanding s == 0) (is_first_position s.exec.position)
+    (eq-eqb (outstanding s) 0 (omega (arith, pending, waiting))) (ap is_first_position none.at_first)))
+
+work_by : (s : Saved) (run : Bool) → (run ≡ false → has_no_work s ≡ true) → (run || has_no_work s) ≡ true
+work_by s true none = refl
+work_by s false none = none refl
+
+-- the state of a port with these fields
+abbrev pub state_of : {S : Type 0} → Inside S → PortState
+state_of p = record {
+  profile = p.profile;
+  phase = p.phase;
+  exec = p.exec;
+  responses = p.responses;
+  commands = p.commands;
+  waiting = p.waiting.items;
+  polling = p.polling;
+  credits = p.credits;
+  interrupts = p.interrupts;
+  turns = p.turns;
+  fetches = p.fetches;
+  deliveries = p.deliveries;
+  load = p.load;
+  guest = p.guest;
+}
+
+not_begun : (deliveries : ℕ) → deliveries ≡ 0 → nat_lt 0 deliveries ≡ false
+not_begun deliveries none = ap (nat_lt 0) none
+
+least_none : (begun : Bool) → begun ≡ false → least_deliveries begun ≡ 0
+least_none true is = absurd (cc)
+least_none false is = refl
+
+saved_no_work : {S : Type 0} (p : Inside S)
+    → HasNoWork p.polling p.deliveries p.exec.pending p.waiting.items p.exec.position
+    → SavedNoWork (saved_port (state_of p))
+saved_no_work p none = record {
+  not_polling = none.not_polling;
+  none_delivered = least_none (nat_lt 0 p.deliveries) (not_begun p.deliveries none.none_delivered);
+  none_pending = none.none_pending;
+  none_waiting = none.none_waiting;
+  at_first = none.at_first;
+}
+
+pub consistent : {S : Type 0} (p : Inside S) → PortInvariant p → is_consistent (saved_port (state_of p)) ≡ true
+consistent p is =
+    let s = saved_port (state_of p) in
+    let due = due_of p.deliveries p.credits p.fetches (outstanding s) is.credits is.conserved in
+    let work = work_by s (has_run p.phase) (λ not_run.
+    let none = is.possible.no_work not_run in
+    shows_no_work s (saved_no_work p none) (not_begun p.deliveries none.none_delivered)) in
+    and_from (has_phase p.profile p.phase) _ is.possible.phase
+    (and_from (can_interrupt p.profile p.phase p.interrupts) _ is.possible.interrupts
+    (and_from (rings_fit p.profile p.phase p.responses p.commands) _ is.possible.rings
+    (and_from (guest_fits p.profile p.phase p.guest) (work_fits s && profile_fits s) is.possible.guest
+    (and_from (work_fits s) (profile_fits s)
+    (and_from (s.credits + outstanding s == credits_due s.begun) (has_run p.phase || has_no_work s)
+    (eq-eqb _ _ due) work)
+    (and_from (not (lists_ops p.profile p.exec.guest_ops)) (queue_fits p.profile p.waiting.items)
+    (lists_none p.profile p.exec.guest_ops is.strict) is.possible.queue)))))
+
+begun_is : (begun : Bool) (deliveries : ℕ) → IsTrue begun ↔ (0 < deliveries) → begun ≡ nat_lt 0 deliveries
+begun_is true deliveries is = sym (lt-ltb 0 deliveries (is.0 refl))
+begun_is false zero is = refl
+begun_is false (suc n) is = is.1 (omega arith) ∙ sym (positive n)
+
+abbrev saved_as : {S : Type 0} → Inside S → Bool → List Reply → SavedExec → Saved
+saved_as p begun waiting exec = record {
+  profile = p.profile;
+  phase = p.phase;
+  begun = begun;
+  responses = p.responses;
+  commands = p.commands;
+  waiting = record { items = waiting };
+  polling = p.polling;
+  credits = p.credits;
+  interrupts = p.interrupts;
+  guest = p.guest;
+  exec = exec;
+}
+
+pub is_saved : {S : Type 0} (p : Inside S) (waiting : List Reply) (exec : SavedExec) → PortInvariant p
+    → waiting ≡ p.waiting.items → exec ≡ saved_exec p.exec
+    → saved_as p p.begun waiting exec ≡ saved_port (state_of p)
+is_saved p waiting exec is queue executor =
+    ap (λ (b : Bool). saved_as p b waiting exec) (begun_is p.begun p.deliveries is.begun)
+    ∙ ap (λ (rs : List Reply). saved_as p (nat_lt 0 p.deliveries) rs exec) queue
+    ∙ ap (saved_as p (nat_lt 0 p.deliveries) p.waiting.items) executor
+
 -- ---- what continues from it
 
 -- the invariant of the port, as far as the saved state decides it
@@ -67,6 +188,12 @@ pub record Agrees (s : Saved) : Type 0 where
   pub ordered : s.responses.base ≤ s.commands.base
   pub begun : IsTrue s.begun ↔ (0 < least_deliveries s.begun)
   pub strict : s.profile ≡ Strict → s.exec.guest_ops.items ≡ []
+  pub phase : has_phase s.profile s.phase ≡ true
+  pub interrupts : can_interrupt s.profile s.phase s.interrupts ≡ true
+  pub rings : rings_fit s.profile s.phase s.responses s.commands ≡ true
+  pub guest : guest_fits s.profile s.phase s.guest ≡ true
+  pub queue : queue_fits s.profile s.waiting.items ≡ true
+  pub no_work : has_run s.phase ≡ false → SavedNoWork s
 
 credits_agree : (begun : Bool) (credits n : ℕ) → credits + n ≡ credits_due begun
     → credits + (least_deliveries begun + n) ≡ credits_granted (least_deliveries begun)
@@ -83,17 +210,66 @@ none_listed Strict [] none is = refl
 none_listed Strict (op ∷ more) none is = absurd (cc)
 none_listed (Compatible identity) ops none is = absurd (cc)
 
+-- the command ring isn't below the response ring
+placed_in_order : (has : Bool) (profile : Profile) (run : Bool) (a b : RingState)
+    → (if has then is_base_by profile a.base && (is_next_to a b && (run || are_unused a b)) else is_unset a && is_unset b)
+    ≡ true → a.base ≤ b.base
+placed_in_order true profile run a b is =
+    let next = eqb-true _ _ (and_parts (is_next_to a b) _ (and_parts (is_base_by profile a.base) _ is).1).0 in
+    omega (arith, next)
+placed_in_order false profile run a b is =
+    let base = eqb-true _ _ (and_parts (a.base == 0) _ (and_parts (is_unset a) _ is).0).0 in
+    omega (arith, base)
+
+empty_of : {A : Type 0} (xs : List A) → length xs ≡ 0 → xs ≡ []
+empty_of [] none = refl
+empty_of (x ∷ xs) none = absurd (omega (arith, none))
+
+not_true : (b : Bool) → not b ≡ true → b ≡ false
+not_true true is = absurd (cc)
+not_true false is = refl
+
+none_by : (begun : Bool) → begun ≡ false → least_deliveries begun ≡ 0
+none_by true is = absurd (cc)
+none_by false is = refl
+
+no_work_by : (s : Saved) (run : Bool) → (run || has_no_work s) ≡ true → run ≡ false → SavedNoWork s
+no_work_by s true is not-run = absurd (cc)
+no_work_by s false is not-run =
+    let first = and_parts (not s.polling) _ is in
+    let second = and_parts (not s.begun) _ first.1 in
+    let third = and_parts (outstanding s == 0) (is_first_position s.exec.position) second.1 in
+    let none : outstanding s ≡ 0 = eqb-true _ _ third.0 in
+    record {
+      not_polling = not_true s.polling first.0;
+      none_delivered = none_by s.begun (not_true s.begun second.0);
+      none_pending = empty_of s.exec.pending.items (omega (arith, none));
+      none_waiting = empty_of s.waiting.items (omega (arith, none));
+      at_first = first_position s.exec.position third.1;
+    }
+
 pub agrees : (s : Saved) → is_consistent s ≡ true → Agrees s
 agrees s consistent =
+    let phase = and_parts (has_phase s.profile s.phase) _ consistent in
+    let interrupts = and_parts (can_interrupt s.profile s.phase s.interrupts) _ phase.1 in
+    let rings = and_parts (rings_fit s.profile s.phase s.responses s.commands) _ interrupts.1 in
+    let guest = and_parts (guest_fits s.profile s.phase s.guest) (work_fits s && profile_fits s) rings.1 in
+    let both = and_parts (work_fits s) (profile_fits s) guest.1 in
     let granted = s.credits + outstanding s == credits_due s.begun in
+    let work = and_parts granted (has_run s.phase || has_no_work s) both.0 in
     let none = not (lists_ops s.profile s.exec.guest_ops.items) in
-    let parts = and_parts (nat_le s.responses.base s.commands.base) (granted && none) consistent in
-    let others = and_parts granted none parts.1 in
+    let of_profile = and_parts none (queue_fits s.profile s.waiting.items) both.1 in
     record {
-      credits = credits_agree s.begun s.credits (outstanding s) (eqb-true _ _ others.0);
-      ordered = leb-true _ _ parts.0;
+      credits = credits_agree s.begun s.credits (outstanding s) (eqb-true _ _ work.0);
+      ordered = placed_in_order (has_rings s.phase) s.profile (has_run s.phase) s.responses s.commands rings.0;
       begun = begun_agrees s.begun;
-      strict = none_listed s.profile s.exec.guest_ops.items others.1;
+      strict = none_listed s.profile s.exec.guest_ops.items of_profile.0;
+      phase = phase.0;
+      interrupts = interrupts.0;
+      rings = rings.0;
+      guest = guest.0;
+      queue = of_profile.1;
+      no_work = no_work_by s (has_run s.phase) work.1;
     }
 
 -- ---- a turn

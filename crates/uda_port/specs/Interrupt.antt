@@ -41,6 +41,12 @@ raised_by_step (Compatible identity) i = record i { requested = i.requested || (
 abbrev pub vector_of : Interrupts → Option ℕ
 vector_of i = if i.requested then Some i.vector else None
 
+-- the vector address of a request
+pub record IsVectorAddress (vector : ℕ) : Type 0 where
+  pub aligned : vector % 4 ≡ 0
+  pub least : 4 ≤ vector
+  pub within : vector ≤ 0x1FC
+
 -- no request is pending
 abbrev pub served : Interrupts → Interrupts
 served i = record i { requested = false }

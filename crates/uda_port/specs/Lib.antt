@@ -15,4 +15,5 @@ pub mod Trace
 pub mod Turn
 pub mod Events
 pub mod Display
+pub mod Possible
 pub mod Saved

@@ -124,11 +124,11 @@ abbrev pub attention_due : PortState → Bool → Bool
 attention_due port is_there = is_there && expects_attention port.profile port.phase port.guest.flags
 
 -- whether a drive type is read-only, and whether this unit's is in the compatible profile
-abbrev is_read_only_type : Option DriveType → Bool
+abbrev pub is_read_only_type : Option DriveType → Bool
 is_read_only_type None = false
 is_read_only_type (Some kind) = (drive_traits kind).is_read_only
 
-abbrev read_only_by : Profile → Option DriveType → Bool
+abbrev pub read_only_by : Profile → Option DriveType → Bool
 read_only_by Strict kind = false
 read_only_by (Compatible identity) kind = is_read_only_type kind
 

@@ -62,11 +62,11 @@ pub record RingState : Type 0 where
 abbrev pub parts_of : RingState → RingParts
 parts_of r = record { base = r.base; count = r.count; place = r.place }
 
--- The ring with these numbers, if a port can have it: the base is even and at most 2^31 + 512, there are at
--- most 128 descriptors, and the next index is one of theirs.
+-- The ring with these numbers, if there can be one: the base is even and at most 2^31 + 512, there are 1, 2, 4, ..
+-- 128 descriptors, and the next index is one of theirs.
 abbrev pub ring_of : RingParts → Option RingState
 ring_of parts =
-    if nat_eq (parts.base % 2) 0 && nat_le parts.base 0x80000200 && nat_le parts.count 128
+    if nat_eq (parts.base % 2) 0 && nat_le parts.base 0x80000200 && is_ring_length parts.count
     && nat_lt parts.place parts.count
     then Some (record { base = parts.base; count = parts.count; place = parts.place })
     else None

@@ -1,6 +1,6 @@
 -- The state of a port as a plain value, without its stores and counts, and a port that continues from one.
 -- UDA50 Programmer's Documentation Kit: port registers, communication area, credits.
-use Rattle.std.specs.Prelude.{◌≡◌, ℕ, ◌+◌, ◌==◌, nat_le, nat_lt, Bool, true, false, ◌&&◌, List, ◌∷◌, length}
+use Rattle.std.specs.Prelude.{◌≡◌, ℕ, ◌+◌, ◌==◌, nat_le, nat_lt, Bool, true, false, ◌&&◌, ◌||◌, List, ◌∷◌, length}
 use Rattle.std.specs.Prelude.{if◌then◌else◌, not, Result, Ok, Err}
 use Rattle.uda_packet.specs.declared.guest_command.GuestOp.{GuestOp}
 use Rattle.uda_exec.specs.Disks.{ExecState, PENDING_LIMIT}
@@ -14,6 +14,7 @@ use Rattle.uda_port.specs.declared.saved.Saved.{Saved}
 use Rattle.uda_port.specs.declared.saved.RestoreError.{RestoreError}
 use Rattle.uda_port.specs.declared.saved.RestoreError.TheVariants.{Inconsistent, OtherDrives}
 use Rattle.uda_port.specs.Port.{PortState}
+use Rattle.uda_port.specs.Possible.{has_run, has_phase, can_interrupt, rings_fit, guest_fits, queue_fits, is_first_position}
 use Rattle.uda_port.specs.Turn.{TurnEffect}
 use Rattle.uda_port.specs.Events.{EventsEffect}
 
@@ -47,13 +48,34 @@ abbrev pub lists_ops : Profile → List GuestOp → Bool
 lists_ops Strict (op ∷ more) = true
 lists_ops profile ops = false
 
--- A port can have this state: the command ring isn't below the response ring, each granted credit is the
--- host's or was used for an outstanding command, and the profile has the operations that are listed.
+-- the profile has the operations that are listed, and the end messages that are queued
+abbrev pub profile_fits : Saved → Bool
+profile_fits saved =
+    not (lists_ops saved.profile saved.exec.guest_ops.items)
+    && queue_fits saved.profile saved.waiting.items
+
+-- until it runs, a port doesn't poll, and nothing was fetched
+abbrev pub has_no_work : Saved → Bool
+has_no_work saved =
+    not saved.polling && (not saved.begun && ((outstanding saved == 0) && is_first_position saved.exec.position))
+
+-- each granted credit is the host's or was used for an outstanding command, and only a port that ran has work
+abbrev pub work_fits : Saved → Bool
+work_fits saved =
+    (saved.credits + outstanding saved == credits_due saved.begun)
+    && (has_run saved.phase || has_no_work saved)
+
+-- a port can have this state
 abbrev pub is_consistent : Saved → Bool
 is_consistent saved =
-    nat_le saved.responses.base saved.commands.base
-    && ((saved.credits + outstanding saved == credits_due saved.begun)
-    && not (lists_ops saved.profile saved.exec.guest_ops.items))
+    has_phase saved.profile saved.phase
+    && (can_interrupt saved.profile saved.phase saved.interrupts
+    && (rings_fit saved.profile saved.phase saved.responses saved.commands
+    && (guest_fits saved.profile saved.phase saved.guest && (work_fits saved && profile_fits saved))))
+
+-- what every port has: a state that is accepted
+abbrev pub HasPossibleState : PortState → Type 0
+HasPossibleState port = is_consistent (saved_port port) ≡ true
 
 -- the deliveries that the credits require, at least
 abbrev pub least_deliveries : Bool → ℕ

@@ -1,13 +1,15 @@
 //! The communication area, which the first three words of initialization describe.
 //!
 //! UDA50 Programmer's Documentation Kit: initialization, communication area.
-ghost use Rattle.std.specs.Prelude.{◌≡◌, ◌+◌, ◌≤◌, ◌%◌, ◌^◌, ◌<◌, ◌⊎◌, IsTrue, length};
+ghost use Rattle.std.specs.Prelude.{◌≡◌, ◌+◌, ◌*◌, ◌≤◌, ◌%◌, ◌^◌, ◌<◌, ◌⊎◌, IsTrue, false, length};
 ghost use Rattle.uda_port.specs.declared.profile.Profile.TheVariants.{Strict};
 ghost use Rattle.uda_port.specs.Ring.{is_ring_length};
 ghost use Rattle.uda_port.specs.Startup.{area_of, IsArea, has_area, memory_with_area, rings_size, ring_base};
-ghost use Rattle.uda_port.specs.Startup.{response_count, command_count, high_addresses};
+ghost use Rattle.uda_port.specs.Startup.{response_count, command_count, high_addresses, refuses_third};
+ghost use Rattle.uda_port.specs.Possible.{addresses_by};
 
 use crate::profile::Profile;
+use crate::ring::Ring;
 use uda_packet::Bus;
 
 /// The position and size of a host's rings, with the bytes below them that belong to the area.
@@ -33,6 +35,8 @@ impl Area {
         requires high { profile ≡ Strict → third < 2 ^ 15 }
         ensures area { result ≡ area_of profile first second third }
         ensures sound { IsArea result }
+        ensures below { 4 ≤ result.below }
+        ensures base { refuses_third profile third ≡ false → result.base < addresses_by profile }
     {
         let responses = response_count(first);
         let commands = command_count(first);
@@ -70,6 +74,27 @@ impl Area {
         ensures { memory.new ≡ memory_with_area self.now memory.old }
     {
         uda_mem::put_zeros(memory, self.base - self.below, self.below + self.size());
+    }
+
+    /// Returns the response ring, which begins at the ring base.
+    pub(crate) fn response_ring(&self) -> Ring
+        requires sound { IsArea self.now }
+        ensures ring { result ≡ record { base = self.now.base; count = self.now.responses; place = 0 } }
+    {
+        Ring::placed(self.base, self.responses)
+    }
+
+    /// Returns the command ring, which follows the response ring.
+    pub(crate) fn command_ring(&self) -> Ring
+        requires sound { IsArea self.now }
+        ensures ring { result ≡ record {
+          base = self.now.base + 4 * self.now.responses;
+          count = self.now.commands;
+          place = 0;
+        } }
+    {
+        let behind = self.base + 4 * u32::from(self.responses);
+        Ring::placed(behind, self.commands)
     }
 
     // Returns the number of bytes of both rings.

@@ -52,8 +52,8 @@ impl Interrupts {
         }
     }
 
-    // Returns whether there is a vector. The vector 0 means that there is none.
-    fn has_vector(self) -> bool
+    /// Returns whether there is a vector. The vector 0 means that there is none.
+    pub(crate) fn has_vector(self) -> bool
         ensures { result ≡ has_vector self }
     {
         self.vector > 0

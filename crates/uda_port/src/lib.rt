@@ -16,6 +16,7 @@ mod packet;
 mod phase;
 mod play;
 mod port;
+mod possible;
 mod profile;
 mod ring;
 mod saved;

@@ -3,6 +3,7 @@
 //! UDA50 Programmer's Documentation Kit: initialization, fatal errors.
 ghost use Rattle.std.specs.Prelude.{◌≡◌, ◌≤◌};
 ghost use Rattle.uda_port.specs.Startup.{sa_of, code_of};
+ghost use Rattle.uda_port.specs.Possible.{has_run, is_of_turn};
 
 use std::error::Error;
 use std::fmt;
@@ -88,6 +89,13 @@ impl Fatal {
             Fatal::InitializationError => 19,
         }
     }
+
+    /// Returns whether a turn of a running port meets the error. A word of initialization meets the others.
+    pub fn is_of_turn(self) -> bool
+        ensures of_turn { result ≡ is_of_turn self }
+    {
+        !matches!(self, Fatal::RingWrite | Fatal::InitializationError)
+    }
 }
 
 impl fmt::Display for Fatal {
@@ -126,6 +134,17 @@ impl Phase {
             Phase::Step4 => 0x4063,
             Phase::PurgeTest | Phase::PollTest | Phase::Running => 0,
             Phase::Dead { cause } => 0x8000 | cause.code(),
+        }
+    }
+
+    /// Returns whether the port runs, or ran until a turn met a fatal error.
+    pub fn has_run(self) -> bool
+        ensures run { result ≡ has_run self }
+    {
+        match self {
+            Phase::Running => true,
+            Phase::Dead { cause } => cause.is_of_turn(),
+            _ => false,
         }
     }
 }

@@ -1,10 +1,10 @@
 //! The port: its state, its IP register, and queries for an emulator.
 //!
 //! UDA50 Programmer's Documentation Kit: port registers, initialization.
-ghost use Rattle.std.specs.Prelude.{◌≡◌, ◌≤◌, IfOk, IfErr, length};
-ghost use Rattle.uda_port.specs.Port.{port_at_start, port_restarted, port_after_ip_read, port_in_phase};
+ghost use Rattle.std.specs.Prelude.{◌≡◌, ◌≤◌, IfOk, IfErr, IfSome, length};
+ghost use Rattle.uda_port.specs.Port.{port_at_start, port_restarted, port_after_ip_read};
 ghost use Rattle.uda_port.specs.Guest.{usual_identity};
-ghost use Rattle.uda_port.specs.Interrupt.{vector_of, served};
+ghost use Rattle.uda_port.specs.Interrupt.{vector_of, served, IsVectorAddress};
 ghost use Rattle.uda_port.specs.declared.profile.Profile.TheVariants.{Strict, Compatible};
 
 use crate::alloc_error::PortAllocError;
@@ -213,14 +213,17 @@ impl<S: BlockStore> Port<S> {
     {
         match self.phase {
             Phase::Running => self.polling = true,
-            Phase::PollTest => self.show(Phase::Step4),
+            Phase::PollTest => {
+                self.phase = Phase::Step4;
+                self.interrupts = self.interrupts.raised_by_step(self.profile);
+            }
             _ => {}
         }
         0
     }
 
-    /// Takes the pending interrupt request, and returns its vector address. Returns None if no request is
-    /// pending.
+    /// Takes the pending interrupt request, and returns its vector address: a multiple of 4 from 4 to 0x1FC.
+    /// Returns None if no request is pending.
     ///
     /// In the compatible profile these events raise a request, if the vector isn't 0:
     ///
@@ -234,19 +237,12 @@ impl<S: BlockStore> Port<S> {
     /// UDA50 Programmer's Documentation Kit: interrupts.
     pub fn take_interrupt(&mut self) -> Option<u16>
         ensures vector { result ≡ vector_of self.old.interrupts }
+        ensures address { IfSome result (λ vector. IsVectorAddress vector) }
         ensures request_cleared { self.new ≡ record self.old { interrupts = served self.old.interrupts } }
     {
         let request = self.interrupts.request();
         self.interrupts = self.interrupts.served();
         request
-    }
-
-    // Enters a step of initialization, which may raise a request.
-    pub(crate) fn show(&mut self, phase: Phase)
-        ensures { self.new ≡ port_in_phase self.old phase }
-    {
-        self.phase = phase;
-        self.interrupts = self.interrupts.raised_by_step(self.profile);
     }
 
     /// Returns the profile.

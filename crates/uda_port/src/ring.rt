@@ -3,7 +3,8 @@
 //! one.
 //!
 //! UDA50 Programmer's Documentation Kit: communication area, command and response rings.
-ghost use Rattle.std.specs.Prelude.{◌≡◌, length};
+ghost use Rattle.std.specs.Prelude.{◌≡◌, ◌≤◌, IsTrue, length};
+ghost use Rattle.uda_port.specs.Ring.{is_ring_length};
 ghost use Rattle.uda_port.specs.Interrupt.{IsBelow, memory_with_indicator};
 
 use crate::descriptor::Descriptor;
@@ -87,16 +88,16 @@ pub(crate) enum NextDescriptor {
 }
 
 impl Model for Ring {
-    ghost use Rattle.std.specs.Prelude.{◌≡◌, ◌+◌, ◌%◌, ◌^◌, ◌<◌, ◌≤◌};
-    ghost use Rattle.uda_port.specs.Ring.{RingState};
+    ghost use Rattle.std.specs.Prelude.{◌≡◌, ◌+◌, ◌%◌, ◌^◌, ◌<◌, ◌≤◌, IsTrue};
+    ghost use Rattle.uda_port.specs.Ring.{RingState, is_ring_length};
 
     ghost Value = { RingState };
 
     ghost view = { λ r. record { base = r.base; count = r.count; place = r.place } };
 
     // Bases of 31 bits are allowed, and a command ring follows up to 128 descriptors.
-    ghost invariant = { λ r. (r.base % 2 ≡ 0) × (r.base ≤ 2 ^ 31 + 512) × (r.count ≤ 128)
-        × (r.place < r.count) };
+    ghost invariant = { λ r. (r.base % 2 ≡ 0) × (r.base ≤ 2 ^ 31 + 512) × (IsTrue (is_ring_length r.count))
+        × (r.count ≤ 128) × (r.place < r.count) };
 
     ghost inverse = { λ r. record { base = r.base; count = r.count; place = r.place } };
 }
@@ -144,8 +145,8 @@ impl Ring {
         }
     }
 
-    /// Returns the ring with these numbers, or None if no port has such a ring: its base is odd or above
-    /// 2^31 + 512, it has more than 128 descriptors, or the next index isn't below their number.
+    /// Returns the ring with these numbers, or None if there is no such ring: its base is odd or above
+    /// 2^31 + 512, it doesn't have 1, 2, 4, .. 128 descriptors, or the next index isn't below their number.
     pub fn of_parts(parts: RingParts) -> Option<Ring>
         ensures ring { result ≡ ring_of parts }
     {
@@ -156,7 +157,7 @@ impl Ring {
         if base > LARGEST_BASE {
             return None;
         }
-        if count > 128 {
+        if !is_length(count) {
             return None;
         }
         if place >= count {
@@ -264,6 +265,7 @@ impl Ring {
             (λ packet. Takes fetching self.old memory.old packet self.new memory.new) }
         ensures order { IfSome result (λ packet. TakesFirst self.old memory.old self.new memory.new) }
         ensures base { self.new.base ≡ self.old.base }
+        ensures count { self.new.count ≡ self.old.count }
     {
         let fetched = packet_at(memory, descriptor.text_address(fetching.profile))?;
         set_indicator(memory, fetching.indicator);
@@ -298,6 +300,7 @@ impl Ring {
         requires short { length text.now ≤ 48 }
         ensures effect { DeliveryEffect delivery self.old memory.old text.now result self.new memory.new }
         ensures base { self.new.base ≡ self.old.base }
+        ensures count { self.new.count ≡ self.old.count }
     {
         let address = descriptor.text_address(delivery.profile);
         if !has_room(delivery.profile, memory, address, text.len() as u16) {
@@ -394,6 +397,14 @@ impl Ring {
     {
         self.base + 4 * u32::from(self.place)
     }
+}
+
+// Returns whether a ring has as many descriptors: 1, 2, 4, .. 128.
+fn is_length(count: u16) -> bool
+    ensures length { result ≡ is_ring_length count }
+    ensures few { IsTrue result → count ≤ 128 }
+{
+    matches!(count, 1 | 2 | 4 | 8 | 16 | 32 | 64 | 128)
 }
 
 // Sets the interrupt indicator at this address to 1.

@@ -5,12 +5,16 @@ ghost use Rattle.std.specs.Prelude.{◌≡◌, ◌+◌, ◌*◌, ◌≤◌, true
 ghost use Rattle.circular_buffer.specs.Buffer.{buffer};
 ghost use Rattle.uda_exec.specs.Disks.{PENDING_LIMIT};
 ghost use Rattle.uda_port.specs.Saved.{saved_port, is_consistent, outstanding, credits_due, least_deliveries, lists_ops};
+ghost use Rattle.uda_port.specs.Saved.{work_fits, has_no_work, profile_fits};
 ghost use Rattle.uda_port.specs.Saved.{RestoreEffect, RestoredIsSaved, SameFuture};
 
 use crate::guest::Guest;
 use crate::interrupt::Interrupts;
 use crate::phase::Phase;
 use crate::port::Port;
+use crate::possible::{
+    can_interrupt, guest_fits, has_phase, is_first_position, queue_fits, rings_fit,
+};
 use crate::profile::Profile;
 use crate::ring::Ring;
 use crate::tally::Tally;
@@ -54,9 +58,9 @@ pub struct Saved {
 /// Why a port can't continue from a saved state.
 #[derive(Clone, Copy, Debug, PartialEq, Eq)]
 pub enum RestoreError {
-    /// No port can have this state. The command ring is below the response ring, or the credits, the pending
-    /// commands and the queued end messages aren't together as many as the host was granted. Or a strict port
-    /// lists an operation that only the compatible profile has.
+    /// No port can have this state. Its interrupts, rings or work don't fit its phase, or the credits, the pending
+    /// commands and the queued end messages aren't together as many as the host was granted. Or a strict port has
+    /// what only the compatible profile has (`specs/Possible.antt`).
     Inconsistent,
     /// The units don't have the saved drives: drives of the same sizes, with the same hardware write
     /// protection.
@@ -75,9 +79,8 @@ impl fmt::Display for RestoreError {
 impl Error for RestoreError {}
 
 impl<S: BlockStore> Port<S> {
-    /// Returns the whole state of the port as a plain value, without the stores of its units. It may be
-    /// called
-    /// in every phase, between any two calls.
+    /// Returns the whole state of the port as a plain value, without the stores of its units. It may be called
+    /// in every phase, between any two calls. [`restore`](Port::restore) accepts it.
     pub fn save(&self) -> Saved
         ensures saved { result ≡ saved_port self.now }
         ensures consistent { is_consistent result ≡ true }
@@ -101,8 +104,7 @@ impl<S: BlockStore> Port<S> {
     ///
     /// The port is then the saved one: whatever the host does, answers, memory and blocks are the same
     /// ([`restored_is_saved`], [`same_future`]), if the blocks are the same. The call uses no store and can't
-    /// see whether they are. Of the counts since initialization, `turns` and the load are 0, `deliveries` is
-    /// 0
+    /// see whether they are. Of the counts since initialization, `turns` and the load are 0, `deliveries` is 0
     /// or 1, and `fetches` agrees with them.
     ///
     /// # Errors
@@ -143,9 +145,35 @@ impl<S: BlockStore> Port<S> {
 fn is_consistent(saved: &Saved) -> bool
     ensures { result ≡ is_consistent saved.now }
 {
-    saved.responses.base() <= saved.commands.base()
-        && usize::from(saved.credits) + outstanding(saved) == credits_due(saved.begun)
-        && !lists_ops(saved.profile, saved.exec.guest_ops.as_slice())
+    has_phase(saved.profile, saved.phase)
+        && (can_interrupt(saved.profile, saved.phase, saved.interrupts)
+            && (rings_fit(saved.profile, saved.phase, saved.responses, saved.commands)
+                && (guest_fits(saved.profile, saved.phase, &saved.guest)
+                    && (work_fits(saved) && profile_fits(saved)))))
+}
+
+// Returns whether the credits agree with what is outstanding, and a port that hasn't run has no work.
+fn work_fits(saved: &Saved) -> bool
+    ensures { result ≡ work_fits saved.now }
+{
+    usize::from(saved.credits) + outstanding(saved) == credits_due(saved.begun)
+        && (saved.phase.has_run() || has_no_work(saved))
+}
+
+// Returns whether the port doesn't poll, and nothing was fetched.
+fn has_no_work(saved: &Saved) -> bool
+    ensures { result ≡ has_no_work saved.now }
+{
+    !saved.polling
+        && (!saved.begun && (outstanding(saved) == 0 && is_first_position(saved.exec.position)))
+}
+
+// Returns whether the profile has the listed operations and the queued end messages.
+fn profile_fits(saved: &Saved) -> bool
+    ensures { result ≡ profile_fits saved.now }
+{
+    !lists_ops(saved.profile, saved.exec.guest_ops.as_slice())
+        && queue_fits(saved.profile, saved.waiting.as_slice())
 }
 
 // Returns the number of pending commands and queued end messages.

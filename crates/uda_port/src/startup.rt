@@ -1,7 +1,9 @@
 //! Initialization: the SA register, and the four words that a host writes to it.
 //!
 //! UDA50 Programmer's Documentation Kit: initialization, communication area.
-ghost use Rattle.std.specs.Prelude.{◌≡◌, ◌≤◌, ◌<◌};
+ghost use Rattle.std.specs.Prelude.{◌≡◌, ◌≤◌, ◌<◌, true};
+ghost use Rattle.uda_port.specs.declared.phase.Phase.TheVariants.{Step1, Step2, Step3, PurgeTest, Step4};
+ghost use Rattle.uda_port.specs.Possible.{addresses_by, CanDie, is_step_3};
 ghost use Rattle.uda_port.specs.Startup.{sa_shown, guest_sa, after_step1_write, after_step2_write, after_step3_write, after_purge_test_write, after_step4_write, after_sa_write};
 ghost use Rattle.uda_port.specs.Startup.{has_bit, refuses_second, refuses_third, asks_test, after_third};
 ghost use Rattle.uda_port.specs.Startup.{IsArea, port_with_rings, failed_port, after_wrap_request};
@@ -10,7 +12,6 @@ use crate::area::Area;
 use crate::phase::{Fatal, Phase};
 use crate::port::Port;
 use crate::profile::Profile;
-use crate::ring::Ring;
 use uda_image::BlockStore;
 use uda_mem::HostMemory;
 use uda_packet::Bus;
@@ -96,6 +97,7 @@ impl<S: BlockStore> Port<S> {
 
     /// Fails with a fatal error, which may raise an interrupt request.
     pub(crate) fn die(&mut self, cause: Fatal)
+        requires dies { CanDie self.old.profile self.old.phase cause }
         ensures { self.new ≡ failed_port self.old cause }
     {
         self.phase = Phase::Dead { cause };
@@ -103,6 +105,7 @@ impl<S: BlockStore> Port<S> {
     }
 
     fn first_word(&mut self, word: u16)
+        requires step { self.old.phase ≡ Step1 }
         ensures { self.new ≡ after_step1_write self.old word }
     {
         if !has_bit(word, STEP) {
@@ -111,12 +114,14 @@ impl<S: BlockStore> Port<S> {
         if has_bit(word, WRAP) {
             return self.wrap(word);
         }
-        self.interrupts = self.interrupts.asked(self.profile, word);
-        self.show(Phase::Step2 { first: word });
+        let asked = self.interrupts.asked(self.profile, word);
+        self.interrupts = asked.raised_by_step(self.profile);
+        self.phase = Phase::Step2 { first: word };
     }
 
     // Enters wrap mode. In the strict profile it is a fatal error.
     fn wrap(&mut self, word: u16)
+        requires step { self.old.phase ≡ Step1 }
         ensures { self.new ≡ after_wrap_request self.old.profile self.old word }
     {
         match self.profile {
@@ -126,18 +131,21 @@ impl<S: BlockStore> Port<S> {
     }
 
     fn second_word(&mut self, first: u16, word: u16)
+        requires step { self.old.phase ≡ Step2 first }
         ensures { self.new ≡ after_step2_write self.old first word }
     {
         if refuses_second(self.profile, word) {
             return self.die(Fatal::InitializationError);
         }
-        self.show(Phase::Step3 {
+        self.interrupts = self.interrupts.raised_by_step(self.profile);
+        self.phase = Phase::Step3 {
             first,
             second: word,
-        });
+        };
     }
 
     fn third_word(&mut self, first: u16, second: u16, word: u16, memory: &mut [u8])
+        requires step { self.old.phase ≡ Step3 first second }
         ensures { (self.new, memory.new) ≡ after_step3_write self.old memory.old first second word }
     {
         if refuses_third(self.profile, word) {
@@ -148,23 +156,30 @@ impl<S: BlockStore> Port<S> {
             return self.die(Fatal::RingWrite);
         }
         area.zero(memory);
-        self.place_rings(area);
-        self.leave_third(word);
+        self.set_rings(area, word);
     }
 
-    // Enters the phase that follows the third word.
-    fn leave_third(&mut self, word: u16)
-        ensures { self.new ≡ after_third self.old word }
+    // Sets the rings from the area, and enters the phase that follows the third word.
+    fn set_rings(&mut self, area: Area, word: u16)
+        requires sound { IsArea area }
+        requires above { 4 ≤ area.base }
+        requires within { area.base < addresses_by self.old.profile }
+        requires step { is_step_3 self.old.phase ≡ true }
+        ensures { self.new ≡ after_third (port_with_rings self.old area) word }
     {
+        self.responses = area.response_ring();
+        self.commands = area.command_ring();
         if asks_test(self.profile, word) {
             self.phase = Phase::PurgeTest;
         } else {
-            self.show(Phase::Step4);
+            self.interrupts = self.interrupts.raised_by_step(self.profile);
+            self.phase = Phase::Step4;
         }
     }
 
     // Enters the poll test if the word is 0. The purge test ignores any other word.
     fn purge_word(&mut self, word: u16)
+        requires step { self.old.phase ≡ PurgeTest }
         ensures { self.new ≡ after_purge_test_write self.old word }
     {
         if word == 0 {
@@ -173,22 +188,12 @@ impl<S: BlockStore> Port<S> {
     }
 
     fn fourth_word(&mut self, word: u16)
+        requires step { self.old.phase ≡ Step4 }
         ensures { self.new ≡ after_step4_write self.old word }
     {
         if has_bit(word, GO) {
             self.phase = Phase::Running;
         }
-    }
-
-    // Sets the rings from the area: the response ring begins at the ring base, and the command ring follows
-    // it.
-    fn place_rings(&mut self, area: Area)
-        requires sound { IsArea area }
-        ensures { self.new ≡ port_with_rings self.old area }
-    {
-        let behind = area.base + 4 * u32::from(area.responses);
-        self.responses = Ring::placed(area.base, area.responses);
-        self.commands = Ring::placed(behind, area.commands);
     }
 }
 
@@ -234,8 +239,8 @@ fn asks_test(profile: Profile, word: u16) -> bool
     }
 }
 
-// Returns whether a bit of a word is set.
-fn has_bit(word: u16, bit: u16) -> bool
+/// Returns whether a bit of a word is set.
+pub(crate) fn has_bit(word: u16, bit: u16) -> bool
     requires { bit < 16 }
     ensures { result ≡ has_bit word bit }
 {

@@ -1,7 +1,7 @@
 //! The turns of a port.
 //!
 //! UDA50 Programmer's Documentation Kit: command ring polling, message envelopes, credits.
-ghost use Rattle.std.specs.Prelude.{◌≡◌, ◌≢◌, ◌+◌, ◌<◌, ◌≤◌, IfSome, IfOk, option_map, slice_get, [], ◌∷◌, ◌++◌, length};
+ghost use Rattle.std.specs.Prelude.{◌≡◌, ◌≢◌, ◌+◌, ◌<◌, ◌≤◌, IfSome, IfOk, IfErr, option_map, slice_get, [], ◌∷◌, ◌++◌, length};
 ghost use Rattle.std.specs.Prelude.{take, Some, true, ◌||◌};
 ghost use Rattle.uda_mem.specs.Slices.{IsMemory};
 ghost use Rattle.uda_disk.specs.Units.{AreWellFormed};
@@ -18,6 +18,9 @@ ghost use Rattle.uda_port.specs.Port.{lacks_credit};
 ghost use Rattle.uda_port.specs.Report.{end_text, report_of, attention_text};
 ghost use Rattle.uda_port.specs.Guest.{first_due};
 ghost use Rattle.uda_port.specs.declared.profile.Profile.TheVariants.{Strict};
+ghost use Rattle.uda_port.specs.declared.phase.Phase.TheVariants.{Running};
+ghost use Rattle.uda_port.specs.Possible.{CanDie};
+ghost use Rattle.uda_port.specs.Saved.{HasPossibleState};
 ghost use Rattle.uda_port.specs.Packet.{IsLegible};
 ghost use Rattle.uda_port.specs.Ring.{next_descriptor, descriptor_address};
 ghost use Rattle.uda_port.specs.Fetch.{IsNext};
@@ -129,10 +132,11 @@ impl<S: BlockStore> Port<S> {
         turn
     }
 
-    /// States the invariant of every port: it has four units, each of them well formed, and its credits are
-    /// consistent.
+    /// States the invariant of every port: it has four units, each of them well formed, its credits are
+    /// consistent, and [`restore`](Port::restore) accepts its state.
     pub fn keep(&self)
         ensures credits { CreditsAgree self.now }
+        ensures possible { HasPossibleState self.now }
         ensures four_units { length self.now.exec.units ≡ 4 }
         ensures well_formed { AreWellFormed self.now.exec.units }
     {
@@ -167,6 +171,7 @@ impl<S: BlockStore> Port<S> {
     #[tactic(auto, using(crate::proofs::TurnLaws::running_turn))]
     fn run(&mut self, memory: &mut [u8], trace: &mut Trace) -> Turn
         requires memory { IsMemory memory.old }
+        requires running { self.old.phase ≡ Running }
         ensures effect { RunningTurn self.old memory.old result self.new memory.new }
         ensures reports { Reports result trace.new self.old self.new }
     {
@@ -184,7 +189,9 @@ impl<S: BlockStore> Port<S> {
     // Applies the first rule that fits.
     fn lines(&mut self, memory: &mut [u8], trace: &mut Trace) -> Result<Turn, Fatal>
         requires memory { IsMemory memory.old }
+        requires running { self.old.phase ≡ Running }
         ensures effect { FirstRuleEffect self.old memory.old result self.new memory.new }
+        ensures cause { IfErr result (λ cause. CanDie self.new.profile self.new.phase cause) }
         ensures reports { IfOk result (λ turn. Reports turn trace.new self.old self.new) }
     {
         match self.fetch(memory, trace) {
@@ -201,7 +208,9 @@ impl<S: BlockStore> Port<S> {
     #[tactic(auto, using(crate::proofs::TurnLaws::none_first))]
     fn rest(&mut self, memory: &mut [u8], trace: &mut Trace) -> Result<Turn, Fatal>
         requires memory { IsMemory memory.old }
+        requires running { self.old.phase ≡ Running }
         ensures effect { LaterRulesEffect self.old memory.old result self.new memory.new }
+        ensures cause { IfErr result (λ cause. CanDie self.new.profile self.new.phase cause) }
         ensures reports { IfOk result (λ turn. Reports turn trace.new self.old self.new) }
     {
         if self.execute(memory, trace) {
@@ -230,7 +239,9 @@ impl<S: BlockStore> Port<S> {
     // Applies the first rule: fetches a command if the port polls and one is posted.
     fn fetch(&mut self, memory: &mut [u8], trace: &mut Trace) -> Result<bool, Fatal>
         requires memory { IsMemory memory.old }
+        requires running { self.old.phase ≡ Running }
         ensures effect { FetchRule self.old memory.old result self.new memory.new }
+        ensures cause { IfErr result (λ cause. CanDie self.new.profile self.new.phase cause) }
         ensures reports { IfOk result (λ b. ReportsIf b Fetched trace.new (self.old, self.new)) }
     {
         if !self.may_fetch() {
@@ -300,6 +311,8 @@ impl<S: BlockStore> Port<S> {
     // Applies the second rule: executes a pending command, if there is one.
     fn execute(&mut self, memory: &mut [u8], trace: &mut Trace) -> bool
         requires memory { IsMemory memory.old }
+        requires running { self.old.phase ≡ Running }
+        ensures running { self.new.phase ≡ Running }
         ensures effect { ExecuteRule self.old memory.old result self.new memory.new }
         ensures reports { ReportsIf result Executed trace.new (self.old, self.new) }
     {
@@ -322,7 +335,9 @@ impl<S: BlockStore> Port<S> {
     fn deliver(&mut self, memory: &mut [u8], end: Reply) -> Result<bool, Fatal>
         requires memory { IsMemory memory.old }
         requires first { slice_get self.old.waiting 0 ≡ Some end }
+        requires running { self.old.phase ≡ Running }
         ensures effect { DeliverRule self.old memory.old result self.new memory.new }
+        ensures cause { IfErr result (λ cause. CanDie self.new.profile self.new.phase cause) }
         ensures taken { IfOk result (λ b. b ≡ true → self.old.waiting ≡ end ∷ self.new.waiting) }
     {
         let descriptor = match self.responses.next(memory) {
@@ -358,7 +373,9 @@ impl<S: BlockStore> Port<S> {
     fn notify(&mut self, memory: &mut [u8]) -> Result<bool, Fatal>
         requires memory { IsMemory memory.old }
         requires none { self.old.waiting ≡ [] }
-        ensures { NotifyRule self.old memory.old result self.new memory.new }
+        requires running { self.old.phase ≡ Running }
+        ensures effect { NotifyRule self.old memory.old result self.new memory.new }
+        ensures cause { IfErr result (λ cause. CanDie self.new.profile self.new.phase cause) }
     {
         let Some(notice) = self.notice() else {
             return Ok(false);
@@ -510,6 +527,7 @@ fn put_message(
     ensures effect { DeliveryEffect delivery responses.old memory.old (take message.now.size message.now.text)
         result responses.new memory.new }
     ensures base { responses.new.base ≡ responses.old.base }
+    ensures count { responses.new.count ≡ responses.old.count }
 {
     // A text of 48 bytes is copied with a fixed length.
     if message.size == TEXT {

@@ -169,12 +169,13 @@ pub record IsRead (bytes : List ℕ) (s : SavedState) : Type 0 where
 abbrev pub version_in : List ℕ → ℕ
 version_in bytes = little_from 0 2 bytes
 
--- The state that has the bytes is read. They are rejected if their number or their version is another,
--- or if no state has them.
+-- The state that has the bytes is read. They are rejected if their version is another, whatever their number is, if
+-- their number is another, or if no state has them.
 abbrev pub BytesEffect : List ℕ → Result SavedState BytesError → Type 0
 BytesEffect bytes (Ok s) = IsRead bytes s
-BytesEffect bytes (Err cause.Length) = length bytes ≢ 1576
-BytesEffect bytes (Err cause.Version) = (length bytes ≡ 1576) × (version_in bytes ≢ VERSION_NUMBER)
+BytesEffect bytes (Err cause.Version) = (2 ≤ length bytes) × (version_in bytes ≢ VERSION_NUMBER)
+BytesEffect bytes (Err cause.Length) =
+    (length bytes ≢ 1576) × (2 ≤ length bytes → version_in bytes ≡ VERSION_NUMBER)
 BytesEffect bytes (Err cause.Invalid) =
     (length bytes ≡ 1576) × (version_in bytes ≡ VERSION_NUMBER) × ((s : SavedState) → IsRead bytes s → ⊥)
 

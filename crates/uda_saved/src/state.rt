@@ -61,7 +61,7 @@ pub struct SavedState {
 /// Why bytes are no saved state.
 #[derive(Clone, Copy, Debug, PartialEq, Eq)]
 pub enum BytesError {
-    /// They aren't [`STATE_LENGTH`] bytes.
+    /// They have the version [`STATE_VERSION`] or none, and aren't [`STATE_LENGTH`] bytes.
     Length,
     /// They have another version than [`STATE_VERSION`].
     Version,
@@ -98,16 +98,20 @@ impl SavedState {
     ///
     /// # Errors
     ///
-    /// The first check that fails decides: [`BytesError::Length`], [`BytesError::Version`],
-    /// [`BytesError::Invalid`].
+    /// The first check that fails decides: [`BytesError::Version`], [`BytesError::Length`],
+    /// [`BytesError::Invalid`]. So bytes of another version have that error whatever their number is. Fewer
+    /// than two bytes have no version.
     pub fn from_bytes(bytes: &[u8]) -> Result<SavedState, BytesError>
         ensures effect { BytesEffect bytes.now result }
     {
-        if bytes.len() != STATE_LENGTH {
+        if bytes.len() < 2 {
             return Err(BytesError::Length);
         }
         if version_in(bytes) != STATE_VERSION {
             return Err(BytesError::Version);
+        }
+        if bytes.len() != STATE_LENGTH {
+            return Err(BytesError::Length);
         }
         let state = state_in(bytes);
         if state.to_bytes().as_slice() == bytes {
@@ -290,7 +294,7 @@ fn drives_row_of(port: &Saved) -> DrivesRow
 
 // Returns the version of bytes.
 fn version_in(bytes: &[u8]) -> u16
-    requires long { length bytes.now ≡ 1576 }
+    requires long { 2 ≤ length bytes.now }
     ensures { result ≡ version_in bytes.now }
 {
     LittleEndian::read_u16(bytes)

@@ -1,8 +1,12 @@
-use Rattle.std.proofs.Common.{sym, ap, subst, ◌∙◌}
+use Rattle.std.proofs.Common.{refl, sym, ap, subst, ◌∙◌, Some}
 use Rattle.std.specs.Prelude.{is_some}
+use Rattle.uda_exec.specs.Drives.{DriveState}
+use Rattle.uda_c.specs.BorrowedImage.{borrowed_state}
 use Rattle.uda_c.specs.declared.call_status.CallStatus.TheVariants.{Done}
 use Rattle.uda_c.specs.ControllerState.{ControllerState}
 use Rattle.uda_c.specs.Controllers.{Attaches}
+use Rattle.uda_c.proofs.FaithfulUnits.{put_faithful}
+use Rattle.uda_c.proofs.FittingUnits.{put_among_four}
 use Rattle.uda_c.proofs.Lending.{attaches}
 use Rattle.uda_c.proofs.controller.Controller.attach.Goals as goal
 
@@ -20,3 +24,12 @@ returns-in-Ok c =
           (ap is_some (sym c.unit.ensures.info) ∙ sym c.is_some.ensures ∙ c.if-is_some.false)
           ok.0 ok.1 ok.2 ok.3 c.new-store.ensures.image c.set_drive.ensures.set c.set_drive.ensures.four_units);
     }
+
+pub invariant_of-self : goal.invariant_of-self
+invariant_of-self c =
+    let drive : DriveState = record { store = borrowed_state c.new-store.result; hard = c.args.hard } in (
+      put_faithful c.self.inside.port c.set_drive.new.self c.args.unit (Some drive) refl c.set_drive.ensures.set
+          c.self.invariant.0,
+      put_among_four c.self.inside.port c.set_drive.new.self c.args.unit (Some drive)
+          c.set_drive.ensures.four_units c.if-unit-gt3.false c.set_drive.ensures.set c.self.invariant.1,
+    )

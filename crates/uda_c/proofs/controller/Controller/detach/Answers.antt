@@ -5,6 +5,7 @@ use Rattle.uda_c.specs.ControllerState.{ControllerState}
 use Rattle.uda_c.specs.Controllers.{Detaches}
 use Rattle.uda_c.specs.BorrowedImage.{borrowed_state}
 use Rattle.uda_c.proofs.FaithfulUnits.{put_faithful}
+use Rattle.uda_c.proofs.FittingUnits.{put_among_four}
 use Rattle.uda_c.proofs.FailingUnits.{is_handed}
 use Rattle.uda_c.proofs.Lending.{not_put, detaches}
 use Rattle.uda_c.proofs.controller.Controller.detach.Goals as goal
@@ -23,9 +24,12 @@ returns-in-Some-take c =
     }
 
 pub invariant_of-self : goal.invariant_of-self
-invariant_of-self c =
-    put_faithful c.self.inside.port c.set_drive.new.self c.args.unit None refl c.set_drive.ensures.set
-    c.self.invariant
+invariant_of-self c = (
+  put_faithful c.self.inside.port c.set_drive.new.self c.args.unit None refl c.set_drive.ensures.set
+      c.self.invariant.0,
+  put_among_four c.self.inside.port c.set_drive.new.self c.args.unit None c.set_drive.ensures.four_units
+      c.if-unit-gt3.false c.set_drive.ensures.set c.self.invariant.1,
+)
 
 pub returns : goal.returns
 returns c =

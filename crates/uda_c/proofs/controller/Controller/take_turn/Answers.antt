@@ -1,8 +1,11 @@
 use Rattle.uda_c.proofs.FaithfulUnits.{turn_faithful}
+use Rattle.uda_c.proofs.FittingUnits.{turn_fits}
 use Rattle.uda_c.proofs.controller.Controller.take_turn.Goals as goal
 
 pub invariant_of-self : goal.invariant_of-self
-invariant_of-self c =
-    turn_faithful c.turn_traced_into.result c.self.inside.port c.args.memory.now
-    c.turn_traced_into.new.self c.turn_traced_into.new.memory c.turn_traced_into.ensures.effect
-    c.self.invariant
+invariant_of-self c = (
+  turn_faithful c.turn_traced_into.result c.self.inside.port c.args.memory.now c.turn_traced_into.new.self
+      c.turn_traced_into.new.memory c.turn_traced_into.ensures.effect c.self.invariant.0,
+  turn_fits c.turn_traced_into.result c.self.inside.port c.args.memory.now c.turn_traced_into.new.self
+      c.turn_traced_into.new.memory c.turn_traced_into.ensures.effect c.self.invariant.1,
+)

@@ -2,6 +2,7 @@ use Rattle.std.proofs.Common.{List, refl, arith, ap, ◌∙◌}
 use Rattle.std.specs.Prelude.{remove}
 use Rattle.uda_packet.specs.declared.guest_command.GuestOp.{GuestOp}
 use Rattle.uda_port.proofs.TurnLaws.{executes_for, remove_none}
+use Rattle.uda_port.proofs.PossibleLaws.{no_rest, queue_more, strict_outcome, after_fits}
 use Rattle.uda_port.proofs.port.Port.execute.Goals as goal
 
 pub invariant_of-self : goal.invariant_of-self
@@ -36,6 +37,14 @@ invariant_of-self-2 g c =
       strict = λ is. c.in-Some.ensures.executes.1.ops_left
           ∙ ap (λ (ops : List GuestOp). remove ops c.in-Some.ensures.executes.0) (c.self.invariant.strict is)
           ∙ remove_none c.in-Some.ensures.executes.0;
+      possible = record {
+        phase = c.self.invariant.possible.phase;
+        interrupts = c.self.invariant.possible.interrupts;
+        rings = c.self.invariant.possible.rings;
+        guest = rw c.note_end.ensures (after_fits c.self.inside.profile c.self.inside.phase c.in-Some.end c.self.inside.guest c.self.invariant.possible.guest);
+        queue = rw c.hold.ensures.last (queue_more c.self.inside.profile _ _ (strict_outcome c.self.inside.profile _ _ _ _ _ _ c.self.invariant.strict c.in-Some.ensures.executes.1) c.self.invariant.possible.queue);
+        no_work = λ is. absurd (no_rest c.self.inside.phase (rw (← c.self.view_is) at c.requires.running) is);
+      };
     }
 
 pub returns-clause-effect : goal.returns-clause-effect

@@ -3,7 +3,11 @@ use Rattle.std.proofs.lemmas.Result.{IfOk-weaker}
 use Rattle.uda_port.specs.Turn.{port_not_polling}
 use Rattle.uda_port.proofs.TraceLaws.{reports_from}
 use Rattle.uda_port.proofs.TurnLaws.{goes_on}
+use Rattle.uda_port.proofs.PortSteps.{stops_polling}
 use Rattle.uda_port.proofs.port.Port.lines.Goals as goal
+
+pub invariant_of-self : goal.invariant_of-self
+invariant_of-self g c = stops_polling c.self.inside c.self.invariant
 
 pub returns-in-Ok-false-clause-effect : goal.returns-in-Ok-false-clause-effect
 returns-in-Ok-false-clause-effect g c =

@@ -37,4 +37,18 @@ invariant_of-self g c =
       ordered = a.ordered;
       begun = rw deliveries a.begun;
       strict = λ is. ap (λ (e : ExecState). e.guest_ops) restored ∙ a.strict is;
+      possible = record {
+        phase = a.phase;
+        interrupts = a.interrupts;
+        rings = a.rings;
+        guest = a.guest;
+        queue = rw (ap (λ (b : Buffer Reply). b.items) queued) a.queue;
+        no_work = λ is. let none = a.no_work is in record {
+          not_polling = none.not_polling;
+          none_delivered = deliveries ∙ none.none_delivered;
+          none_pending = ap (λ (e : ExecState). e.pending) restored ∙ none.none_pending;
+          none_waiting = ap (λ (b : Buffer Reply). b.items) queued ∙ none.none_waiting;
+          at_first = ap (λ (e : ExecState). e.position) restored ∙ none.at_first;
+        };
+      };
     }

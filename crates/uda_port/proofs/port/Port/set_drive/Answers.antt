@@ -1,6 +1,7 @@
 use Rattle.std.proofs.Common.{◌≡◌, Option, Some, None, refl}
 use Rattle.std.specs.Prelude.{option_map, is_some}
 use Rattle.uda_exec.specs.Drives.{drive_state}
+use Rattle.uda_port.proofs.PossibleLaws.{drive_fits}
 use Rattle.uda_port.proofs.port.Port.set_drive.Goals as goal
 
 is_some-map : {A B : Type 0} (f : A → B) (x : Option A) → is_some x ≡ is_some (option_map f x)
@@ -17,6 +18,14 @@ invariant_of-self g c = record {
   ordered = c.self.invariant.ordered;
   begun = c.self.invariant.begun;
   strict = rw c.set_drive-old.ensures.set c.self.invariant.strict;
+  possible = record {
+    phase = c.self.invariant.possible.phase;
+    interrupts = c.self.invariant.possible.interrupts;
+    rings = c.self.invariant.possible.rings;
+    guest = rw (c.set_attention.ensures, rw (← c.self.view_is) at c.attention_due-due.ensures.due) (drive_fits c.self.inside.profile c.self.inside.phase c.self.inside.guest c.args.unit _ c.self.invariant.possible.guest);
+    queue = c.self.invariant.possible.queue;
+    no_work = λ is. let none = c.self.invariant.possible.no_work is in record { not_polling = none.not_polling; none_delivered = none.none_delivered; none_pending = rw c.set_drive-old.ensures.set none.none_pending; none_waiting = none.none_waiting; at_first = rw c.set_drive-old.ensures.set none.at_first };
+  };
 }
 
 pub returns-clause-set : goal.returns-clause-set

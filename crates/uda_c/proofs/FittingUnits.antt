@@ -1,0 +1,683 @@
+-- The units of a controller fit its port, and remain so after each call.
+use Rattle.std.proofs.Common.{◌≡◌, ◌≢◌, ℕ, ◌<◌, ◌≤◌, ◌⊎◌, inl, inr, zero, suc, Bool, true, false, List, [], ◌∷◌, length, length-set, set, get_or, Option, Some, None, Result, Ok, Err, refl, sym, ap, subst, ◌∙◌, arith}
+use Rattle.std.specs.Prelude.{◌&&◌, ◌||◌, not, option_map, slice_get, unwrap_or, if◌then◌else◌, is_some, replicate, ◌==◌}
+use Rattle.std.proofs.lemmas.Bool.{and_parts, and_from, or_left, or_right, true≢false, cases_eq, eqb-true}
+use Rattle.std.proofs.lemmas.Option.{slice_get-map}
+use Rattle.uda_disk.proofs.Slots.{slice_get-set_same, slice_get-set_other}
+use Rattle.uda_disk.specs.declared.mode.Mode.{Mode}
+use Rattle.uda_disk.specs.Units.{UnitState, Units, FixedAttributes, attributes_of, unit_attributes}
+use Rattle.uda_exec.specs.declared.drive_unit.UnitInfo.{UnitInfo}
+use Rattle.uda_exec.specs.Drives.{DriveState, fresh_unit, reset_unit, info_of, info_at}
+use Rattle.uda_exec.specs.Saved.{unit_fits as unit_fits_image, units_fit, infos_of, units_restored, has_commands}
+use Rattle.uda_packet.specs.declared.drive_type.DriveType.{DriveType}
+use Rattle.uda_packet.specs.declared.drive_type.DriveType.TheVariants.{Ra81}
+use Rattle.uda_packet.specs.declared.guest_command.GuestCommand.{GuestCommand}
+use Rattle.uda_packet.specs.declared.reply.Reply.{Reply}
+use Rattle.uda_exec.specs.Commands.{is_controller}
+use Rattle.uda_port.specs.declared.guest.Guest.{Guest}
+use Rattle.uda_port.specs.declared.packet.Fetched.{Fetched as Packet}
+use Rattle.uda_port.specs.declared.interrupt.Interrupts.{Interrupts}
+use Rattle.uda_port.specs.declared.phase.Phase.{Phase}
+use Rattle.uda_port.specs.declared.phase.Phase.TheVariants.{Step1, Step2, Step3, Wrap, PurgeTest, PollTest, Step4, Running, Dead}
+use Rattle.uda_port.specs.declared.phase.Fatal.{Fatal}
+use Rattle.uda_port.specs.declared.phase.Fatal.TheVariants.{PacketRead, PacketWrite, RingRead, RingWrite, CreditsExceeded, InvalidConnection, InitializationError}
+use Rattle.uda_port.specs.declared.profile.Profile.{Profile}
+use Rattle.uda_port.specs.declared.profile.Profile.TheVariants.{Strict, Compatible}
+use Rattle.uda_port.specs.declared.turn.Turn.{Turn}
+use Rattle.uda_port.specs.declared.turn.Turn.TheVariants.{Fetched, Executed, Delivered, Notified, Idle, Dead as DeadTurn}
+use Rattle.uda_port.specs.Guest.{is_due, attention_set, is_online_now}
+use Rattle.uda_port.specs.Message.{message_in, flags_kept}
+use Rattle.uda_port.specs.Port.{PortState, port_restarted, port_after_ip_read, port_with_drive, drive_put, read_only_by, attention_due, with_type}
+use Rattle.uda_port.specs.Possible.{has_run, is_of_turn}
+use Rattle.uda_port.specs.declared.saved.Saved.{Saved}
+use Rattle.uda_port.specs.declared.saved.RestoreError.{RestoreError}
+use Rattle.uda_port.specs.Saved.{RestoreEffect, saved_port}
+use Rattle.uda_port.specs.Startup.{has_bit, after_wrap_request, area_of, has_area, refuses_second, refuses_third, asks_test, after_sa_write}
+use Rattle.uda_port.specs.Turn.{port_turn_on, port_with_message, TurnEffect, RunningTurn, GoesOn, Fails, InFetch, InRest, FetchRule}
+use Rattle.uda_c.specs.ControllerState.{ControllerState}
+use Rattle.uda_c.specs.Controllers.{controller_failing, controller_at_start, unit_failing}
+use Rattle.uda_c.specs.Fits.{UnitNotice, unit_fits, notice_of, fits_at, is_as_attached, FitsController, numbers_fit, fits_in, fits_controller}
+use Rattle.uda_c.proofs.FaithfulUnits.{turn_natures}
+
+abbrev AllFit : PortState → Type 0
+AllFit port = (u : ℕ) → u < 4 → fits_at port u ≡ true
+
+-- ---- attention messages
+
+-- fewer are due
+abbrev IsLess : List Bool → List Bool → Type 0
+IsLess new old = (u : ℕ) → is_due new u ≡ true → is_due old u ≡ true
+
+same_due : (dues : List Bool) → IsLess dues dues
+same_due dues u is = is
+
+none_at : (dues : List Bool) (u : ℕ) → is_due (set dues u false) u ≡ false
+none_at [] u = refl
+none_at (a ∷ dues) zero = refl
+none_at (a ∷ dues) (suc u) = none_at dues u
+
+unset_less : (dues : List Bool) (drive : ℕ) → IsLess (set dues drive false) dues
+unset_less [] drive u is = is
+unset_less (a ∷ dues) zero zero is = absurd (true≢false (sym is))
+unset_less (a ∷ dues) zero (suc u) is = is
+unset_less (a ∷ dues) (suc drive) zero is = is
+unset_less (a ∷ dues) (suc drive) (suc u) is = unset_less dues drive u is
+
+other_due : (dues : List Bool) (drive u : ℕ) (due : Bool) → u ≢ drive → is_due (set dues drive due) u ≡ is_due dues u
+other_due dues drive u due other = ap (λ (o : Option Bool). unwrap_or o false) (slice_get-set_other dues drive u due other)
+
+none_at_start : (u : ℕ) → is_due (replicate 4 false) u ≡ false
+none_at_start zero = refl
+none_at_start (suc zero) = refl
+none_at_start (suc (suc zero)) = refl
+none_at_start (suc (suc (suc zero))) = refl
+none_at_start (suc (suc (suc (suc u)))) = refl
+
+-- ---- a turn
+
+-- a port that has run has the same units, but their modes, and no more attention messages are due
+record Keeps (old new : PortState) : Type 0 where
+  profile : new.profile ≡ old.profile
+  kinds : new.guest.types ≡ old.guest.types
+  less : IsLess new.guest.attentions old.guest.attentions
+  attributes : unit_attributes new.exec.units ≡ unit_attributes old.exec.units
+  run : has_run new.phase ≡ true
+
+not_due : (old new : Bool) → (new ≡ true → old ≡ true) → not old ≡ true → not new ≡ true
+not_due old true less none = absurd (true≢false (sym none ∙ ap not (less refl)))
+not_due old false less none = refl
+
+abbrev attributes_at : Option (Option UnitState) → Option (Option FixedAttributes)
+attributes_at o = option_map (option_map attributes_of) o
+
+abbrev hard_at : Option (Option FixedAttributes) → Bool
+hard_at (Some (Some attributes)) = attributes.hard
+hard_at _ = false
+
+abbrev is_there : Option (Option FixedAttributes) → Bool
+is_there (Some (Some attributes)) = true
+is_there _ = false
+
+kept_at : (profile : Profile) (phase next : Phase) (n m : UnitNotice) (a b : Option (Option UnitState))
+    → m.kind ≡ n.kind → (m.due ≡ true → n.due ≡ true) → attributes_at b ≡ attributes_at a → has_run next ≡ true
+    → unit_fits profile phase n (info_at a) ≡ true → unit_fits profile next m (info_at b) ≡ true
+kept_at profile phase next n m (Some (Some x)) (Some (Some y)) kind less same run is =
+    let parts = and_parts (not (read_only_by profile (Some n.kind)) || x.mode.hard) _ is in
+    let hard : y.mode.hard ≡ x.mode.hard = ap hard_at same in
+    and_from _ _ (rw (kind, hard) parts.0) (or_left (has_run next) (is_as_attached y.mode) run)
+kept_at profile phase next n m (Some (Some x)) (Some None) kind less same run is =
+    absurd (true≢false (sym (ap is_there same)))
+kept_at profile phase next n m (Some (Some x)) None kind less same run is =
+    absurd (true≢false (sym (ap is_there same)))
+kept_at profile phase next n m (Some None) (Some (Some y)) kind less same run is =
+    absurd (true≢false (ap is_there same))
+kept_at profile phase next n m None (Some (Some y)) kind less same run is =
+    absurd (true≢false (ap is_there same))
+kept_at profile phase next n m (Some None) (Some None) kind less same run is = not_due n.due m.due less is
+kept_at profile phase next n m (Some None) None kind less same run is = not_due n.due m.due less is
+kept_at profile phase next n m None (Some None) kind less same run is = not_due n.due m.due less is
+kept_at profile phase next n m None None kind less same run is = not_due n.due m.due less is
+
+attributes_of_slot : (units : Units) (u : ℕ)
+    → attributes_at (slice_get units u) ≡ slice_get (unit_attributes units) u
+attributes_of_slot units u = sym (slice_get-map (option_map attributes_of) units u)
+
+kept_fits : (old new : PortState) → Keeps old new → AllFit old → AllFit new
+kept_fits old new keeps all u less =
+    let kind = ap (λ (ks : List DriveType). get_or ks u Ra81) keeps.kinds in
+    let same = attributes_of_slot new.exec.units u
+    ∙ ap (λ (xs : List (Option FixedAttributes)). slice_get xs u) keeps.attributes
+    ∙ sym (attributes_of_slot old.exec.units u) in
+    subst (λ (p : Profile). unit_fits p new.phase (notice_of new.guest.types new.guest.attentions u)
+    (info_at (slice_get new.exec.units u)) ≡ true) (sym keeps.profile)
+    (kept_at old.profile old.phase new.phase (notice_of old.guest.types old.guest.attentions u)
+    (notice_of new.guest.types new.guest.attentions u) (slice_get old.exec.units u) (slice_get new.exec.units u)
+    kind (keeps.less u) same keeps.run (all u less))
+
+-- what a fetch does to the drive types and the due attention messages
+flags_kinds : (profile : Profile) (p : Packet) (m : Result GuestCommand Reply) (g : Guest)
+    → (flags_kept profile p m g).types ≡ g.types
+flags_kinds Strict p m g = refl
+flags_kinds (Compatible identity) p (Err reply) g = refl
+flags_kinds (Compatible identity) p (Ok c) g = if_kinds (is_controller c.command.op) _ g
+  where
+    if_kinds : (set : Bool) (flags : ℕ) (g : Guest) → (if set then record g { flags = flags } else g).types ≡ g.types
+    if_kinds true flags g = refl
+    if_kinds false flags g = refl
+
+flags_due : (profile : Profile) (p : Packet) (m : Result GuestCommand Reply) (g : Guest)
+    → (flags_kept profile p m g).attentions ≡ g.attentions
+flags_due Strict p m g = refl
+flags_due (Compatible identity) p (Err reply) g = refl
+flags_due (Compatible identity) p (Ok c) g = if_due (is_controller c.command.op) _ g
+  where
+    if_due : (set : Bool) (flags : ℕ) (g : Guest) → (if set then record g { flags = flags } else g).attentions ≡ g.attentions
+    if_due true flags g = refl
+    if_due false flags g = refl
+
+less_by : (new old : List Bool) → new ≡ old → IsLess new old
+less_by new old same u is = sym (ap (λ (dues : List Bool). is_due dues u) same) ∙ is
+
+-- what an executed command does to them
+after_kinds : (online : Bool) (g : Guest) (drive : ℕ)
+    → (if online then attention_set g drive false else g).types ≡ g.types
+after_kinds true g drive = refl
+after_kinds false g drive = refl
+
+after_less : (online : Bool) (g : Guest) (drive : ℕ)
+    → IsLess (if online then attention_set g drive false else g).attentions g.attentions
+after_less true g drive = unset_less g.attentions drive
+after_less false g drive = same_due g.attentions
+
+run_by : (a b : Phase) → b ≡ a → has_run a ≡ true → has_run b ≡ true
+run_by a b same is = ap has_run same ∙ is
+
+-- a fatal turn leaves all but the phase
+record Died (old before : PortState) (cause : Fatal) : Type 0 where
+  profile : before.profile ≡ old.profile
+  guest : before.guest ≡ old.guest
+  of_turn : is_of_turn cause ≡ true
+
+died_by : (old before : PortState) (cause : Fatal) → before ≡ old → is_of_turn cause ≡ true → Died old before cause
+died_by old before cause same of_turn = record {
+  profile = ap (λ (p : PortState). p.profile) same;
+  guest = ap (λ (p : PortState). p.guest) same;
+  of_turn = of_turn;
+}
+
+fetch_died : (cause : Fatal) (old : PortState) (memory : List ℕ) (new : PortState) (after : List ℕ)
+    → FetchRule old memory (Err cause) new after → Died old new cause
+fetch_died PacketRead old memory new after line = died_by old new PacketRead line.1.state refl
+fetch_died RingRead old memory new after line = died_by old new RingRead line.1.state refl
+fetch_died CreditsExceeded old memory new after line = record {
+  profile = ap (λ (p : PortState). p.profile) line.taken.others;
+  guest = ap (λ (p : PortState). p.guest) line.taken.others;
+  of_turn = refl;
+}
+fetch_died InvalidConnection old memory new after line = record {
+  profile = ap (λ (p : PortState). p.profile) line.taken.others;
+  guest = ap (λ (p : PortState). p.guest) line.taken.others;
+  of_turn = refl;
+}
+fetch_died PacketWrite old memory new after line = absurd line
+fetch_died RingWrite old memory new after line = absurd line
+fetch_died InitializationError old memory new after line = absurd line
+
+rest_died : (cause : Fatal) (old : PortState) (memory : List ℕ) (new : PortState) (after : List ℕ)
+    → GoesOn old memory (Err cause) new after → Died old new cause
+rest_died PacketWrite old memory new after goes = record {
+  profile = ap (λ (p : PortState). p.profile) goes.rest.1.1.state;
+  guest = ap (λ (p : PortState). p.guest) goes.rest.1.1.state;
+  of_turn = refl;
+}
+rest_died RingRead old memory new after goes = record {
+  profile = ap (λ (p : PortState). p.profile) goes.rest.1.1.state;
+  guest = ap (λ (p : PortState). p.guest) goes.rest.1.1.state;
+  of_turn = refl;
+}
+rest_died PacketRead old memory new after goes = absurd goes.rest.1
+rest_died CreditsExceeded old memory new after goes = absurd goes.rest.1
+rest_died InvalidConnection old memory new after goes = absurd goes.rest.1
+rest_died RingWrite old memory new after goes = absurd goes.rest.1
+rest_died InitializationError old memory new after goes = absurd goes.rest.1
+
+fails_died : (cause : Fatal) (old : PortState) (memory : List ℕ) (new : PortState) (after : List ℕ)
+    → Fails cause old memory new after → Died old new cause
+fails_died cause old memory new after (InFetch line) = fetch_died cause old memory new after line
+fails_died cause old memory new after (InRest goes) = rest_died cause old memory new after goes
+
+message_profile : (old : PortState) (m : Result GuestCommand Reply) → (port_with_message old m).profile ≡ old.profile
+message_profile old (Ok c) = refl
+message_profile old (Err r) = refl
+
+message_phase : (old : PortState) (m : Result GuestCommand Reply) → (port_with_message old m).phase ≡ old.phase
+message_phase old (Ok c) = refl
+message_phase old (Err r) = refl
+
+running_keeps : (turn : Turn) (old : PortState) (memory : List ℕ) (new : PortState) (after : List ℕ)
+    → old.phase ≡ Running → RunningTurn old memory turn new after
+    → unit_attributes new.exec.units ≡ unit_attributes old.exec.units → Keeps old new
+running_keeps Fetched old memory new after runs goes same = record {
+  profile = ap (λ (p : PortState). p.profile) goes.others ∙ message_profile (port_turn_on old) (message_in old.profile goes.packet);
+  kinds = ap (λ (p : PortState). p.guest.types) goes.others
+      ∙ flags_kinds old.profile goes.packet (message_in old.profile goes.packet) old.guest;
+  less = less_by _ _ (ap (λ (p : PortState). p.guest.attentions) goes.others
+      ∙ flags_due old.profile goes.packet (message_in old.profile goes.packet) old.guest);
+  attributes = same;
+  run = run_by Running new.phase
+      (ap (λ (p : PortState). p.phase) goes.others ∙ message_phase (port_turn_on old) (message_in old.profile goes.packet) ∙ runs) refl;
+}
+running_keeps Executed old memory new after runs goes same =
+    let others = goes.rest.1.others in
+    record {
+      profile = ap (λ (p : PortState). p.profile) others;
+      kinds = ap (λ (p : PortState). p.guest.types) others
+          ∙ after_kinds (is_online_now goes.rest.1.end) old.guest goes.rest.1.end.unit;
+      less = λ u is. after_less (is_online_now goes.rest.1.end) old.guest goes.rest.1.end.unit u
+          (sym (ap (λ (p : PortState). is_due p.guest.attentions u) others) ∙ is);
+      attributes = same;
+      run = run_by Running new.phase (ap (λ (p : PortState). p.phase) others ∙ runs) refl;
+    }
+running_keeps Delivered old memory new after runs goes same =
+    let others = goes.rest.1.others in
+    record {
+      profile = ap (λ (p : PortState). p.profile) others;
+      kinds = ap (λ (p : PortState). p.guest.types) others;
+      less = less_by _ _ (ap (λ (p : PortState). p.guest.attentions) others);
+      attributes = same;
+      run = run_by Running new.phase (ap (λ (p : PortState). p.phase) others ∙ runs) refl;
+    }
+running_keeps Notified old memory new after runs goes same =
+    let others = goes.rest.1.others in
+    record {
+      profile = ap (λ (p : PortState). p.profile) others;
+      kinds = ap (λ (p : PortState). p.guest.types) others;
+      less = λ u is. unset_less old.guest.attentions goes.rest.1.drive u
+          (sym (ap (λ (p : PortState). is_due p.guest.attentions u) others) ∙ is);
+      attributes = same;
+      run = run_by Running new.phase (ap (λ (p : PortState). p.phase) others ∙ runs) refl;
+    }
+running_keeps Idle old memory new after runs goes same =
+    let state = goes.rest.1.1.state in
+    record {
+      profile = ap (λ (p : PortState). p.profile) state;
+      kinds = ap (λ (p : PortState). p.guest.types) state;
+      less = less_by _ _ (ap (λ (p : PortState). p.guest.attentions) state);
+      attributes = same;
+      run = run_by Running new.phase (ap (λ (p : PortState). p.phase) state ∙ runs) refl;
+    }
+running_keeps DeadTurn old memory new after runs goes same =
+    let died = fails_died goes.cause (port_turn_on old) memory goes.before after goes.fails in
+    record {
+      profile = ap (λ (p : PortState). p.profile) goes.died ∙ died.profile;
+      kinds = ap (λ (p : PortState). p.guest.types) goes.died ∙ ap (λ (g : Guest). g.types) died.guest;
+      less = less_by _ _ (ap (λ (p : PortState). p.guest.attentions) goes.died
+          ∙ ap (λ (g : Guest). g.attentions) died.guest);
+      attributes = same;
+      run = ap (λ (p : PortState). has_run p.phase) goes.died ∙ died.of_turn;
+    }
+
+same_fits : (old new : PortState) → new ≡ old → AllFit old → AllFit new
+same_fits old new same all u less = ap (λ (p : PortState). fits_at p u) same ∙ all u less
+
+turn_by : (phase : Phase) (turn : Turn) (old : PortState) (memory : List ℕ) (new : PortState) (after : List ℕ)
+    → old.phase ≡ phase → TurnEffect phase old memory turn new after
+    → unit_attributes new.exec.units ≡ unit_attributes old.exec.units → AllFit old → AllFit new
+turn_by Running turn old memory new after is goes same all =
+    kept_fits old new (running_keeps turn old memory new after is goes same) all
+turn_by (Dead cause) turn old memory new after is goes same all = same_fits old new goes.unchanged.state all
+turn_by Step1 turn old memory new after is goes same all = same_fits old new goes.unchanged.state all
+turn_by (Step2 first) turn old memory new after is goes same all = same_fits old new goes.unchanged.state all
+turn_by (Step3 first second) turn old memory new after is goes same all = same_fits old new goes.unchanged.state all
+turn_by (Wrap word) turn old memory new after is goes same all = same_fits old new goes.unchanged.state all
+turn_by PurgeTest turn old memory new after is goes same all = same_fits old new goes.unchanged.state all
+turn_by PollTest turn old memory new after is goes same all = same_fits old new goes.unchanged.state all
+turn_by Step4 turn old memory new after is goes same all = same_fits old new goes.unchanged.state all
+
+turn_profile : (phase : Phase) (turn : Turn) (old : PortState) (memory : List ℕ) (new : PortState) (after : List ℕ)
+    → old.phase ≡ phase → TurnEffect phase old memory turn new after
+    → unit_attributes new.exec.units ≡ unit_attributes old.exec.units → new.profile ≡ old.profile
+turn_profile Running turn old memory new after is goes same =
+    (running_keeps turn old memory new after is goes same).profile
+turn_profile (Dead cause) turn old memory new after is goes same =
+    ap (λ (p : PortState). p.profile) goes.unchanged.state
+turn_profile Step1 turn old memory new after is goes same = ap (λ (p : PortState). p.profile) goes.unchanged.state
+turn_profile (Step2 first) turn old memory new after is goes same =
+    ap (λ (p : PortState). p.profile) goes.unchanged.state
+turn_profile (Step3 first second) turn old memory new after is goes same =
+    ap (λ (p : PortState). p.profile) goes.unchanged.state
+turn_profile (Wrap word) turn old memory new after is goes same =
+    ap (λ (p : PortState). p.profile) goes.unchanged.state
+turn_profile PurgeTest turn old memory new after is goes same =
+    ap (λ (p : PortState). p.profile) goes.unchanged.state
+turn_profile PollTest turn old memory new after is goes same =
+    ap (λ (p : PortState). p.profile) goes.unchanged.state
+turn_profile Step4 turn old memory new after is goes same = ap (λ (p : PortState). p.profile) goes.unchanged.state
+
+fits_by : (old new : PortState) → new.profile ≡ old.profile → AllFit new → FitsController old → FitsController new
+fits_by old new profile units is = record { numbers = ap numbers_fit profile ∙ is.numbers; units = units }
+
+pub turn_fits : (turn : Turn) (old : PortState) (memory : List ℕ) (new : PortState) (after : List ℕ)
+    → TurnEffect old.phase old memory turn new after → FitsController old → FitsController new
+turn_fits turn old memory new after goes is =
+    let same = turn_natures old.phase turn old memory new after goes in
+    fits_by old new (turn_profile old.phase turn old memory new after refl goes same)
+    (turn_by old.phase turn old memory new after refl goes same is.units) is
+
+-- ---- the registers
+
+-- only the phase and what isn't the guest's changes, and a port that has run stays so
+record Moves (old new : PortState) : Type 0 where
+  profile : new.profile ≡ old.profile
+  guest : new.guest ≡ old.guest
+  exec : new.exec ≡ old.exec
+  run : has_run old.phase ≡ true → has_run new.phase ≡ true
+
+or_grow : (a b c : Bool) → (a ≡ true → b ≡ true) → (a || c) ≡ true → (b || c) ≡ true
+or_grow true b c grows is = or_left b c (grows refl)
+or_grow false b c grows is = or_right b c is
+
+later_fits : (profile : Profile) (phase next : Phase) (n : UnitNotice) (info : Option UnitInfo)
+    → (has_run phase ≡ true → has_run next ≡ true) → unit_fits profile phase n info ≡ true
+    → unit_fits profile next n info ≡ true
+later_fits profile phase next n None run is = is
+later_fits profile phase next n (Some info) run is =
+    let parts = and_parts (not (read_only_by profile (Some n.kind)) || info.mode.hard) _ is in
+    and_from _ _ parts.0 (or_grow (has_run phase) (has_run next) (is_as_attached info.mode) run parts.1)
+
+moved_fits : (old new : PortState) → Moves old new → FitsController old → FitsController new
+moved_fits old new moves is = record {
+  numbers = ap numbers_fit moves.profile ∙ is.numbers;
+  units = λ u less. rw (moves.profile, moves.guest, moves.exec)
+      (later_fits old.profile old.phase new.phase (notice_of old.guest.types old.guest.attentions u)
+      (info_at (slice_get old.exec.units u)) moves.run (is.units u less));
+}
+
+stays : (old : PortState) → Moves old old
+stays old = record { profile = refl; guest = refl; exec = refl; run = λ is. is }
+
+-- from a phase in which no port has run
+never_run : (old : PortState) (p q : Phase) → old.phase ≡ p → has_run p ≡ false → has_run old.phase ≡ true
+    → has_run q ≡ true
+never_run old p q is not_run run = absurd (true≢false (sym run ∙ ap has_run is ∙ not_run))
+
+chosen_moves : (a : Bool) (old one other : PortState) → Moves old one → Moves old other
+    → Moves old (if a then one else other)
+chosen_moves true old one other h k = h
+chosen_moves false old one other h k = k
+
+chosen_pair_moves : (a : Bool) (old : PortState) (one other : PortState × List ℕ) → Moves old one.0
+    → Moves old other.0 → Moves old (if a then one else other).0
+chosen_pair_moves true old one other h k = h
+chosen_pair_moves false old one other h k = k
+
+wrap_moves : (profile : Profile) (old : PortState) (word : ℕ) → old.phase ≡ Step1
+    → Moves old (after_wrap_request profile old word)
+wrap_moves Strict old word is =
+    record { profile = refl; guest = refl; exec = refl; run = never_run old Step1 (Dead InitializationError) is refl }
+wrap_moves (Compatible identity) old word is =
+    record { profile = refl; guest = refl; exec = refl; run = never_run old Step1 (Wrap word) is refl }
+
+word_moves : (p : Phase) (old : PortState) (memory : List ℕ) (word : ℕ) → old.phase ≡ p
+    → Moves old (after_sa_write p old memory word).0
+word_moves Step1 old memory word is =
+    chosen_moves (has_bit word 15) old _ old
+    (chosen_moves (has_bit word 14) old _ _ (wrap_moves old.profile old word is)
+    (record { profile = refl; guest = refl; exec = refl; run = never_run old Step1 (Step2 word) is refl }))
+    (stays old)
+word_moves (Step2 first) old memory word is =
+    chosen_moves (refuses_second old.profile word) old _ _
+    (record { profile = refl; guest = refl; exec = refl; run = never_run old (Step2 first) (Dead InitializationError) is refl })
+    (record { profile = refl; guest = refl; exec = refl; run = never_run old (Step2 first) (Step3 first word) is refl })
+word_moves (Step3 first second) old memory word is =
+    chosen_pair_moves (refuses_third old.profile word) old _ _
+    (record { profile = refl; guest = refl; exec = refl; run = never_run old (Step3 first second) (Dead InitializationError) is refl })
+    (chosen_pair_moves (has_area (area_of old.profile first second word) _) old _ _
+    (chosen_moves (asks_test old.profile word) old _ _
+    (record { profile = refl; guest = refl; exec = refl; run = never_run old (Step3 first second) PurgeTest is refl })
+    (record { profile = refl; guest = refl; exec = refl; run = never_run old (Step3 first second) Step4 is refl }))
+    (record { profile = refl; guest = refl; exec = refl; run = never_run old (Step3 first second) (Dead RingWrite) is refl }))
+word_moves PurgeTest old memory word is =
+    chosen_moves _ old _ old
+    (record { profile = refl; guest = refl; exec = refl; run = never_run old PurgeTest PollTest is refl }) (stays old)
+word_moves PollTest old memory word is = stays old
+word_moves Step4 old memory word is =
+    chosen_moves (has_bit word 0) old _ old
+    (record { profile = refl; guest = refl; exec = refl; run = λ run. refl }) (stays old)
+word_moves Running old memory word is = stays old
+word_moves (Dead cause) old memory word is = stays old
+word_moves (Wrap before) old memory word is =
+    record { profile = refl; guest = refl; exec = refl; run = never_run old (Wrap before) (Wrap word) is refl }
+
+pub word_fits : (old : PortState) (memory : List ℕ) (word : ℕ) (new : PortState) (after : List ℕ)
+    → (new, after) ≡ after_sa_write old.phase old memory word → FitsController old → FitsController new
+word_fits old memory word new after is fits =
+    subst FitsController (sym (ap (λ (x : PortState × List ℕ). x.0) is))
+    (moved_fits old (after_sa_write old.phase old memory word).0 (word_moves old.phase old memory word refl) fits)
+
+asked_moves : (p : Phase) (old : PortState) → old.phase ≡ p → Moves old (port_after_ip_read p old)
+asked_moves Running old is = record { profile = refl; guest = refl; exec = refl; run = λ run. run }
+asked_moves PollTest old is =
+    record { profile = refl; guest = refl; exec = refl; run = never_run old PollTest Step4 is refl }
+asked_moves Step1 old is = stays old
+asked_moves (Step2 first) old is = stays old
+asked_moves (Step3 first second) old is = stays old
+asked_moves PurgeTest old is = stays old
+asked_moves Step4 old is = stays old
+asked_moves (Dead cause) old is = stays old
+asked_moves (Wrap word) old is = stays old
+
+pub asked_fits : (old new : PortState) → new ≡ port_after_ip_read old.phase old → FitsController old
+    → FitsController new
+asked_fits old new is fits =
+    subst FitsController (sym is) (moved_fits old (port_after_ip_read old.phase old) (asked_moves old.phase old refl) fits)
+
+pub served_fits : (old new : PortState) (i : Interrupts) → new ≡ record old { interrupts = i } → FitsController old
+    → FitsController new
+served_fits old new i is fits =
+    subst FitsController (sym is)
+    (moved_fits old (record old { interrupts = i }) (record { profile = refl; guest = refl; exec = refl; run = λ run. run }) fits)
+
+-- a write to IP
+started_at : (profile : Profile) (phase : Phase) (n m : UnitNotice) (slot : Option (Option UnitState))
+    → m.kind ≡ n.kind → m.due ≡ false → unit_fits profile phase n (info_at slot) ≡ true
+    → unit_fits profile Step1 m (info_at (option_map reset_unit slot)) ≡ true
+started_at profile phase n m (Some (Some unit)) kind none is =
+    let parts = and_parts (not (read_only_by profile (Some n.kind)) || unit.mode.hard) _ is in
+    and_from _ _ (rw kind parts.0) refl
+started_at profile phase n m (Some None) kind none is = ap not none
+started_at profile phase n m None kind none is = ap not none
+
+pub start_fits : (old new : PortState) → new ≡ port_restarted old → FitsController old → FitsController new
+start_fits old new is fits = subst FitsController (sym is) (record {
+  numbers = fits.numbers;
+  units = λ u less. subst (λ (o : Option (Option UnitState)). unit_fits old.profile Step1
+      (notice_of old.guest.types (replicate 4 false) u) (info_at o) ≡ true)
+      (sym (slice_get-map reset_unit old.exec.units u))
+      (started_at old.profile old.phase (notice_of old.guest.types old.guest.attentions u)
+      (notice_of old.guest.types (replicate 4 false) u) (slice_get old.exec.units u) refl (none_at_start u) (fits.units u less));
+})
+
+-- ---- drives
+
+protects_or : (r h : Bool) → (not r || (r || h)) ≡ true
+protects_or true h = refl
+protects_or false h = refl
+
+protected_by : (profile : Profile) (kinds : List DriveType) (u : ℕ) (hard : Bool)
+    → (not (read_only_by profile (Some (get_or kinds u Ra81))) || (read_only_by profile (slice_get kinds u) || hard)) ≡ true
+protected_by profile (kind ∷ kinds) zero hard = protects_or (read_only_by profile (Some kind)) hard
+protected_by profile (kind ∷ kinds) (suc u) hard = protected_by profile kinds u hard
+protected_by Strict [] u hard = refl
+protected_by (Compatible identity) [] u hard = refl
+
+-- the unit that gets a drive, or none
+put_same : (old : PortState) (u : ℕ) (drive : Option DriveState) → u < length old.exec.units
+    → fits_at (port_with_drive old u drive) u ≡ true
+put_same old u None within =
+    let slot = slice_get-set_same old.exec.units u None within in
+    rw slot (ap not (none_at old.guest.attentions u))
+put_same old u (Some drive) within =
+    let slot = slice_get-set_same old.exec.units u (option_map fresh_unit (drive_put old u (Some drive))) within in
+    rw slot (and_from _ _ (protected_by old.profile old.guest.types u drive.hard) (or_right (has_run old.phase) true refl))
+
+put_at : (old : PortState) (u : ℕ) (drive : Option DriveState) → u < length old.exec.units → (k : ℕ)
+    → fits_at old k ≡ true → (k ≡ u) ⊎ (k ≢ u) → fits_at (port_with_drive old u drive) k ≡ true
+put_at old u drive within k fits (inl same) =
+    subst (λ (j : ℕ). fits_at (port_with_drive old u drive) j ≡ true) (sym same) (put_same old u drive within)
+put_at old u drive within k fits (inr other) =
+    let slot = slice_get-set_other old.exec.units u k (option_map fresh_unit (drive_put old u drive)) other in
+    let due = other_due old.guest.attentions u k (attention_due old (is_some drive)) other in
+    rw (slot, due) fits
+
+pub put_fits : (old new : PortState) (u : ℕ) (drive : Option DriveState) → u < length old.exec.units
+    → new ≡ port_with_drive old u drive → FitsController old → FitsController new
+put_fits old new u drive within is fits = subst FitsController (sym is) (record {
+  numbers = fits.numbers;
+  units = λ k less. put_at old u drive within k (fits.units k less) (cases_eq k u);
+})
+
+-- the same of one of four units
+pub put_among_four : (old new : PortState) (u : ℕ) (drive : Option DriveState) → length new.exec.units ≡ 4 → u ≤ 3
+    → new ≡ port_with_drive old u drive → FitsController old → FitsController new
+put_among_four old new u drive four low is fits =
+    let same = ap (λ (p : PortState). length p.exec.units) is
+    ∙ length-set old.exec.units u (option_map fresh_unit (drive_put old u drive)) in
+    put_fits old new u drive (omega (arith, four, same, low)) is fits
+
+-- ---- drive types
+
+other_kind : (kinds : List DriveType) (u k : ℕ) (kind : DriveType) → k ≢ u
+    → get_or (set kinds u kind) k Ra81 ≡ get_or kinds k Ra81
+other_kind [] u k kind other = refl
+other_kind (x ∷ kinds) zero zero kind other = absurd (other refl)
+other_kind (x ∷ kinds) zero (suc k) kind other = refl
+other_kind (x ∷ kinds) (suc u) zero kind other = refl
+other_kind (x ∷ kinds) (suc u) (suc k) kind other = other_kind kinds u k kind (λ same. other (ap suc same))
+
+-- the type of a unit without a drive
+typed_at : (old : PortState) (u : ℕ) (kind : DriveType) → info_at (slice_get old.exec.units u) ≡ None → (k : ℕ)
+    → fits_at old k ≡ true → (k ≡ u) ⊎ (k ≢ u) → fits_at (with_type old u kind) k ≡ true
+typed_at old u kind empty k fits (inl same) =
+    let here : info_at (slice_get old.exec.units k) ≡ None =
+    subst (λ (j : ℕ). info_at (slice_get old.exec.units j) ≡ None) (sym same) empty in
+    rw here (rw here at fits)
+typed_at old u kind empty k fits (inr other) = rw (other_kind old.guest.types u k kind other) fits
+
+pub typed_fits : (old new : PortState) (u : ℕ) (kind : DriveType) → info_at (slice_get old.exec.units u) ≡ None
+    → new ≡ with_type old u kind → FitsController old → FitsController new
+typed_fits old new u kind empty is fits = subst FitsController (sym is) (record {
+  numbers = fits.numbers;
+  units = λ k less. typed_at old u kind empty k (fits.units k less) (cases_eq k u);
+})
+
+pub typed_if : (set_it : Bool) (old new : PortState) (u : ℕ) (kind : DriveType)
+    → (set_it ≡ true → info_at (slice_get old.exec.units u) ≡ None)
+    → new ≡ (if set_it then with_type old u kind else old) → FitsController old → FitsController new
+typed_if true old new u kind empty is fits = typed_fits old new u kind (empty refl) is fits
+typed_if false old new u kind empty is fits = subst FitsController (sym is) fits
+
+pub typed_exec : (set_it : Bool) (old new : PortState) (u : ℕ) (kind : DriveType)
+    → new ≡ (if set_it then with_type old u kind else old) → new.exec ≡ old.exec
+typed_exec true old new u kind is = ap (λ (p : PortState). p.exec) is
+typed_exec false old new u kind is = ap (λ (p : PortState). p.exec) is
+
+-- ---- failing calls
+
+failing_slot : (call : Option ℕ) (slot : Option (Option UnitState))
+    → info_at (Some (option_map (unit_failing call) (unwrap_or slot None))) ≡ info_at (Some (unwrap_or slot None))
+failing_slot call (Some (Some unit)) = refl
+failing_slot call (Some None) = refl
+failing_slot call None = refl
+
+-- no unit's mode or size changes
+failing_infos : (units : Units) (u : ℕ) (call : Option ℕ) (k : ℕ)
+    → info_at (slice_get (set units u (option_map (unit_failing call) (unwrap_or (slice_get units u) None))) k)
+    ≡ info_at (slice_get units k)
+failing_infos [] u call k = refl
+failing_infos (None ∷ units) zero call zero = refl
+failing_infos (Some unit ∷ units) zero call zero = refl
+failing_infos (x ∷ units) zero call (suc k) = refl
+failing_infos (x ∷ units) (suc u) call zero = refl
+failing_infos (x ∷ units) (suc u) call (suc k) = failing_infos units u call k
+
+pub failing_fits : (old new : ControllerState) (u : ℕ) (call : Option ℕ) → new ≡ controller_failing old u call
+    → FitsController old.port → FitsController new.port
+failing_fits old new u call is fits = subst (λ (c : ControllerState). FitsController c.port) (sym is) (record {
+  numbers = fits.numbers;
+  units = λ k less. rw (failing_infos old.port.exec.units u call k) (fits.units k less);
+})
+
+-- ---- a new controller
+
+none_infos : (u : ℕ) → info_at (slice_get (None ∷ None ∷ None ∷ None ∷ []) u) ≡ None
+none_infos zero = refl
+none_infos (suc zero) = refl
+none_infos (suc (suc zero)) = refl
+none_infos (suc (suc (suc zero))) = refl
+none_infos (suc (suc (suc (suc u)))) = refl
+
+pub new_fits : (profile : Profile) → numbers_fit profile ≡ true → FitsController (controller_at_start profile).port
+new_fits profile numbers = record {
+  numbers = numbers;
+  units = λ u less. rw (none_infos u) (ap not (none_at_start u));
+}
+
+-- ---- a restored controller
+
+abbrev look_of : Mode → ℕ → UnitInfo
+look_of mode size = record { mode = mode; size = size }
+
+restored_info : (infos : List (Option UnitInfo)) (units : Units) → units_fit infos (infos_of units) ≡ true → (k : ℕ)
+    → info_at (slice_get (units_restored infos units) k) ≡ get_or infos k None
+restored_info [] [] fit k = refl
+restored_info [] (x ∷ units) fit k = absurd (true≢false (sym fit))
+restored_info (info ∷ infos) [] fit k = absurd (true≢false (sym fit))
+restored_info (None ∷ infos) (None ∷ units) fit zero = refl
+restored_info (Some info ∷ infos) (Some unit ∷ units) fit zero =
+    let here = (and_parts (unit_fits_image (Some info) (Some (info_of unit))) (units_fit infos (infos_of units)) fit).0 in
+    let size : info.size ≡ unit.store.size = eqb-true _ _ (and_parts (info.size == unit.store.size) _ here).0 in
+    ap (λ (n : ℕ). Some (look_of info.mode n)) (sym size)
+restored_info (None ∷ infos) (Some unit ∷ units) fit zero =
+    absurd (true≢false (sym (and_parts false (units_fit infos (infos_of units)) fit).0))
+restored_info (Some info ∷ infos) (None ∷ units) fit zero =
+    absurd (true≢false (sym (and_parts false (units_fit infos (infos_of units)) fit).0))
+restored_info (None ∷ infos) (None ∷ units) fit (suc k) = restored_info infos units fit k
+restored_info (Some info ∷ infos) (Some unit ∷ units) fit (suc k) =
+    restored_info infos units (and_parts (unit_fits_image (Some info) (Some (info_of unit))) (units_fit infos (infos_of units)) fit).1 k
+restored_info (None ∷ infos) (Some unit ∷ units) fit (suc k) =
+    absurd (true≢false (sym (and_parts false (units_fit infos (infos_of units)) fit).0))
+restored_info (Some info ∷ infos) (None ∷ units) fit (suc k) =
+    absurd (true≢false (sym (and_parts false (units_fit infos (infos_of units)) fit).0))
+
+saved_at : (saved : Saved) → fits_controller saved ≡ true → (u : ℕ) → u < 4 → fits_in saved.profile saved.phase saved.guest saved.exec.units u ≡ true
+saved_at saved fit u less = by u less
+  where
+    parts : (fits_in saved.profile saved.phase saved.guest saved.exec.units 0 && (fits_in saved.profile saved.phase saved.guest saved.exec.units 1 && (fits_in saved.profile saved.phase saved.guest saved.exec.units 2 && fits_in saved.profile saved.phase saved.guest saved.exec.units 3))) ≡ true
+    parts = (and_parts (numbers_fit saved.profile) _ fit).1
+
+    later : (fits_in saved.profile saved.phase saved.guest saved.exec.units 1 && (fits_in saved.profile saved.phase saved.guest saved.exec.units 2 && fits_in saved.profile saved.phase saved.guest saved.exec.units 3)) ≡ true
+    later = (and_parts (fits_in saved.profile saved.phase saved.guest saved.exec.units 0) _ parts).1
+
+    last : (fits_in saved.profile saved.phase saved.guest saved.exec.units 2 && fits_in saved.profile saved.phase saved.guest saved.exec.units 3) ≡ true
+    last = (and_parts (fits_in saved.profile saved.phase saved.guest saved.exec.units 1) _ later).1
+
+    by : (u : ℕ) → u < 4 → fits_in saved.profile saved.phase saved.guest saved.exec.units u ≡ true
+    by zero less = (and_parts (fits_in saved.profile saved.phase saved.guest saved.exec.units 0) _ parts).0
+    by (suc zero) less = (and_parts (fits_in saved.profile saved.phase saved.guest saved.exec.units 1) _ later).0
+    by (suc (suc zero)) less = (and_parts (fits_in saved.profile saved.phase saved.guest saved.exec.units 2) (fits_in saved.profile saved.phase saved.guest saved.exec.units 3) last).0
+    by (suc (suc (suc zero))) less = (and_parts (fits_in saved.profile saved.phase saved.guest saved.exec.units 2) (fits_in saved.profile saved.phase saved.guest saved.exec.units 3) last).1
+    by (suc (suc (suc (suc u)))) less = absurd (omega (arith, less))
+
+pub restored_fits : (saved : Saved) (old : PortState) (result : Result Unit RestoreError) (new : PortState)
+    → RestoreEffect saved old result new → fits_controller saved ≡ true → FitsController old → FitsController new
+restored_fits saved old (Ok done) new effect fit fits =
+    let drives = (and_parts (has_commands saved.exec) (units_fit saved.exec.units (infos_of old.exec.units)) effect.0.drives).1 in
+    subst FitsController (sym effect.1) (record {
+      numbers = (and_parts (numbers_fit saved.profile) _ fit).0;
+      units = λ u less. rw (restored_info saved.exec.units old.exec.units drives u) (saved_at saved fit u less);
+    })
+restored_fits saved old (Err cause) new effect fit fits = subst FitsController (sym effect.1) fits
+
+-- ---- a saved controller
+
+saved_info : (units : Units) (u : ℕ) → get_or (infos_of units) u None ≡ info_at (slice_get units u)
+saved_info [] u = refl
+saved_info (None ∷ units) zero = refl
+saved_info (Some unit ∷ units) zero = refl
+saved_info (x ∷ units) (suc u) = saved_info units u
+
+abbrev saved_in : PortState → ℕ → Bool
+saved_in port u =
+    fits_in port.profile port.phase port.guest (infos_of port.exec.units) u
+
+saved_unit : (port : PortState) → FitsController port → (u : ℕ) → u < 4 → saved_in port u ≡ true
+saved_unit port fits u less = rw (saved_info port.exec.units u) (fits.units u less)
+
+pub saved_fits : (port : PortState) → FitsController port → fits_controller (saved_port port) ≡ true
+saved_fits port fits =
+    and_from (numbers_fit port.profile) _ fits.numbers
+    (and_from (saved_in port 0) _ (saved_unit port fits 0 (omega arith))
+    (and_from (saved_in port 1) _ (saved_unit port fits 1 (omega arith))
+    (and_from (saved_in port 2) (saved_in port 3)
+    (saved_unit port fits 2 (omega arith)) (saved_unit port fits 3 (omega arith)))))

@@ -1,0 +1,484 @@
+-- The invariant of a port after a change of its phase.
+use Rattle.std.proofs.Common.{◌≡◌, ◌≢◌, ℕ, ◌+◌, ◌*◌, ◌≤◌, ◌<◌, ◌⊎◌, inl, inr, true, false, List, refl, sym, ap, subst, ◌∙◌, arith}
+use Rattle.std.specs.Prelude.{not}
+use Rattle.std.proofs.lemmas.Bool.{and_from, lt-ltb, true≢false}
+use Rattle.uda_packet.specs.declared.guest_end.Identity.{Identity}
+use Rattle.uda_port.specs.declared.interrupt.Interrupts.{Interrupts}
+use Rattle.uda_port.specs.declared.phase.Fatal.{Fatal}
+use Rattle.uda_port.specs.declared.phase.Fatal.TheVariants.{RingWrite, InitializationError, RingRead, PacketRead, InvalidConnection, CreditsExceeded}
+use Rattle.uda_port.specs.declared.phase.Phase.{Phase}
+use Rattle.uda_port.specs.declared.phase.Phase.TheVariants.{Step1, Step2, Step3, Wrap, PurgeTest, PollTest, Step4, Running, Dead}
+use Rattle.uda_port.specs.declared.port.Port.TheInside.{Inside}
+use Rattle.uda_port.specs.declared.profile.Profile.{Profile}
+use Rattle.uda_port.specs.declared.profile.Profile.TheVariants.{Strict, Compatible}
+use Rattle.uda_port.specs.Interrupt.{raised_by_step, raised, interrupts_asked}
+use Rattle.uda_port.specs.PortInvariant.{PortInvariant}
+use Rattle.uda_port.specs.Port.{PortState, port_after_ip_read}
+use Rattle.uda_port.specs.Possible.{is_of_turn, has_run, has_rings, is_first_word, has_phase, CanDie, is_step_3, can_interrupt, rings_fit, addresses_by, guest_fits}
+use Rattle.uda_port.specs.Ring.{RingState}
+use Rattle.uda_port.specs.Startup.{has_bit, refuses_second, refuses_third, asks_test, after_sa_write}
+use Rattle.uda_port.proofs.PossibleLaws.{same_rings, same_guest, by_death, by_step, by_first_word, by_third_word, by_go, go_rings, go_guest, no_rest, rings_set}
+
+-- the port goes from one phase to another, in which it has the same rings and has run or not as before
+pub record StepsTo (profile : Profile) (phase next : Phase) : Type 0 where
+  pub is_phase : has_phase profile next ≡ true
+  pub rings : has_rings next ≡ has_rings phase
+  pub run : has_run next ≡ has_run phase
+
+pub steps : {S : Type 0} (p : Inside S) (next : Phase) (i : Interrupts) → StepsTo p.profile p.phase next
+    → can_interrupt p.profile next i ≡ true → PortInvariant p
+    → PortInvariant (record p { phase = next; interrupts = i })
+steps p next i to can is = record {
+  room = is.room;
+  credits = is.credits;
+  conserved = is.conserved;
+  four_units = is.four_units;
+  well_formed = is.well_formed;
+  ordered = is.ordered;
+  begun = is.begun;
+  strict = is.strict;
+  possible = record {
+    phase = to.is_phase;
+    interrupts = can;
+    rings = same_rings p.profile p.phase next p.responses p.commands to.rings to.run is.possible.rings;
+    guest = same_guest p.profile p.phase next p.guest to.run is.possible.guest;
+    queue = is.possible.queue;
+    no_work = λ not_run. is.possible.no_work (sym to.run ∙ not_run);
+  };
+}
+
+-- ---- death
+
+pub dies : {S : Type 0} (p : Inside S) (cause : Fatal) → CanDie p.profile p.phase cause → PortInvariant p
+    → PortInvariant (record p { phase = Dead cause; interrupts = raised p.profile p.interrupts })
+dies p cause can is =
+    steps p (Dead cause) (raised p.profile p.interrupts)
+    (record { is_phase = can.fatal; rings = sym can.rings; run = sym can.ran })
+    (by_death p.profile p.phase cause p.interrupts is.possible.interrupts) is
+
+-- before the third word a strict port can die of a feature that it doesn't have, and any port of its rings
+pub dies_strictly : (phase : Phase) → has_rings phase ≡ false → has_run phase ≡ false
+    → CanDie Strict phase InitializationError
+dies_strictly phase rings run = record { fatal = refl; ran = run; rings = rings }
+
+has_ring_fault : (profile : Profile) → has_phase profile (Dead RingWrite) ≡ true
+has_ring_fault Strict = refl
+has_ring_fault (Compatible identity) = refl
+
+pub dies_of_rings : (profile : Profile) (phase : Phase) → has_rings phase ≡ false → has_run phase ≡ false
+    → CanDie profile phase RingWrite
+dies_of_rings profile phase rings run = record { fatal = has_ring_fault profile; ran = run; rings = rings }
+
+-- ---- the first word
+
+first_accepted : (profile : Profile) (word : ℕ) → is_first_word word ≡ true → has_phase profile (Step2 word) ≡ true
+first_accepted Strict word is = is
+first_accepted (Compatible identity) word is = is
+
+pub takes_first : {S : Type 0} (p : Inside S) (word : ℕ) → p.phase ≡ Step1 → has_bit word 15 ≡ true
+    → has_bit word 14 ≡ false → PortInvariant p
+    → PortInvariant (record p {
+      phase = Step2 word;
+      interrupts = raised_by_step p.profile (interrupts_asked p.profile p.interrupts word);
+    })
+takes_first p word step one two is =
+    let silent = subst (λ (q : Phase). can_interrupt p.profile q p.interrupts ≡ true) step is.possible.interrupts in
+    steps p (Step2 word) _
+    (record {
+      is_phase = first_accepted p.profile word (and_from (has_bit word 15) (not (has_bit word 14)) one (ap not two));
+      rings = sym (ap has_rings step);
+      run = sym (ap has_run step);
+    })
+    (by_step p.profile (Step2 word) (interrupts_asked p.profile p.interrupts word)
+    (by_first_word p.profile word p.interrupts silent)) is
+
+-- wrap mode, which only a compatible port has
+has_wrap : (profile : Profile) (word : ℕ) (identity : Identity) → profile ≡ Compatible identity
+    → has_phase profile (Wrap word) ≡ true
+has_wrap Strict word identity is = absurd (cc)
+has_wrap (Compatible other) word identity is = refl
+
+silent_in_wrap : (profile : Profile) (word : ℕ) (i : Interrupts) → can_interrupt profile Step1 i ≡ true
+    → can_interrupt profile (Wrap word) i ≡ true
+silent_in_wrap Strict word i is = is
+silent_in_wrap (Compatible identity) word i is = is
+
+pub wraps : {S : Type 0} (p : Inside S) (word : ℕ) (identity : Identity) → p.phase ≡ Step1
+    → p.profile ≡ Compatible identity → PortInvariant p
+    → PortInvariant (record p { phase = Wrap word })
+wraps p word identity step guest is =
+    let silent = subst (λ (q : Phase). can_interrupt p.profile q p.interrupts ≡ true) step is.possible.interrupts in
+    steps p (Wrap word) p.interrupts
+    (record {
+      is_phase = has_wrap p.profile word identity guest;
+      rings = sym (ap has_rings step);
+      run = sym (ap has_run step);
+    })
+    (silent_in_wrap p.profile word p.interrupts silent) is
+
+wrap_again : (profile : Profile) (before word : ℕ) → has_phase profile (Wrap before) ≡ true
+    → has_phase profile (Wrap word) ≡ true
+wrap_again Strict before word is = is
+wrap_again (Compatible identity) before word is = is
+
+silent_again : (profile : Profile) (before word : ℕ) (i : Interrupts) → can_interrupt profile (Wrap before) i ≡ true
+    → can_interrupt profile (Wrap word) i ≡ true
+silent_again Strict before word i is = is
+silent_again (Compatible identity) before word i is = is
+
+pub wraps_again : {S : Type 0} (p : Inside S) (before word : ℕ) → p.phase ≡ Wrap before → PortInvariant p
+    → PortInvariant (record p { phase = Wrap word })
+wraps_again p before word step is =
+    let silent = subst (λ (q : Phase). can_interrupt p.profile q p.interrupts ≡ true) step is.possible.interrupts in
+    steps p (Wrap word) p.interrupts
+    (record {
+      is_phase = wrap_again p.profile before word (subst (λ (q : Phase). has_phase p.profile q ≡ true) step is.possible.phase);
+      rings = sym (ap has_rings step);
+      run = sym (ap has_run step);
+    })
+    (silent_again p.profile before word p.interrupts silent) is
+
+-- ---- the second word
+
+second_accepted : (profile : Profile) (first second : ℕ) → has_phase profile (Step2 first) ≡ true
+    → refuses_second profile second ≡ false → has_phase profile (Step3 first second) ≡ true
+second_accepted Strict first second is taken = and_from (is_first_word first) (not (has_bit second 0)) is (ap not taken)
+second_accepted (Compatible identity) first second is taken = is
+
+same_settings : (profile : Profile) (first second : ℕ) (i : Interrupts) → can_interrupt profile (Step2 first) i ≡ true
+    → can_interrupt profile (Step3 first second) i ≡ true
+same_settings Strict first second i is = is
+same_settings (Compatible identity) first second i is = is
+
+pub takes_second : {S : Type 0} (p : Inside S) (first word : ℕ) → p.phase ≡ Step2 first
+    → refuses_second p.profile word ≡ false → PortInvariant p
+    → PortInvariant (record p { phase = Step3 first word; interrupts = raised_by_step p.profile p.interrupts })
+takes_second p first word step taken is =
+    let asked = subst (λ (q : Phase). can_interrupt p.profile q p.interrupts ≡ true) step is.possible.interrupts in
+    let was = subst (λ (q : Phase). has_phase p.profile q ≡ true) step is.possible.phase in
+    steps p (Step3 first word) _
+    (record {
+      is_phase = second_accepted p.profile first word was taken;
+      rings = sym (ap has_rings step);
+      run = sym (ap has_run step);
+    })
+    (by_step p.profile (Step3 first word) p.interrupts (same_settings p.profile first word p.interrupts asked)) is
+
+-- ---- the tests
+
+poll_follows : (profile : Profile) → has_phase profile PurgeTest ≡ true → has_phase profile PollTest ≡ true
+poll_follows Strict is = is
+poll_follows (Compatible identity) is = is
+
+poll_interrupts : (profile : Profile) (i : Interrupts) → can_interrupt profile PurgeTest i ≡ true
+    → can_interrupt profile PollTest i ≡ true
+poll_interrupts Strict i is = is
+poll_interrupts (Compatible identity) i is = is
+
+pub passes_purge : {S : Type 0} (p : Inside S) → p.phase ≡ PurgeTest → PortInvariant p
+    → PortInvariant (record p { phase = PollTest })
+passes_purge p step is =
+    let may = subst (λ (q : Phase). can_interrupt p.profile q p.interrupts ≡ true) step is.possible.interrupts in
+    let was = subst (λ (q : Phase). has_phase p.profile q ≡ true) step is.possible.phase in
+    steps p PollTest p.interrupts
+    (record { is_phase = poll_follows p.profile was; rings = sym (ap has_rings step); run = sym (ap has_run step) })
+    (poll_interrupts p.profile p.interrupts may) is
+
+has_step_4 : (profile : Profile) → has_phase profile Step4 ≡ true
+has_step_4 Strict = refl
+has_step_4 (Compatible identity) = refl
+
+step_4_interrupts : (profile : Profile) (i : Interrupts) → can_interrupt profile PollTest i ≡ true
+    → can_interrupt profile Step4 i ≡ true
+step_4_interrupts Strict i is = is
+step_4_interrupts (Compatible identity) i is = is
+
+pub passes_poll : {S : Type 0} (p : Inside S) → p.phase ≡ PollTest → PortInvariant p
+    → PortInvariant (record p { phase = Step4; interrupts = raised_by_step p.profile p.interrupts })
+passes_poll p step is =
+    let may = subst (λ (q : Phase). can_interrupt p.profile q p.interrupts ≡ true) step is.possible.interrupts in
+    steps p Step4 _
+    (record { is_phase = has_step_4 p.profile; rings = sym (ap has_rings step); run = sym (ap has_run step) })
+    (by_step p.profile Step4 p.interrupts (step_4_interrupts p.profile p.interrupts may)) is
+
+-- ---- the second and the third word ask for what a strict port doesn't have
+
+pub second_refused : (profile : Profile) (phase : Phase) (first word : ℕ) → phase ≡ Step2 first
+    → refuses_second profile word ≡ true → CanDie profile phase InitializationError
+second_refused Strict phase first word step refused =
+    dies_strictly phase (ap has_rings step) (ap has_run step)
+second_refused (Compatible identity) phase first word step refused = absurd (true≢false (sym refused))
+
+pub third_refused : (profile : Profile) (phase : Phase) (first second word : ℕ) → phase ≡ Step3 first second
+    → refuses_third profile word ≡ true → CanDie profile phase InitializationError
+third_refused Strict phase first second word step refused =
+    dies_strictly phase (ap has_rings step) (ap has_run step)
+third_refused (Compatible identity) phase first second word step refused = absurd (true≢false (sym refused))
+
+pub area_refused : (profile : Profile) (phase : Phase) (first second : ℕ) → phase ≡ Step3 first second
+    → CanDie profile phase RingWrite
+area_refused profile phase first second step = dies_of_rings profile phase (ap has_rings step) (ap has_run step)
+
+-- ---- the third word sets the rings
+
+third_interrupts : (profile : Profile) (phase : Phase) (i : Interrupts) → is_step_3 phase ≡ true
+    → can_interrupt profile phase i ≡ true → can_interrupt profile Step4 i ≡ true
+third_interrupts profile (Step3 first second) i step is = by_third_word profile first second i is
+third_interrupts profile Step1 i step is = absurd (true≢false (sym step))
+third_interrupts profile (Step2 first) i step is = absurd (true≢false (sym step))
+third_interrupts profile (Wrap word) i step is = absurd (true≢false (sym step))
+third_interrupts profile PurgeTest i step is = absurd (true≢false (sym step))
+third_interrupts profile PollTest i step is = absurd (true≢false (sym step))
+third_interrupts profile Step4 i step is = absurd (true≢false (sym step))
+third_interrupts profile Running i step is = absurd (true≢false (sym step))
+third_interrupts profile (Dead cause) i step is = absurd (true≢false (sym step))
+
+not_run_in_3 : (phase : Phase) → is_step_3 phase ≡ true → has_run phase ≡ false
+not_run_in_3 (Step3 first second) step = refl
+not_run_in_3 Step1 step = refl
+not_run_in_3 (Step2 first) step = refl
+not_run_in_3 (Wrap word) step = refl
+not_run_in_3 PurgeTest step = refl
+not_run_in_3 PollTest step = refl
+not_run_in_3 Step4 step = refl
+not_run_in_3 Running step = absurd (true≢false (sym step))
+not_run_in_3 (Dead cause) step = absurd (true≢false (sym step))
+
+-- two rings that follow the third word
+pub record AreSet (profile : Profile) (responses commands : RingState) : Type 0 where
+  pub above : 4 ≤ responses.base
+  pub within : responses.base < addresses_by profile
+  pub next : commands.base ≡ responses.base + 4 * responses.count
+  pub first : responses.place ≡ 0
+  pub second : commands.place ≡ 0
+
+pub sets_rings : {S : Type 0} (p : Inside S) (next : Phase) (i : Interrupts) (responses commands : RingState)
+    → is_step_3 p.phase ≡ true → AreSet p.profile responses commands
+    → (has_phase p.profile next ≡ true) × ((has_run next ≡ false) × (can_interrupt p.profile next i ≡ true))
+    → rings_fit p.profile next responses commands ≡ true → PortInvariant p
+    → PortInvariant (record p { phase = next; interrupts = i; responses = responses; commands = commands })
+sets_rings p next i responses commands step set to fit is = record {
+  room = is.room;
+  credits = is.credits;
+  conserved = is.conserved;
+  four_units = is.four_units;
+  well_formed = is.well_formed;
+  ordered = omega (arith, set.next);
+  begun = is.begun;
+  strict = is.strict;
+  possible = record {
+    phase = to.0;
+    interrupts = to.1.1;
+    rings = fit;
+    guest = same_guest p.profile p.phase next p.guest (to.1.0 ∙ sym (not_run_in_3 p.phase step)) is.possible.guest;
+    queue = is.possible.queue;
+    no_work = λ not_run. is.possible.no_work (not_run_in_3 p.phase step);
+  };
+}
+
+set_fit : (profile : Profile) (responses commands : RingState) → AreSet profile responses commands
+    → rings_fit profile Step4 responses commands ≡ true
+set_fit profile responses commands set =
+    rings_set profile responses commands set.above (lt-ltb _ _ set.within) set.next set.first set.second
+
+pub enters_step_4 : {S : Type 0} (p : Inside S) (responses commands : RingState) → is_step_3 p.phase ≡ true
+    → AreSet p.profile responses commands → PortInvariant p
+    → PortInvariant (record p {
+      phase = Step4;
+      interrupts = raised_by_step p.profile p.interrupts;
+      responses = responses;
+      commands = commands;
+    })
+enters_step_4 p responses commands step set is =
+    sets_rings p Step4 _ responses commands step set (
+      has_step_4 p.profile,
+      (
+        refl,
+        by_step p.profile Step4 p.interrupts
+            (third_interrupts p.profile p.phase p.interrupts step is.possible.interrupts),
+      ),
+    )
+    (set_fit p.profile responses commands set) is
+
+-- a port that tests is compatible
+tests : (profile : Profile) (word : ℕ) → asks_test profile word ≡ true → has_phase profile PurgeTest ≡ true
+tests Strict word asks = absurd (true≢false (sym asks))
+tests (Compatible identity) word asks = refl
+
+test_interrupts : (profile : Profile) (i : Interrupts) → can_interrupt profile Step4 i ≡ true
+    → can_interrupt profile PurgeTest i ≡ true
+test_interrupts Strict i is = is
+test_interrupts (Compatible identity) i is = is
+
+pub enters_test : {S : Type 0} (p : Inside S) (responses commands : RingState) (word : ℕ)
+    → is_step_3 p.phase ≡ true → AreSet p.profile responses commands → asks_test p.profile word ≡ true
+    → PortInvariant p
+    → PortInvariant (record p { phase = PurgeTest; responses = responses; commands = commands })
+enters_test p responses commands word step set asks is =
+    sets_rings p PurgeTest p.interrupts responses commands step set (
+      tests p.profile word asks,
+      (
+        refl,
+        test_interrupts p.profile p.interrupts
+            (third_interrupts p.profile p.phase p.interrupts step is.possible.interrupts),
+      ),
+    )
+    (set_fit p.profile responses commands set) is
+
+-- ---- a running port
+
+pub polls : {S : Type 0} (p : Inside S) → p.phase ≡ Running → PortInvariant p → PortInvariant (record p { polling = true })
+polls p runs is = record {
+  room = is.room;
+  credits = is.credits;
+  conserved = is.conserved;
+  four_units = is.four_units;
+  well_formed = is.well_formed;
+  ordered = is.ordered;
+  begun = is.begun;
+  strict = is.strict;
+  possible = record {
+    phase = is.possible.phase;
+    interrupts = is.possible.interrupts;
+    rings = is.possible.rings;
+    guest = is.possible.guest;
+    queue = is.possible.queue;
+    no_work = λ not_run. absurd (no_rest p.phase runs not_run);
+  };
+}
+
+pub stops_polling : {S : Type 0} (p : Inside S) → PortInvariant p → PortInvariant (record p { polling = false })
+stops_polling p is = record {
+  room = is.room;
+  credits = is.credits;
+  conserved = is.conserved;
+  four_units = is.four_units;
+  well_formed = is.well_formed;
+  ordered = is.ordered;
+  begun = is.begun;
+  strict = is.strict;
+  possible = record {
+    phase = is.possible.phase;
+    interrupts = is.possible.interrupts;
+    rings = is.possible.rings;
+    guest = is.possible.guest;
+    queue = is.possible.queue;
+    no_work = λ not_run.
+        let none = is.possible.no_work not_run in
+        record {
+          not_polling = refl;
+          none_delivered = none.none_delivered;
+          none_pending = none.none_pending;
+          none_waiting = none.none_waiting;
+          at_first = none.at_first;
+        };
+  };
+}
+
+has_running : (profile : Profile) → has_phase profile Running ≡ true
+has_running Strict = refl
+has_running (Compatible identity) = refl
+
+pub goes : {S : Type 0} (p : Inside S) → p.phase ≡ Step4 → PortInvariant p
+    → PortInvariant (record p { phase = Running })
+goes p step is = record {
+  room = is.room;
+  credits = is.credits;
+  conserved = is.conserved;
+  four_units = is.four_units;
+  well_formed = is.well_formed;
+  ordered = is.ordered;
+  begun = is.begun;
+  strict = is.strict;
+  possible = record {
+    phase = has_running p.profile;
+    interrupts = by_go p.profile p.interrupts
+        (subst (λ (q : Phase). can_interrupt p.profile q p.interrupts ≡ true) step is.possible.interrupts);
+    rings = go_rings p.profile p.responses p.commands
+        (subst (λ (q : Phase). rings_fit p.profile q p.responses p.commands ≡ true) step is.possible.rings);
+    guest = go_guest p.profile p.guest
+        (subst (λ (q : Phase). guest_fits p.profile q p.guest ≡ true) step is.possible.guest);
+    queue = is.possible.queue;
+    no_work = λ not_run. absurd (true≢false not_run);
+  };
+}
+
+-- ---- a read of IP that changes nothing
+
+pub ignores_read : (phase : Phase) (old : PortState) → phase ≢ PollTest → phase ≢ Running
+    → port_after_ip_read phase old ≡ old
+ignores_read PollTest old not_poll not_running = absurd (not_poll refl)
+ignores_read Running old not_poll not_running = absurd (not_running refl)
+ignores_read Step1 old not_poll not_running = refl
+ignores_read (Step2 first) old not_poll not_running = refl
+ignores_read (Step3 first second) old not_poll not_running = refl
+ignores_read (Wrap word) old not_poll not_running = refl
+ignores_read PurgeTest old not_poll not_running = refl
+ignores_read Step4 old not_poll not_running = refl
+ignores_read (Dead cause) old not_poll not_running = refl
+
+-- ---- a word that changes nothing
+
+abbrev TakesNoWord : Phase → Type 0
+TakesNoWord phase = (phase ≡ PollTest) ⊎ ((phase ≡ Running) ⊎ ((cause : Fatal) × (phase ≡ Dead cause)))
+
+takes_one : (phase : Phase) → phase ≢ PollTest → phase ≢ Running → ((cause : Fatal) → phase ≢ Dead cause)
+    → TakesNoWord phase → ⊥
+takes_one phase one two three (inl is) = one is
+takes_one phase one two three (inr (inl is)) = two is
+takes_one phase one two three (inr (inr dead)) = three dead.0 dead.1
+
+pub ignores_word : (phase : Phase) (old : PortState) (memory : List ℕ) (word : ℕ) → TakesNoWord phase
+    → after_sa_write phase old memory word ≡ (old, memory)
+ignores_word PollTest old memory word is = refl
+ignores_word Running old memory word is = refl
+ignores_word (Dead cause) old memory word is = refl
+ignores_word Step1 old memory word is =
+    absurd (takes_one Step1 (λ no. absurd (cc)) (λ no. absurd (cc)) (λ cause no. absurd (cc)) is)
+ignores_word (Step2 first) old memory word is =
+    absurd (takes_one (Step2 first) (λ no. absurd (cc)) (λ no. absurd (cc)) (λ cause no. absurd (cc)) is)
+ignores_word (Step3 first second) old memory word is =
+    absurd (takes_one (Step3 first second) (λ no. absurd (cc)) (λ no. absurd (cc)) (λ cause no. absurd (cc)) is)
+ignores_word (Wrap before) old memory word is =
+    absurd (takes_one (Wrap before) (λ no. absurd (cc)) (λ no. absurd (cc)) (λ cause no. absurd (cc)) is)
+ignores_word PurgeTest old memory word is =
+    absurd (takes_one PurgeTest (λ no. absurd (cc)) (λ no. absurd (cc)) (λ cause no. absurd (cc)) is)
+ignores_word Step4 old memory word is =
+    absurd (takes_one Step4 (λ no. absurd (cc)) (λ no. absurd (cc)) (λ cause no. absurd (cc)) is)
+
+-- ---- the fatal errors of a turn
+
+runs_into : (profile : Profile) (phase : Phase) (cause : Fatal) → phase ≡ Running → is_of_turn cause ≡ true
+    → has_phase profile (Dead cause) ≡ true → CanDie profile phase cause
+runs_into profile phase cause runs of_turn fatal = record {
+  fatal = fatal;
+  ran = ap has_run runs ∙ sym of_turn;
+  rings = ap has_rings runs ∙ sym of_turn;
+}
+
+any_ring_read : (profile : Profile) → has_phase profile (Dead RingRead) ≡ true
+any_ring_read Strict = refl
+any_ring_read (Compatible identity) = refl
+
+any_packet_read : (profile : Profile) → has_phase profile (Dead PacketRead) ≡ true
+any_packet_read Strict = refl
+any_packet_read (Compatible identity) = refl
+
+any_connection : (profile : Profile) → has_phase profile (Dead InvalidConnection) ≡ true
+any_connection Strict = refl
+any_connection (Compatible identity) = refl
+
+pub reads_no_ring : (profile : Profile) (phase : Phase) → phase ≡ Running → CanDie profile phase RingRead
+reads_no_ring profile phase runs = runs_into profile phase RingRead runs refl (any_ring_read profile)
+
+pub reads_no_packet : (profile : Profile) (phase : Phase) → phase ≡ Running → CanDie profile phase PacketRead
+reads_no_packet profile phase runs = runs_into profile phase PacketRead runs refl (any_packet_read profile)
+
+pub finds_no_connection : (profile : Profile) (phase : Phase) → phase ≡ Running
+    → CanDie profile phase InvalidConnection
+finds_no_connection profile phase runs = runs_into profile phase InvalidConnection runs refl (any_connection profile)
+
+pub exceeds_credits : (profile : Profile) (phase : Phase) → phase ≡ Running → profile ≡ Strict
+    → CanDie profile phase CreditsExceeded
+exceeds_credits profile phase runs strict =
+    runs_into profile phase CreditsExceeded runs refl (ap (λ (p : Profile). has_phase p (Dead CreditsExceeded)) strict)

@@ -16,7 +16,7 @@ $(built)/$(shared): $(built)/libuda50.a $(top)/c/uda50.map
 		-Wl,--whole-archive $(built)/libuda50.a -Wl,--no-whole-archive
 
 # Written at each install, since PREFIX may be another.
-$(built)/uda50.pc: FORCE
+$(built)/uda50.pc: $(built)/libuda50.a FORCE
 	printf '%s\n' 'prefix=$(PREFIX)' 'includedir=$${prefix}/include' 'libdir=$${prefix}/lib' '' \
 		'Name: uda50' 'Description: a UDA50 disk controller, $(how)' 'Version: $(version)' \
 		'Cflags: -I$${includedir}' 'Libs: -L$${libdir} -luda50' > $@

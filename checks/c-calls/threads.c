@@ -55,7 +55,7 @@ IN_LOCKSTEP(int, fstat, (int descriptor, struct stat *status), (descriptor, stat
 IN_LOCKSTEP(void *, mmap, (void *at, size_t length, int access, int flags, int descriptor, off_t from),
             (at, length, access, flags, descriptor, from))
 IN_LOCKSTEP(int, munmap, (void *at, size_t length), (at, length))
-/* (without the wait for the disk) */
+/* MS_ASYNC instead of MS_SYNC, so that the test doesn't wait for the disk. */
 IN_LOCKSTEP(int, msync, (void *at, size_t length, int flags), (at, length, flags == MS_SYNC ? MS_ASYNC : flags))
 
 /* ---- Work ---- */

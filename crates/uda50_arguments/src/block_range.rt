@@ -1,6 +1,8 @@
 //! Ranges of blocks.
 ghost use Rattle.std.specs.Prelude.{◌≡◌, ◌+◌, ◌<◌, ◌≤◌, ◌↔◌, IfSome, IsTrue, IsSome};
 
+use crate::block_number::BlockNumber;
+
 /// A range of blocks, never empty.
 #[derive(Clone, Copy, Debug, PartialEq, Eq)]
 pub struct BlockRange {
@@ -16,7 +18,9 @@ impl BlockRange {
         ensures nonempty { IfSome result (λ range. range.start < range.end) }
     {
         let (start, end) = text.split_once("..")?;
-        BlockRange::between(start.parse().ok()?, end.parse().ok()?)
+        let BlockNumber(start) = start.parse().ok()?;
+        let BlockNumber(end) = end.parse().ok()?;
+        BlockRange::between(start, end)
     }
 
     /// Returns the blocks from `start` to `end` - 1, or `None` if there are none.

@@ -1,5 +1,6 @@
 //! The verbs with their arguments.
 
+use crate::block_number::MAX_BLOCKS;
 use crate::verbs::{Argument, Flag, Form, OptionValue, Positional, Verb, verbs};
 use clap::builder::ValueParser;
 use clap::{Arg, ArgAction, ArgGroup, Command, value_parser};
@@ -8,17 +9,39 @@ use std::alloc::{AllocError, Global};
 /// The version that `--version` prints.
 const PROGRAM_VERSION: &str = "0.1.0";
 
-/// The most blocks of an image.
-const MAX_BLOCKS: i64 = 2_147_483_647;
+const AFTER_HELP: &str = "Exit status: 0 if all is well, 1 after a fault, 2 for wrong arguments, \
+    3 if a request failed\n\nThe lines of a script: uda50 help script";
 
-const STATUSES: &str = "Exit status: 0 if all is well, 1 after a fault, 2 for wrong arguments, \
-    3 if a request failed";
+/// The values that options and arguments take.
+#[derive(Clone, Copy)]
+pub(crate) struct Values<'w> {
+    /// The names of the drive types.
+    pub(crate) drives: &'w [&'w str],
+    /// The numbers.
+    pub(crate) numbers: Numbers,
+}
 
-/// Builds the whole command line. `drives` are the names of the drive types.
-pub(crate) fn grammar<'w>(alloc: Global, drives: &'w [&'w str]) -> Result<Command<'w>, AllocError> {
+impl<'w> Values<'w> {
+    /// Makes the values with these names of drive types, and these numbers.
+    pub(crate) fn new(drives: &'w [&'w str], numbers: Numbers) -> Values<'w> {
+        Values { drives, numbers }
+    }
+}
+
+/// The texts that are taken for a number of blocks.
+#[derive(Clone, Copy)]
+pub(crate) enum Numbers {
+    /// A number in decimal, within its range.
+    Decimal,
+    /// Any text. The reader of the arguments judges it.
+    Any,
+}
+
+/// Builds the whole command line.
+pub(crate) fn grammar<'w>(alloc: Global, values: Values<'w>) -> Result<Command<'w>, AllocError> {
     let mut grammars = Vec::new(alloc);
     for verb in verbs() {
-        push_verb(alloc, &mut grammars, verb, drives)?;
+        push_verb(alloc, &mut grammars, verb, values)?;
     }
     program(alloc).subcommands(grammars)
 }
@@ -28,7 +51,7 @@ fn program<'w>(alloc: Global) -> Command<'w> {
     Command::new(alloc, "uda50")
         .version(PROGRAM_VERSION)
         .about("Works on disk images through a simulated DEC UDA50 disk controller")
-        .after_help(STATUSES)
+        .after_help(AFTER_HELP)
         .subcommand_required(true)
         .arg_required_else_help(true)
 }
@@ -38,19 +61,19 @@ fn push_verb<'w>(
     alloc: Global,
     grammars: &mut Vec<Command<'w>>,
     verb: &Verb,
-    drives: &'w [&'w str],
+    values: Values<'w>,
 ) -> Result<(), AllocError> {
-    let grammar = verb_grammar(alloc, verb, drives)?;
+    let grammar = verb_grammar(alloc, verb, values)?;
     grammars.push(grammar).map_err(AllocError::from)
 }
 
-/// Builds a verb. `drives` are the names of the drive types.
+/// Builds a verb.
 pub(crate) fn verb_grammar<'w>(
     alloc: Global,
     verb: &Verb,
-    drives: &'w [&'w str],
+    values: Values<'w>,
 ) -> Result<Command<'w>, AllocError> {
-    let arguments = arguments(alloc, verb, drives)?;
+    let arguments = arguments(alloc, verb, values)?;
     let groups = groups(alloc, verb)?;
     let command = with_arguments(alloc, verb, arguments)?;
     command.groups(groups)
@@ -86,11 +109,11 @@ fn size<'w>(alloc: Global) -> Result<ArgGroup<'w>, AllocError> {
 fn arguments<'w>(
     alloc: Global,
     verb: &Verb,
-    drives: &'w [&'w str],
+    values: Values<'w>,
 ) -> Result<Vec<Arg<'w>>, AllocError> {
     let mut arguments = Vec::new(alloc);
     for argument in verb.arguments {
-        push_argument(alloc, &mut arguments, argument, drives)?;
+        push_argument(alloc, &mut arguments, argument, values)?;
     }
     Ok(arguments)
 }
@@ -100,9 +123,9 @@ fn push_argument<'w>(
     alloc: Global,
     arguments: &mut Vec<Arg<'w>>,
     argument: &Argument,
-    drives: &'w [&'w str],
+    values: Values<'w>,
 ) -> Result<(), AllocError> {
-    let argument = argument_grammar(alloc, argument, drives)?;
+    let argument = argument_grammar(alloc, argument, values)?;
     arguments.push(argument).map_err(AllocError::from)
 }
 
@@ -110,22 +133,31 @@ fn push_argument<'w>(
 fn argument_grammar<'w>(
     alloc: Global,
     argument: &Argument,
-    drives: &'w [&'w str],
+    values: Values<'w>,
 ) -> Result<Arg<'w>, AllocError> {
     match &argument.form {
-        Form::Positional(form) => Ok(positional(alloc, argument, form)),
+        Form::Positional(form) => positional(alloc, argument, form, values.numbers),
         Form::Flag(form) => flag(alloc, argument, form),
-        Form::Option(name, value) => Ok(option(alloc, argument, name, value, drives)),
+        Form::Option(name, value) => Ok(option(alloc, argument, name, value, values)),
     }
 }
 
 // Builds an argument that is known by its place.
-fn positional<'w>(alloc: Global, argument: &Argument, form: &Positional) -> Arg<'w> {
+fn positional<'w>(
+    alloc: Global,
+    argument: &Argument,
+    form: &Positional,
+    numbers: Numbers,
+) -> Result<Arg<'w>, AllocError> {
+    let described = described(alloc, argument);
     match form {
-        Positional::Value => described(alloc, argument).required(true),
-        Positional::Values { most } => values(described(alloc, argument), *most),
-        Positional::ValueOr(default) => described(alloc, argument).default_value(default),
-        Positional::Number { least } => number(described(alloc, argument), *least),
+        Positional::Value => Ok(described.required(true)),
+        Positional::Values { most } => Ok(several(described, *most).required(true)),
+        Positional::ValuesUnless { most, option } => {
+            several(described, *most).required_unless_present(option)
+        }
+        Positional::ValueOr(default) => Ok(described.default_value(default)),
+        Positional::Number { least } => Ok(number(described, *least, numbers)),
     }
 }
 
@@ -134,11 +166,9 @@ fn described<'w>(alloc: Global, argument: &Argument) -> Arg<'w> {
     Arg::new(alloc, argument.name).help(argument.help)
 }
 
-// Makes an argument required, with values up to a number of them.
-fn values<'w>(arg: Arg<'w>, most: usize) -> Arg<'w> {
-    arg.required(true)
-        .num_args(1..=most)
-        .action(ArgAction::Append)
+// Gives an argument values up to a number of them.
+fn several<'w>(arg: Arg<'w>, most: usize) -> Arg<'w> {
+    arg.num_args(1..=most).action(ArgAction::Append)
 }
 
 // Builds an option without a value.
@@ -173,12 +203,12 @@ fn option<'w>(
     argument: &Argument,
     name: &'w str,
     value: &OptionValue,
-    drives: &'w [&'w str],
+    values: Values<'w>,
 ) -> Arg<'w> {
     match value {
         OptionValue::Text => with_value_name(alloc, argument, name),
-        OptionValue::Drive => one_of(with_value_name(alloc, argument, name), drives),
-        OptionValue::Blocks => number(with_value_name(alloc, argument, name), 1),
+        OptionValue::Drive => one_of(with_value_name(alloc, argument, name), values.drives),
+        OptionValue::Blocks => number(with_value_name(alloc, argument, name), 1, values.numbers),
     }
 }
 
@@ -194,6 +224,11 @@ fn one_of<'w>(arg: Arg<'w>, names: &'w [&'w str]) -> Arg<'w> {
 }
 
 // Makes the value of an argument a number of blocks.
-fn number<'w>(arg: Arg<'w>, least: i64) -> Arg<'w> {
-    arg.value_parser(value_parser!(u32).range(least..=MAX_BLOCKS))
+fn number<'w>(arg: Arg<'w>, least: u32, numbers: Numbers) -> Arg<'w> {
+    match numbers {
+        Numbers::Decimal => arg.value_parser(value_parser!(u32).range(
+            i64::from(least)..=i64::from(MAX_BLOCKS),
+        )),
+        Numbers::Any => arg,
+    }
 }

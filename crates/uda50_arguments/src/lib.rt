@@ -1,6 +1,7 @@
 //! The command line of the program `uda50`: the arguments of each verb, and the task that they describe.
 #![tactic(auto)]
 
+mod block_number;
 mod block_range;
 mod grammar;
 mod image_name;

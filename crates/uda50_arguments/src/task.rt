@@ -14,6 +14,8 @@ pub enum Task<'w> {
     Info {
         /// The images.
         images: Vec<ImageName<'w>>,
+        /// Whether the descriptions are JSON.
+        json: bool,
     },
     /// `dump`: prints blocks.
     Dump(Dump<'w>),
@@ -31,6 +33,8 @@ pub enum Task<'w> {
         /// The images of units 0 to 3; `None` for no drive.
         units: Vec<Option<ImageName<'w>>>,
     },
+    /// `help script`: describes the lines of a script.
+    ScriptHelp,
 }
 
 /// The arguments of `run`.
@@ -44,6 +48,8 @@ pub struct Run<'w> {
     pub names: bool,
     /// Whether only failures are reported.
     pub quiet: bool,
+    /// Whether the script is only checked.
+    pub check: bool,
 }
 
 /// The arguments of `copy`.
@@ -59,8 +65,16 @@ pub struct Copy<'w> {
     pub verify: bool,
     /// Whether to continue after blocks that can't be read.
     pub skips_lost: bool,
+    /// The file for the map of the lost blocks; `None` for the target's name with `.map` after it.
+    pub map: Option<&'w str>,
+    /// Whether an earlier copy is continued.
+    pub resumes: bool,
+    /// Whether blocks of zeros may become holes of the target.
+    pub sparse: bool,
     /// Whether an existing file may be written.
     pub force: bool,
+    /// The device that may be written; `None` for no device.
+    pub device: Option<&'w str>,
 }
 
 /// The arguments of `dump`.
@@ -72,6 +86,8 @@ pub struct Dump<'w> {
     pub blocks: Option<BlockRange>,
     /// The format.
     pub format: DumpFormat,
+    /// Whether rows that repeat are printed too.
+    pub all: bool,
 }
 
 /// The format in which `dump` prints blocks.

@@ -41,12 +41,19 @@ pub(crate) enum Positional {
         /// The number.
         most: usize,
     },
+    /// Values up to a number of them, of which one is required without an option.
+    ValuesUnless {
+        /// The number.
+        most: usize,
+        /// The name of the option.
+        option: &'static str,
+    },
     /// A value with this default.
     ValueOr(&'static str),
     /// A number of blocks, which may be absent.
     Number {
         /// The least number.
-        least: i64,
+        least: u32,
     },
 }
 
@@ -77,12 +84,8 @@ const SCRIPT: Argument = Argument {
     help: "The file with the script, or - for standard input",
 };
 
-/// The argument for the images of `run` and `trace`.
-const UNITS: Argument = Argument {
-    name: "IMAGE",
-    form: Form::Positional(Positional::Values { most: 4 }),
-    help: "The images of units 0 to 3: FILE, lock:FILE to protect it, or - for no drive",
-};
+/// The help of the images of `run` and `trace`.
+const UNITS: &str = "The images of units 0 to 3: FILE, lock:FILE to protect it, or - for no drive";
 
 /// Returns the verbs, in the order of the help.
 pub(crate) fn verbs() -> [&'static Verb; 7] {
@@ -95,7 +98,14 @@ static RUN: Verb = Verb {
     about: "Executes a script of requests on one to four images",
     arguments: &[
         SCRIPT,
-        UNITS,
+        Argument {
+            name: "IMAGE",
+            form: Form::Positional(Positional::ValuesUnless {
+                most: 4,
+                option: "check",
+            }),
+            help: UNITS,
+        },
         Argument {
             name: "names",
             form: Form::Flag(Flag::Long),
@@ -105,6 +115,11 @@ static RUN: Verb = Verb {
             name: "quiet",
             form: Form::Flag(Flag::Short('q')),
             help: "Reports only the requests that failed",
+        },
+        Argument {
+            name: "check",
+            form: Form::Flag(Flag::Long),
+            help: "Only names each mistake of the script; opens no image",
         },
     ],
     needs_size: false,
@@ -118,12 +133,12 @@ pub(crate) static COPY: Verb = Verb {
         Argument {
             name: "FROM",
             form: Form::Positional(Positional::Value),
-            help: "The image to read",
+            help: "The image to read, or - for standard input",
         },
         Argument {
             name: "TO",
             form: Form::Positional(Positional::Value),
-            help: "The image to write",
+            help: "The image to write, or - for standard output",
         },
         Argument {
             name: "blocks",
@@ -141,9 +156,29 @@ pub(crate) static COPY: Verb = Verb {
             help: "Continues after blocks that can't be read, and lists them",
         },
         Argument {
+            name: "map",
+            form: Form::Option("FILE", OptionValue::Text),
+            help: "The ddrescue map of the lost blocks; without it, TO.map",
+        },
+        Argument {
+            name: "resume",
+            form: Form::Flag(Flag::Long),
+            help: "Goes on with a copy that ended early, or tries lost blocks again",
+        },
+        Argument {
+            name: "no-sparse",
+            form: Form::Flag(Flag::Long),
+            help: "Writes blocks of zeros too",
+        },
+        Argument {
             name: "force",
             form: Form::Flag(Flag::Long),
             help: "Writes to TO even if it exists",
+        },
+        Argument {
+            name: "device",
+            form: Form::Option("TO", OptionValue::Text),
+            help: "Writes to TO even if it is a device: name it again",
         },
     ],
     needs_size: false,
@@ -153,11 +188,18 @@ pub(crate) static COPY: Verb = Verb {
 static INFO: Verb = Verb {
     name: "info",
     about: "Prints the size of images, drive types of that size, and what they hold",
-    arguments: &[Argument {
-        name: "IMAGE",
-        form: Form::Positional(Positional::Values { most: usize::MAX }),
-        help: "The images",
-    }],
+    arguments: &[
+        Argument {
+            name: "IMAGE",
+            form: Form::Positional(Positional::Values { most: usize::MAX }),
+            help: "The images",
+        },
+        Argument {
+            name: "json",
+            form: Form::Flag(Flag::Long),
+            help: "Prints a JSON object for each image",
+        },
+    ],
     needs_size: false,
 };
 
@@ -169,7 +211,7 @@ pub(crate) static DUMP: Verb = Verb {
         Argument {
             name: "IMAGE",
             form: Form::Positional(Positional::Value),
-            help: "The image",
+            help: "The image, or - for standard input",
         },
         Argument {
             name: "LBN",
@@ -180,6 +222,11 @@ pub(crate) static DUMP: Verb = Verb {
             name: "COUNT",
             form: Form::Positional(Positional::Number { least: 1 }),
             help: "The number of blocks; without it, 1",
+        },
+        Argument {
+            name: "all",
+            form: Form::Flag(Flag::Short('v')),
+            help: "Prints all rows, also those that repeat",
         },
         Argument {
             name: "octal",
@@ -245,6 +292,13 @@ static DECODE: Verb = Verb {
 static TRACE: Verb = Verb {
     name: "trace",
     about: "Executes a script, and prints each turn of the controller's port",
-    arguments: &[SCRIPT, UNITS],
+    arguments: &[
+        SCRIPT,
+        Argument {
+            name: "IMAGE",
+            form: Form::Positional(Positional::Values { most: 4 }),
+            help: UNITS,
+        },
+    ],
     needs_size: false,
 };

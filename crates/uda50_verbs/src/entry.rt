@@ -10,6 +10,7 @@ use crate::fault::{Fault, Reason};
 use crate::info::info;
 use crate::outcome::Outcome;
 use crate::run::run;
+use crate::script_help::script_help;
 use crate::streams::fill_closed_streams;
 use crate::trace::trace;
 use clap::Error;
@@ -109,12 +110,13 @@ fn perform_with<'w, W: Write + Drop>(
     out: &mut BufWriter<W>,
 ) -> Result<Outcome, Fault<'w>> {
     match task {
-        Task::Info { images } => info(rt, images.as_slice(), out),
+        Task::Info { images, .. } => info(rt, images.as_slice(), out),
         Task::Dump(asked) => dump(rt, asked, out),
         Task::Create(asked) => create(rt, asked),
         Task::Decode { file } => decode(rt, file, out),
         Task::Run(asked) => run(rt, asked),
         Task::Trace { script, units } => trace(rt, script, units.as_slice(), out),
         Task::Copy(asked) => copy(rt, asked),
+        Task::ScriptHelp => script_help(out),
     }
 }

@@ -13,6 +13,7 @@ mod outcome;
 mod progress;
 mod run;
 mod script;
+mod script_help;
 mod streams;
 mod target;
 mod trace;

@@ -1,0 +1,87 @@
+-- Writes to files that end in zeros.
+use Rattle.std.proofs.Common.{◌≡◌, ◌+◌, ◌-◌, ◌<◌, ◌≤◌, ℕ, List, true, Option, Some, None, bytes_eq, length, take, drop, replicate, get_or, IfSome, sym, ap, subst, ◌∙◌, inl, inr, arith, length-drop}
+use Rattle.std.proofs.lemmas.Bool.{cases_lt}
+use Rattle.std.proofs.lemmas.List.{same_lists, get_or-drop, get_or-replicate, take-replicate, length-replicate}
+use Rattle.std.proofs.lemmas.Slice.Eq.{bytes_eq-Decides}
+use Rattle.uda_mem.specs.Put.{put}
+use Rattle.uda_mem.proofs.PutLaws.{length-put, get_or-put_before, get_or-put_at, get_or-put_behind}
+use Rattle.uda50_files.specs.Zeros.{AreZeros, EndsInZeros, SparseState, IsAsSupposed}
+
+-- bytes that are the first of many zeros are zeros
+pub zeros_cut : (bytes : List ℕ) (n : ℕ) → length bytes ≤ n
+    → bytes_eq bytes (take (length bytes) (replicate n 0)) ≡ true → AreZeros bytes
+zeros_cut bytes n fits same =
+    (bytes_eq-Decides bytes (take (length bytes) (replicate n 0))).0 same ∙ take-replicate (length bytes) n 0 fits
+
+-- a byte at the end of such a file
+zero_byte : (size from : ℕ) (bytes : List ℕ) (k d : ℕ) → EndsInZeros size from bytes → from ≤ k → k < length bytes
+    → get_or bytes k d ≡ 0
+zero_byte size from bytes k d ends late below =
+    let rest : length (drop from bytes) ≡ length bytes - from = length-drop from bytes in
+    let place : from + (k - from) ≡ k = omega arith in
+    ap (λ (i : ℕ). get_or bytes i d) (sym place) ∙ sym (get_or-drop from bytes (k - from) d)
+    ∙ ap (λ (xs : List ℕ). get_or xs (k - from) d) ends.zeros
+    ∙ get_or-replicate (length (drop from bytes)) (k - from) 0 d (omega (arith, rest))
+
+zeros_stay : (size from at : ℕ) (bytes zeros : List ℕ) → EndsInZeros size from bytes → from ≤ at
+    → at + length zeros ≤ length bytes → AreZeros zeros → put bytes at zeros ≡ bytes
+zeros_stay size from at bytes zeros ends late within are =
+    same_lists _ _ (length-put bytes at zeros) (λ k d below.
+    let inside : k < length bytes = omega (arith, below, length-put bytes at zeros) in
+    elim (cases_lt k at) [
+      | inl low ↦ get_or-put_before bytes at zeros k d inside low
+      | inr high ↦ elim (cases_lt k (at + length zeros)) [
+        | inl low ↦ get_or-put_at bytes at zeros k d inside high low
+            ∙ ap (λ (xs : List ℕ). get_or xs (k - at) d) are
+            ∙ get_or-replicate (length zeros) (k - at) 0 d (omega arith)
+            ∙ sym (zero_byte size from bytes k d ends (omega arith) inside)
+        | inr past ↦ get_or-put_behind bytes at zeros k d inside past
+      ]
+    ])
+
+zeros_follow : (size from next at : ℕ) (bytes ys : List ℕ) → EndsInZeros size from bytes → from ≤ next
+    → at + length ys ≤ next → at + length ys ≤ length bytes → EndsInZeros size next (put bytes at ys)
+zeros_follow size from next at bytes ys ends later over within =
+    let rest : length (drop next (put bytes at ys)) ≡ length bytes - next
+    = length-drop next (put bytes at ys) ∙ ap (λ (n : ℕ). n - next) (length-put bytes at ys) in
+    record {
+      long = length-put bytes at ys ∙ ends.long;
+      zeros = same_lists _ _ (sym (length-replicate (length (drop next (put bytes at ys))) 0)) (λ k d below.
+          get_or-drop next (put bytes at ys) k d
+          ∙ get_or-put_behind bytes at ys (next + k) d (omega (arith, below, rest)) (omega arith)
+          ∙ zero_byte size from bytes (next + k) d ends (omega arith) (omega (arith, below, rest))
+          ∙ sym (get_or-replicate (length (drop next (put bytes at ys))) k 0 d below));
+    }
+
+-- the same of bytes that may not be known
+keeps : (content : Option (List ℕ)) (size from at : ℕ) (zeros : List ℕ) → IfSome content (EndsInZeros size from)
+    → from ≤ at → AreZeros zeros
+    → IfSome content (λ bytes. at + length zeros ≤ length bytes → put bytes at zeros ≡ bytes)
+keeps (Some bytes) size from at zeros ends late are = λ within. zeros_stay size from at bytes zeros ends late within are
+keeps None size from at zeros ends late are = tt
+
+follows : (content : Option (List ℕ)) (size from next at : ℕ) (ys : List ℕ) → IfSome content (EndsInZeros size from)
+    → from ≤ next → at + length ys ≤ next → at + length ys ≤ size
+    → IfSome content (λ bytes. (at + length ys ≤ length bytes) × EndsInZeros size next (put bytes at ys))
+follows (Some bytes) size from next at ys ends later over within =
+    let inside : at + length ys ≤ length bytes = omega (arith, ends.long) in
+    (inside, zeros_follow size from next at bytes ys ends later over inside)
+follows None size from next at ys ends later over within = tt
+
+pub zeros_held : (file : SparseState) (from at : ℕ) (zeros : List ℕ) → IsAsSupposed file → file.zeros_from ≡ Some from
+    → from ≤ at → AreZeros zeros
+    → IfSome file.content (λ bytes. at + length zeros ≤ length bytes → put bytes at zeros ≡ bytes)
+zeros_held file from at zeros supposed is late are =
+    keeps file.content file.length from at zeros (subst (λ (z : Option ℕ). IfSome z (λ (f : ℕ). IfSome file.content (EndsInZeros file.length f))) is supposed) late are
+
+pub zeros_next : (file : SparseState) (from next at : ℕ) (ys : List ℕ) → IsAsSupposed file → file.zeros_from ≡ Some from
+    → from ≤ next → at + length ys ≤ next → at + length ys ≤ file.length
+    → IfSome file.content (λ bytes. (at + length ys ≤ length bytes) × EndsInZeros file.length next (put bytes at ys))
+zeros_next file from next at ys supposed is later over within =
+    follows file.content file.length from next at ys (subst (λ (z : Option ℕ). IfSome z (λ (f : ℕ). IfSome file.content (EndsInZeros file.length f))) is supposed) later over within
+
+pub ruleset zero_laws = (
+  zeros_cut,
+  zeros_held,
+  zeros_next,
+)

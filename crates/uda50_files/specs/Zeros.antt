@@ -1,0 +1,21 @@
+-- Files that end in zeros.
+use Rattle.std.specs.Prelude.{◌≡◌, ℕ, List, length, drop, replicate, Option, IfSome}
+
+abbrev pub AreZeros : List ℕ → Type 0
+AreZeros bytes = bytes ≡ replicate (length bytes) 0
+
+-- a file: its bytes, if they are known, and what is supposed of it: its length, and an offset from which on all of its
+-- bytes are zeros
+pub record SparseState : Type 0 where
+  pub content : Option (List ℕ)
+  pub length : ℕ
+  pub zeros_from : Option ℕ
+
+-- that many bytes, and only zeros from the offset on
+pub record EndsInZeros (size from : ℕ) (bytes : List ℕ) : Type 0 where
+  pub long : length bytes ≡ size
+  pub zeros : AreZeros (drop from bytes)
+
+-- if the bytes are known, what is supposed of them is true
+abbrev pub IsAsSupposed : SparseState → Type 0
+IsAsSupposed file = IfSome file.zeros_from (λ from. IfSome file.content (EndsInZeros file.length from))

@@ -1,0 +1,14 @@
+//! Files as images of `uda50`: opening, the reasons of failures, and holes.
+#![tactic(auto)]
+
+mod data;
+mod failures;
+mod noting;
+mod open;
+mod sparse;
+
+pub use data::DataBlocks;
+pub use failures::{Failure, Failures};
+pub use noting::NotingFile;
+pub use open::{Access, Image, ImageFile, OpenError, OpenImageFile, growing_image};
+pub use sparse::SparseFile;

@@ -1,0 +1,60 @@
+//! Files that note their failures.
+ghost use Rattle.std.specs.Prelude.{None};
+
+use crate::failures::Failures;
+use std::fs::File;
+use std::io;
+use std::os::unix::fs::FileExt;
+use uda_image::RawFile;
+
+/// A file that notes which calls on it failed, and why. It doesn't note a call of several blocks that failed, since
+/// calls of its single blocks follow.
+#[derive(Drop)]
+pub struct NotingFile<'c> {
+    file: File,
+    failures: &'c Failures,
+}
+
+impl<'c> NotingFile<'c> {
+    /// Makes a file that notes its failures here.
+    pub fn new(file: File, failures: &'c Failures) -> NotingFile<'c> {
+        NotingFile { file, failures }
+    }
+
+    // Notes the failure of the block at an offset.
+    fn noted(&self, offset: u64, done: io::Result<()>) -> io::Result<()> {
+        if let Err(error) = done {
+            self.failures
+                .note(u32::try_from(offset / 512).unwrap_or(u32::MAX), error);
+        }
+        done
+    }
+}
+
+impl RawFile for NotingFile<'_> {
+    ghost content = { λ _. None };
+
+    fn read_exact(&mut self, to: &mut [u8], offset: u64) -> io::Result<()> {
+        self.noted(offset, self.file.read_exact_at(to, offset))
+    }
+
+    fn write_all(&mut self, from: &[u8], offset: u64) -> io::Result<()> {
+        self.noted(offset, self.file.write_all_at(from, offset))
+    }
+
+    fn read_once(&mut self, to: &mut [u8], offset: u64) -> io::Result<usize> {
+        self.file.read_at(to, offset)
+    }
+
+    fn write_once(&mut self, from: &[u8], offset: u64) -> io::Result<usize> {
+        self.file.write_at(from, offset)
+    }
+
+    fn sync_data(&mut self) -> io::Result<()> {
+        let synced = self.file.sync_data();
+        if let Err(error) = synced {
+            self.failures.note_sync(error);
+        }
+        synced
+    }
+}

@@ -1,0 +1,164 @@
+//! Opening of files as images.
+ghost use Rattle.std.specs.Prelude.{◌≤◌};
+ghost use Rattle.uda_image.specs.Limits.{store_limit};
+
+use crate::data::DataBlocks;
+use crate::failures::Failures;
+use crate::noting::NotingFile;
+use crate::sparse::SparseFile;
+use std::fs::{File, Metadata, OpenFile, OpenOptions, TryLockError};
+use std::io::{Seek, SeekFrom};
+use std::os::unix::fs::FileTypeExt;
+use std::{fs, io};
+use thiserror::Error;
+use uda_image::{FileImage, STORE_LIMIT};
+
+/// A file of an image: zeros may become holes of it, and it notes its failures.
+pub type ImageFile<'c> = SparseFile<NotingFile<'c>>;
+
+/// An image in a file.
+pub type Image<'c> = FileImage<ImageFile<'c>>;
+
+/// The reason why a file can't be opened as an image.
+#[derive(Debug, Drop, Error)]
+pub enum OpenError {
+    /// A call of the system failed.
+    #[error("{0}")]
+    System(io::Error),
+    /// It is no plain file and, if it is only to be read, no block device.
+    #[error("not a plain file")]
+    NotPlain,
+    /// Somebody else holds the file's lock.
+    #[error("in use")]
+    InUse,
+    /// Its length in bytes is not a multiple of 512.
+    #[error("a length of {0} bytes")]
+    Length(u64),
+    /// It has this many blocks, more than an image can have.
+    #[error("{0} blocks")]
+    TooLarge(u64),
+}
+
+impl From<io::Error> for OpenError {
+    fn from(error: io::Error) -> Self {
+        OpenError::System(error)
+    }
+}
+
+/// The use that is made of an image.
+#[derive(Clone, Copy, Debug, PartialEq, Eq)]
+pub enum Access {
+    /// It is only read. It may be a block device.
+    Read,
+    /// It is read and written.
+    Write,
+    /// It is read and written, and may be a block device.
+    WriteDevice,
+}
+
+impl Access {
+    // Returns whether the file is opened for writing too.
+    fn writes(self) -> bool {
+        self != Access::Read
+    }
+
+    // Returns whether a file of this kind can be opened.
+    fn permits(self, metadata: &Metadata) -> bool {
+        metadata.is_file() || (self != Access::Write && metadata.file_type().is_block_device())
+    }
+}
+
+/// An open file of an image, with its lock.
+#[derive(Drop)]
+pub struct OpenImageFile {
+    file: File,
+    blocks: u32,
+    access: Access,
+}
+
+impl OpenImageFile {
+    /// Opens a file, and takes its lock: an exclusive one if it may be written, and a shared one otherwise. A file
+    /// system without locks gives no such protection.
+    pub fn open(rt: &HostRuntime, path: &str, access: Access) -> Result<OpenImageFile, OpenError> {
+        if !access.permits(&fs::metadata(rt, path)?) {
+            return Err(OpenError::NotPlain);
+        }
+        let writes = access.writes();
+        let file = OpenOptions::new().read(true).write(writes).open(rt, path)?;
+        let metadata = file.metadata()?;
+        if !access.permits(&metadata) {
+            return Err(OpenError::NotPlain);
+        }
+        if is_locked(&file, writes) {
+            return Err(OpenError::InUse);
+        }
+        let bytes = length(&file, &metadata)?;
+        let blocks = blocks_in(bytes)?;
+        Ok(OpenImageFile {
+            file,
+            blocks,
+            access,
+        })
+    }
+
+    /// Returns the number of blocks.
+    pub fn blocks(&self) -> u32 {
+        self.blocks
+    }
+
+    /// Returns the blocks that have data.
+    pub fn data(&self) -> io::Result<DataBlocks> {
+        DataBlocks::of(&self.file, self.blocks)
+    }
+
+    /// Makes an image of the file, which notes its failures here. Blocks of zeros are written as all others.
+    pub fn into_image(self, failures: &Failures) -> Image<'_> {
+        let OpenImageFile {
+            file,
+            blocks,
+            access,
+        } = self;
+        let length = 512 * u64::from(blocks);
+        let file = SparseFile::dense(NotingFile::new(file, failures), length);
+        FileImage::over(file, blocks.min(STORE_LIMIT), access.writes())
+    }
+}
+
+/// Makes an image of a file that is being made. Blocks of zeros from block `zeros_from` on aren't written, and its
+/// length grows to the last block that is.
+pub fn growing_image(file: File, blocks: u32, zeros_from: u32, failures: &Failures) -> Image<'_> {
+    let length = 512 * u64::from(blocks);
+    let noting = NotingFile::new(file, failures);
+    let file = SparseFile::ending_in_zeros(noting, length, 512 * u64::from(zeros_from));
+    FileImage::over(file, blocks.min(STORE_LIMIT), true)
+}
+
+// Takes the lock of a file. Returns whether somebody else holds one that excludes it.
+fn is_locked(file: &File, alone: bool) -> bool {
+    let locked = if alone {
+        file.try_lock()
+    } else {
+        file.try_lock_shared()
+    };
+    matches!(locked, Err(TryLockError::WouldBlock))
+}
+
+// Returns the length of a file in bytes. That of a device is where its end is.
+fn length(file: &File, metadata: &Metadata) -> io::Result<u64> {
+    if metadata.is_file() {
+        return Ok(metadata.len());
+    }
+    let mut at = file;
+    at.seek(SeekFrom::End(0))
+}
+
+// Returns the number of blocks in that many bytes.
+fn blocks_in(bytes: u64) -> Result<u32, OpenError> {
+    if bytes % 512 != 0 {
+        return Err(OpenError::Length(bytes));
+    }
+    match u32::try_from(bytes / 512) {
+        Ok(blocks) if blocks <= STORE_LIMIT => Ok(blocks),
+        _ => Err(OpenError::TooLarge(bytes / 512)),
+    }
+}

@@ -1,0 +1,137 @@
+//! Files in which blocks of zeros become holes.
+ghost use Rattle.std.specs.Prelude.{◌≡◌, ◌+◌, ◌≤◌, true, None, Some, length, IfSome};
+ghost use Rattle.uda_mem.specs.Put.{put};
+ghost use Rattle.uda50_files.specs.Zeros.{AreZeros, EndsInZeros};
+
+use std::io;
+use std::marker::Model;
+use uda_image::RawFile;
+
+/// Zeros to compare with: as many as one transfer has.
+static ZEROS: [u8; 16_384] = [0; 16_384];
+
+/// A file in which zeros aren't written where it holds zeros already. So a new file has a hole there.
+///
+/// Contracts see the bytes of the file, if they are known.
+#[derive(Debug, Drop)]
+pub struct SparseFile<F: RawFile> {
+    file: F,
+    length: u64,
+    zeros_from: Option<u64>,
+}
+
+impl<F: RawFile> Model for SparseFile<F> {
+    ghost use Rattle.uda_mem.specs.Put.{put};
+    ghost use Rattle.uda50_files.specs.Zeros.{SparseState, IsAsSupposed};
+
+    ghost Value = { SparseState };
+
+    ghost view = { λ sparse. record {
+      content = F.content sparse.file;
+      length = sparse.length;
+      zeros_from = sparse.zeros_from;
+    } };
+
+    ghost invariant = { λ sparse. IsAsSupposed (record {
+      content = F.content sparse.file;
+      length = sparse.length;
+      zeros_from = sparse.zeros_from;
+    }) };
+}
+
+impl<F: RawFile> SparseFile<F> {
+    /// Makes a file of `length` bytes that is written as it is told.
+    pub fn dense(file: F, length: u64) -> SparseFile<F>
+        ensures file { result ≡ record { content = F.content file; length = length; zeros_from = None } }
+    {
+        SparseFile {
+            file,
+            length,
+            zeros_from: None,
+        }
+    }
+
+    /// Makes a file of `length` bytes whose bytes from an offset on are zeros.
+    pub fn ending_in_zeros(file: F, length: u64, zeros_from: u64) -> SparseFile<F>
+        requires zeros { IfSome (F.content file) (EndsInZeros length zeros_from) }
+        ensures file { result ≡ record { content = F.content file; length = length; zeros_from = Some zeros_from } }
+    {
+        SparseFile {
+            file,
+            length,
+            zeros_from: Some(zeros_from),
+        }
+    }
+
+    // Returns whether the file holds these bytes already, because they are zeros at its end.
+    #[tactic(auto, using(crate::proofs::ZeroLaws::zero_laws))]
+    fn holds_zeros(&self, from: &[u8], offset: u64) -> bool
+        ensures holds { result ≡ true → IfSome self.now.content (λ bytes.
+            offset + length from.now ≤ length bytes → put bytes offset from.now ≡ bytes) }
+    {
+        match self.zeros_from {
+            Some(at) if at <= offset => are_zeros(from),
+            _ => false,
+        }
+    }
+
+    // Returns the offset from which on the file ends in zeros after a write of `from`. Returns `None` if it isn't
+    // known.
+    #[tactic(auto, using(crate::proofs::ZeroLaws::zero_laws))]
+    fn zeros_after(&self, from: &[u8], offset: u64) -> Option<u64>
+        ensures zeros { IfSome result (λ next. IfSome self.now.content (λ bytes.
+            (offset + length from.now ≤ length bytes)
+            × EndsInZeros self.now.length next (put bytes offset from.now))) }
+    {
+        match (self.zeros_from, offset.checked_add(from.len() as u64)) {
+            (Some(start), Some(end)) if end <= self.length => Some(start.max(end)),
+            _ => None,
+        }
+    }
+}
+
+// Returns whether these bytes, if they aren't more than one transfer has, are zeros.
+#[tactic(auto, using(crate::proofs::ZeroLaws::zero_laws))]
+fn are_zeros(bytes: &[u8]) -> bool
+    ensures zeros { result ≡ true → AreZeros bytes.now }
+{
+    bytes.len() <= ZEROS.len() && bytes == &ZEROS[..bytes.len()]
+}
+
+impl<F: RawFile> RawFile for SparseFile<F> {
+    ghost content = { λ sparse. sparse.content };
+
+    fn read_exact(&mut self, to: &mut [u8], offset: u64) -> io::Result<()> {
+        self.file.read_exact(to, offset)
+    }
+
+    #[tactic(auto, using(crate::proofs::ZeroLaws::zero_laws))]
+    fn write_all(&mut self, from: &[u8], offset: u64) -> io::Result<()> {
+        if self.holds_zeros(from, offset) {
+            return Ok(());
+        }
+        let zeros_from = self.zeros_after(from, offset);
+        let done = self.file.write_all(from, offset);
+        self.zeros_from = zeros_from;
+        done
+    }
+
+    fn read_once(&mut self, to: &mut [u8], offset: u64) -> io::Result<usize> {
+        self.file.read_once(to, offset)
+    }
+
+    #[tactic(auto, using(crate::proofs::ZeroLaws::zero_laws))]
+    fn write_once(&mut self, from: &[u8], offset: u64) -> io::Result<usize> {
+        if self.holds_zeros(from, offset) {
+            return Ok(from.len());
+        }
+        let zeros_from = self.zeros_after(from, offset);
+        let done = self.file.write_once(from, offset);
+        self.zeros_from = zeros_from;
+        done
+    }
+
+    fn sync_data(&mut self) -> io::Result<()> {
+        self.file.sync_data()
+    }
+}

@@ -10,5 +10,5 @@ mod sparse;
 pub use data::DataBlocks;
 pub use failures::{Failure, Failures};
 pub use noting::NotingFile;
-pub use open::{Access, Image, ImageFile, OpenError, OpenImageFile, growing_image};
+pub use open::{Access, Image, ImageFile, OpenError, OpenImageFile, TargetFile};
 pub use sparse::SparseFile;

@@ -124,13 +124,81 @@ impl OpenImageFile {
     }
 }
 
-/// Makes an image of a file that is being made. Blocks of zeros from block `zeros_from` on aren't written, and its
-/// length grows to the last block that is.
-pub fn growing_image(file: File, blocks: u32, zeros_from: u32, failures: &Failures) -> Image<'_> {
-    let length = 512 * u64::from(blocks);
-    let noting = NotingFile::new(file, failures);
-    let file = SparseFile::ending_in_zeros(noting, length, 512 * u64::from(zeros_from));
-    FileImage::over(file, blocks.min(STORE_LIMIT), true)
+/// A file that becomes an image, of any length, with its lock.
+#[derive(Drop)]
+pub struct TargetFile {
+    file: File,
+    bytes: u64,
+}
+
+impl TargetFile {
+    /// Makes a file. Fails if it exists already.
+    pub fn create(rt: &HostRuntime, path: &str) -> Result<TargetFile, OpenError> {
+        let file = OpenOptions::new()
+            .read(true)
+            .write(true)
+            .create_new(true)
+            .open(rt, path)?;
+        TargetFile::locked(file, 0)
+    }
+
+    /// Opens an existing file.
+    pub fn open(rt: &HostRuntime, path: &str, access: Access) -> Result<TargetFile, OpenError> {
+        if !access.permits(&fs::metadata(rt, path)?) {
+            return Err(OpenError::NotPlain);
+        }
+        let file = OpenOptions::new().read(true).write(true).open(rt, path)?;
+        let metadata = file.metadata()?;
+        if !access.permits(&metadata) {
+            return Err(OpenError::NotPlain);
+        }
+        let bytes = length(&file, &metadata)?;
+        TargetFile::locked(file, bytes)
+    }
+
+    // Takes the lock of a file of that many bytes.
+    fn locked(file: File, bytes: u64) -> Result<TargetFile, OpenError> {
+        if is_locked(&file, true) {
+            return Err(OpenError::InUse);
+        }
+        Ok(TargetFile { file, bytes })
+    }
+
+    /// Removes all bytes of the file.
+    pub fn empty(&mut self) -> io::Result<()> {
+        self.file.set_len(0)?;
+        self.bytes = 0;
+        Ok(())
+    }
+
+    /// Returns the number of blocks that the file has in part or as a whole.
+    pub fn blocks_begun(&self) -> u32 {
+        u32::try_from(self.bytes.div_ceil(512)).unwrap_or(u32::MAX)
+    }
+
+    /// Returns the number of blocks, if there is no part of one.
+    pub fn whole_blocks(&self) -> Result<u32, OpenError> {
+        blocks_in(self.bytes)
+    }
+
+    /// Returns another handle of the file.
+    pub fn handle(&self) -> io::Result<File> {
+        self.file.try_clone()
+    }
+
+    /// Makes an image of that many blocks, which notes its failures here. The file may become longer when blocks
+    /// are written. If it is `sparse`, blocks of zeros aren't written past the end that it has now.
+    pub fn into_image(self, blocks: u32, sparse: bool, failures: &Failures) -> Image<'_> {
+        let zeros_from = 512 * u64::from(self.blocks_begun());
+        let length = 512 * u64::from(blocks);
+        let noting = NotingFile::new(self.file, failures);
+        let file = if sparse {
+            SparseFile::ending_in_zeros(noting, length, zeros_from)
+        } else {
+            SparseFile::dense(noting, length)
+        };
+        FileImage::over(file, blocks.min(STORE_LIMIT), true)
+    }
 }
 
 // Takes the lock of a file. Returns whether somebody else holds one that excludes it.

@@ -52,6 +52,14 @@ impl BlockMap {
         &self.entries
     }
 
+    /// Returns the block after the last one.
+    pub fn end(&self) -> u32 {
+        match self.entries.last() {
+            Some(entry) => entry.end,
+            None => 0,
+        }
+    }
+
     /// Returns the next blocks that are not finished, of those from `from` on.
     pub fn next_unfinished(&self, from: u32) -> Option<Range<u32>> {
         for entry in self.entries.iter() {

@@ -1,80 +1,285 @@
 //! `uda50 copy`: copies an image to another through the controller.
 
+use crate::create::set_blocks;
 use crate::fault::{Fault, Reason};
-use crate::image::open;
+use crate::image::{block_fault, open_file};
+use crate::map_file::{MapFile, SavedMap};
 use crate::outcome::Outcome;
 use crate::progress::CopyProgress;
+use crate::record::CopyRecord;
 use crate::script::Drives;
-use crate::target::open_target;
+use crate::stream::{copy_from_stream, copy_to_output, is_stream};
+use crate::target::{Plan, written_blocks};
+use std::cell::Cell;
+use std::fs::File;
+use std::io::{BufWriter, Write};
 use std::ops::Range;
 use uda_driver::Driver;
-use uda_image::{BlockStore, Drive, FileImage, StoreError};
+use uda_image::{Drive, StoreError};
 use uda50_arguments::Copy;
 use uda50_copy::{Copier, CopyError, Side};
+use uda50_files::{Access, DataBlocks, Failures, Image, OpenImageFile, TargetFile};
+use uda50_map::{BlockMap, BlockStatus};
 
 /// Copies blocks of an image to the same block numbers of another image. With `--verify`, it then compares
-/// them.
-pub(crate) fn copy<'w>(rt: &HostRuntime, copy: &Copy<'w>) -> Result<Outcome, Fault<'w>> {
-    let source = open(rt, copy.from.path, false)?;
-    let size = source.size();
-    let blocks = blocks_to_copy(copy, size)?;
-    let target = open_target(rt, copy, size)?;
-    copy_to(rt, copy, blocks, source, target)
-}
-
-// Copies blocks of an image to another one, and syncs that one.
-fn copy_to<'w>(
+/// them. One of both may be a stream.
+pub(crate) fn copy<'w, W: Write + Drop>(
     rt: &HostRuntime,
     copy: &Copy<'w>,
-    blocks: Range<u32>,
-    source: FileImage,
-    target: FileImage,
+    out: &mut BufWriter<W>,
 ) -> Result<Outcome, Fault<'w>> {
-    let Range { start: first, end } = blocks;
-    let progress = CopyProgress::start(rt, copy.from.path, first..end);
-    let mut copier = start(rt, copy, source, target)?;
-    let outcome = copy_and_verify(rt, copy, &mut copier, progress, first..end)?;
-    sync_target(copy, copier)?;
-    Ok(outcome)
-}
-
-// Copies blocks, and compares them if that is asked for.
-fn copy_and_verify<'w>(
-    rt: &HostRuntime,
-    copy: &Copy<'w>,
-    copier: &mut Copier<FileImage>,
-    mut progress: CopyProgress<'_, 'w>,
-    blocks: Range<u32>,
-) -> Result<Outcome, Fault<'w>> {
-    let Range { start: first, end } = blocks;
-    let copied = copier.copy(first..end, &mut progress);
-    let lost = progress.end();
-    let verified = match copied {
-        Ok(()) if copy.verify => verify(rt, copy, copier, first..end),
-        copied => copied,
-    };
-    match verified {
-        Ok(()) if lost > 0 => Ok(Outcome::Failed),
-        Ok(()) => Ok(Outcome::Done),
-        Err(error) => Err(fault(copy, error)),
+    match (is_stream(rt, copy.from), copy.to.path == "-") {
+        (false, false) => copy_image(rt, copy),
+        (true, false) => copy_from_stream(rt, copy),
+        (false, true) => copy_to_output(rt, copy, out),
+        (true, true) => Err(Fault::new(copy.from.path, Reason::Stream)),
     }
 }
 
-// Starts a driver over both images, and brings them online.
-fn start<'w>(
-    rt: &HostRuntime,
-    copy: &Copy<'w>,
-    source: FileImage,
-    target: FileImage,
-) -> Result<Copier<FileImage>, Fault<'w>> {
-    let Ok(driver) = Driver::start(rt.alloc(), drives_of(source, target)) else {
-        return Err(Fault::new("uda50", Reason::NoMemory));
+// The failures of both files of a copy, and the number of blocks that were copied.
+#[derive(Drop)]
+struct CopyState {
+    source: Failures,
+    target: Failures,
+    copied: Cell<u32>,
+}
+
+impl CopyState {
+    // Makes the state of a copy that has done nothing.
+    fn new() -> CopyState {
+        CopyState {
+            source: Failures::none(),
+            target: Failures::none(),
+            copied: Cell::new(0),
+        }
+    }
+}
+
+// A copy of an image to another one.
+#[derive(Drop)]
+struct ImageCopy<'a, 'w> {
+    rt: &'a HostRuntime,
+    copy: &'a Copy<'w>,
+    plan: Plan,
+    // The number of blocks of the source.
+    size: u32,
+    // The blocks to copy.
+    blocks: Range<u32>,
+    state: &'a CopyState,
+}
+
+// Copies an image to another one.
+fn copy_image<'w>(rt: &HostRuntime, copy: &Copy<'w>) -> Result<Outcome, Fault<'w>> {
+    let source = open_file(rt, copy.from.path, Access::Read)?;
+    let blocks = blocks_to_copy(copy, source.blocks())?;
+    let plan = Plan::of(rt, copy)?;
+    let has_map = copy.skips_lost || copy.map.is_some();
+    if has_map && !copy.force && !plan.resumes() {
+        MapFile::of(copy, plan).check_new(rt)?;
+    }
+    let target = plan.open(rt, copy, blocks.end)?;
+    let state = CopyState::new();
+    let job = ImageCopy {
+        rt,
+        copy,
+        plan,
+        size: source.blocks(),
+        blocks,
+        state: &state,
     };
-    Copier::new(rt.alloc(), driver, copy.skips_lost).map_err(|error| fault(copy, error))
+    job.run_or_abandon(source, target)
+}
+
+impl<'a, 'w> ImageCopy<'a, 'w> {
+    // Copies, and completes the target. If that fails, it prints the fault, and what is left of the target.
+    fn run_or_abandon(
+        &self,
+        source: OpenImageFile,
+        target: TargetFile,
+    ) -> Result<Outcome, Fault<'w>> {
+        match self.run(source, target) {
+            Ok(outcome) => Ok(outcome),
+            Err(fault) => {
+                fault.print(self.rt);
+                let copied = self.state.copied.get();
+                if copied == 0 && !self.plan.resumes() {
+                    MapFile::of(self.copy, self.plan).remove(self.rt)?;
+                }
+                self.plan.abandon(self.rt, self.copy, copied, true)?;
+                Ok(Outcome::FaultReported)
+            }
+        }
+    }
+
+    // Copies, and completes the target.
+    fn run(&self, source: OpenImageFile, target: TargetFile) -> Result<Outcome, Fault<'w>> {
+        let data = self.data(&source)?;
+        let mut record = self.record(target.blocks_begun())?;
+        let file = Fault::of_call(self.copy.to.path, target.handle())?;
+        let mut copier = self.copier(
+            source.into_image(&self.state.source),
+            target.into_image(self.size, self.is_sparse(), &self.state.target),
+        )?;
+        let copied = self.copy_unfinished(&mut copier, &mut record, &data);
+        let ended = record.end();
+        copied?;
+        let ended = ended?;
+        self.set_length(&file)?;
+        if self.copy.verify {
+            self.verify(&mut copier)?;
+        }
+        self.plan.complete(self.rt, self.copy, &file)?;
+        let wanted = self.copy.map.is_some() || self.plan == Plan::LostBlocks;
+        ended.save(self.rt, wanted)?;
+        Ok(ended.outcome())
+    }
+
+    // Returns whether blocks of zeros become holes of the target.
+    fn is_sparse(&self) -> bool {
+        self.copy.sparse && self.plan.has_part()
+    }
+
+    // Returns the blocks to read. Those in holes are left out if the target has zeros there.
+    fn data(&self, source: &OpenImageFile) -> Result<DataBlocks, Fault<'w>> {
+        if self.copy.sparse && matches!(self.plan, Plan::New | Plan::Resume) {
+            Fault::of_call(self.copy.from.path, source.data())
+        } else {
+            Ok(DataBlocks::all(self.size))
+        }
+    }
+
+    // Makes the record of the copy to a target of that many blocks. An existing file that will be overwritten gets
+    // its other name.
+    fn record(&self, length: u32) -> Result<CopyRecord<'a, 'w>, Fault<'w>> {
+        let file = MapFile::of(self.copy, self.plan);
+        let map = match self.plan.resumes() {
+            true => self.resumed_map(&file, length)?,
+            false => BlockMap::new(self.rt.alloc(), self.blocks.start..self.blocks.end)?,
+        };
+        let overwrites = self.plan == Plan::Overwrite;
+        if !self.plan.resumes() {
+            file.begin(self.rt, &map, overwrites)?;
+        }
+        if overwrites {
+            Plan::mark(self.rt, self.copy.to.path)?;
+        }
+        let saves_always = overwrites || file.is_named();
+        let blocks = self.blocks.start..self.blocks.end;
+        let progress = CopyProgress::start(self.rt, self.copy.from.path, blocks);
+        let file = SavedMap {
+            map,
+            file,
+            saves_always,
+        };
+        Ok(CopyRecord::new(self.rt, progress, file, &self.state.copied))
+    }
+
+    // Returns the map of the copy that goes on: the one that it saved, or one by the length of its target.
+    fn resumed_map(&self, file: &MapFile<'w>, length: u32) -> Result<BlockMap, Fault<'w>> {
+        match file.read(self.rt)? {
+            Some(map) if map.end() <= self.size => Ok(map),
+            Some(_map) => Err(file.fault_of_size()),
+            None if self.plan == Plan::LostBlocks => {
+                Err(Fault::new(self.copy.to.path, Reason::NothingToResume))
+            }
+            None => {
+                let blocks = self.blocks.start..self.blocks.end;
+                let written = written_blocks(&blocks, length);
+                let mut map = BlockMap::new(self.rt.alloc(), blocks)?;
+                map.set(written, BlockStatus::Finished)?;
+                Ok(map)
+            }
+        }
+    }
+
+    // Starts a driver over both images, and brings them online.
+    fn copier(&self, source: Image<'a>, target: Image<'a>) -> Result<Copier<Image<'a>>, Fault<'w>> {
+        let Ok(driver) = Driver::start(self.rt.alloc(), drives_of(source, target)) else {
+            return Err(Fault::no_memory());
+        };
+        Copier::new(self.rt.alloc(), driver, self.copy.skips_lost).map_err(|error| self.fault(
+            error,
+        ))
+    }
+
+    // Copies the blocks that the record doesn't have, and skips those without data.
+    fn copy_unfinished(
+        &self,
+        copier: &mut Copier<Image<'a>>,
+        record: &mut CopyRecord<'a, 'w>,
+        data: &DataBlocks,
+    ) -> Result<(), Fault<'w>> {
+        let mut at = 0;
+        for _ in 0..u32::MAX {
+            let Some(blocks) = record.next(at) else {
+                return Ok(());
+            };
+            let found = data.next(blocks.start);
+            let start = found.start.min(blocks.end);
+            let end = found.end.min(blocks.end);
+            record.skip(blocks.start..start)?;
+            if start < end {
+                self.copy_data(copier, record, start..end)?;
+            }
+            at = end;
+        }
+        Ok(())
+    }
+
+    // Copies blocks.
+    fn copy_data(
+        &self,
+        copier: &mut Copier<Image<'a>>,
+        record: &mut CopyRecord<'a, 'w>,
+        blocks: Range<u32>,
+    ) -> Result<(), Fault<'w>> {
+        let copied = copier.copy(blocks, record);
+        record.check()?;
+        copied.map_err(|error| self.fault(error))
+    }
+
+    // Gives the target the length of the source, if it is copied as a whole.
+    fn set_length(&self, file: &File) -> Result<(), Fault<'w>> {
+        match self.plan.has_part() {
+            true => set_blocks(self.copy.to.path, file, self.size),
+            false => Ok(()),
+        }
+    }
+
+    // Compares the blocks of both images.
+    fn verify(&self, copier: &mut Copier<Image<'a>>) -> Result<(), Fault<'w>> {
+        let Range { start, end } = self.blocks;
+        let mut progress = CopyProgress::start(self.rt, self.copy.to.path, start..end);
+        let compared = copier.compare(start..end, &mut progress);
+        progress.end();
+        compared.map_err(|error| self.fault(error))
+    }
+
+    // Returns the fault for an error, with the file that it concerns.
+    fn fault(&self, error: CopyError) -> Fault<'w> {
+        let (from, to) = (self.copy.from.path, self.copy.to.path);
+        match error {
+            CopyError::NoMemory => Fault::no_memory(),
+            CopyError::Read(Side::Source, block) => {
+                block_fault(from, block, StoreError::Read, &self.state.source)
+            }
+            CopyError::Read(Side::Target, block) => {
+                block_fault(to, block, StoreError::Read, &self.state.target)
+            }
+            CopyError::Write(block) => {
+                block_fault(to, block, StoreError::Write, &self.state.target)
+            }
+            CopyError::Differs(block) => Fault::new(to, Reason::Differs(block)),
+            CopyError::Rejected(Side::Source, status) => {
+                Fault::new(from, Reason::Rejected(status))
+            }
+            CopyError::Rejected(Side::Target, status) => Fault::new(to, Reason::Rejected(status)),
+        }
+    }
 }
 
 // Returns the drives of a copy: unit 0 with the source, and unit 1 with the target.
-fn drives_of(source: FileImage, target: FileImage) -> Drives {
+fn drives_of<'c>(source: Image<'c>, target: Image<'c>) -> Drives<'c> {
     let source = Drive {
         store: source,
         hard: true,
@@ -86,8 +291,8 @@ fn drives_of(source: FileImage, target: FileImage) -> Drives {
     [Some(source), Some(target), None, None]
 }
 
-// Returns the blocks to copy, after a check that the source has all of them.
-fn blocks_to_copy<'w>(copy: &Copy<'w>, size: u32) -> Result<Range<u32>, Fault<'w>> {
+/// Returns the blocks to copy, after a check that the source has all of them.
+pub(crate) fn blocks_to_copy<'w>(copy: &Copy<'w>, size: u32) -> Result<Range<u32>, Fault<'w>> {
     match copy.blocks {
         None => Ok(0..size),
         Some(range) if range.end <= size => Ok(range.start..range.end),
@@ -98,57 +303,5 @@ fn blocks_to_copy<'w>(copy: &Copy<'w>, size: u32) -> Result<Range<u32>, Fault<'w
                 blocks: size,
             },
         )),
-    }
-}
-
-// Compares the blocks of both images.
-fn verify<'w>(
-    rt: &HostRuntime,
-    copy: &Copy<'w>,
-    copier: &mut Copier<FileImage>,
-    blocks: Range<u32>,
-) -> Result<(), CopyError> {
-    let Range { start: first, end } = blocks;
-    let mut progress = CopyProgress::start(rt, copy.to.path, first..end);
-    let compared = copier.compare(first..end, &mut progress);
-    progress.end();
-    compared
-}
-
-// Syncs the written blocks to the medium.
-fn sync_target<'w>(copy: &Copy<'w>, copier: Copier<FileImage>) -> Result<(), Fault<'w>> {
-    let mut drives = copier.into_driver().into_stores();
-    for drive in drives.iter_mut().flatten() {
-        if drive.store.sync().is_err() {
-            return Err(Fault::new(copy.to.path, Reason::NotSynced));
-        }
-    }
-    Ok(())
-}
-
-// Returns the fault for an error, with the file that it concerns.
-fn fault<'w>(copy: &Copy<'w>, error: CopyError) -> Fault<'w> {
-    let name = match error.side() {
-        Some(Side::Source) => copy.from.path,
-        Some(Side::Target) => copy.to.path,
-        None => "uda50",
-    };
-    Fault::new(name, reason(error))
-}
-
-// Returns the reason for an error.
-fn reason(error: CopyError) -> Reason {
-    match error {
-        CopyError::NoMemory => Reason::NoMemory,
-        CopyError::Read(_, block) => Reason::Block {
-            block,
-            error: StoreError::Read,
-        },
-        CopyError::Write(block) => Reason::Block {
-            block,
-            error: StoreError::Write,
-        },
-        CopyError::Differs(block) => Reason::Differs(block),
-        CopyError::Rejected(_, status) => Reason::Rejected(status),
     }
 }

@@ -12,6 +12,9 @@ pub(crate) fn create<'w>(rt: &HostRuntime, create: &Create<'w>) -> Result<Outcom
     if create.image.protected {
         return Err(Fault::new(path, Reason::Protected));
     }
+    if path == "-" {
+        return Err(Fault::new(path, Reason::Stream));
+    }
     match fs::metadata(rt, path) {
         Ok(metadata) => overwrite(rt, create, &metadata),
         Err(_) => create_new(rt, create),
@@ -63,8 +66,8 @@ pub(crate) fn set_blocks<'w>(path: &'w str, file: &File, blocks: u32) -> Result<
     Fault::of_call(path, file.set_len(512 * u64::from(blocks)))
 }
 
-/// Makes a file that doesn't exist yet.
-pub(crate) fn new_file<'w>(rt: &HostRuntime, path: &'w str) -> Result<File, Fault<'w>> {
+// Makes a file that doesn't exist yet.
+fn new_file<'w>(rt: &HostRuntime, path: &'w str) -> Result<File, Fault<'w>> {
     let made = OpenOptions::new()
         .write(true)
         .create_new(true)
@@ -79,8 +82,8 @@ fn emptied<'w>(rt: &HostRuntime, path: &'w str) -> Result<File, Fault<'w>> {
     Ok(file)
 }
 
-/// Opens and locks a file. Fails if somebody else holds its lock. A file that has no locks is only opened.
-pub(crate) fn locked<'w>(rt: &HostRuntime, path: &'w str) -> Result<File, Fault<'w>> {
+// Opens and locks a file. Fails if somebody else holds its lock. A file that has no locks is only opened.
+fn locked<'w>(rt: &HostRuntime, path: &'w str) -> Result<File, Fault<'w>> {
     let file = Fault::of_call(path, OpenOptions::new().write(true).open(rt, path))?;
     match file.try_lock() {
         Err(TryLockError::WouldBlock) => Err(Fault::new(path, Reason::InUse)),

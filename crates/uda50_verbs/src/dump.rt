@@ -1,14 +1,14 @@
 //! `uda50 dump`: prints blocks as text, or writes their bytes.
 
 use crate::fault::{Fault, Reason, STANDARD_OUTPUT};
-use crate::image::{open, read_block_or_zeros};
+use crate::image::NamedImage;
 use crate::outcome::Outcome;
 use std::fmt::Display;
 use std::io;
 use std::io::{BufWriter, IsTerminal, Write};
 use std::ops::Range;
-use uda_image::{BlockStore, FileImage};
 use uda50_arguments::{BlockRange, Dump, DumpFormat};
+use uda50_files::Failures;
 use uda50_show::{HexRow, OctalRow};
 
 /// Prints blocks of an image.
@@ -17,7 +17,8 @@ pub(crate) fn dump<'w, W: Write + Drop>(
     dump: &Dump<'w>,
     out: &mut BufWriter<W>,
 ) -> Result<Outcome, Fault<'w>> {
-    let mut image = open(rt, dump.image.path, false)?;
+    let failures = Failures::none();
+    let mut image = NamedImage::open(rt, dump.image.path, &failures)?;
     dump_image(rt, dump, &mut image, out)
 }
 
@@ -25,7 +26,7 @@ pub(crate) fn dump<'w, W: Write + Drop>(
 fn dump_image<'w, W: Write + Drop>(
     rt: &HostRuntime,
     dump: &Dump<'w>,
-    image: &mut FileImage,
+    image: &mut NamedImage<'_, 'w>,
     out: &mut BufWriter<W>,
 ) -> Result<Outcome, Fault<'w>> {
     if dump.format == (DumpFormat::Raw { force: false }) && rt.stdout().is_terminal() {
@@ -48,12 +49,12 @@ fn blocks_to_dump<'w>(dump: &Dump<'w>, blocks: u32) -> Result<Range<u32>, Fault<
 
 // Reads a block, and writes it.
 fn dump_block<'w, W: Write + Drop>(
-    image: &mut FileImage,
+    image: &mut NamedImage<'_, 'w>,
     dump: &Dump<'w>,
     block: u32,
     out: &mut BufWriter<W>,
 ) -> Result<(), Fault<'w>> {
-    let bytes = read_block_or_zeros(image, dump.image.path, block)?;
+    let bytes = image.read_block_or_zeros(block)?;
     write_block(out, block, &bytes, dump.format)?;
     Ok(())
 }

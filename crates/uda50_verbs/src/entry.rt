@@ -116,7 +116,7 @@ fn perform_with<'w, W: Write + Drop>(
         Task::Decode { file } => decode(rt, file, out),
         Task::Run(asked) => run(rt, asked),
         Task::Trace { script, units } => trace(rt, script, units.as_slice(), out),
-        Task::Copy(asked) => copy(rt, asked),
+        Task::Copy(asked) => copy(rt, asked, out),
         Task::ScriptHelp => script_help(out),
     }
 }

@@ -7,6 +7,7 @@ use thiserror::Error;
 use uda_grammar::Expected;
 use uda_image::StoreError;
 use uda50_arguments::BlockRange;
+use uda50_map::MapError;
 use uda50_show::{Grouped, TokenError};
 
 /// The name of standard input in faults.
@@ -15,11 +16,21 @@ pub(crate) const STANDARD_INPUT: &str = "standard input";
 /// The name of standard output in faults.
 pub(crate) const STANDARD_OUTPUT: &str = "standard output";
 
+// Returns what could not be done with a block.
+fn verb_of(error: StoreError) -> &'static str {
+    match error {
+        StoreError::Read => "read",
+        StoreError::Write => "written",
+    }
+}
+
 /// A fault, with the file or stream that it concerns.
 #[derive(Debug, Drop)]
 pub struct Fault<'w> {
     /// The path of the file, or the name of the stream.
     pub name: &'w str,
+    /// What follows the path in the name of the file, if it is made from another one's.
+    pub suffix: &'static str,
     /// The reason.
     pub reason: Reason,
 }
@@ -70,6 +81,16 @@ pub enum Reason {
         /// The error of the image.
         error: StoreError,
     },
+    /// A block can't be read or written, and the system tells why.
+    #[error("block {block} can't be {}: {cause}", verb_of(*.error))]
+    BlockCause {
+        /// The block.
+        block: u32,
+        /// The error of the image.
+        error: StoreError,
+        /// The error of the system.
+        cause: io::Error,
+    },
     /// A block of the copy differs from that of the source.
     #[error("block {0} differs from the source's")]
     Differs(u32),
@@ -82,6 +103,38 @@ pub enum Reason {
     /// Written blocks could not be synced to the medium.
     #[error("cannot be written out")]
     NotSynced,
+    /// Written blocks could not be synced to the medium, and the system tells why.
+    #[error("cannot be written out: {0}")]
+    SyncFailed(io::Error),
+    /// A copy that ended early left this file.
+    #[error("exists already; --resume goes on with it, --force begins anew")]
+    PartExists,
+    /// There is no copy to go on with.
+    #[error("no copy to resume: there is neither this file with .part after its name nor a map")]
+    NothingToResume,
+    /// A map of blocks can't be read.
+    #[error("{0}")]
+    Map(MapError),
+    /// A map has blocks that the source doesn't have.
+    #[error("the map has more blocks than the source")]
+    MapOfOther,
+    /// The option `--device` names another file.
+    #[error("--device has to name the file to write")]
+    OtherDevice,
+    /// A stream is named where there has to be an image.
+    #[error("is a stream, and not an image")]
+    Stream,
+    /// An option of a copy needs two images.
+    #[error("{0} needs images, and not a stream")]
+    NeedsImages(&'static str),
+    /// A stream ended before the last block.
+    #[error("ended after {} blocks and {bytes} bytes", Grouped(u64::from(*.blocks)))]
+    Ended {
+        /// The number of its whole blocks.
+        blocks: u32,
+        /// The number of the bytes after them.
+        bytes: usize,
+    },
     /// A stream can't be read.
     #[error("cannot be read")]
     Unreadable,
@@ -123,15 +176,26 @@ pub enum Reason {
 impl<'w> Fault<'w> {
     /// Makes a fault of a file or a stream.
     pub fn new(name: &'w str, reason: Reason) -> Fault<'w> {
-        Fault { name, reason }
+        Fault::of_derived(name, "", reason)
+    }
+
+    /// Makes a fault of a file whose name is another one's with a suffix.
+    pub fn of_derived(name: &'w str, suffix: &'static str, reason: Reason) -> Fault<'w> {
+        Fault {
+            name,
+            suffix,
+            reason,
+        }
+    }
+
+    /// Makes the fault of a failed allocation.
+    pub(crate) fn no_memory() -> Fault<'w> {
+        Fault::new("uda50", Reason::NoMemory)
     }
 
     /// Makes the fault of a failed call of the system on a file.
     pub fn system(name: &'w str, error: io::Error) -> Fault<'w> {
-        Fault {
-            name,
-            reason: Reason::of(error),
-        }
+        Fault::new(name, Reason::of(error))
     }
 
     /// Returns the result of a call of the system on a file, with the fault if it failed.
@@ -187,7 +251,7 @@ impl Reason {
 
 impl<'w> From<AllocError> for Fault<'w> {
     fn from(_: AllocError) -> Self {
-        Fault::new("uda50", Reason::NoMemory)
+        Fault::no_memory()
     }
 }
 
@@ -200,6 +264,6 @@ impl<'w> From<io::Error> for Fault<'w> {
 /// Writes a text such as `disk.img: no such file`.
 impl fmt::Display for Fault<'_> {
     fn fmt<W: fmt::Write>(&self, f: &mut fmt::Formatter<W>) -> fmt::Result {
-        write!(f, "{}: {}", self.name, self.reason)
+        write!(f, "{}{}: {}", self.name, self.suffix, self.reason)
     }
 }

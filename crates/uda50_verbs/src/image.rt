@@ -1,57 +1,115 @@
 //! Opening and reading of images.
 
 use crate::fault::{Fault, Reason};
-use std::fs;
 use std::fs::{OpenFile, OpenOptions};
-use uda_image::{BlockStore, FileImage, ImageError};
+use std::io;
+use std::io::ErrorKind;
+use uda_image::{BlockStore, StoreError};
 use uda50_arguments::ImageName;
+use uda50_files::{Access, Failures, Image, OpenError, OpenImageFile};
 
-/// Opens an image.
-pub(crate) fn open<'w>(
+/// An open image, its path, and the failures of its file.
+#[derive(Drop)]
+pub(crate) struct NamedImage<'c, 'w> {
+    path: &'w str,
+    image: Image<'c>,
+    failures: &'c Failures,
+}
+
+impl<'c, 'w> NamedImage<'c, 'w> {
+    /// Opens an image, or a block device, for reading.
+    pub(crate) fn open(
+        rt: &HostRuntime,
+        path: &'w str,
+        failures: &'c Failures,
+    ) -> Result<NamedImage<'c, 'w>, Fault<'w>> {
+        let file = open_file(rt, path, Access::Read)?;
+        Ok(NamedImage {
+            path,
+            image: file.into_image(failures),
+            failures,
+        })
+    }
+
+    /// Returns the number of blocks.
+    pub(crate) fn size(&self) -> u32 {
+        self.image.size()
+    }
+
+    /// Reads a block. Returns zeros if the image doesn't have it.
+    pub(crate) fn read_block_or_zeros(&mut self, block: u32) -> Result<[u8; 512], Fault<'w>> {
+        let mut bytes = [0; 512];
+        if block < self.image.size() {
+            self.image.read(block, &mut bytes).map_err(|error| block_fault(
+                self.path,
+                block,
+                error,
+                self.failures,
+            ))?;
+        }
+        Ok(bytes)
+    }
+}
+
+/// Opens the file of an image, and takes its lock. `-` is no image.
+pub(crate) fn open_file<'w>(
     rt: &HostRuntime,
     path: &'w str,
-    writable: bool,
-) -> Result<FileImage, Fault<'w>> {
-    FileImage::open_large(rt, path, writable).map_err(|error| Fault::new(
-        path,
-        reason(rt, path, writable, error),
-    ))
+    access: Access,
+) -> Result<OpenImageFile, Fault<'w>> {
+    if path == "-" {
+        return Err(Fault::new(path, Reason::Stream));
+    }
+    OpenImageFile::open(rt, path, access).map_err(|error| Fault::new(path, reason(error)))
 }
 
-/// Returns the reason why an image could not be opened. It examines the path again.
-fn reason(rt: &HostRuntime, path: &str, writable: bool, error: ImageError) -> Reason {
-    let metadata = match fs::metadata(rt, path) {
-        Ok(metadata) => metadata,
-        Err(error) => return Reason::of(error),
-    };
+/// Returns the reason why an image can't be opened.
+pub(crate) fn reason(error: OpenError) -> Reason {
     match error {
-        ImageError::NoMemory => Reason::NoMemory,
-        ImageError::Length => Reason::Length(metadata.len()),
-        ImageError::TooLarge => Reason::TooLarge(metadata.len() / 512),
-        ImageError::Open if !metadata.is_file() => Reason::NotPlain,
-        ImageError::Open => {
-            let opened = OpenOptions::new().read(true).write(writable).open(rt, path);
-            match opened {
-                Ok(_) => Reason::InUse,
-                Err(error) => Reason::of(error),
-            }
-        }
+        OpenError::System(error) => Reason::of(error),
+        OpenError::NotPlain => Reason::NotPlain,
+        OpenError::InUse => Reason::InUse,
+        OpenError::Length(bytes) => Reason::Length(bytes),
+        OpenError::TooLarge(blocks) => Reason::TooLarge(blocks),
     }
 }
 
-/// Reads a block. Returns zeros if the image doesn't have it.
-pub(crate) fn read_block_or_zeros<'w>(
-    image: &mut FileImage,
+/// Returns the fault of a block that can't be read or written, with the system's reason if it is known.
+pub(crate) fn block_fault<'w>(
     path: &'w str,
     block: u32,
-) -> Result<[u8; 512], Fault<'w>> {
-    let mut bytes = [0; 512];
-    if block < image.size() {
-        image
-            .read(block, &mut bytes)
-            .map_err(|error| Fault::new(path, Reason::Block { block, error }))?;
-    }
-    Ok(bytes)
+    error: StoreError,
+    failures: &Failures,
+) -> Fault<'w> {
+    Fault::new(
+        path,
+        match failures.lowest() {
+            Some(failure) if failure.block == block && is_told(&failure.error) => {
+                Reason::BlockCause {
+                    block,
+                    error,
+                    cause: failure.error,
+                }
+            }
+            _ => Reason::Block { block, error },
+        },
+    )
+}
+
+/// Returns the fault of an image that can't be synced, with the system's reason if it is known.
+pub(crate) fn sync_fault<'w>(path: &'w str, failures: &Failures) -> Fault<'w> {
+    Fault::new(
+        path,
+        match failures.sync() {
+            Some(error) => Reason::SyncFailed(error),
+            None => Reason::NotSynced,
+        },
+    )
+}
+
+// Returns whether an error is one of the system. The end of a file that was shortened is none.
+fn is_told(error: &io::Error) -> bool {
+    error.kind() != ErrorKind::UnexpectedEof && error.kind() != ErrorKind::WriteZero
 }
 
 /// Returns whether the file of an image can be opened for writing.

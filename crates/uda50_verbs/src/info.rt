@@ -1,13 +1,13 @@
 //! `uda50 info`: describes images.
 
 use crate::fault::Fault;
-use crate::image::{is_writable, open, read_block_or_zeros};
+use crate::image::{NamedImage, is_writable};
 use crate::outcome::Outcome;
 use std::fmt::Display;
 use std::io;
 use std::io::Write;
-use uda_image::{BlockStore, FileImage};
 use uda50_arguments::ImageName;
+use uda50_files::Failures;
 use uda50_show::{BootBlock, DiskLabel, Grouped, HomeBlock, TypesOfSize};
 
 /// Describes each image. If one has a fault, it prints the fault's line and continues with the others.
@@ -55,8 +55,9 @@ fn describe<'w, W: Write>(
     name: ImageName<'w>,
     out: &mut W,
 ) -> Result<(), Fault<'w>> {
-    let mut image = open(rt, name.path, false)?;
-    let blocks = read_blocks(&mut image, name.path)?;
+    let failures = Failures::none();
+    let mut image = NamedImage::open(rt, name.path, &failures)?;
+    let blocks = read_blocks(&mut image)?;
     write_lines(rt, name, image.size(), &blocks, out)?;
     Ok(())
 }
@@ -70,11 +71,11 @@ struct StructureBlocks {
 }
 
 // Reads the blocks that can hold a structure.
-fn read_blocks<'w>(image: &mut FileImage, path: &'w str) -> Result<StructureBlocks, Fault<'w>> {
+fn read_blocks<'w>(image: &mut NamedImage<'_, 'w>) -> Result<StructureBlocks, Fault<'w>> {
     Ok(StructureBlocks {
-        zero: read_block_or_zeros(image, path, 0)?,
-        one: read_block_or_zeros(image, path, 1)?,
-        thirty_one: read_block_or_zeros(image, path, 31)?,
+        zero: image.read_block_or_zeros(0)?,
+        one: image.read_block_or_zeros(1)?,
+        thirty_one: image.read_block_or_zeros(31)?,
     })
 }
 

@@ -2,7 +2,7 @@
 
 use crate::fault::{Fault, STANDARD_INPUT};
 use crate::outcome::Outcome;
-use crate::script::{Drives, Job, execute_script, open_drives};
+use crate::script::{Drives, Job, execute_script, no_failures, open_drives};
 use crate::streams::open_text;
 use std::io::{BufReader, BufWriter, Read};
 use uda_driver::Unwatched;
@@ -15,7 +15,8 @@ const BUFFER: usize = 4_096;
 /// Executes a script on images, in batches, as it is read. The script `-` is read from standard input, so
 /// its `write` lines have no data.
 pub(crate) fn run<'w>(rt: &HostRuntime, run: &Run<'w>) -> Result<Outcome, Fault<'w>> {
-    let drives = open_drives(rt, run.units.as_slice())?;
+    let failures = no_failures();
+    let drives = open_drives(rt, run.units.as_slice(), &failures)?;
     if run.script == "-" {
         run_input(rt, run, drives)
     } else {
@@ -24,14 +25,18 @@ pub(crate) fn run<'w>(rt: &HostRuntime, run: &Run<'w>) -> Result<Outcome, Fault<
 }
 
 // Executes the script on standard input.
-fn run_input<'w>(rt: &HostRuntime, run: &Run<'w>, drives: Drives) -> Result<Outcome, Fault<'w>> {
+fn run_input<'w>(
+    rt: &HostRuntime,
+    run: &Run<'w>,
+    drives: Drives<'_>,
+) -> Result<Outcome, Fault<'w>> {
     let no_data: &[u8] = &[];
     let text = BufReader::new(rt.alloc(), rt.stdin())?;
     run_from(rt, run, text, no_data, drives)
 }
 
 // Executes the script in a file.
-fn run_file<'w>(rt: &HostRuntime, run: &Run<'w>, drives: Drives) -> Result<Outcome, Fault<'w>> {
+fn run_file<'w>(rt: &HostRuntime, run: &Run<'w>, drives: Drives<'_>) -> Result<Outcome, Fault<'w>> {
     let text = open_text(rt, run.script)?;
     run_from(rt, run, text, rt.stdin(), drives)
 }
@@ -42,7 +47,7 @@ fn run_from<'w, T: Read + Drop, R: Read + Drop>(
     run: &Run<'w>,
     text: BufReader<T>,
     input: R,
-    drives: Drives,
+    drives: Drives<'_>,
 ) -> Result<Outcome, Fault<'w>> {
     let mut channels = Channels {
         input,

@@ -1,16 +1,17 @@
 //! Execution of scripts on images.
 
 use crate::fault::{Fault, Reason, STANDARD_INPUT};
-use crate::image::open;
+use crate::image::open_file;
 use std::io::{BufReader, Read, Write};
 use uda_driver::{Driver, Watch};
 use uda_grammar::ScriptError;
-use uda_image::{Drive, FileImage};
+use uda_image::Drive;
 use uda_script_run::{Channels, ReportStyle, ScriptOutcome, TextError, run_buffered_text};
 use uda50_arguments::ImageName;
+use uda50_files::{Access, Failures, Image};
 
 /// The drives of units 0 to 3.
-pub(crate) type Drives = [Option<Drive<FileImage>>; 4];
+pub(crate) type Drives<'c> = [Option<Drive<Image<'c>>>; 4];
 
 /// A script, the images on which it is executed, and the style of its report.
 #[derive(Drop)]
@@ -29,7 +30,7 @@ pub(crate) struct Job<'j, 'w, T> {
 pub(crate) fn execute_script<'w, T: Read + Drop, R: Read, W: Write, V: Write, H: Watch>(
     rt: &HostRuntime,
     job: Job<'_, 'w, T>,
-    drives: Drives,
+    drives: Drives<'_>,
     channels: &mut Channels<R, W, V, H>,
 ) -> Result<ScriptOutcome, Fault<'w>> {
     match Driver::start(rt.alloc(), drives) {
@@ -42,7 +43,7 @@ pub(crate) fn execute_script<'w, T: Read + Drop, R: Read, W: Write, V: Write, H:
 fn execute_on<'w, T: Read + Drop, R: Read, W: Write, V: Write, H: Watch>(
     rt: &HostRuntime,
     job: Job<'_, 'w, T>,
-    mut driver: Driver<FileImage>,
+    mut driver: Driver<Image<'_>>,
     channels: &mut Channels<R, W, V, H>,
 ) -> Result<ScriptOutcome, Fault<'w>> {
     let Job {
@@ -56,23 +57,43 @@ fn execute_on<'w, T: Read + Drop, R: Read, W: Write, V: Write, H: Watch>(
     sync(rt, driver.into_stores(), units, outcome)
 }
 
+/// Makes the failures of images on which nothing failed.
+pub(crate) fn no_failures() -> [Failures; 4] {
+    [
+        Failures::none(),
+        Failures::none(),
+        Failures::none(),
+        Failures::none(),
+    ]
+}
+
 /// Opens the images of units 0 to 3, in this order.
-pub(crate) fn open_drives<'w>(
+pub(crate) fn open_drives<'c, 'w>(
     rt: &HostRuntime,
     units: &[Option<ImageName<'w>>],
-) -> Result<Drives, Fault<'w>> {
+    failures: &'c [Failures; 4],
+) -> Result<Drives<'c>, Fault<'w>> {
     let mut drives = [None, None, None, None];
-    for (drive, unit) in drives.iter_mut().zip(units) {
+    for ((drive, unit), failures) in drives.iter_mut().zip(units).zip(failures) {
         if let Some(image) = unit {
-            *drive = Some(open_drive(rt, *image)?);
+            *drive = Some(open_drive(rt, *image, failures)?);
         }
     }
     Ok(drives)
 }
 
 // Opens an image as a drive.
-fn open_drive<'w>(rt: &HostRuntime, image: ImageName<'w>) -> Result<Drive<FileImage>, Fault<'w>> {
-    let store = open(rt, image.path, !image.protected)?;
+fn open_drive<'c, 'w>(
+    rt: &HostRuntime,
+    image: ImageName<'w>,
+    failures: &'c Failures,
+) -> Result<Drive<Image<'c>>, Fault<'w>> {
+    let access = if image.protected {
+        Access::Read
+    } else {
+        Access::Write
+    };
+    let store = open_file(rt, image.path, access)?.into_image(failures);
     let hard = image.protected;
     Ok(Drive { store, hard })
 }
@@ -81,7 +102,7 @@ fn open_drive<'w>(rt: &HostRuntime, image: ImageName<'w>) -> Result<Drive<FileIm
 // returned, and the others are printed.
 fn sync<'w>(
     rt: &HostRuntime,
-    mut drives: Drives,
+    mut drives: Drives<'_>,
     units: &[Option<ImageName<'w>>],
     outcome: Result<ScriptOutcome, Fault<'w>>,
 ) -> Result<ScriptOutcome, Fault<'w>> {

@@ -1,57 +1,231 @@
-//! The target file of a copy.
+//! The target file of a copy. While it is incomplete, its name ends in `.part`.
 
-use crate::create::{check_existing, locked, new_file, set_blocks};
+use crate::create::check_existing;
 use crate::fault::{Fault, Reason};
-use crate::image::open;
+use crate::image::reason;
+use crate::map_file::path_of;
+use std::alloc::AllocError;
 use std::fs;
-use std::fs::Metadata;
-use std::os::unix::fs::MetadataExt;
-use uda_image::{BlockStore, FileImage};
-use uda50_arguments::Copy;
+use std::fs::{File, Metadata};
+use std::ops::Range;
+use std::os::unix::fs::{FileTypeExt, MetadataExt};
+use uda50_arguments::{BlockRange, Copy};
+use uda50_files::{Access, OpenError, TargetFile};
 
-/// Opens the target of a copy whose source has `size` blocks.
-///
-/// - A file that doesn't exist is made as long as the source.
-/// - An existing file is opened only with `--force`. If all blocks are copied, it becomes as long as the
-///   source. If only some are, it keeps its length, and must have those blocks.
-pub(crate) fn open_target<'w>(
-    rt: &HostRuntime,
-    copy: &Copy<'w>,
-    size: u32,
-) -> Result<FileImage, Fault<'w>> {
-    let path = copy.to.path;
-    if copy.to.protected {
-        return Err(Fault::new(path, Reason::Protected));
-    }
-    prepare(rt, copy, size)?;
-    let target = open(rt, path, true)?;
-    with_blocks(copy, target)
+/// The end of the name of a target that is incomplete.
+pub(crate) const PART: &str = ".part";
+
+/// The most blocks that a copy reads before it writes them. When it reads others, they are written.
+const RUN: u32 = 2_048;
+
+/// The way in which the target of a copy is opened.
+#[derive(Clone, Copy, Debug, PartialEq, Eq)]
+pub(crate) enum Plan {
+    /// A new file is made.
+    New,
+    /// An existing file becomes a copy of all blocks.
+    Overwrite,
+    /// Some blocks of an existing file are written.
+    Blocks,
+    /// Blocks of a device are written.
+    Device,
+    /// The blocks that an earlier copy lost are written.
+    LostBlocks,
+    /// A copy that ended early goes on.
+    Resume,
 }
 
-// Makes the target as long as the source, unless only some blocks of an existing file are copied.
-fn prepare<'w>(rt: &HostRuntime, copy: &Copy<'w>, size: u32) -> Result<(), Fault<'w>> {
-    let path = copy.to.path;
-    match fs::metadata(rt, path) {
-        Err(_) => set_blocks(path, &new_file(rt, path)?, size),
-        Ok(metadata) => prepare_existing(rt, copy, &metadata, size),
+impl Plan {
+    /// Chooses the way in which the target of a copy is opened. Fails if it may not be written, or is the source.
+    pub(crate) fn of<'w>(rt: &HostRuntime, copy: &Copy<'w>) -> Result<Plan, Fault<'w>> {
+        let path = copy.to.path;
+        if copy.to.protected {
+            return Err(Fault::new(path, Reason::Protected));
+        }
+        if names_other(copy) {
+            return Err(Fault::new(path, Reason::OtherDevice));
+        }
+        match fs::metadata(rt, path) {
+            Ok(metadata) => Plan::of_existing(rt, copy, &metadata),
+            Err(_) if !copy.resumes => Ok(Plan::New),
+            Err(_) if part_exists(rt, path)? => Ok(Plan::Resume),
+            Err(_) => Err(Fault::new(path, Reason::NothingToResume)),
+        }
+    }
+
+    // Chooses the way in which an existing target is opened.
+    fn of_existing<'w>(
+        rt: &HostRuntime,
+        copy: &Copy<'w>,
+        metadata: &Metadata,
+    ) -> Result<Plan, Fault<'w>> {
+        let path = copy.to.path;
+        let is_device = copy.device.is_some() && metadata.file_type().is_block_device();
+        let has_part = copy.resumes && part_exists(rt, path)?;
+        let tries_lost = copy.resumes && !has_part;
+        if !is_device {
+            check_existing(path, copy.force || tries_lost, metadata)?;
+        }
+        if is_source(rt, copy, metadata) {
+            return Err(Fault::new(path, Reason::SameFile));
+        }
+        Ok(match copy.blocks {
+            _ if tries_lost => Plan::LostBlocks,
+            _ if is_device => Plan::Device,
+            _ if has_part => Plan::Resume,
+            Some(_) => Plan::Blocks,
+            None => Plan::Overwrite,
+        })
+    }
+
+    /// Returns whether the target has another name while it is incomplete.
+    pub(crate) fn has_part(self) -> bool {
+        matches!(self, Plan::New | Plan::Overwrite | Plan::Resume)
+    }
+
+    /// Returns whether an earlier copy goes on.
+    pub(crate) fn resumes(self) -> bool {
+        matches!(self, Plan::Resume | Plan::LostBlocks)
+    }
+
+    /// Opens the target. If it keeps its length, it must have all blocks before `end`.
+    pub(crate) fn open<'w>(
+        self,
+        rt: &HostRuntime,
+        copy: &Copy<'w>,
+        end: u32,
+    ) -> Result<TargetFile, Fault<'w>> {
+        let path = copy.to.path;
+        let part = path_of(rt.alloc(), path, PART)?;
+        match self {
+            Plan::New => make(rt, copy, part.as_str()),
+            Plan::Resume => opened(
+                path,
+                PART,
+                TargetFile::open(rt, part.as_str(), Access::Write),
+            ),
+            Plan::Overwrite => opened(path, "", TargetFile::open(rt, path, Access::Write)),
+            Plan::Blocks | Plan::LostBlocks | Plan::Device => {
+                let access = if copy.device.is_some() {
+                    Access::WriteDevice
+                } else {
+                    Access::Write
+                };
+                with_blocks(
+                    copy,
+                    opened(path, "", TargetFile::open(rt, path, access))?,
+                    end,
+                )
+            }
+        }
     }
 }
 
-// Makes an existing target as long as the source, if all blocks are copied. Fails if it is the source.
-fn prepare_existing<'w>(
-    rt: &HostRuntime,
-    copy: &Copy<'w>,
-    metadata: &Metadata,
-    size: u32,
-) -> Result<(), Fault<'w>> {
-    let path = copy.to.path;
-    check_existing(path, copy.force, metadata)?;
-    if is_source(rt, copy, metadata) {
-        return Err(Fault::new(path, Reason::SameFile));
+impl Plan {
+    /// Gives an existing target the name of an incomplete one. It keeps its name where that isn't permitted.
+    pub(crate) fn mark(rt: &HostRuntime, path: &str) -> Result<bool, AllocError> {
+        let part = path_of(rt.alloc(), path, PART)?;
+        Ok(fs::rename(rt, path, part.as_str()).is_ok())
     }
-    match copy.blocks {
-        None => set_blocks(path, &locked(rt, path)?, size),
-        Some(_) => Ok(()),
+
+    /// Syncs a complete target, and gives it its name.
+    pub(crate) fn complete<'w>(
+        self,
+        rt: &HostRuntime,
+        copy: &Copy<'w>,
+        file: &File,
+    ) -> Result<(), Fault<'w>> {
+        let path = copy.to.path;
+        if let Err(error) = file.sync_data() {
+            return Err(Fault::new(path, Reason::SyncFailed(error)));
+        }
+        if self.has_part() {
+            let part = path_of(rt.alloc(), path, PART)?;
+            if fs::metadata(rt, part.as_str()).is_ok() {
+                Fault::of_call(path, fs::rename(rt, part.as_str(), path))?;
+            }
+        }
+        Ok(())
+    }
+
+    /// Leaves a target that is incomplete. If no block was copied, it removes a new one, and gives an existing one its
+    /// name again. Otherwise it tells what is left.
+    pub(crate) fn abandon(
+        self,
+        rt: &HostRuntime,
+        copy: &Copy<'_>,
+        copied: u32,
+        resumable: bool,
+    ) -> Result<(), AllocError> {
+        let path = copy.to.path;
+        let part = path_of(rt.alloc(), path, PART)?;
+        match self {
+            Plan::New if copied == 0 => drop(fs::remove_file(rt, part.as_str())),
+            Plan::Overwrite if copied == 0 => drop(fs::rename(rt, part.as_str(), path)),
+            _ => {}
+        }
+        if self.has_part() && fs::metadata(rt, part.as_str()).is_ok() {
+            let resume = if resumable {
+                "; --resume goes on with it"
+            } else {
+                ""
+            };
+            let _ = eprintln!(rt; "uda50: {part}: is the incomplete copy{resume}");
+        }
+        Ok(())
+    }
+}
+
+// Returns whether `--device` names another file than the target.
+fn names_other(copy: &Copy<'_>) -> bool {
+    match copy.device {
+        Some(device) => device != copy.to.path,
+        None => false,
+    }
+}
+
+// Returns whether an earlier copy left an incomplete target.
+fn part_exists<'w>(rt: &HostRuntime, path: &str) -> Result<bool, Fault<'w>> {
+    let part = path_of(rt.alloc(), path, PART)?;
+    Ok(fs::metadata(rt, part.as_str()).is_ok())
+}
+
+// Makes a new file. One that an earlier copy left is emptied with `--force`.
+fn make<'w>(rt: &HostRuntime, copy: &Copy<'w>, part: &str) -> Result<TargetFile, Fault<'w>> {
+    let path = copy.to.path;
+    if fs::metadata(rt, part).is_err() {
+        return opened(path, "", TargetFile::create(rt, part));
+    }
+    if !copy.force {
+        return Err(Fault::of_derived(path, PART, Reason::PartExists));
+    }
+    let mut file = opened(path, PART, TargetFile::open(rt, part, Access::Write))?;
+    Fault::of_call(path, file.empty())?;
+    Ok(file)
+}
+
+// Returns an open target, or the fault of one that can't be opened, with the end of its name.
+fn opened<'w>(
+    path: &'w str,
+    suffix: &'static str,
+    file: Result<TargetFile, OpenError>,
+) -> Result<TargetFile, Fault<'w>> {
+    match file {
+        Ok(file) => Ok(file),
+        Err(error) => Err(Fault::of_derived(path, suffix, reason(error))),
+    }
+}
+
+// Returns a target that keeps its length, if it has all blocks of the copy.
+fn with_blocks<'w>(copy: &Copy<'w>, file: TargetFile, end: u32) -> Result<TargetFile, Fault<'w>> {
+    let path = copy.to.path;
+    let blocks = match file.whole_blocks() {
+        Ok(blocks) => blocks,
+        Err(error) => return Err(Fault::new(path, reason(error))),
+    };
+    match copy.blocks.or(BlockRange::between(0, end)) {
+        Some(range) if end > blocks => Err(Fault::new(path, Reason::PastEnd { range, blocks })),
+        _ => Ok(file),
     }
 }
 
@@ -63,17 +237,9 @@ fn is_source(rt: &HostRuntime, copy: &Copy<'_>, target: &Metadata) -> bool {
     }
 }
 
-// Returns the target, if it has all blocks of the copy.
-fn with_blocks<'w>(copy: &Copy<'w>, target: FileImage) -> Result<FileImage, Fault<'w>> {
-    let path = copy.to.path;
-    match copy.blocks {
-        Some(range) if range.end > target.size() => Err(Fault::new(
-            path,
-            Reason::PastEnd {
-                range,
-                blocks: target.size(),
-            },
-        )),
-        _ => Ok(target),
-    }
+/// Returns the blocks of a copy that an incomplete target has for certain, by its length in blocks. The blocks of the
+/// last run may be written in part.
+pub(crate) fn written_blocks(blocks: &Range<u32>, length: u32) -> Range<u32> {
+    let Range { start, end } = *blocks;
+    start..length.saturating_sub(RUN).max(start).min(end)
 }

@@ -3,7 +3,7 @@
 use crate::fault::Fault;
 use crate::outcome::Outcome;
 use crate::run::script_name;
-use crate::script::{Drives, Job, execute_script, open_drives};
+use crate::script::{Drives, Job, execute_script, no_failures, open_drives};
 use crate::streams::open_text;
 use std::io;
 use std::io::{BufReader, Read, Write};
@@ -20,7 +20,8 @@ pub(crate) fn trace<'w, W: Write>(
     units: &[Option<ImageName<'w>>],
     out: &mut W,
 ) -> Result<Outcome, Fault<'w>> {
-    let drives = open_drives(rt, units)?;
+    let failures = no_failures();
+    let drives = open_drives(rt, units, &failures)?;
     if script == "-" {
         trace_input(rt, units, drives, out)
     } else {
@@ -32,7 +33,7 @@ pub(crate) fn trace<'w, W: Write>(
 fn trace_input<'w, W: Write>(
     rt: &HostRuntime,
     units: &[Option<ImageName<'w>>],
-    drives: Drives,
+    drives: Drives<'_>,
     out: &mut W,
 ) -> Result<Outcome, Fault<'w>> {
     let no_data: &[u8] = &[];
@@ -45,7 +46,7 @@ fn trace_file<'w, W: Write>(
     rt: &HostRuntime,
     script: &'w str,
     units: &[Option<ImageName<'w>>],
-    drives: Drives,
+    drives: Drives<'_>,
     out: &mut W,
 ) -> Result<Outcome, Fault<'w>> {
     let text = open_text(rt, script)?;
@@ -70,7 +71,7 @@ fn trace_job<'w, T: Read + Drop, R: Read + Drop, W: Write>(
     rt: &HostRuntime,
     job: Job<'_, 'w, T>,
     input: R,
-    drives: Drives,
+    drives: Drives<'_>,
     out: &mut W,
 ) -> Result<Outcome, Fault<'w>> {
     let mut channels = Channels {

@@ -1,0 +1,286 @@
+//! Copies from a stream to an image, and from an image to standard output. They don't go through the controller.
+ghost use Rattle.std.specs.Prelude.{◌≤◌};
+
+use crate::copy::blocks_to_copy;
+use crate::create::set_blocks;
+use crate::fault::{Fault, Reason, STANDARD_INPUT, STANDARD_OUTPUT};
+use crate::image::{NamedImage, block_fault};
+use crate::outcome::Outcome;
+use crate::progress::CopyProgress;
+use crate::target::Plan;
+use std::fs;
+use std::fs::{File, OpenFile};
+use std::io::{BufWriter, ErrorKind, IsTerminal, Read, Write};
+use std::ops::Range;
+use std::os::unix::fs::FileTypeExt;
+use uda_image::{BlockStore, STORE_LIMIT};
+use uda50_arguments::{Copy, ImageName};
+use uda50_copy::Observer;
+use uda50_files::{Failures, Image};
+
+/// The most blocks that are read from a stream at once.
+const PIECE: usize = 32;
+
+/// The bytes of a block.
+const BLOCK: usize = 512;
+
+/// Returns whether the source of a copy is a stream: standard input, a pipe, a socket or a device of characters.
+pub(crate) fn is_stream(rt: &HostRuntime, from: ImageName<'_>) -> bool {
+    if from.path == "-" {
+        return !from.protected;
+    }
+    match fs::metadata(rt, from.path) {
+        Ok(metadata) => {
+            let kind = metadata.file_type();
+            kind.is_fifo() || kind.is_char_device() || kind.is_socket()
+        }
+        Err(_) => false,
+    }
+}
+
+/// Copies a stream to an image: its blocks up to its end, or those of `--blocks`.
+pub(crate) fn copy_from_stream<'w>(
+    rt: &HostRuntime,
+    copy: &Copy<'w>,
+) -> Result<Outcome, Fault<'w>> {
+    let name = stream_name(copy.from.path);
+    check_options(copy, name)?;
+    if copy.from.path == "-" {
+        return take_stream(rt, copy, name, rt.stdin());
+    }
+    let file = Fault::of_call(name, File::open(rt, name))?;
+    take_stream(rt, copy, name, file)
+}
+
+// Returns the name of a stream in faults.
+fn stream_name(path: &str) -> &str {
+    match path {
+        "-" => STANDARD_INPUT,
+        _ => path,
+    }
+}
+
+// Fails if an option needs two images.
+fn check_options<'w>(copy: &Copy<'w>, name: &'w str) -> Result<(), Fault<'w>> {
+    let option = if copy.verify {
+        "--verify"
+    } else if copy.resumes {
+        "--resume"
+    } else if copy.map.is_some() {
+        "--map"
+    } else {
+        return Ok(());
+    };
+    Err(Fault::new(name, Reason::NeedsImages(option)))
+}
+
+// Copies an open stream, and completes the target. If that fails, it prints the fault, and what is left.
+fn take_stream<'w, R: Read + Drop>(
+    rt: &HostRuntime,
+    copy: &Copy<'w>,
+    name: &'w str,
+    stream: R,
+) -> Result<Outcome, Fault<'w>> {
+    let plan = Plan::of(rt, copy)?;
+    let end = match copy.blocks {
+        Some(range) => range.end,
+        None => 0,
+    };
+    let target = plan.open(rt, copy, end)?;
+    let file = Fault::of_call(copy.to.path, target.handle())?;
+    if plan == Plan::Overwrite {
+        Plan::mark(rt, copy.to.path)?;
+    }
+    let failures = Failures::none();
+    let image = target.into_image(STORE_LIMIT, copy.sparse && plan.has_part(), &failures);
+    let mut taken = StreamCopy {
+        copy,
+        name,
+        stream,
+        image,
+        failures: &failures,
+        at: 0,
+    };
+    let done = taken.run();
+    let blocks = taken.at;
+    drop(taken);
+    match complete(rt, copy, plan, &file, done.map(|_done| blocks)) {
+        Ok(()) => Ok(Outcome::Done),
+        Err(fault) => {
+            fault.print(rt);
+            plan.abandon(rt, copy, blocks, false)?;
+            Ok(Outcome::FaultReported)
+        }
+    }
+}
+
+// Completes a target with that many blocks.
+fn complete<'w>(
+    rt: &HostRuntime,
+    copy: &Copy<'w>,
+    plan: Plan,
+    file: &File,
+    done: Result<u32, Fault<'w>>,
+) -> Result<(), Fault<'w>> {
+    let blocks = done?;
+    if plan.has_part() {
+        set_blocks(copy.to.path, file, blocks)?;
+    }
+    plan.complete(rt, copy, file)
+}
+
+// A copy of a stream to an image.
+#[derive(Drop)]
+struct StreamCopy<'a, 'w, R> {
+    copy: &'a Copy<'w>,
+    name: &'w str,
+    stream: R,
+    image: Image<'a>,
+    failures: &'a Failures,
+    // The next block of the stream.
+    at: u32,
+}
+
+impl<'a, 'w, R: Read> StreamCopy<'a, 'w, R> {
+    // Copies the blocks of the stream that are asked for.
+    fn run(&mut self) -> Result<(), Fault<'w>> {
+        let mut piece = [0; PIECE * BLOCK];
+        for _ in 0..u32::MAX {
+            let wanted = self.wanted();
+            if wanted == 0 {
+                return Ok(());
+            }
+            let bytes = wanted * BLOCK;
+            let read = self.fill(&mut piece[..bytes])?.min(bytes);
+            self.write_blocks(&piece[..read / BLOCK * BLOCK])?;
+            if read < bytes {
+                return self.end(read % BLOCK);
+            }
+        }
+        Ok(())
+    }
+
+    // Returns the number of blocks that are read next. Those before `--blocks` are read by themselves.
+    fn wanted(&self) -> usize
+        ensures within { result ≤ 32 }
+    {
+        let end = match self.copy.blocks {
+            Some(range) if self.at < range.start => range.start,
+            Some(range) => range.end,
+            None => STORE_LIMIT,
+        };
+        PIECE.min(end.saturating_sub(self.at) as usize)
+    }
+
+    // Reads bytes until `to` is full or the stream ends, and returns their number.
+    fn fill(&mut self, to: &mut [u8]) -> Result<usize, Fault<'w>> {
+        let mut read = 0;
+        for _ in 0..usize::MAX {
+            if read >= to.len() {
+                break;
+            }
+            match self.stream.read(&mut to[read..]) {
+                Ok(0) => break,
+                Ok(bytes) => read += bytes,
+                Err(error) if error.kind() == ErrorKind::Interrupted => {}
+                Err(error) => return Err(Fault::system(self.name, error)),
+            }
+        }
+        Ok(read)
+    }
+
+    // Writes whole blocks, unless they are before those of `--blocks`.
+    fn write_blocks(&mut self, bytes: &[u8]) -> Result<(), Fault<'w>> {
+        let start = match self.copy.blocks {
+            Some(range) => range.start,
+            None => 0,
+        };
+        let mut block = self.at;
+        for bytes in bytes.chunks_exact(BLOCK) {
+            if block >= start {
+                self.write_block(block, bytes)?;
+            }
+            block = block.saturating_add(1);
+        }
+        self.at = block;
+        Ok(())
+    }
+
+    // Writes a block.
+    fn write_block(&mut self, block: u32, bytes: &[u8]) -> Result<(), Fault<'w>> {
+        let mut from = [0; BLOCK];
+        let copy = self.copy;
+        let failures = self.failures;
+        if block >= self.image.size() || bytes.len() != BLOCK {
+            return Err(Fault::new(self.name, Reason::TooLarge(u64::from(block))));
+        }
+        from.copy_from_slice(bytes);
+        self.image.write(block, &from).map_err(|error| block_fault(
+            self.copy.to.path,
+            block,
+            error,
+            self.failures,
+        ))
+    }
+
+    // Ends a copy whose stream ended, with that many bytes after its last whole block.
+    fn end(&self, bytes: usize) -> Result<(), Fault<'w>> {
+        match self.copy.blocks {
+            None if bytes == 0 => Ok(()),
+            _ => Err(Fault::new(
+                self.name,
+                Reason::Ended {
+                    blocks: self.at,
+                    bytes,
+                },
+            )),
+        }
+    }
+}
+
+/// Copies blocks of an image to standard output.
+pub(crate) fn copy_to_output<'w, W: Write + Drop>(
+    rt: &HostRuntime,
+    copy: &Copy<'w>,
+    out: &mut BufWriter<W>,
+) -> Result<Outcome, Fault<'w>> {
+    let failures = Failures::none();
+    let mut image = NamedImage::open(rt, copy.from.path, &failures)?;
+    let blocks = blocks_to_copy(copy, image.size())?;
+    check_options(copy, STANDARD_OUTPUT)?;
+    if !copy.force && rt.stdout().is_terminal() {
+        return Err(Fault::new(STANDARD_OUTPUT, Reason::Terminal));
+    }
+    let Range { start, end } = blocks;
+    let mut progress = CopyProgress::start(rt, copy.from.path, start..end);
+    let done = write_all(&mut image, copy.skips_lost, start..end, &mut progress, out);
+    let lost = progress.end();
+    done?;
+    Ok(if lost > 0 {
+        Outcome::Failed
+    } else {
+        Outcome::Done
+    })
+}
+
+// Writes blocks of an image. Lost blocks that are skipped are zeros.
+fn write_all<'w, W: Write + Drop>(
+    image: &mut NamedImage<'_, 'w>,
+    skips_lost: bool,
+    blocks: Range<u32>,
+    progress: &mut CopyProgress<'_, 'w>,
+    out: &mut BufWriter<W>,
+) -> Result<(), Fault<'w>> {
+    for block in blocks {
+        match image.read_block_or_zeros(block) {
+            Ok(bytes) => out.write_all(&bytes)?,
+            Err(_fault) if skips_lost => {
+                progress.lost(block);
+                out.write_all(&[0; BLOCK])?;
+            }
+            Err(fault) => return Err(fault),
+        }
+        progress.reached(block.saturating_add(1));
+    }
+    Ok(())
+}

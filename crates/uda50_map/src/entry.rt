@@ -1,5 +1,6 @@
 //! Ranges of blocks with one status.
-ghost use Rattle.std.specs.Prelude.{◌≡◌, ◌≢◌, ◌<◌, ◌↔◌, true};
+ghost use Rattle.std.specs.Prelude.{◌≡◌, ◌≤◌, ◌↔◌, min, max, IsTrue};
+ghost use Rattle.uda50_map.specs.Status.{status_character};
 
 use std::fmt;
 
@@ -16,7 +17,9 @@ pub enum BlockStatus {
 
 impl BlockStatus {
     /// Returns the character of the status in a map.
-    pub fn character(self) -> char {
+    pub fn character(self) -> char
+        ensures character { result ≡ status_character self }
+    {
         match self {
             BlockStatus::NonTried => '?',
             BlockStatus::Bad => '-',
@@ -48,12 +51,16 @@ pub struct MapEntry {
 
 impl MapEntry {
     /// Returns whether there are no blocks.
-    pub fn is_empty(&self) -> bool {
+    pub fn is_empty(&self) -> bool
+        ensures value { IsTrue result ↔ (self.now.end ≤ self.now.start) }
+    {
         self.end <= self.start
     }
 
     /// Returns the blocks of this entry that are before a block.
-    pub fn before(&self, block: u32) -> MapEntry {
+    pub fn before(&self, block: u32) -> MapEntry
+        ensures value { result ≡ record self.now { end = min self.now.end block } }
+    {
         MapEntry {
             end: self.end.min(block),
             ..*self
@@ -61,7 +68,9 @@ impl MapEntry {
     }
 
     /// Returns the blocks of this entry from a block on.
-    pub fn from(&self, block: u32) -> MapEntry {
+    pub fn from(&self, block: u32) -> MapEntry
+        ensures value { result ≡ record self.now { start = max self.now.start block } }
+    {
         MapEntry {
             start: self.start.max(block),
             ..*self

@@ -1,4 +1,6 @@
 //! Maps of blocks.
+ghost use Rattle.std.specs.Prelude.{IfSome};
+ghost use Rattle.uda50_map.specs.Status.{AreLater};
 
 use crate::entry::{BlockStatus, MapEntry};
 use std::alloc::{AllocError, Global};
@@ -61,7 +63,9 @@ impl BlockMap {
     }
 
     /// Returns the next blocks that are not finished, of those from `from` on.
-    pub fn next_unfinished(&self, from: u32) -> Option<Range<u32>> {
+    pub fn next_unfinished(&self, from: u32) -> Option<Range<u32>>
+        ensures later { IfSome result (λ blocks. AreLater from blocks.start blocks.end) }
+    {
         for entry in self.entries.iter() {
             let rest = entry.from(from);
             if rest.status != BlockStatus::Finished && !rest.is_empty() {

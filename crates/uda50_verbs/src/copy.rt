@@ -32,7 +32,7 @@ pub(crate) fn copy<'w, W: Write + Drop>(
         (false, false) => copy_image(rt, copy),
         (true, false) => copy_from_stream(rt, copy),
         (false, true) => copy_to_output(rt, copy, out),
-        (true, true) => Err(Fault::new(copy.from.path, Reason::Stream)),
+        (true, true) => Err(Fault::new(copy.from.path, Reason::NoImage)),
     }
 }
 

@@ -13,7 +13,7 @@ pub(crate) fn create<'w>(rt: &HostRuntime, create: &Create<'w>) -> Result<Outcom
         return Err(Fault::new(path, Reason::Protected));
     }
     if path == "-" {
-        return Err(Fault::new(path, Reason::Stream));
+        return Err(Fault::new(path, Reason::NoImage));
     }
     match fs::metadata(rt, path) {
         Ok(metadata) => overwrite(rt, create, &metadata),

@@ -123,7 +123,7 @@ pub enum Reason {
     OtherDevice,
     /// A stream is named where there has to be an image.
     #[error("is a stream, and not an image")]
-    Stream,
+    NoImage,
     /// An option of a copy needs two images.
     #[error("{0} needs images, and not a stream")]
     NeedsImages(&'static str),

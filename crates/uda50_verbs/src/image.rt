@@ -58,7 +58,7 @@ pub(crate) fn open_file<'w>(
     access: Access,
 ) -> Result<OpenImageFile, Fault<'w>> {
     if path == "-" {
-        return Err(Fault::new(path, Reason::Stream));
+        return Err(Fault::new(path, Reason::NoImage));
     }
     OpenImageFile::open(rt, path, access).map_err(|error| Fault::new(path, reason(error)))
 }

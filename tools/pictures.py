@@ -226,6 +226,8 @@ CRATES = {
     "uda50": (3, 10, "program"),
     "uda50_verbs": (3, 9, "its verbs"),
     "uda50_copy": (3, 8, "copies a drive"),
+    "uda50_files": (2, 8, "files as images"),
+    "uda50_map": (2, 9, "maps of blocks"),
     "uda50_arguments": (4, 8, "its command line"),
     "uda50_decode": (4, 9, "prints packets"),
     "uda50_show": (4, 7, "what it prints"),

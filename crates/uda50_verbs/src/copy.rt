@@ -113,23 +113,25 @@ impl<'a, 'w> ImageCopy<'a, 'w> {
 
     // Copies, and completes the target.
     fn run(&self, source: OpenImageFile, target: TargetFile) -> Result<Outcome, Fault<'w>> {
+        let copy = self.copy;
+        let state = self.state;
         let data = self.data(&source)?;
         let mut record = self.record(target.blocks_begun())?;
-        let file = Fault::of_call(self.copy.to.path, target.handle())?;
+        let file = Fault::of_call(copy.to.path, target.handle())?;
         let mut copier = self.copier(
-            source.into_image(&self.state.source),
-            target.into_image(self.size, self.is_sparse(), &self.state.target),
+            source.into_image(&state.source),
+            target.into_image(self.size, self.is_sparse(), &state.target),
         )?;
         let copied = self.copy_unfinished(&mut copier, &mut record, &data);
         let ended = record.end();
         copied?;
         let ended = ended?;
         self.set_length(&file)?;
-        if self.copy.verify {
+        if copy.verify {
             self.verify(&mut copier)?;
         }
-        self.plan.complete(self.rt, self.copy, &file)?;
-        let wanted = self.copy.map.is_some() || self.plan == Plan::LostBlocks;
+        self.plan.complete(self.rt, copy, &file)?;
+        let wanted = copy.map.is_some() || self.plan == Plan::LostBlocks;
         ended.save(self.rt, wanted)?;
         Ok(ended.outcome())
     }
@@ -141,8 +143,9 @@ impl<'a, 'w> ImageCopy<'a, 'w> {
 
     // Returns the blocks to read. Those in holes are left out if the target has zeros there.
     fn data(&self, source: &OpenImageFile) -> Result<DataBlocks, Fault<'w>> {
-        if self.copy.sparse && matches!(self.plan, Plan::New | Plan::Resume) {
-            Fault::of_call(self.copy.from.path, source.data())
+        let copy = self.copy;
+        if copy.sparse && matches!(self.plan, Plan::New | Plan::Resume) {
+            Fault::of_call(copy.from.path, source.data())
         } else {
             Ok(DataBlocks::all(self.size))
         }
@@ -151,7 +154,8 @@ impl<'a, 'w> ImageCopy<'a, 'w> {
     // Makes the record of the copy to a target of that many blocks. An existing file that will be overwritten gets
     // its other name.
     fn record(&self, length: u32) -> Result<CopyRecord<'a, 'w>, Fault<'w>> {
-        let file = MapFile::of(self.copy, self.plan);
+        let copy = self.copy;
+        let file = MapFile::of(copy, self.plan);
         let map = match self.plan.resumes() {
             true => self.resumed_map(&file, length)?,
             false => BlockMap::new(self.rt.alloc(), self.blocks.start..self.blocks.end)?,
@@ -161,26 +165,28 @@ impl<'a, 'w> ImageCopy<'a, 'w> {
             file.begin(self.rt, &map, overwrites)?;
         }
         if overwrites {
-            Plan::mark(self.rt, self.copy.to.path)?;
+            Plan::mark(self.rt, copy.to.path)?;
         }
         let saves_always = overwrites || file.is_named();
         let blocks = self.blocks.start..self.blocks.end;
-        let progress = CopyProgress::start(self.rt, self.copy.from.path, blocks);
+        let progress = CopyProgress::start(self.rt, copy.from.path, blocks);
         let file = SavedMap {
             map,
             file,
             saves_always,
         };
-        Ok(CopyRecord::new(self.rt, progress, file, &self.state.copied))
+        let state = self.state;
+        Ok(CopyRecord::new(self.rt, progress, file, &state.copied))
     }
 
     // Returns the map of the copy that goes on: the one that it saved, or one by the length of its target.
     fn resumed_map(&self, file: &MapFile<'w>, length: u32) -> Result<BlockMap, Fault<'w>> {
+        let copy = self.copy;
         match file.read(self.rt)? {
             Some(map) if map.end() <= self.size => Ok(map),
             Some(_map) => Err(file.fault_of_size()),
             None if self.plan == Plan::LostBlocks => {
-                Err(Fault::new(self.copy.to.path, Reason::NothingToResume))
+                Err(Fault::new(copy.to.path, Reason::NothingToResume))
             }
             None => {
                 let blocks = self.blocks.start..self.blocks.end;
@@ -240,16 +246,18 @@ impl<'a, 'w> ImageCopy<'a, 'w> {
 
     // Gives the target the length of the source, if it is copied as a whole.
     fn set_length(&self, file: &File) -> Result<(), Fault<'w>> {
+        let copy = self.copy;
         match self.plan.has_part() {
-            true => set_blocks(self.copy.to.path, file, self.size),
+            true => set_blocks(copy.to.path, file, self.size),
             false => Ok(()),
         }
     }
 
     // Compares the blocks of both images.
     fn verify(&self, copier: &mut Copier<Image<'a>>) -> Result<(), Fault<'w>> {
+        let copy = self.copy;
         let Range { start, end } = self.blocks;
-        let mut progress = CopyProgress::start(self.rt, self.copy.to.path, start..end);
+        let mut progress = CopyProgress::start(self.rt, copy.to.path, start..end);
         let compared = copier.compare(start..end, &mut progress);
         progress.end();
         compared.map_err(|error| self.fault(error))
@@ -257,18 +265,18 @@ impl<'a, 'w> ImageCopy<'a, 'w> {
 
     // Returns the fault for an error, with the file that it concerns.
     fn fault(&self, error: CopyError) -> Fault<'w> {
-        let (from, to) = (self.copy.from.path, self.copy.to.path);
+        let copy = self.copy;
+        let state = self.state;
+        let (from, to) = (copy.from.path, copy.to.path);
         match error {
             CopyError::NoMemory => Fault::no_memory(),
             CopyError::Read(Side::Source, block) => {
-                block_fault(from, block, StoreError::Read, &self.state.source)
+                block_fault(from, block, StoreError::Read, &state.source)
             }
             CopyError::Read(Side::Target, block) => {
-                block_fault(to, block, StoreError::Read, &self.state.target)
+                block_fault(to, block, StoreError::Read, &state.target)
             }
-            CopyError::Write(block) => {
-                block_fault(to, block, StoreError::Write, &self.state.target)
-            }
+            CopyError::Write(block) => { block_fault(to, block, StoreError::Write, &state.target) }
             CopyError::Differs(block) => Fault::new(to, Reason::Differs(block)),
             CopyError::Rejected(Side::Source, status) => {
                 Fault::new(from, Reason::Rejected(status))

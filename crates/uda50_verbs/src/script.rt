@@ -73,13 +73,26 @@ pub(crate) fn open_drives<'c, 'w>(
     units: &[Option<ImageName<'w>>],
     failures: &'c [Failures; 4],
 ) -> Result<Drives<'c>, Fault<'w>> {
-    let mut drives = [None, None, None, None];
-    for ((drive, unit), failures) in drives.iter_mut().zip(units).zip(failures) {
-        if let Some(image) = unit {
-            *drive = Some(open_drive(rt, *image, failures)?);
-        }
+    let [first, second, third, fourth] = failures;
+    Ok([
+        open_unit(rt, units, 0, first)?,
+        open_unit(rt, units, 1, second)?,
+        open_unit(rt, units, 2, third)?,
+        open_unit(rt, units, 3, fourth)?,
+    ])
+}
+
+// Opens the image of a unit. Returns `None` for no drive.
+fn open_unit<'c, 'w>(
+    rt: &HostRuntime,
+    units: &[Option<ImageName<'w>>],
+    number: usize,
+    failures: &'c Failures,
+) -> Result<Option<Drive<Image<'c>>>, Fault<'w>> {
+    match units.get(number) {
+        Some(Some(image)) => Ok(Some(open_drive(rt, *image, failures)?)),
+        _ => Ok(None),
     }
-    Ok(drives)
 }
 
 // Opens an image as a drive.

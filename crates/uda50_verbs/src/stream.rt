@@ -164,7 +164,8 @@ impl<'a, 'w, R: Read> StreamCopy<'a, 'w, R> {
     fn wanted(&self) -> usize
         ensures within { result ≤ 32 }
     {
-        let end = match self.copy.blocks {
+        let copy = self.copy;
+        let end = match copy.blocks {
             Some(range) if self.at < range.start => range.start,
             Some(range) => range.end,
             None => STORE_LIMIT,
@@ -215,12 +216,9 @@ impl<'a, 'w, R: Read> StreamCopy<'a, 'w, R> {
             return Err(Fault::new(self.name, Reason::TooLarge(u64::from(block))));
         }
         from.copy_from_slice(bytes);
-        self.image.write(block, &from).map_err(|error| block_fault(
-            self.copy.to.path,
-            block,
-            error,
-            self.failures,
-        ))
+        self.image
+            .write(block, &from)
+            .map_err(|error| block_fault(copy.to.path, block, error, failures))
     }
 
     // Ends a copy whose stream ended, with that many bytes after its last whole block.

@@ -1,6 +1,7 @@
 //! The verbs of the program `uda50`.
 #![tactic(auto)]
 
+mod check;
 mod copy;
 mod create;
 mod decode;
@@ -9,6 +10,7 @@ mod entry;
 mod fault;
 mod image;
 mod info;
+mod notes;
 mod outcome;
 mod progress;
 mod run;
@@ -17,6 +19,7 @@ mod script_help;
 mod streams;
 mod target;
 mod trace;
+mod unreadable;
 
 pub use entry::{program, unreadable_arguments};
 pub use fault::{Fault, Reason};

@@ -1,12 +1,14 @@
 //! Execution of scripts on images.
 
-use crate::fault::{Fault, Reason, STANDARD_INPUT};
+use crate::fault::{Fault, Reason};
 use crate::image::open;
-use std::io::{BufReader, Read, Write};
+use crate::notes::{RunNotes, ScriptText};
+use std::fs;
+use std::io::{Read, Write};
+use std::os::unix::fs::MetadataExt;
 use uda_driver::{Driver, Watch};
-use uda_grammar::ScriptError;
 use uda_image::{Drive, FileImage};
-use uda_script_run::{Channels, ReportStyle, ScriptOutcome, TextError, run_buffered_text};
+use uda_script_run::{Channels, ReportStyle, ScriptOutcome, run_buffered_text};
 use uda50_arguments::ImageName;
 
 /// The drives of units 0 to 3.
@@ -18,7 +20,9 @@ pub(crate) struct Job<'j, 'w, T> {
     /// The name of the script's file.
     pub(crate) name: &'w str,
     /// The text of the script.
-    pub(crate) text: BufReader<T>,
+    pub(crate) text: ScriptText<'j, T>,
+    /// What is noted of the streams.
+    pub(crate) notes: &'j RunNotes,
     /// The images of units 0 to 3; `None` for no drive.
     pub(crate) units: &'j [Option<ImageName<'w>>],
     /// The style of the report.
@@ -48,11 +52,12 @@ fn execute_on<'w, T: Read + Drop, R: Read, W: Write, V: Write, H: Watch>(
     let Job {
         name,
         text,
+        notes,
         units,
         style,
     } = job;
     let done = run_buffered_text(rt.alloc(), style, text, channels, &mut driver);
-    let outcome = done.map_err(|error| fault_of(name, error));
+    let outcome = done.map_err(|error| notes.fault(name, error));
     sync(rt, driver.into_stores(), units, outcome)
 }
 
@@ -62,12 +67,56 @@ pub(crate) fn open_drives<'w>(
     units: &[Option<ImageName<'w>>],
 ) -> Result<Drives, Fault<'w>> {
     let mut drives = [None, None, None, None];
-    for (drive, unit) in drives.iter_mut().zip(units) {
+    for (number, (drive, unit)) in drives.iter_mut().zip(units).enumerate() {
         if let Some(image) = unit {
-            *drive = Some(open_drive(rt, *image)?);
+            *drive = Some(open_unit(rt, units, number, *image)?);
         }
     }
     Ok(drives)
+}
+
+// Opens the image of the unit with this number.
+fn open_unit<'w>(
+    rt: &HostRuntime,
+    units: &[Option<ImageName<'w>>],
+    number: usize,
+    image: ImageName<'w>,
+) -> Result<Drive<FileImage>, Fault<'w>> {
+    match open_drive(rt, image) {
+        Ok(drive) => Ok(drive),
+        Err(fault) => Err(with_user(rt, units, number, fault)),
+    }
+}
+
+// Returns the fault of the image of a unit. If it is in use by an earlier unit, the fault names both.
+fn with_user<'w>(
+    rt: &HostRuntime,
+    units: &[Option<ImageName<'w>>],
+    number: usize,
+    fault: Fault<'w>,
+) -> Fault<'w> {
+    if !matches!(fault.reason, Reason::InUse) {
+        return fault;
+    }
+    match units
+        .iter()
+        .take(number)
+        .position(|unit| is_same_file(rt, *unit, fault.name))
+    {
+        Some(first) => Fault::new(fault.name, Reason::GivenTwice(first, number)),
+        None => fault,
+    }
+}
+
+// Returns whether a unit's image is this file.
+fn is_same_file(rt: &HostRuntime, unit: Option<ImageName<'_>>, path: &str) -> bool {
+    let Some(image) = unit else {
+        return false;
+    };
+    match (fs::metadata(rt, image.path), fs::metadata(rt, path)) {
+        (Ok(one), Ok(other)) => one.dev() == other.dev() && one.ino() == other.ino(),
+        _ => false,
+    }
 }
 
 // Opens an image as a drive.
@@ -117,25 +166,4 @@ fn print_earlier<'w>(
 // Returns the fault of an image that could not be synced.
 fn not_synced<'w>(path: &'w str) -> Fault<'w> {
     Fault::new(path, Reason::NotSynced)
-}
-
-// Returns the fault of a script that stopped.
-fn fault_of<'w>(script: &'w str, error: TextError) -> Fault<'w> {
-    match error {
-        TextError::Unreadable => Fault::new(script, Reason::Unreadable),
-        TextError::Syntax { line, expected } => {
-            Fault::new(script, Reason::Syntax { line, expected })
-        }
-        TextError::Script(ScriptError::ShortData { line }) => {
-            Fault::new(script, Reason::DataEnded(line))
-        }
-        TextError::Script(ScriptError::Read) => Fault::new(STANDARD_INPUT, Reason::Unreadable),
-        TextError::Script(ScriptError::Write) => {
-            Fault::new("standard output or error", Reason::Unwritable)
-        }
-        TextError::Script(ScriptError::NoMemory) => Fault::new("uda50", Reason::NoMemory),
-        TextError::Script(ScriptError::Syntax { .. } | ScriptError::TooManyLines) => {
-            Fault::new(script, Reason::Unreadable)
-        }
-    }
 }

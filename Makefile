@@ -1,13 +1,14 @@
-# What to build, and what to check:
-#   make            the program uda as out/uda, without proofs: about a minute
-#   make uda50      the program uda50 as out/uda50, without proofs: about a minute
-#   make install    installs both programs and the man page below PREFIX, /usr/local, and below DESTDIR
-#   make scenarios  the program that executes scenarios, as out/scenarios, without proofs: about a minute
-#   make library    the library for C as out/libuda50.a and as a shared object, without proofs: half a minute
+# What to build, and what to check. CONTRIBUTING.md has the time of each.
+#   make            the programs uda and uda50 as out/uda and out/uda50, without proofs
+#   make uda50      only the program uda50
+#   make install    installs both programs, their man pages, and the completions of uda50 for bash, zsh and fish, below
+#                   PREFIX, /usr/local, and below DESTDIR
+#   make scenarios  the program that executes scenarios, as out/scenarios, without proofs
+#   make library    the library for C as out/libuda50.a and as a shared object, without proofs
 #   make install-library
 #                   installs that library, its headers and uda50.pc below PREFIX and DESTDIR
-#   make test       the tests, without proofs: four minutes; make check is the same
-#   make proofs     the full check: every proof from nothing, tests, must-fail edits, library for C: 2 hours
+#   make test       the tests, without proofs; make check is the same
+#   make proofs     the full check: every proof from nothing, tests, must-fail edits, library for C
 #   make clean      removes out/
 # `make -C c` builds the proved library for C. All of it needs the command rt of the Rattle toolchain on the path.
 top := .
@@ -16,7 +17,7 @@ how := built without proofs
 
 sources := $(shell find crates -name '*.rt') crates.txt
 
-all: out/uda
+all: out/uda out/uda50
 
 include c/library.mk
 
@@ -28,10 +29,18 @@ uda50: out/uda50
 out/uda50: $(sources) tools/unproved
 	tools/unproved program uda50 $@
 
+share = $(DESTDIR)$(PREFIX)/share
+bash := bash-completion/completions
+zsh := zsh/site-functions
+fish := fish/vendor_completions.d
+
 install: out/uda out/uda50
-	install -d $(DESTDIR)$(PREFIX)/bin $(DESTDIR)$(PREFIX)/share/man/man1
+	install -d $(DESTDIR)$(PREFIX)/bin $(share)/man/man1 $(share)/$(bash) $(share)/$(zsh) $(share)/$(fish)
 	install -m 755 out/uda out/uda50 $(DESTDIR)$(PREFIX)/bin
-	install -m 644 man/uda50.1 $(DESTDIR)$(PREFIX)/share/man/man1
+	install -m 644 man/uda.1 man/uda50.1 $(share)/man/man1
+	install -m 644 completions/uda50.bash $(share)/$(bash)/uda50
+	install -m 644 completions/_uda50 $(share)/$(zsh)
+	install -m 644 completions/uda50.fish $(share)/$(fish)
 
 scenarios: out/scenarios
 

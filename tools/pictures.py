@@ -231,6 +231,7 @@ CRATES = {
     "uda50_arguments": (4, 8, "its command line"),
     "uda50_decode": (4, 9, "prints packets"),
     "uda50_show": (4, 7, "what it prints"),
+    "uda50_script_text": (4, 3, "text of scripts"),
     "uda_plain": (0, 2, "in-order run"),
     "mem_packet_image_tests": (0, 3.1, ""),
     "exec_tests": (0, 4.08, ""),
@@ -251,7 +252,8 @@ CRATES = {
 }
 # the arrows that leave by the right side and go down between two columns, each with its x
 LANES = {("uda_driver", "uda_posting"): 500, ("uda_script_run", "uda_grammar"): 740,
-         ("uda50_verbs", "uda50_arguments"): 948, ("uda50_decode", "uda50_show"): 1158}
+         ("uda50_verbs", "uda50_arguments"): 948, ("uda50_decode", "uda50_show"): 1158,
+         ("uda50_verbs", "uda50_script_text"): 960}
 # the arrows that go over the top and down at the right, each with the x where it goes up, its y, and the x where it goes down
 OVER = {("workloads", "uda50_show"): (270, 85, 1169)}
 PROGRAMS = {"uda", "uda50", "uda_c"}

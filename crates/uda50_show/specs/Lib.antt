@@ -7,3 +7,4 @@ pub mod Rows
 pub mod Hex
 pub mod PacketText
 pub mod Pieces
+pub mod Names

@@ -13,12 +13,14 @@ use crate::run::run;
 use crate::script_help::script_help;
 use crate::streams::fill_closed_streams;
 use crate::trace::trace;
+use crate::unreadable::first_unreadable;
 use clap::Error;
 use clap::error::ErrorKind as UsageError;
+use std::alloc::{AllocError, Global};
 use std::io;
 use std::io::{BufWriter, ErrorKind, Write};
 use uda50_arguments::{ParsedArguments, Task, read_arguments};
-use uda50_show::DriveTypeEntry;
+use uda50_show::{DriveTypeEntry, EscapedBytes, EscapedName, is_control};
 
 /// The exit status for invalid arguments.
 const USAGE: u8 = 2;
@@ -39,7 +41,9 @@ pub fn program(rt: &HostRuntime, arguments: &[&str]) -> u8
         return report(rt, &Fault::new("standard streams", Reason::NoSuchFile));
     };
     let drives = DriveTypeEntry::names();
+    let is_escaped = has_control_characters(arguments);
     let status = match read_arguments(rt.alloc(), arguments, &drives) {
+        ParsedArguments::Text { .. } if is_escaped => print_escaped(rt, arguments, &drives),
         ParsedArguments::Text { text, usage } => print_text(rt, &text, usage.as_ref()),
         ParsedArguments::Task(task) => match perform(rt, &task) {
             Ok(outcome) => outcome.status(),
@@ -59,8 +63,65 @@ pub fn unreadable_arguments(rt: &HostRuntime, error: &io::Error) -> u8
         let _ = eprintln!(rt; "uda50: out of memory");
         return FAULT;
     }
-    let _ = eprintln!(rt; "uda50: an argument is not valid UTF-8");
+    print_unreadable(rt);
     USAGE
+}
+
+// Names the first argument that is not valid UTF-8.
+fn print_unreadable(rt: &HostRuntime) {
+    let _ = match first_unreadable(rt) {
+        Some((number, bytes)) => {
+            let shown = EscapedBytes(&bytes);
+            eprintln!(rt; "uda50: argument {number}, \"{shown}\", is not valid UTF-8")
+        }
+        None => eprintln!(rt; "uda50: an argument is not valid UTF-8"),
+    };
+}
+
+// Returns whether an argument has a control character.
+fn has_control_characters(arguments: &[&str]) -> bool {
+    arguments.iter().any(|argument| argument.chars().any(|character| is_control(character)))
+}
+
+// Prints the text of arguments as that of the same arguments with escapes, so that it has none of their
+// control characters. Returns the exit status.
+fn print_escaped(rt: &HostRuntime, arguments: &[&str], drives: &[&'static str]) -> u8
+    ensures { result ≤ 2 }
+{
+    match escaped(rt.alloc(), arguments) {
+        Ok(escaped) => print_text_of(rt, &escaped, drives),
+        Err(_) => report(rt, &Fault::new("uda50", Reason::NoMemory)),
+    }
+}
+
+// Returns arguments with escapes in place of their control characters.
+fn escaped(alloc: Global, arguments: &[&str]) -> Result<Vec<String>, AllocError> {
+    let mut escaped = Vec::new(alloc);
+    for argument in arguments {
+        let argument = format!(in alloc; "{}", EscapedName(argument))?;
+        escaped.push(argument)?;
+    }
+    Ok(escaped)
+}
+
+// Prints the text of arguments that are no task, and returns the exit status.
+fn print_text_of(rt: &HostRuntime, arguments: &[String], drives: &[&'static str]) -> u8
+    ensures { result ≤ 2 }
+{
+    let borrowed: Result<Vec<&str>, AllocError> = arguments
+        .iter()
+        .map(|argument| argument.as_str())
+        .collect(rt.alloc());
+    let Ok(arguments) = borrowed else {
+        return report(rt, &Fault::new("uda50", Reason::NoMemory));
+    };
+    match read_arguments(rt.alloc(), &arguments, drives) {
+        ParsedArguments::Text { text, usage } => print_text(rt, &text, usage.as_ref()),
+        ParsedArguments::Task(_task) => {
+            let _ = eprintln!(rt; "uda50: an argument has control characters");
+            USAGE
+        }
+    }
 }
 
 // Prints the help, the version, or the error of the arguments, and returns the exit status.

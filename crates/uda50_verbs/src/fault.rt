@@ -4,17 +4,20 @@ use std::alloc::AllocError;
 use std::io::ErrorKind;
 use std::{fmt, io};
 use thiserror::Error;
-use uda_grammar::Expected;
 use uda_image::StoreError;
 use uda50_arguments::BlockRange;
 use uda50_map::MapError;
-use uda50_show::{Grouped, TokenError};
+use uda50_script_text::{ByteOrderMark, Mistake};
+use uda50_show::{EscapedName, Grouped, TokenError};
 
 /// The name of standard input in faults.
 pub(crate) const STANDARD_INPUT: &str = "standard input";
 
 /// The name of standard output in faults.
 pub(crate) const STANDARD_OUTPUT: &str = "standard output";
+
+/// The name of standard error in faults.
+pub(crate) const STANDARD_ERROR: &str = "standard error";
 
 // Returns what could not be done with a block.
 fn verb_of(error: StoreError) -> &'static str {
@@ -141,14 +144,26 @@ pub enum Reason {
     /// A stream can't be written.
     #[error("cannot be written")]
     Unwritable,
+    /// A stream of a script can't be read or written.
+    #[error("{0}")]
+    Stream(io::Error),
+    /// The file to read is a folder.
+    #[error("is a folder")]
+    Folder,
+    /// The image of a unit is that of an earlier unit too.
+    #[error("is given twice, for units {0} and {1}")]
+    GivenTwice(usize, usize),
     /// A line of the script is not a statement.
-    #[error("line {line}, {expected}")]
+    #[error("line {line}, {mistake}")]
     Syntax {
         /// The line, from 1.
         line: u64,
-        /// The part that is expected in the line.
-        expected: Expected,
+        /// Its mistake.
+        mistake: Mistake,
     },
+    /// The script begins with a byte order mark.
+    #[error("begins with a byte order mark of {0}; a script has none")]
+    ByteOrderMark(ByteOrderMark),
     /// Standard input ended before a line had all its data.
     #[error("line {0}: standard input ended inside its data")]
     DataEnded(u64),
@@ -236,6 +251,14 @@ impl Reason {
         }
     }
 
+    /// Returns the reason for an error of a script's stream.
+    pub(crate) fn of_stream(error: io::Error) -> Reason {
+        match error.kind() {
+            ErrorKind::IsADirectory => Reason::Folder,
+            _ => Reason::Stream(error),
+        }
+    }
+
     // Returns the reason for a kind of errors, or `None` if the system's own text is printed.
     fn of_kind(kind: ErrorKind) -> Option<Reason> {
         match kind {
@@ -264,6 +287,12 @@ impl<'w> From<io::Error> for Fault<'w> {
 /// Writes a text such as `disk.img: no such file`.
 impl fmt::Display for Fault<'_> {
     fn fmt<W: fmt::Write>(&self, f: &mut fmt::Formatter<W>) -> fmt::Result {
-        write!(f, "{}{}: {}", self.name, self.suffix, self.reason)
+        write!(
+            f,
+            "{}{}: {}",
+            EscapedName(self.name),
+            self.suffix,
+            self.reason
+        )
     }
 }

@@ -8,7 +8,7 @@ use std::io;
 use std::io::Write;
 use uda50_arguments::ImageName;
 use uda50_files::Failures;
-use uda50_show::{BootBlock, DiskLabel, Grouped, HomeBlock, TypesOfSize};
+use uda50_show::{BootBlock, DiskLabel, EscapedName, Grouped, HomeBlock, TypesOfSize};
 
 /// Describes each image. If one has a fault, it prints the fault's line and continues with the others.
 pub(crate) fn info<'w, W: Write>(
@@ -110,7 +110,7 @@ fn write_writable<W: Write>(out: &mut W, writable: &str) -> io::Result<()> {
 fn write_size<W: Write>(out: &mut W, path: &str, blocks: u32) -> io::Result<()> {
     let bytes = Grouped(512 * u64::from(blocks));
     let count = Grouped(u64::from(blocks));
-    writeln!(out, "{path}: {count} blocks, {bytes} bytes")?;
+    writeln!(out, "{}: {count} blocks, {bytes} bytes", EscapedName(path))?;
     write_types(out, blocks)
 }
 

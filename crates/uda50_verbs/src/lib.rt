@@ -1,6 +1,7 @@
 //! The verbs of the program `uda50`.
 #![tactic(auto)]
 
+mod check;
 mod copy;
 mod create;
 mod decode;
@@ -10,6 +11,7 @@ mod fault;
 mod image;
 mod info;
 mod map_file;
+mod notes;
 mod outcome;
 mod progress;
 mod record;
@@ -20,6 +22,7 @@ mod stream;
 mod streams;
 mod target;
 mod trace;
+mod unreadable;
 
 pub use entry::{program, unreadable_arguments};
 pub use fault::{Fault, Reason};

@@ -4,7 +4,7 @@ use std::io::IsTerminal;
 use std::ops::Range;
 use std::time::Instant;
 use uda50_copy::Observer;
-use uda50_show::Reached;
+use uda50_show::{EscapedName, Reached};
 
 /// The least time between two lines of progress, in milliseconds.
 const INTERVAL: u64 = 200;
@@ -56,7 +56,11 @@ impl<'r, 'w> CopyProgress<'r, 'w> {
         self.list();
         let blocks = if self.lost == 1 { "block" } else { "blocks" };
         if self.lost > 0 {
-            let _ = eprintln!(self.rt; "uda50: {}: {} {blocks} lost", self.name, self.lost);
+            let _ = eprintln!(self.rt;
+                "uda50: {}: {} {blocks} lost",
+                EscapedName(self.name),
+                self.lost
+            );
         }
         self.lost
     }
@@ -66,7 +70,7 @@ impl<'r, 'w> CopyProgress<'r, 'w> {
         if self.run.start < self.run.end {
             self.clear();
             let Range { start, end } = self.run;
-            let _ = eprintln!(self.rt; "uda50: {}: lost {start}..{end}", self.name);
+            let _ = eprintln!(self.rt; "uda50: {}: lost {start}..{end}", EscapedName(self.name));
         }
     }
 

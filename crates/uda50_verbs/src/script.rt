@@ -1,12 +1,14 @@
 //! Execution of scripts on images.
 
-use crate::fault::{Fault, Reason, STANDARD_INPUT};
+use crate::fault::{Fault, Reason};
 use crate::image::open_file;
-use std::io::{BufReader, Read, Write};
+use crate::notes::{RunNotes, ScriptText};
+use std::fs;
+use std::io::{Read, Write};
+use std::os::unix::fs::MetadataExt;
 use uda_driver::{Driver, Watch};
-use uda_grammar::ScriptError;
 use uda_image::Drive;
-use uda_script_run::{Channels, ReportStyle, ScriptOutcome, TextError, run_buffered_text};
+use uda_script_run::{Channels, ReportStyle, ScriptOutcome, run_buffered_text};
 use uda50_arguments::ImageName;
 use uda50_files::{Access, Failures, Image};
 
@@ -19,7 +21,9 @@ pub(crate) struct Job<'j, 'w, T> {
     /// The name of the script's file.
     pub(crate) name: &'w str,
     /// The text of the script.
-    pub(crate) text: BufReader<T>,
+    pub(crate) text: ScriptText<'j, T>,
+    /// What is noted of the streams.
+    pub(crate) notes: &'j RunNotes,
     /// The images of units 0 to 3; `None` for no drive.
     pub(crate) units: &'j [Option<ImageName<'w>>],
     /// The style of the report.
@@ -49,11 +53,12 @@ fn execute_on<'w, T: Read + Drop, R: Read, W: Write, V: Write, H: Watch>(
     let Job {
         name,
         text,
+        notes,
         units,
         style,
     } = job;
     let done = run_buffered_text(rt.alloc(), style, text, channels, &mut driver);
-    let outcome = done.map_err(|error| fault_of(name, error));
+    let outcome = done.map_err(|error| notes.fault(name, error));
     sync(rt, driver.into_stores(), units, outcome)
 }
 
@@ -82,16 +87,50 @@ pub(crate) fn open_drives<'c, 'w>(
     ])
 }
 
-// Opens the image of a unit. Returns `None` for no drive.
+// Opens the image of the unit with this number. Returns `None` for no drive.
 fn open_unit<'c, 'w>(
     rt: &HostRuntime,
     units: &[Option<ImageName<'w>>],
     number: usize,
     failures: &'c Failures,
 ) -> Result<Option<Drive<Image<'c>>>, Fault<'w>> {
-    match units.get(number) {
-        Some(Some(image)) => Ok(Some(open_drive(rt, *image, failures)?)),
-        _ => Ok(None),
+    let Some(Some(image)) = units.get(number) else {
+        return Ok(None);
+    };
+    match open_drive(rt, *image, failures) {
+        Ok(drive) => Ok(Some(drive)),
+        Err(fault) => Err(with_user(rt, units, number, fault)),
+    }
+}
+
+// Returns the fault of the image of a unit. If it is in use by an earlier unit, the fault names both.
+fn with_user<'w>(
+    rt: &HostRuntime,
+    units: &[Option<ImageName<'w>>],
+    number: usize,
+    fault: Fault<'w>,
+) -> Fault<'w> {
+    if !matches!(fault.reason, Reason::InUse) {
+        return fault;
+    }
+    match units
+        .iter()
+        .take(number)
+        .position(|unit| is_same_file(rt, *unit, fault.name))
+    {
+        Some(first) => Fault::new(fault.name, Reason::GivenTwice(first, number)),
+        None => fault,
+    }
+}
+
+// Returns whether a unit's image is this file.
+fn is_same_file(rt: &HostRuntime, unit: Option<ImageName<'_>>, path: &str) -> bool {
+    let Some(image) = unit else {
+        return false;
+    };
+    match (fs::metadata(rt, image.path), fs::metadata(rt, path)) {
+        (Ok(one), Ok(other)) => one.dev() == other.dev() && one.ino() == other.ino(),
+        _ => false,
     }
 }
 
@@ -151,25 +190,4 @@ fn print_earlier<'w>(
 // Returns the fault of an image that could not be synced.
 fn not_synced<'w>(path: &'w str) -> Fault<'w> {
     Fault::new(path, Reason::NotSynced)
-}
-
-// Returns the fault of a script that stopped.
-fn fault_of<'w>(script: &'w str, error: TextError) -> Fault<'w> {
-    match error {
-        TextError::Unreadable => Fault::new(script, Reason::Unreadable),
-        TextError::Syntax { line, expected } => {
-            Fault::new(script, Reason::Syntax { line, expected })
-        }
-        TextError::Script(ScriptError::ShortData { line }) => {
-            Fault::new(script, Reason::DataEnded(line))
-        }
-        TextError::Script(ScriptError::Read) => Fault::new(STANDARD_INPUT, Reason::Unreadable),
-        TextError::Script(ScriptError::Write) => {
-            Fault::new("standard output or error", Reason::Unwritable)
-        }
-        TextError::Script(ScriptError::NoMemory) => Fault::new("uda50", Reason::NoMemory),
-        TextError::Script(ScriptError::Syntax { .. } | ScriptError::TooManyLines) => {
-            Fault::new(script, Reason::Unreadable)
-        }
-    }
 }

@@ -1,8 +1,10 @@
 //! The standard streams, and text files.
 
 use crate::fault::Fault;
+use std::cell::Cell;
 use std::fs::{File, OpenFile};
-use std::io::BufReader;
+use std::io;
+use std::io::{BufReader, ErrorKind, Read, Write};
 
 /// Opens files that replace closed standard streams. The caller keeps them open while it uses other files.
 /// Without them an image could be opened in place of a closed stream, and printed text would be written to
@@ -17,6 +19,102 @@ pub(crate) fn fill_closed_streams(rt: &HostRuntime) -> Option<[File; 3]> {
 pub(crate) fn open_text<'w>(rt: &HostRuntime, path: &'w str) -> Result<BufReader<File>, Fault<'w>> {
     let file = Fault::of_call(path, File::open(rt, path))?;
     Ok(BufReader::new(rt.alloc(), file)?)
+}
+
+/// Opens the file of a script.
+pub(crate) fn open_script<'w>(rt: &HostRuntime, path: &'w str) -> Result<File, Fault<'w>> {
+    Fault::of_call(path, File::open(rt, path))
+}
+
+/// The last error of a stream.
+#[derive(Drop)]
+pub(crate) struct LastError(Cell<Option<NotedError>>);
+
+// What is kept of an error of the system: its number, or else its kind.
+#[derive(Clone, Copy)]
+enum NotedError {
+    Number(i32),
+    Kind(ErrorKind),
+}
+
+impl LastError {
+    /// Makes the last error of a stream that had none.
+    pub(crate) fn none() -> LastError {
+        LastError(Cell::new(None))
+    }
+
+    // Notes an error, except that a call was interrupted, after which it is repeated.
+    fn note(&self, error: &io::Error) {
+        if error.kind() == ErrorKind::Interrupted {
+            return;
+        }
+        self.0.set(Some(match error.raw_os_error() {
+            Some(number) => NotedError::Number(number),
+            None => NotedError::Kind(error.kind()),
+        }));
+    }
+
+    // Returns the result of a call, whose error it notes.
+    fn noted<T>(&self, called: io::Result<T>) -> io::Result<T> {
+        match called {
+            Ok(value) => Ok(value),
+            Err(error) => {
+                self.note(&error);
+                Err(error)
+            }
+        }
+    }
+
+    /// Returns whether there was an error.
+    pub(crate) fn is_some(&self) -> bool {
+        self.0.get().is_some()
+    }
+
+    /// Returns the error, if there was one.
+    pub(crate) fn get(&self) -> Option<io::Error> {
+        match self.0.get()? {
+            NotedError::Number(number) => Some(io::Error::from_raw_os_error(number)),
+            NotedError::Kind(kind) => Some(io::Error::from(kind)),
+        }
+    }
+}
+
+/// A stream whose last error is noted.
+#[derive(Drop)]
+pub(crate) struct Noting<'e, S> {
+    stream: S,
+    last: &'e LastError,
+}
+
+impl<'e, S> Noting<'e, S> {
+    /// Makes a stream whose last error is noted there.
+    pub(crate) fn new(stream: S, last: &'e LastError) -> Noting<'e, S> {
+        Noting { stream, last }
+    }
+}
+
+impl<S: Read> Read for Noting<'_, S> {
+    fn read(&mut self, buf: &mut [u8]) -> io::Result<usize> {
+        let read = self.stream.read(buf);
+        self.last.noted(read)
+    }
+}
+
+impl<S: Write> Write for Noting<'_, S> {
+    fn write(&mut self, buf: &[u8]) -> io::Result<usize> {
+        let written = self.stream.write(buf);
+        self.last.noted(written)
+    }
+
+    fn flush(&mut self) -> io::Result<()> {
+        let flushed = self.stream.flush();
+        self.last.noted(flushed)
+    }
+
+    fn write_all(&mut self, buf: &[u8]) -> io::Result<()> {
+        let written = self.stream.write_all(buf);
+        self.last.noted(written)
+    }
 }
 
 // Opens a file that has no bytes to read and accepts none.

@@ -1,12 +1,13 @@
 //! `uda50 trace`: prints each turn of the port.
 
 use crate::fault::Fault;
+use crate::notes::{RunNotes, ScriptText};
 use crate::outcome::Outcome;
 use crate::run::script_name;
 use crate::script::{Drives, Job, execute_script, no_failures, open_drives};
-use crate::streams::open_text;
+use crate::streams::{Noting, open_script};
 use std::io;
-use std::io::{BufReader, Read, Write};
+use std::io::{Read, Write};
 use uda_driver::{Trace, Watch};
 use uda_packet::status;
 use uda_script_run::{Channels, ReportStyle};
@@ -22,45 +23,33 @@ pub(crate) fn trace<'w, W: Write>(
 ) -> Result<Outcome, Fault<'w>> {
     let failures = no_failures();
     let drives = open_drives(rt, units, &failures)?;
+    let notes = RunNotes::new(rt.alloc())?;
     if script == "-" {
-        trace_input(rt, units, drives, out)
+        let no_data: &[u8] = &[];
+        let text = notes.text(rt.alloc(), rt.stdin())?;
+        trace_job(rt, job(script, units, &notes, text), no_data, drives, out)
     } else {
-        trace_file(rt, script, units, drives, out)
+        let text = notes.text(rt.alloc(), open_script(rt, script)?)?;
+        trace_job(
+            rt,
+            job(script, units, &notes, text),
+            rt.stdin(),
+            drives,
+            out,
+        )
     }
-}
-
-// Executes the script on standard input.
-fn trace_input<'w, W: Write>(
-    rt: &HostRuntime,
-    units: &[Option<ImageName<'w>>],
-    drives: Drives<'_>,
-    out: &mut W,
-) -> Result<Outcome, Fault<'w>> {
-    let no_data: &[u8] = &[];
-    let text = BufReader::new(rt.alloc(), rt.stdin())?;
-    trace_job(rt, job("-", units, text), no_data, drives, out)
-}
-
-// Executes the script in a file.
-fn trace_file<'w, W: Write>(
-    rt: &HostRuntime,
-    script: &'w str,
-    units: &[Option<ImageName<'w>>],
-    drives: Drives<'_>,
-    out: &mut W,
-) -> Result<Outcome, Fault<'w>> {
-    let text = open_text(rt, script)?;
-    trace_job(rt, job(script, units, text), rt.stdin(), drives, out)
 }
 
 fn job<'j, 'w, T: Read + Drop>(
     script: &'w str,
     units: &'j [Option<ImageName<'w>>],
-    text: BufReader<T>,
+    notes: &'j RunNotes,
+    text: ScriptText<'j, T>,
 ) -> Job<'j, 'w, T> {
     Job {
         name: script_name(script),
         text,
+        notes,
         units,
         style: ReportStyle::PLAIN,
     }
@@ -74,8 +63,9 @@ fn trace_job<'w, T: Read + Drop, R: Read + Drop, W: Write>(
     drives: Drives<'_>,
     out: &mut W,
 ) -> Result<Outcome, Fault<'w>> {
+    let notes = job.notes;
     let mut channels = Channels {
-        input,
+        input: Noting::new(input, &notes.input),
         out: io::sink(),
         report: io::sink(),
         watch: Printer {

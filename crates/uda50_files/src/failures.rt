@@ -2,14 +2,17 @@
 
 use std::cell::Cell;
 use std::io;
+use uda_image::StoreError;
 
-/// A block that could not be read or written, with the system's error.
+/// A block that could not be read or written, and the reason.
 #[derive(Clone, Copy, Debug)]
 pub struct Failure {
     /// The block.
     pub block: u32,
+    /// Whether it was to be read or written.
+    pub error: StoreError,
     /// The error of the system.
-    pub error: io::Error,
+    pub cause: io::Error,
 }
 
 /// What failed on a file: the lowest block that could not be read or written, and the last sync. The file of an
@@ -30,10 +33,10 @@ impl Failures {
     }
 
     /// Notes that a block could not be read or written.
-    pub fn note(&self, block: u32, error: io::Error) {
+    pub fn note(&self, failure: Failure) {
         match self.lowest.get() {
-            Some(lowest) if lowest.block <= block => {}
-            _ => self.lowest.set(Some(Failure { block, error })),
+            Some(lowest) if lowest.block <= failure.block => {}
+            _ => self.lowest.set(Some(failure)),
         }
     }
 

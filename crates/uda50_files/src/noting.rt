@@ -1,11 +1,11 @@
 //! Files that note their failures.
 ghost use Rattle.std.specs.Prelude.{None};
 
-use crate::failures::Failures;
+use crate::failures::{Failure, Failures};
 use std::fs::File;
 use std::io;
 use std::os::unix::fs::FileExt;
-use uda_image::RawFile;
+use uda_image::{RawFile, StoreError};
 
 /// A file that notes which calls on it failed, and why. It doesn't note a call of several blocks that failed, since
 /// calls of its single blocks follow.
@@ -21,11 +21,14 @@ impl<'c> NotingFile<'c> {
         NotingFile { file, failures }
     }
 
-    // Notes the failure of the block at an offset.
-    fn noted(&self, offset: u64, done: io::Result<()>) -> io::Result<()> {
-        if let Err(error) = done {
-            self.failures
-                .note(u32::try_from(offset / 512).unwrap_or(u32::MAX), error);
+    // Notes the failure of the block at an offset, which was to be read or written.
+    fn noted(&self, offset: u64, error: StoreError, done: io::Result<()>) -> io::Result<()> {
+        if let Err(cause) = done {
+            self.failures.note(Failure {
+                block: u32::try_from(offset / 512).unwrap_or(u32::MAX),
+                error,
+                cause,
+            });
         }
         done
     }
@@ -35,11 +38,19 @@ impl RawFile for NotingFile<'_> {
     ghost content = { λ _. None };
 
     fn read_exact(&mut self, to: &mut [u8], offset: u64) -> io::Result<()> {
-        self.noted(offset, self.file.read_exact_at(to, offset))
+        self.noted(
+            offset,
+            StoreError::Read,
+            self.file.read_exact_at(to, offset),
+        )
     }
 
     fn write_all(&mut self, from: &[u8], offset: u64) -> io::Result<()> {
-        self.noted(offset, self.file.write_all_at(from, offset))
+        self.noted(
+            offset,
+            StoreError::Write,
+            self.file.write_all_at(from, offset),
+        )
     }
 
     fn read_once(&mut self, to: &mut [u8], offset: u64) -> io::Result<usize> {

@@ -6,7 +6,7 @@ use std::io;
 use std::io::ErrorKind;
 use uda_image::{BlockStore, StoreError};
 use uda50_arguments::ImageName;
-use uda50_files::{Access, Failures, Image, OpenError, OpenImageFile};
+use uda50_files::{Access, Failure, Failures, Image, OpenError, OpenImageFile};
 
 /// An open image, its path, and the failures of its file.
 #[derive(Drop)]
@@ -84,16 +84,34 @@ pub(crate) fn block_fault<'w>(
     Fault::new(
         path,
         match failures.lowest() {
-            Some(failure) if failure.block == block && is_told(&failure.error) => {
-                Reason::BlockCause {
-                    block,
-                    error,
-                    cause: failure.error,
-                }
+            Some(failure) if failure.block == block && is_told(&failure.cause) => {
+                cause_of(&failure)
             }
             _ => Reason::Block { block, error },
         },
     )
+}
+
+/// Returns the fault of the lowest block that failed, if the system's reason is known.
+pub(crate) fn failure_fault<'w>(path: &'w str, failures: &Failures) -> Option<Fault<'w>> {
+    match failures.lowest() {
+        Some(failure) if is_told(&failure.cause) => Some(Fault::new(path, cause_of(&failure))),
+        _ => None,
+    }
+}
+
+// Returns the reason for a failure.
+fn cause_of(failure: &Failure) -> Reason {
+    let Failure {
+        block,
+        error,
+        cause,
+    } = *failure;
+    Reason::BlockCause {
+        block,
+        error,
+        cause,
+    }
 }
 
 /// Returns the fault of an image that can't be synced, with the system's reason if it is known.

@@ -11,6 +11,7 @@ use std::io::{BufWriter, Read, Write};
 use uda_driver::Unwatched;
 use uda_script_run::{Channels, ReportStyle};
 use uda50_arguments::Run;
+use uda50_files::Failures;
 
 /// The capacity of the buffers of standard output and standard error, in bytes.
 const BUFFER: usize = 4_096;
@@ -27,15 +28,16 @@ pub(crate) fn run<'w>(rt: &HostRuntime, run: &Run<'w>) -> Result<Outcome, Fault<
     if run.script == "-" {
         let no_data: &[u8] = &[];
         let text = notes.text(rt.alloc(), rt.stdin())?;
-        run_from(rt, job(run, &notes, text), no_data, drives)
+        run_from(rt, job(run, &failures, &notes, text), no_data, drives)
     } else {
         let text = notes.text(rt.alloc(), open_script(rt, run.script)?)?;
-        run_from(rt, job(run, &notes, text), rt.stdin(), drives)
+        run_from(rt, job(run, &failures, &notes, text), rt.stdin(), drives)
     }
 }
 
 fn job<'j, 'w, T: Read + Drop>(
     run: &'j Run<'w>,
+    failures: &'j [Failures; 4],
     notes: &'j RunNotes,
     text: ScriptText<'j, T>,
 ) -> Job<'j, 'w, T> {
@@ -44,6 +46,7 @@ fn job<'j, 'w, T: Read + Drop>(
         text,
         notes,
         units: run.units.as_slice(),
+        failures,
         style: ReportStyle {
             names: run.names,
             failures_only: run.quiet,

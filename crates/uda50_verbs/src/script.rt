@@ -1,7 +1,7 @@
 //! Execution of scripts on images.
 
 use crate::fault::{Fault, Reason};
-use crate::image::open_file;
+use crate::image::{failure_fault, open_file, sync_fault};
 use crate::notes::{RunNotes, ScriptText};
 use std::fs;
 use std::io::{Read, Write};
@@ -26,6 +26,8 @@ pub(crate) struct Job<'j, 'w, T> {
     pub(crate) notes: &'j RunNotes,
     /// The images of units 0 to 3; `None` for no drive.
     pub(crate) units: &'j [Option<ImageName<'w>>],
+    /// The failures of these images.
+    pub(crate) failures: &'j [Failures; 4],
     /// The style of the report.
     pub(crate) style: ReportStyle,
 }
@@ -55,11 +57,13 @@ fn execute_on<'w, T: Read + Drop, R: Read, W: Write, V: Write, H: Watch>(
         text,
         notes,
         units,
+        failures,
         style,
     } = job;
     let done = run_buffered_text(rt.alloc(), style, text, channels, &mut driver);
     let outcome = done.map_err(|error| notes.fault(name, error));
-    sync(rt, driver.into_stores(), units, outcome)
+    print_failures(rt, units, failures);
+    sync(rt, driver.into_stores(), units, failures, outcome)
 }
 
 /// Makes the failures of images on which nothing failed.
@@ -150,44 +154,43 @@ fn open_drive<'c, 'w>(
     Ok(Drive { store, hard })
 }
 
+// Prints for each image why its lowest block that failed could not be read or written.
+fn print_failures(rt: &HostRuntime, units: &[Option<ImageName<'_>>], failures: &[Failures; 4]) {
+    for (unit, failures) in units.iter().zip(failures) {
+        if let Some(image) = unit {
+            if let Some(fault) = failure_fault(image.path, failures) {
+                fault.print(rt);
+            }
+        }
+    }
+}
+
 // Syncs each image that was written. Of the faults, the script's and then those of the images, the last is
 // returned, and the others are printed.
 fn sync<'w>(
     rt: &HostRuntime,
     mut drives: Drives<'_>,
     units: &[Option<ImageName<'w>>],
+    failures: &[Failures; 4],
     outcome: Result<ScriptOutcome, Fault<'w>>,
 ) -> Result<ScriptOutcome, Fault<'w>> {
-    let mut last = None;
-    for (drive, unit) in drives.iter_mut().zip(units) {
+    let mut last = outcome;
+    for ((drive, unit), failures) in drives.iter_mut().zip(units).zip(failures) {
         let (Some(drive), Some(image)) = (drive, unit) else {
             continue;
         };
         if drive.store.sync().is_err() {
-            print_earlier(rt, last, &outcome);
-            last = Some(image.path);
+            print_earlier(rt, &last);
+            last = Err(sync_fault(image.path, failures));
         }
     }
-    match last {
-        Some(path) => Err(not_synced(path)),
-        None => outcome,
-    }
+    last
 }
 
 // Prints the fault before the next one: that of the last image that could not be synced, or the script's.
-fn print_earlier<'w>(
-    rt: &HostRuntime,
-    last: Option<&'w str>,
-    outcome: &Result<ScriptOutcome, Fault<'w>>,
-) {
-    match (last, outcome) {
-        (Some(path), _) => not_synced(path).print(rt),
-        (None, Err(fault)) => fault.print(rt),
-        (None, Ok(_)) => {}
+fn print_earlier(rt: &HostRuntime, last: &Result<ScriptOutcome, Fault<'_>>) {
+    match last {
+        Err(fault) => fault.print(rt),
+        Ok(_) => {}
     }
-}
-
-// Returns the fault of an image that could not be synced.
-fn not_synced<'w>(path: &'w str) -> Fault<'w> {
-    Fault::new(path, Reason::NotSynced)
 }

@@ -12,6 +12,7 @@ use uda_driver::{Trace, Watch};
 use uda_packet::status;
 use uda_script_run::{Channels, ReportStyle};
 use uda50_arguments::ImageName;
+use uda50_files::Failures;
 
 /// Executes a script on images as `run` does, and prints each turn of the port: what it fetched, executed
 /// or delivered, and the number of credits left. The blocks that the script reads are not printed.
@@ -27,12 +28,18 @@ pub(crate) fn trace<'w, W: Write>(
     if script == "-" {
         let no_data: &[u8] = &[];
         let text = notes.text(rt.alloc(), rt.stdin())?;
-        trace_job(rt, job(script, units, &notes, text), no_data, drives, out)
+        trace_job(
+            rt,
+            job(script, units, &failures, &notes, text),
+            no_data,
+            drives,
+            out,
+        )
     } else {
         let text = notes.text(rt.alloc(), open_script(rt, script)?)?;
         trace_job(
             rt,
-            job(script, units, &notes, text),
+            job(script, units, &failures, &notes, text),
             rt.stdin(),
             drives,
             out,
@@ -43,6 +50,7 @@ pub(crate) fn trace<'w, W: Write>(
 fn job<'j, 'w, T: Read + Drop>(
     script: &'w str,
     units: &'j [Option<ImageName<'w>>],
+    failures: &'j [Failures; 4],
     notes: &'j RunNotes,
     text: ScriptText<'j, T>,
 ) -> Job<'j, 'w, T> {
@@ -51,6 +59,7 @@ fn job<'j, 'w, T: Read + Drop>(
         text,
         notes,
         units,
+        failures,
         style: ReportStyle::PLAIN,
     }
 }

@@ -7,3 +7,7 @@ pub mod Rows
 pub mod Hex
 pub mod PacketText
 pub mod Pieces
+pub mod Squeeze
+pub mod Compatible
+pub mod Container
+pub mod DriveTypes

@@ -7,7 +7,7 @@ use std::alloc::Global;
 use std::io;
 use std::io::{BufRead, BufReader, BufWriter, Read, Write};
 use std::marker::Model;
-use uda50_show::{Packet, PacketReader};
+use uda50_show::{COMPATIBLE_TEXT, CompatibleMessage, Packet, PacketReader};
 
 /// The most bytes that are kept for the next line. The memory of a longer line is given back.
 pub const LINE_ROOM: usize = 4_096;
@@ -132,24 +132,47 @@ fn decode_line<W: Write + Drop>(
         };
         if let Some(packet) = packet {
             progress.packets = progress.packets.saturating_add(1);
-            progress.invalid |= !packet.is_valid();
-            put_packet(out, progress.packets, &packet)?;
+            let is_valid = packet.is_valid();
+            progress.invalid |= !is_valid;
+            put_packet(out, progress.packets, &packet, is_valid)?;
         }
     }
     Ok(())
 }
 
-// Prints a packet. If it might be too long for the write of the packets that are gathered, these go out
-// first. So each write ends with a packet.
+// Prints a packet.
 fn put_packet<W: Write + Drop>(
     out: &mut BufWriter<W>,
     number: u64,
     packet: &Packet,
+    is_valid: bool,
 ) -> io::Result<()> {
-    let text = packet.text();
+    if !is_valid {
+        if let Some(message) = CompatibleMessage::read(packet) {
+            return put_message(out, number, &message);
+        }
+    }
+    put_text(out, number, packet.text().as_bytes())
+}
+
+// Prints the text of a packet. If it might be too long for the write of the packets that are gathered, these
+// go out first. So each write ends with a packet.
+fn put_text<W: Write + Drop>(out: &mut BufWriter<W>, number: u64, text: &[u8]) -> io::Result<()> {
     if out.buffer().len() + HEAD_ROOM + text.len() > GATHERED {
         out.flush()?;
     }
     write!(out, "packet {number}, ")?;
-    out.write_all(text.as_bytes())
+    out.write_all(text)
+}
+
+// Prints a message that only the compatible profile has, in the same way.
+fn put_message<W: Write + Drop>(
+    out: &mut BufWriter<W>,
+    number: u64,
+    message: &CompatibleMessage,
+) -> io::Result<()> {
+    if out.buffer().len() + HEAD_ROOM + COMPATIBLE_TEXT > GATHERED {
+        out.flush()?;
+    }
+    write!(out, "packet {number}, {message}")
 }

@@ -8,3 +8,7 @@ pub mod Hex
 pub mod PacketText
 pub mod Pieces
 pub mod Names
+pub mod Squeeze
+pub mod Compatible
+pub mod Container
+pub mod DriveTypes

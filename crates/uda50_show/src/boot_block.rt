@@ -76,13 +76,24 @@ fn area_sum(block: &[u8; 512]) -> u16
     (u16::from(first) + u16::from(second) + u16::from(third) + u16::from(fourth)) % 256
 }
 
+impl BootBlock {
+    /// Returns the name of the kind.
+    pub fn kind(&self) -> &'static str {
+        match self {
+            BootBlock::Pdp11 => "PDP-11 boot block",
+            BootBlock::PerhapsPdp11 => "perhaps a PDP-11 boot block",
+            BootBlock::Vax(_) => "VAX boot block",
+        }
+    }
+}
+
 /// Writes a text such as `VAX boot block, checksum right`.
 impl fmt::Display for BootBlock {
     fn fmt<W: fmt::Write>(&self, f: &mut fmt::Formatter<W>) -> fmt::Result {
+        f.write_str(self.kind())?;
         match self {
-            BootBlock::Pdp11 => f.write_str("PDP-11 boot block"),
-            BootBlock::PerhapsPdp11 => f.write_str("perhaps a PDP-11 boot block"),
-            BootBlock::Vax(checksum) => write!(f, "VAX boot block{checksum}"),
+            BootBlock::Pdp11 | BootBlock::PerhapsPdp11 => Ok(()),
+            BootBlock::Vax(checksum) => write!(f, "{checksum}"),
         }
     }
 }

@@ -60,12 +60,24 @@ impl DiskLabel {
     }
 }
 
+impl DiskLabel {
+    /// Returns the name of the kind.
+    pub fn kind(&self) -> &'static str {
+        match self {
+            DiskLabel::Bsd(_) => "BSD disk label",
+            DiskLabel::Bsd211 => "2.11BSD disk label",
+            DiskLabel::Ultrix => "Ultrix partition table",
+        }
+    }
+}
+
 impl fmt::Display for DiskLabel {
     fn fmt<W: fmt::Write>(&self, f: &mut fmt::Formatter<W>) -> fmt::Result {
+        f.write_str(self.kind())?;
         match self {
-            DiskLabel::Bsd(checksum) => write!(f, "BSD disk label{checksum}"),
-            DiskLabel::Bsd211 => f.write_str("2.11BSD disk label, checksum not verified"),
-            DiskLabel::Ultrix => f.write_str("Ultrix partition table"),
+            DiskLabel::Bsd(checksum) => write!(f, "{checksum}"),
+            DiskLabel::Bsd211 => f.write_str(", checksum not verified"),
+            DiskLabel::Ultrix => Ok(()),
         }
     }
 }

@@ -1,5 +1,9 @@
 //! The drive types of which an image can be.
+ghost use Rattle.std.specs.Prelude.{◌≡◌, [], ◌∷◌, find};
+ghost use Rattle.std.proofs.Common.{reverse};
+ghost use Rattle.uda50_show.specs.DriveTypes.{is_larger, is_smaller};
 
+use crate::number::Grouped;
 use std::fmt;
 
 /// A drive type, with the size of its units.
@@ -11,7 +15,7 @@ pub struct DriveTypeEntry {
     pub blocks: u32,
 }
 
-/// The known drive types.
+/// The known drive types, the smallest first.
 pub static DRIVE_TYPES: [DriveTypeEntry; 17] = [
     DriveTypeEntry {
         name: "RX50",
@@ -98,7 +102,46 @@ impl DriveTypeEntry {
     }
 }
 
-/// The names of the drive types of a size, such as `RD53, RA60`, or `none` if there are none.
+impl DriveTypeEntry {
+    /// Returns the first of some drive types that is larger than a size.
+    pub fn next_larger(types: &[DriveTypeEntry], blocks: u32) -> Option<DriveTypeEntry>
+        ensures first { result ≡ find (is_larger blocks) types.now }
+    {
+        let mut first: Option<DriveTypeEntry> = None;
+        for drive in types {
+            first = first.or(drive.if_larger(blocks));
+        }
+        first
+    }
+
+    /// Returns the last of some drive types that is smaller than a size.
+    pub fn next_smaller(types: &[DriveTypeEntry], blocks: u32) -> Option<DriveTypeEntry>
+        ensures last { result ≡ find (is_smaller blocks) (reverse types.now) }
+    {
+        let mut last: Option<DriveTypeEntry> = None;
+        for drive in types {
+            last = drive.if_smaller(blocks).or(last);
+        }
+        last
+    }
+
+    // Returns the drive type if it is larger than a size.
+    fn if_larger(&self, blocks: u32) -> Option<DriveTypeEntry>
+        ensures { result ≡ find (is_larger blocks) (self.now ∷ []) }
+    {
+        (self.blocks > blocks).then_some(*self)
+    }
+
+    // Returns the drive type if it is smaller than a size.
+    fn if_smaller(&self, blocks: u32) -> Option<DriveTypeEntry>
+        ensures { result ≡ find (is_smaller blocks) (self.now ∷ []) }
+    {
+        (self.blocks < blocks).then_some(*self)
+    }
+}
+
+/// The names of the drive types of a size, such as `RD53, RA60`. If there are none, the text is
+/// `none; nearest RX33 (1,400 blocks more), RX50 (200 blocks fewer)`.
 #[derive(Clone, Copy, Debug, PartialEq, Eq)]
 pub struct TypesOfSize(pub u32);
 
@@ -112,6 +155,29 @@ impl fmt::Display for TypesOfSize {
                 found = true;
             }
         }
-        f.write_str(if found { "" } else { "none" })
+        if found {
+            Ok(())
+        } else {
+            write_nearest(f, self.0)
+        }
     }
+}
+
+// Writes that no drive type has a size, and which are the nearest.
+fn write_nearest<W: fmt::Write>(f: &mut fmt::Formatter<W>, blocks: u32) -> fmt::Result {
+    f.write_str("none; nearest ")?;
+    let larger = DriveTypeEntry::next_larger(&DRIVE_TYPES, blocks);
+    let smaller = DriveTypeEntry::next_smaller(&DRIVE_TYPES, blocks);
+    if let Some(drive) = larger {
+        let more = Grouped(u64::from(drive.blocks.saturating_sub(blocks)));
+        write!(f, "{} ({more} blocks more)", drive.name)?;
+    }
+    if larger.is_some() && smaller.is_some() {
+        f.write_str(", ")?;
+    }
+    if let Some(drive) = smaller {
+        let fewer = Grouped(u64::from(blocks.saturating_sub(drive.blocks)));
+        write!(f, "{} ({fewer} blocks fewer)", drive.name)?;
+    }
+    Ok(())
 }

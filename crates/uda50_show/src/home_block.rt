@@ -39,13 +39,14 @@ impl VolumeFormat {
     }
 }
 
-impl fmt::Display for VolumeFormat {
-    fn fmt<W: fmt::Write>(&self, f: &mut fmt::Formatter<W>) -> fmt::Result {
-        f.write_str(match self {
-            VolumeFormat::Rt11 => "RT-11",
-            VolumeFormat::Ods1 => "Files-11 ODS-1",
-            VolumeFormat::Ods2 => "Files-11 ODS-2",
-        })
+impl VolumeFormat {
+    /// Returns the name of its home block.
+    pub fn kind(self) -> &'static str {
+        match self {
+            VolumeFormat::Rt11 => "RT-11 home block",
+            VolumeFormat::Ods1 => "Files-11 ODS-1 home block",
+            VolumeFormat::Ods2 => "Files-11 ODS-2 home block",
+        }
     }
 }
 
@@ -123,8 +124,8 @@ impl fmt::Display for HomeBlock {
     fn fmt<W: fmt::Write>(&self, f: &mut fmt::Formatter<W>) -> fmt::Result {
         write!(
             f,
-            "{} home block, volume \"{}\", owner \"{}\"{}",
-            self.format,
+            "{}, volume \"{}\", owner \"{}\"{}",
+            self.format.kind(),
             FixedText(&self.volume),
             FixedText(&self.owner),
             self.checksum

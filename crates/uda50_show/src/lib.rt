@@ -3,6 +3,8 @@
 
 mod boot_block;
 mod checksum;
+mod compatible;
+mod container;
 mod digits;
 mod disk_label;
 mod drive_type;
@@ -14,10 +16,13 @@ mod packet;
 mod reached;
 mod reader;
 mod row;
+mod squeeze;
 mod text;
 
 pub use boot_block::BootBlock;
 pub use checksum::Checksum;
+pub use compatible::{COMPATIBLE_TEXT, CompatibleCommand, CompatibleMessage, UnitAvailable};
+pub use container::{ContainerRecord, SimhRecord};
 pub use disk_label::DiskLabel;
 pub use drive_type::{DRIVE_TYPES, DriveTypeEntry, TypesOfSize};
 pub use home_block::{HomeBlock, VolumeFormat};
@@ -27,4 +32,5 @@ pub use packet::{PACKET_TEXT, Packet};
 pub use reached::Reached;
 pub use reader::{PacketReader, TokenError};
 pub use row::{HexRow, OctalRow};
+pub use squeeze::{LeftOutBlocks, PrintedBlock, RowForm, Squeeze};
 pub use text::FixedText;

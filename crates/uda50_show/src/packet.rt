@@ -355,8 +355,8 @@ impl Pieces {
     }
 }
 
-// Returns the write protection that unit flags tell.
-fn protection_name(flags: u16) -> &'static str
+/// Returns the write protection that unit flags tell.
+pub(crate) fn protection_name(flags: u16) -> &'static str
     ensures name { result.now ≡ protection_name flags }
 {
     let bits = UnitFlags::from_bits_retain(flags);

@@ -1,12 +1,12 @@
 //! `uda50 copy`: copies an image to another through the controller.
 
+use crate::copy_record::CopyRecord;
 use crate::create::set_blocks;
 use crate::fault::{Fault, Reason};
 use crate::image::{block_fault, open_file};
 use crate::map_file::{MapFile, SavedMap};
 use crate::outcome::Outcome;
 use crate::progress::CopyProgress;
-use crate::record::CopyRecord;
 use crate::script::Drives;
 use crate::stream::{copy_from_stream, copy_to_output, is_stream};
 use crate::target::{Plan, written_blocks};

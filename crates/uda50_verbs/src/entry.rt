@@ -171,7 +171,7 @@ fn perform_with<'w, W: Write + Drop>(
     out: &mut BufWriter<W>,
 ) -> Result<Outcome, Fault<'w>> {
     match task {
-        Task::Info { images, .. } => info(rt, images.as_slice(), out),
+        Task::Info { images, json } => info(rt, images.as_slice(), *json, out),
         Task::Dump(asked) => dump(rt, asked, out),
         Task::Create(asked) => create(rt, asked),
         Task::Decode { file } => decode(rt, file, out),

@@ -8,7 +8,7 @@ use uda_image::StoreError;
 use uda50_arguments::BlockRange;
 use uda50_map::MapError;
 use uda50_script_text::{ByteOrderMark, Mistake};
-use uda50_show::{EscapedName, Grouped, TokenError};
+use uda50_show::{ContainerRecord, EscapedName, Grouped, TokenError};
 
 /// The name of standard input in faults.
 pub(crate) const STANDARD_INPUT: &str = "standard input";
@@ -65,6 +65,16 @@ pub enum Reason {
     /// The length is not a multiple of 512.
     #[error("{} bytes is not a multiple of 512; perhaps another emulator's format with a trailing record?", Grouped(*.0))]
     Length(u64),
+    /// The length is not a multiple of 512, and the file has a record of another program.
+    #[error("{} bytes is not a multiple of 512; perhaps another emulator's format with a trailing record? {place} {record}", Grouped(*.bytes))]
+    LengthWithRecord {
+        /// The length.
+        bytes: u64,
+        /// What is said of the record's place.
+        place: &'static str,
+        /// The record.
+        record: ContainerRecord,
+    },
     /// There are more blocks than an image can have.
     #[error("{} blocks are more than 2,147,483,647", Grouped(*.0))]
     TooLarge(u64),
@@ -183,6 +193,12 @@ pub enum Reason {
     /// The text ends inside a packet.
     #[error("the last packet has {0} of 48 bytes")]
     ShortPacket(usize),
+    /// The input ends inside a block.
+    #[error("the last block has {0} of 512 bytes")]
+    ShortBlock(usize),
+    /// The input ends before the last requested block.
+    #[error("ends before block {0}")]
+    EndsBefore(u64),
     /// A call of the system failed.
     #[error("{0}")]
     System(io::Error),

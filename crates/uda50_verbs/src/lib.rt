@@ -2,7 +2,9 @@
 #![tactic(auto)]
 
 mod check;
+mod container;
 mod copy;
+mod copy_record;
 mod create;
 mod decode;
 mod dump;
@@ -10,11 +12,12 @@ mod entry;
 mod fault;
 mod image;
 mod info;
+mod input_blocks;
 mod map_file;
 mod notes;
 mod outcome;
+mod printer;
 mod progress;
-mod record;
 mod run;
 mod script;
 mod script_help;

@@ -1,0 +1,52 @@
+//! Records that other programs put after the blocks of an image.
+
+use crate::fault::{Fault, Reason};
+use crate::image::NamedImage;
+use std::fs::{File, OpenFile};
+use std::os::unix::fs::FileExt;
+use uda50_show::ContainerRecord;
+
+/// Returns the record in the last block of an image. A block that can't be read has none.
+pub(crate) fn last_record(image: &mut NamedImage<'_, '_>) -> Option<ContainerRecord> {
+    let last = image.size().checked_sub(1)?;
+    let block = image.read_block_or_zeros(last).ok()?;
+    ContainerRecord::read(&block)
+}
+
+/// Returns a fault. If it is that of a length, and the file has a record, the reason says so.
+pub(crate) fn explain_length<'w>(rt: &HostRuntime, fault: Fault<'w>) -> Fault<'w> {
+    match fault.reason {
+        Reason::Length(bytes) => Fault::new(fault.name, length_reason(rt, fault.name, bytes)),
+        reason => Fault::new(fault.name, reason),
+    }
+}
+
+// Returns the reason for the length of a file. Its last bytes are searched for a record, and its last whole block.
+fn length_reason(rt: &HostRuntime, path: &str, bytes: u64) -> Reason {
+    if let Some(record) = record_before(rt, path, bytes) {
+        let place = "its last 512 bytes are a";
+        return Reason::LengthWithRecord {
+            bytes,
+            place,
+            record,
+        };
+    }
+    if let Some(record) = record_before(rt, path, bytes / 512 * 512) {
+        let place = "its last whole block is a";
+        return Reason::LengthWithRecord {
+            bytes,
+            place,
+            record,
+        };
+    }
+    Reason::Length(bytes)
+}
+
+// Returns the record in the 512 bytes before a place of a file.
+fn record_before(rt: &HostRuntime, path: &str, end: u64) -> Option<ContainerRecord> {
+    let start = end.checked_sub(512)?;
+    let file = File::open(rt, path).ok()?;
+    let mut block = [0; 512];
+    file.read_exact_at(&mut block, start).ok()?;
+    ContainerRecord::read(&block)
+}

@@ -1,0 +1,179 @@
+//! Printing of blocks.
+ghost use Rattle.std.specs.Prelude.{◌<◌};
+
+use std::fmt::Display;
+use std::io;
+use std::io::{BufWriter, Write};
+use uda50_arguments::{Dump, DumpFormat};
+use uda50_show::{HexRow, OctalRow, RowForm, Squeeze};
+
+/// The blocks that are printed one after the other, with what was printed of them.
+#[derive(Drop)]
+pub(crate) struct BlockPrinter {
+    /// The format.
+    format: DumpFormat,
+    /// The state of a squeezed dump; `None` if all rows are printed.
+    squeeze: Option<Squeeze>,
+}
+
+impl BlockPrinter {
+    /// Makes the state before the first block.
+    pub(crate) fn new(dump: &Dump<'_>) -> BlockPrinter {
+        let is_raw = matches!(dump.format, DumpFormat::Raw { .. });
+        let squeezes = !dump.all && !is_raw;
+        BlockPrinter {
+            format: dump.format,
+            squeeze: squeezes.then_some(Squeeze(None)),
+        }
+    }
+
+    /// Prints the next block, unless it is left out.
+    pub(crate) fn print<W: Write + Drop>(
+        &mut self,
+        out: &mut BufWriter<W>,
+        number: u64,
+        bytes: &[u8; 512],
+    ) -> io::Result<()> {
+        match &mut self.squeeze {
+            None => print_block(out, (number, bytes), self.format, false),
+            Some(squeeze) => print_squeezed(out, squeeze, (number, bytes), self.format),
+        }
+    }
+
+    /// Prints the line of the last blocks that were left out, if there is one. No block comes before `end`.
+    pub(crate) fn end<W: Write + Drop>(&self, out: &mut BufWriter<W>, end: u64) -> io::Result<()> {
+        match &self.squeeze {
+            None => Ok(()),
+            Some(squeeze) => print_left_out(out, squeeze, end),
+        }
+    }
+}
+
+// Prints a block and the line of the blocks that were left out before it, unless it is left out itself.
+fn print_squeezed<W: Write + Drop>(
+    out: &mut BufWriter<W>,
+    squeeze: &mut Squeeze,
+    (number, bytes): (u64, &[u8; 512]),
+    format: DumpFormat,
+) -> io::Result<()> {
+    if squeeze.leaves_out(bytes) {
+        return Ok(());
+    }
+    print_left_out(out, squeeze, number)?;
+    squeeze.note_printed(number, bytes);
+    print_block(out, (number, bytes), format, true)
+}
+
+// Prints the line of the blocks that were left out before a block, if there are any.
+fn print_left_out<W: Write + Drop>(
+    out: &mut BufWriter<W>,
+    squeeze: &Squeeze,
+    number: u64,
+) -> io::Result<()> {
+    match squeeze.left_out_before(number) {
+        Some(blocks) => writeln!(out, "{blocks}"),
+        None => Ok(()),
+    }
+}
+
+// Prints a block, or writes its bytes. A squeezed dump leaves out the rows that repeat.
+fn print_block<W: Write + Drop>(
+    out: &mut BufWriter<W>,
+    (number, bytes): (u64, &[u8; 512]),
+    format: DumpFormat,
+    squeezes: bool,
+) -> io::Result<()> {
+    if let DumpFormat::Raw { .. } = format {
+        return out.write_all(bytes);
+    }
+    writeln!(out, "block {number}")?;
+    for row in 0..32u16 {
+        if !squeezes || !put_repeated(out, bytes, row)? {
+            put_row(out, bytes, row, format)?;
+        }
+    }
+    Ok(())
+}
+
+// Returns whether a row repeats the row before it. Writes the line that stands for such rows at the first of them.
+#[inline(always)]
+fn put_repeated<W: Write + Drop>(
+    out: &mut BufWriter<W>,
+    block: &[u8; 512],
+    row: u16,
+) -> io::Result<bool>
+    requires { row < 32 }
+{
+    match RowForm::of(block, usize::from(row)) {
+        RowForm::Printed => return Ok(false),
+        RowForm::Star => writeln!(out, "*")?,
+        RowForm::LeftOut => {}
+    }
+    Ok(true)
+}
+
+// Writes the line of a row.
+#[inline(always)]
+fn put_row<W: Write + Drop>(
+    out: &mut BufWriter<W>,
+    block: &[u8; 512],
+    row: u16,
+    format: DumpFormat,
+) -> io::Result<()>
+    requires { row < 32 }
+{
+    let offset = 16 * row;
+    let start = usize::from(offset);
+    let mut bytes = [0; 16];
+    bytes.copy_from_slice(&block[start..start + 16]);
+    if format == DumpFormat::Octal {
+        put_octal(out, offset, bytes)
+    } else {
+        put_hexadecimal(out, offset, bytes)
+    }
+}
+
+// Writes the line of a row in octal.
+#[inline(always)]
+fn put_octal<W: Write + Drop>(
+    out: &mut BufWriter<W>,
+    offset: u16,
+    bytes: [u8; 16],
+) -> io::Result<()>
+    requires { offset < 512 }
+{
+    let row = OctalRow { offset, bytes };
+    let mut line = [b'\n'; 81];
+    line[..80].copy_from_slice(&row.text());
+    put_line(out, &line, &row)
+}
+
+// Writes the line of a row in hexadecimal.
+#[inline(always)]
+fn put_hexadecimal<W: Write + Drop>(
+    out: &mut BufWriter<W>,
+    offset: u16,
+    bytes: [u8; 16],
+) -> io::Result<()>
+    requires { offset < 512 }
+{
+    let row = HexRow { offset, bytes };
+    let mut line = [b'\n'; 73];
+    line[..72].copy_from_slice(&row.text());
+    put_line(out, &line, &row)
+}
+
+// Writes the line of a row. A line that doesn't fit into the buffer goes to it in the pieces of the row's
+// `Display`, and the buffer goes out when the next of these doesn't fit.
+fn put_line<W: Write + Drop>(
+    out: &mut BufWriter<W>,
+    line: &[u8],
+    row: &impl Display,
+) -> io::Result<()> {
+    let room = out.capacity().saturating_sub(out.buffer().len());
+    if line.len() <= room {
+        out.write_all(line)
+    } else {
+        writeln!(out, "{row}")
+    }
+}

@@ -228,6 +228,7 @@ CRATES = {
     "uda50_copy": (3, 8, "copies a drive"),
     "uda50_arguments": (4, 8, "its command line"),
     "uda50_decode": (4, 9, "prints packets"),
+    "uda50_description": (4, 8.5, "facts of an image"),
     "uda50_show": (4, 7, "what it prints"),
     "uda_plain": (0, 2, "in-order run"),
     "mem_packet_image_tests": (0, 3.1, ""),

@@ -230,6 +230,7 @@ CRATES = {
     "uda50_map": (2, 9, "maps of blocks"),
     "uda50_arguments": (4, 8, "its command line"),
     "uda50_decode": (4, 9, "prints packets"),
+    "uda50_description": (4, 8.5, "facts of an image"),
     "uda50_show": (4, 7, "what it prints"),
     "uda50_script_text": (4, 3, "text of scripts"),
     "uda_plain": (0, 2, "in-order run"),

@@ -7,7 +7,7 @@ use std::io::{BufRead, BufReader, BufWriter, Write};
 use std::process::Abort;
 use std::test::Fail;
 use uda50_decode::{DecodeError, Decoded, LINE_ROOM, decode};
-use uda50_show::PacketReader;
+use uda50_show::{CompatibleMessage, Packet, PacketReader};
 
 /// The state of the slower form.
 #[derive(Drop)]
@@ -64,12 +64,19 @@ fn decode_line<W: Write>(
         if let Some(packet) = packet {
             progress.packets = progress.packets.saturating_add(1);
             progress.invalid |= !packet.is_valid();
-            let number = progress.packets;
-            write!(out, "packet {number}, {packet}")?;
+            write_packet(progress.packets, &packet, out)?;
             out.flush()?;
         }
     }
     Ok(())
+}
+
+// Writes a packet. A message that only the compatible profile has is no packet of the strict one.
+fn write_packet<W: Write>(number: u64, packet: &Packet, out: &mut W) -> io::Result<()> {
+    match CompatibleMessage::read(packet) {
+        Some(message) => write!(out, "packet {number}, {message}"),
+        None => write!(out, "packet {number}, {packet}"),
+    }
 }
 
 /// The tokens of a text, and how they are divided into lines.

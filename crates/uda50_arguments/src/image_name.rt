@@ -11,6 +11,13 @@ pub struct ImageName<'w> {
 }
 
 impl<'w> ImageName<'w> {
+    /// Returns whether this is `-`, which is standard input or output where a stream can be.
+    pub fn is_stream(&self) -> bool
+        ensures stream { result ≡ true → (self.now.path.now ≡ codes "-") × (self.now.protected ≡ false) }
+    {
+        !self.protected && self.path == "-"
+    }
+
     /// Reads an argument: `lock:FILE` for a protected image, or `FILE`.
     pub fn parse(argument: &'w str) -> ImageName<'w>
         ensures protected { result.protected ≡ true

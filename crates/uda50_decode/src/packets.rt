@@ -152,17 +152,22 @@ fn put_packet<W: Write + Drop>(
             return put_message(out, number, &message);
         }
     }
-    put_text(out, number, packet.text().as_bytes())
+    put_text(out, number, packet)
 }
 
 // Prints the text of a packet. If it might be too long for the write of the packets that are gathered, these
 // go out first. So each write ends with a packet.
-fn put_text<W: Write + Drop>(out: &mut BufWriter<W>, number: u64, text: &[u8]) -> io::Result<()> {
+fn put_text<W: Write + Drop>(
+    out: &mut BufWriter<W>,
+    number: u64,
+    packet: &Packet,
+) -> io::Result<()> {
+    let text = packet.text();
     if out.buffer().len() + HEAD_ROOM + text.len() > GATHERED {
         out.flush()?;
     }
     write!(out, "packet {number}, ")?;
-    out.write_all(text)
+    out.write_all(text.as_bytes())
 }
 
 // Prints a message that only the compatible profile has, in the same way.

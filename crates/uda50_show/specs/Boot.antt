@@ -1,6 +1,6 @@
 -- The beginnings of boot blocks. PDP-11 Processor Handbook: the instructions NOP and BR. KA630 CPU Module
 -- Technical Manual: the boot block of a disk.
-use Rattle.std.specs.Prelude.{ℕ, ◌+◌, ◌*◌, ◌/◌, ◌%◌, ◌==◌, List, Bool, ◌&&◌, ◌||◌, nat_le, Option, Some, None, if◌then◌else◌}
+use Rattle.std.specs.Prelude.{ℕ, ◌+◌, ◌*◌, ◌/◌, ◌%◌, ◌==◌, List, Bool, ◌&&◌, ◌||◌, nat_le, Option, Some, None, if◌then◌else◌, codes}
 use Rattle.uda50_show.specs.declared.boot_block.BootBlock.{BootBlock}
 use Rattle.uda50_show.specs.declared.boot_block.BootBlock.TheVariants as boot
 use Rattle.uda50_show.specs.Block.{byte_at, word_at, checksum_of}
@@ -38,3 +38,9 @@ area_sum block = let area = area_offset block in
 -- the kind of bootstrap for a VAX in block 0
 abbrev pub vax_boot : List ℕ → BootBlock
 vax_boot block = boot.Vax (checksum_of (area_sum block == 0xFF))
+
+-- the name of a kind
+abbrev pub boot_kind : BootBlock → List ℕ
+boot_kind boot.Pdp11 = codes "PDP-11 boot block"
+boot_kind boot.PerhapsPdp11 = codes "perhaps a PDP-11 boot block"
+boot_kind (boot.Vax checksum) = codes "VAX boot block"

@@ -1,6 +1,6 @@
 -- Records after the blocks of an image. SIMH's sim_disk.c: the footer of a container. Microsoft's Virtual Hard
 -- Disk Image Format Specification: the footer of a hard disk.
-use Rattle.std.specs.Prelude.{ℕ, zero, suc, ◌/◌, ◌%◌, ◌==◌, List, ◌&&◌, Option, Some, None, if◌then◌else◌, codes, nat_eq}
+use Rattle.std.specs.Prelude.{ℕ, zero, suc, ◌/◌, ◌%◌, ◌==◌, List, ◌&&◌, Option, Some, None, if◌then◌else◌, codes, nat_eq, nat_lt, take_while}
 use Rattle.std.specs.List.{starts_with}
 use Rattle.std.specs.Int.RustNames.{bit_xor}
 use Rattle.byteorder.specs.Endian.{big_from}
@@ -31,6 +31,10 @@ abbrev pub crc : List ℕ → ℕ
 crc block = bit_xor (crc_sum 508 block) 0xFFFFFFFF
 
 -- ---- records
+
+-- a text up to its first zero byte
+abbrev pub before_zero : List ℕ → List ℕ
+before_zero text = take_while (λ byte. nat_lt 0 byte) text
 
 -- the facts in SIMH's record: texts of 64 and 16 bytes, numbers with the high byte first, and at the end the
 -- checksum of the bytes before it

@@ -13,6 +13,12 @@ format_text Rt11 = codes "DECRT11A    "
 format_text Ods1 = codes "DECFILE11A  "
 format_text Ods2 = codes "DECFILE11B  "
 
+-- the name of a home block
+abbrev pub home_kind : VolumeFormat → List ℕ
+home_kind Rt11 = codes "RT-11 home block"
+home_kind Ods1 = codes "Files-11 ODS-1 home block"
+home_kind Ods2 = codes "Files-11 ODS-2 home block"
+
 -- the offset of the volume's name
 abbrev pub volume_offset : VolumeFormat → ℕ
 volume_offset Rt11 = 472

@@ -1,7 +1,9 @@
 -- Disk labels of Unix systems: the headers sys/disklabel.h of 4.3BSD and 2.11BSD, and Ultrix's partition
 -- table.
-use Rattle.std.specs.Prelude.{ℕ, ◌+◌, ◌*◌, ◌==◌, List, Bool, ◌&&◌, ◌||◌, nat_le}
+use Rattle.std.specs.Prelude.{ℕ, ◌+◌, ◌*◌, ◌==◌, List, Bool, ◌&&◌, ◌||◌, nat_le, codes}
 use Rattle.uda50_show.specs.declared.checksum.Checksum.{Checksum}
+use Rattle.uda50_show.specs.declared.disk_label.DiskLabel.{DiskLabel}
+use Rattle.uda50_show.specs.declared.disk_label.DiskLabel.TheVariants as label
 use Rattle.uda50_show.specs.Block.{word_at, long_at, word_parity, checksum_of}
 
 -- a VAX's label begins at byte 64 of block 0, and has its magic number again 132 bytes later
@@ -27,3 +29,9 @@ has_bsd211_label block =
 -- Ultrix has its partition table in the last 72 bytes of block 31, with 1 for a valid one
 abbrev pub has_ultrix_table : List ℕ → Bool
 has_ultrix_table block = (long_at 440 block == 0x00032957) && (long_at 444 block == 1)
+
+-- the name of a kind
+abbrev pub label_kind : DiskLabel → List ℕ
+label_kind (label.Bsd checksum) = codes "BSD disk label"
+label_kind label.Bsd211 = codes "2.11BSD disk label"
+label_kind label.Ultrix = codes "Ultrix partition table"

@@ -77,8 +77,12 @@ fn area_sum(block: &[u8; 512]) -> u16
 }
 
 impl BootBlock {
+    ghost use Rattle.uda50_show.specs.Boot.{boot_kind};
+
     /// Returns the name of the kind.
-    pub fn kind(&self) -> &'static str {
+    pub fn kind(&self) -> &'static str
+        ensures name { result.now ≡ boot_kind self.now }
+    {
         match self {
             BootBlock::Pdp11 => "PDP-11 boot block",
             BootBlock::PerhapsPdp11 => "perhaps a PDP-11 boot block",

@@ -4,7 +4,7 @@
 //! the footer of a hard disk.
 ghost use Rattle.std.specs.Prelude.{◌≡◌, ◌↔◌, ◌≤◌, ◌+◌, IsTrue};
 ghost use Rattle.uda50_show.specs.Container.{container_record, simh_record, big_long};
-ghost use Rattle.uda50_show.specs.Container.{crc_bit, crc_byte, crc_sum, crc};
+ghost use Rattle.uda50_show.specs.Container.{before_zero, crc_bit, crc_byte, crc_sum, crc};
 
 use crate::checksum::Checksum;
 use crate::number::Grouped;
@@ -124,12 +124,16 @@ fn crc_bit(sum: u32) -> u32
 
 impl SimhRecord {
     /// Returns the name of the simulator.
-    pub fn simulator_name(&self) -> &[u8] {
+    pub fn simulator_name(&self) -> &[u8]
+        ensures name { result.now ≡ before_zero self.now.simulator }
+    {
         before_zero(&self.simulator)
     }
 
     /// Returns the name of the drive type.
-    pub fn drive_name(&self) -> &[u8] {
+    pub fn drive_name(&self) -> &[u8]
+        ensures name { result.now ≡ before_zero self.now.drive }
+    {
         before_zero(&self.drive)
     }
 }
@@ -158,9 +162,12 @@ fn write_simh<W: fmt::Write>(f: &mut fmt::Formatter<W>, record: &SimhRecord) -> 
 }
 
 // Returns the bytes of a text before its first zero byte.
-fn before_zero(text: &[u8]) -> &[u8] {
-    match text.iter().position(|byte| *byte == 0) {
-        Some(end) => &text[..end],
-        None => text,
+fn before_zero(text: &[u8]) -> &[u8]
+    ensures { result.now ≡ before_zero text.now }
+{
+    let mut end = 0;
+    while end < text.len() && text[end] != 0 {
+        end += 1;
     }
+    &text[..end]
 }

@@ -61,8 +61,12 @@ impl DiskLabel {
 }
 
 impl DiskLabel {
+    ghost use Rattle.uda50_show.specs.Labels.{label_kind};
+
     /// Returns the name of the kind.
-    pub fn kind(&self) -> &'static str {
+    pub fn kind(&self) -> &'static str
+        ensures name { result.now ≡ label_kind self.now }
+    {
         match self {
             DiskLabel::Bsd(_) => "BSD disk label",
             DiskLabel::Bsd211 => "2.11BSD disk label",

@@ -4,7 +4,7 @@
 ghost use Rattle.std.specs.Prelude.{◌≡◌, ◌≢◌, ◌≤◌, ◌+◌, ◌↔◌, IfSome, IsNone, IsTrue};
 ghost use Rattle.uda50_show.specs.declared.home_block.VolumeFormat.{VolumeFormat};
 ghost use Rattle.uda50_show.specs.Block.{block_bytes};
-ghost use Rattle.uda50_show.specs.Home.{format_text, volume_offset, home_checksum};
+ghost use Rattle.uda50_show.specs.Home.{format_text, home_kind, volume_offset, home_checksum};
 
 use crate::checksum::{Checksum, word_at, word_sum};
 use crate::text::FixedText;
@@ -41,7 +41,9 @@ impl VolumeFormat {
 
 impl VolumeFormat {
     /// Returns the name of its home block.
-    pub fn kind(self) -> &'static str {
+    pub fn kind(self) -> &'static str
+        ensures name { result.now ≡ home_kind self }
+    {
         match self {
             VolumeFormat::Rt11 => "RT-11 home block",
             VolumeFormat::Ods1 => "Files-11 ODS-1 home block",

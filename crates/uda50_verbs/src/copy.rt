@@ -28,7 +28,7 @@ pub(crate) fn copy<'w, W: Write + Drop>(
     copy: &Copy<'w>,
     out: &mut BufWriter<W>,
 ) -> Result<Outcome, Fault<'w>> {
-    match (is_stream(rt, copy.from), copy.to.path == "-") {
+    match (is_stream(rt, copy.from), copy.to.is_stream()) {
         (false, false) => copy_image(rt, copy),
         (true, false) => copy_from_stream(rt, copy),
         (false, true) => copy_to_output(rt, copy, out),

@@ -12,7 +12,7 @@ pub(crate) fn create<'w>(rt: &HostRuntime, create: &Create<'w>) -> Result<Outcom
     if create.image.protected {
         return Err(Fault::new(path, Reason::Protected));
     }
-    if path == "-" {
+    if create.image.is_stream() {
         return Err(Fault::new(path, Reason::NoImage));
     }
     match fs::metadata(rt, path) {

@@ -16,12 +16,12 @@ pub(crate) fn dump<'w, W: Write + Drop>(
     dump: &Dump<'w>,
     out: &mut BufWriter<W>,
 ) -> Result<Outcome, Fault<'w>> {
-    if dump.image.path == "-" && !dump.image.protected {
+    if dump.image.is_stream() {
         check_terminal(rt, dump.format)?;
         return dump_input(rt, dump, out);
     }
     let failures = Failures::none();
-    let mut image = NamedImage::open(rt, dump.image.path, &failures)?;
+    let mut image = NamedImage::open(rt, dump.image, &failures)?;
     check_terminal(rt, dump.format)?;
     let blocks = blocks_to_dump(dump, image.size())?;
     dump_blocks(&mut image, dump, blocks, out)

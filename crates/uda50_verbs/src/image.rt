@@ -17,12 +17,16 @@ pub(crate) struct NamedImage<'c, 'w> {
 }
 
 impl<'c, 'w> NamedImage<'c, 'w> {
-    /// Opens an image, or a block device, for reading.
+    /// Opens an image, or a block device, for reading. A stream is no image.
     pub(crate) fn open(
         rt: &HostRuntime,
-        path: &'w str,
+        name: ImageName<'w>,
         failures: &'c Failures,
     ) -> Result<NamedImage<'c, 'w>, Fault<'w>> {
+        let path = name.path;
+        if name.is_stream() {
+            return Err(Fault::new(path, Reason::NoImage));
+        }
         let file = open_file(rt, path, Access::Read)?;
         Ok(NamedImage {
             path,
@@ -51,15 +55,12 @@ impl<'c, 'w> NamedImage<'c, 'w> {
     }
 }
 
-/// Opens the file of an image, and takes its lock. `-` is no image.
+/// Opens the file of an image, and takes its lock.
 pub(crate) fn open_file<'w>(
     rt: &HostRuntime,
     path: &'w str,
     access: Access,
 ) -> Result<OpenImageFile, Fault<'w>> {
-    if path == "-" {
-        return Err(Fault::new(path, Reason::NoImage));
-    }
     OpenImageFile::open(rt, path, access).map_err(|error| Fault::new(path, reason(error)))
 }
 

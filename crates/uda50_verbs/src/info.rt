@@ -96,7 +96,7 @@ fn write_object<'w, W: Write>(
 // Reads the facts of an image.
 fn read_facts<'w>(rt: &HostRuntime, name: ImageName<'w>) -> Result<ImageFacts<'w>, Fault<'w>> {
     let failures = Failures::none();
-    let mut image = match NamedImage::open(rt, name.path, &failures) {
+    let mut image = match NamedImage::open(rt, name, &failures) {
         Ok(image) => image,
         Err(fault) => return Err(explain_length(rt, fault)),
     };

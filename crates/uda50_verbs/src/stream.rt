@@ -26,8 +26,8 @@ const BLOCK: usize = 512;
 
 /// Returns whether the source of a copy is a stream: standard input, a pipe, a socket or a device of characters.
 pub(crate) fn is_stream(rt: &HostRuntime, from: ImageName<'_>) -> bool {
-    if from.path == "-" {
-        return !from.protected;
+    if from.is_stream() {
+        return true;
     }
     match fs::metadata(rt, from.path) {
         Ok(metadata) => {
@@ -45,7 +45,7 @@ pub(crate) fn copy_from_stream<'w>(
 ) -> Result<Outcome, Fault<'w>> {
     let name = stream_name(copy.from.path);
     check_options(copy, name)?;
-    if copy.from.path == "-" {
+    if copy.from.is_stream() {
         return take_stream(rt, copy, name, rt.stdin());
     }
     let file = Fault::of_call(name, File::open(rt, name))?;
@@ -243,7 +243,7 @@ pub(crate) fn copy_to_output<'w, W: Write + Drop>(
     out: &mut BufWriter<W>,
 ) -> Result<Outcome, Fault<'w>> {
     let failures = Failures::none();
-    let mut image = NamedImage::open(rt, copy.from.path, &failures)?;
+    let mut image = NamedImage::open(rt, copy.from, &failures)?;
     let blocks = blocks_to_copy(copy, image.size())?;
     check_options(copy, STANDARD_OUTPUT)?;
     if !copy.force && rt.stdout().is_terminal() {

@@ -1,4 +1,5 @@
 //! The standard streams, and text files.
+ghost use Rattle.std.specs.Prelude.{◌≡◌};
 
 use crate::fault::Fault;
 use std::cell::Cell;
@@ -55,14 +56,13 @@ impl LastError {
     }
 
     // Returns the result of a call, whose error it notes.
-    fn noted<T>(&self, called: io::Result<T>) -> io::Result<T> {
-        match called {
-            Ok(value) => Ok(value),
-            Err(error) => {
-                self.note(&error);
-                Err(error)
-            }
+    fn noted<T>(&self, called: io::Result<T>) -> io::Result<T>
+        ensures same { result ≡ called }
+    {
+        if let Err(error) = &called {
+            self.note(error);
         }
+        called
     }
 
     /// Returns whether there was an error.

@@ -1,76 +1,135 @@
-//! The parts of a file that have data, and its holes.
+//! The blocks of a file that have data.
 ghost use Rattle.std.specs.Prelude.{◌≤◌};
 
+use crate::sparse::are_zeros;
+use std::alloc::{AllocError, Global};
 use std::fs::File;
-use std::io;
 use std::ops::Range;
-use std::os::fd::AsRawFd;
+use std::os::unix::fs::FileExt;
 
-/// What `lseek` looks for from its offset on, in Linux: data.
-const SEEK_DATA: i32 = 3;
+/// The number of blocks that are searched at once: 64 KB.
+const STEP: u32 = 128;
 
-/// What `lseek` looks for from its offset on, in Linux: a hole, which may be the end.
-const SEEK_HOLE: i32 = 4;
+/// The bytes of a transfer, of which zeros are compared at once.
+const PIECE: usize = 16_384;
 
-/// The blocks of an open file that have data. The others are in holes, and are zeros.
+/// The most blocks that are taken for data after a block that has some.
+const MOST: u32 = 2_048;
+
+/// The blocks of an image that have data. The others are zeros.
 #[derive(Drop)]
 pub struct DataBlocks {
-    // `None` if the file system tells of no holes.
-    file: Option<File>,
+    search: Search,
     blocks: u32,
 }
 
+// The way in which data is found.
+#[derive(Drop)]
+enum Search {
+    // All blocks are data.
+    All,
+    // No block is data.
+    None,
+    // The file is read.
+    Reading(Reading),
+}
+
+// A file that is searched for data, room for what is read of it, and the number of blocks that are taken for data next.
+#[derive(Drop)]
+struct Reading {
+    file: File,
+    room: Vec<u8>,
+    stretch: u32,
+}
+
 impl DataBlocks {
-    /// Makes the data of a file of that many blocks. If the file system tells of no holes, all blocks have data.
-    pub fn of(file: &File, blocks: u32) -> io::Result<DataBlocks> {
-        let file = match seek(file, 0, SEEK_HOLE) {
-            Some(_) => Some(file.try_clone()?),
-            None => None,
-        };
-        Ok(DataBlocks { file, blocks })
-    }
-
-    /// Makes the data of a file of that many blocks, all of which have data.
+    /// Makes the data of an image in which all blocks are taken for data.
     pub fn all(blocks: u32) -> DataBlocks {
-        DataBlocks { file: None, blocks }
-    }
-
-    /// Returns the next blocks with data, of those from `from` on. There are none if the range is empty.
-    pub fn next(&self, from: u32) -> Range<u32>
-        ensures later { from ≤ result.start }
-        ensures ordered { result.start ≤ result.end }
-    {
-        match &self.file {
-            Some(file) => self.next_in(file, from),
-            None => from..self.blocks.max(from),
+        DataBlocks {
+            search: Search::All,
+            blocks,
         }
     }
 
-    // Returns the next blocks with data of a file whose holes are known.
-    fn next_in(&self, file: &File, from: u32) -> Range<u32>
+    /// Makes the data of an image that has none.
+    pub fn none(blocks: u32) -> DataBlocks {
+        DataBlocks {
+            search: Search::None,
+            blocks,
+        }
+    }
+
+    /// Makes the data of a file, which is read to find it.
+    pub fn in_file(alloc: Global, file: File, blocks: u32) -> Result<DataBlocks, AllocError> {
+        let mut room = Vec::new(alloc);
+        room.resize(512 * STEP as usize, 0)?;
+        Ok(DataBlocks {
+            search: Search::Reading(Reading {
+                file,
+                room,
+                stretch: STEP,
+            }),
+            blocks,
+        })
+    }
+
+    /// Returns the next blocks to read for data, of those from `from` on. Those before them are zeros. There are none
+    /// if the range is empty. Blocks that can't be read are among them.
+    pub fn next(&mut self, from: u32) -> Range<u32>
         ensures later { from ≤ result.start }
         ensures ordered { result.start ≤ result.end }
     {
         let last = self.blocks.max(from);
-        let Some(data) = seek(file, 512 * u64::from(from), SEEK_DATA) else {
-            return last..last;
-        };
-        let start = block_of(data).max(from).min(last);
-        let end = match seek(file, data, SEEK_HOLE) {
-            Some(hole) => block_of(hole.saturating_add(511)),
-            None => last,
-        };
-        start..end.max(start).min(last)
+        match &mut self.search {
+            Search::All => from..last,
+            Search::None => last..last,
+            Search::Reading(reading) => reading.next(from, last),
+        }
     }
 }
 
-// Returns the block that has the byte at an offset.
-fn block_of(offset: u64) -> u32 {
-    u32::try_from(offset / 512).unwrap_or(u32::MAX)
+impl Reading {
+    // Returns the next blocks to read for data, of those from `from` up to `last`.
+    fn next(&mut self, from: u32, last: u32) -> Range<u32>
+        requires ordered { from ≤ last }
+        ensures later { from ≤ result.start }
+        ensures ordered { result.start ≤ result.end }
+    {
+        let start = self.first_data(from, last);
+        if start != from {
+            self.stretch = STEP;
+        }
+        let end = start.saturating_add(self.stretch).min(last).max(start);
+        self.stretch = self.stretch.saturating_add(self.stretch).min(MOST);
+        start..end
+    }
+
+    // Returns the first block, of those from `from` up to `last`, from which on there are blocks that aren't zeros.
+    fn first_data(&mut self, from: u32, last: u32) -> u32
+        ensures later { from ≤ result }
+    {
+        let mut at = from;
+        for _ in 0..u32::MAX {
+            if at >= last || !self.has_zeros(at, STEP.min(last - at)) {
+                return at;
+            }
+            at = at.saturating_add(STEP).min(last);
+        }
+        at
+    }
+
+    // Returns whether these blocks can be read, and are zeros.
+    fn has_zeros(&mut self, block: u32, count: u32) -> bool {
+        let bytes = (512 * count as usize).min(self.room.len());
+        let to = &mut self.room.as_mut_slice()[..bytes];
+        reads_zeros(&self.file, to, 512 * u64::from(block))
+    }
 }
 
-// Returns the offset that `lseek` finds from an offset on, or `None` if it fails.
-fn seek(file: &File, offset: u64, whence: i32) -> Option<u64> {
-    let offset = i64::try_from(offset).ok()?;
-    u64::try_from(libc::lseek(file.as_raw_fd(), offset, whence)).ok()
+// Returns whether bytes of a file can be read, and are zeros.
+fn reads_zeros(file: &File, to: &mut [u8], offset: u64) -> bool {
+    match file.read_exact_at(to, offset) {
+        Ok(()) => to.chunks(PIECE).all(|piece| are_zeros(piece)),
+        Err(_error) => false,
+    }
 }

@@ -3,6 +3,7 @@
 
 mod data;
 mod failures;
+mod mounts;
 mod noting;
 mod open;
 mod sparse;

@@ -4,14 +4,18 @@ ghost use Rattle.uda_image.specs.Limits.{store_limit};
 
 use crate::data::DataBlocks;
 use crate::failures::Failures;
+use crate::mounts::counts_exactly;
 use crate::noting::NotingFile;
 use crate::sparse::SparseFile;
 use std::fs::{File, Metadata, OpenFile, OpenOptions, TryLockError};
 use std::io::{Seek, SeekFrom};
-use std::os::unix::fs::FileTypeExt;
+use std::os::unix::fs::{FileTypeExt, MetadataExt};
 use std::{fs, io};
 use thiserror::Error;
 use uda_image::{FileImage, STORE_LIMIT};
+
+/// The most bytes of a file that a file system may keep without a block.
+const MOST_INLINE: u64 = 65_536;
 
 /// A file of an image: zeros may become holes of it, and it notes its failures.
 pub type ImageFile<'c> = SparseFile<NotingFile<'c>>;
@@ -106,9 +110,16 @@ impl OpenImageFile {
         self.blocks
     }
 
-    /// Returns the blocks that have data.
-    pub fn data(&self) -> io::Result<DataBlocks> {
-        DataBlocks::of(&self.file, self.blocks)
+    /// Returns the blocks that have data. A file without blocks on the disk has none, if its file system counts them
+    /// exactly.
+    pub fn data(&self, rt: &HostRuntime) -> io::Result<DataBlocks> {
+        let metadata = self.file.metadata()?;
+        let is_large = metadata.len() > MOST_INLINE;
+        if is_large && metadata.blocks() == 0 && counts_exactly(rt, metadata.dev()) {
+            return Ok(DataBlocks::none(self.blocks));
+        }
+        let file = self.file.try_clone()?;
+        Ok(DataBlocks::in_file(rt.alloc(), file, self.blocks)?)
     }
 
     /// Makes an image of the file, which notes its failures here. Blocks of zeros are written as all others.

@@ -90,9 +90,9 @@ impl<F: RawFile> SparseFile<F> {
     }
 }
 
-// Returns whether these bytes, if they aren't more than one transfer has, are zeros.
+/// Returns whether these bytes, if they aren't more than one transfer has, are zeros.
 #[tactic(auto, using(crate::proofs::ZeroLaws::zero_laws))]
-fn are_zeros(bytes: &[u8]) -> bool
+pub(crate) fn are_zeros(bytes: &[u8]) -> bool
     ensures zeros { result ≡ true → AreZeros bytes.now }
 {
     bytes.len() <= ZEROS.len() && bytes == &ZEROS[..bytes.len()]

@@ -115,14 +115,14 @@ impl<'a, 'w> ImageCopy<'a, 'w> {
     fn run(&self, source: OpenImageFile, target: TargetFile) -> Result<Outcome, Fault<'w>> {
         let copy = self.copy;
         let state = self.state;
-        let data = self.data(&source)?;
+        let mut data = self.data(&source)?;
         let mut record = self.record(target.blocks_begun())?;
         let file = Fault::of_call(copy.to.path, target.handle())?;
         let mut copier = self.copier(
             source.into_image(&state.source),
             target.into_image(self.size, self.is_sparse(), &state.target),
         )?;
-        let copied = self.copy_unfinished(&mut copier, &mut record, &data);
+        let copied = self.copy_unfinished(&mut copier, &mut record, &mut data);
         let ended = record.end();
         copied?;
         let ended = ended?;
@@ -145,7 +145,7 @@ impl<'a, 'w> ImageCopy<'a, 'w> {
     fn data(&self, source: &OpenImageFile) -> Result<DataBlocks, Fault<'w>> {
         let copy = self.copy;
         if copy.sparse && matches!(self.plan, Plan::New | Plan::Resume) {
-            Fault::of_call(copy.from.path, source.data())
+            Fault::of_call(copy.from.path, source.data(self.rt))
         } else {
             Ok(DataBlocks::all(self.size))
         }
@@ -213,7 +213,7 @@ impl<'a, 'w> ImageCopy<'a, 'w> {
         &self,
         copier: &mut Copier<Image<'a>>,
         record: &mut CopyRecord<'a, 'w>,
-        data: &DataBlocks,
+        data: &mut DataBlocks,
     ) -> Result<(), Fault<'w>> {
         let mut at = 0;
         for _ in 0..u32::MAX {

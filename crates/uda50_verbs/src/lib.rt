@@ -13,6 +13,7 @@ mod input_blocks;
 mod outcome;
 mod printer;
 mod progress;
+mod reader;
 mod record;
 mod run;
 mod script;

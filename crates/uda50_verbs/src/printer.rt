@@ -1,11 +1,15 @@
 //! Printing of blocks.
 ghost use Rattle.std.specs.Prelude.{◌<◌};
 
+use crate::reader;
 use std::fmt::Display;
 use std::io;
-use std::io::{BufWriter, Write};
+use std::io::{BufWriter, ErrorKind, Write};
 use uda50_arguments::{Dump, DumpFormat};
 use uda50_show::{HexRow, OctalRow, RowForm, Squeeze};
+
+// After so many blocks that are left out, what is printed goes out, if somebody still reads it.
+const LOOK: u64 = 1024;
 
 /// The blocks that are printed one after the other, with what was printed of them.
 #[derive(Drop)]
@@ -57,11 +61,22 @@ fn print_squeezed<W: Write + Drop>(
     format: DumpFormat,
 ) -> io::Result<()> {
     if squeeze.leaves_out(bytes) {
-        return Ok(());
+        return leave_out(out, number);
     }
     print_left_out(out, squeeze, number)?;
     squeeze.note_printed(number, bytes);
     print_block(out, (number, bytes), format, true)
+}
+
+// Leaves out a block. From time to time it writes what is gathered, and fails if the reader has gone.
+fn leave_out<W: Write + Drop>(out: &mut BufWriter<W>, number: u64) -> io::Result<()> {
+    if number % LOOK == 0 {
+        out.flush()?;
+        if reader::has_gone() {
+            return Err(io::Error::from(ErrorKind::BrokenPipe));
+        }
+    }
+    Ok(())
 }
 
 // Prints the line of the blocks that were left out before a block, if there are any.

@@ -67,7 +67,7 @@ fn read_block<R: Read + Drop>(
 ) -> io::Result<usize> {
     let mut filled = 0;
     for _ in 0..u64::MAX {
-        if filled == 512 {
+        if filled >= bytes.len() {
             break;
         }
         match input.read(&mut bytes[filled..]) {

@@ -7,6 +7,10 @@ use std::io::{BufWriter, Write};
 use uda50_arguments::{Dump, DumpFormat};
 use uda50_show::{HexRow, OctalRow, RowForm, Squeeze};
 
+/// A squeezed dump prints each block whose number is a multiple of this one, and writes what it has gathered. So it
+/// ends when its reader has gone, though all blocks are the same.
+const SIGN: u64 = 262_144;
+
 /// The blocks that are printed one after the other, with what was printed of them.
 #[derive(Drop)]
 pub(crate) struct BlockPrinter {
@@ -56,12 +60,17 @@ fn print_squeezed<W: Write + Drop>(
     (number, bytes): (u64, &[u8; 512]),
     format: DumpFormat,
 ) -> io::Result<()> {
-    if squeeze.leaves_out(bytes) {
+    let is_sign = number % SIGN == 0;
+    if squeeze.leaves_out(bytes) && !is_sign {
         return Ok(());
     }
     print_left_out(out, squeeze, number)?;
     squeeze.note_printed(number, bytes);
-    print_block(out, (number, bytes), format, true)
+    print_block(out, (number, bytes), format, true)?;
+    if is_sign {
+        out.flush()?;
+    }
+    Ok(())
 }
 
 // Prints the line of the blocks that were left out before a block, if there are any.

@@ -10,7 +10,7 @@ use std::alloc::{AllocError, Global};
 const PROGRAM_VERSION: &str = "0.1.0";
 
 const AFTER_HELP: &str = "Exit status: 0 if all is well, 1 after a fault, 2 for wrong arguments, \
-    3 if a request failed\n\nThe lines of a script: uda50 help script";
+    3 if a request failed\n\nThe lines of a script, for uda too: uda50 help script";
 
 /// The values that options and arguments take.
 #[derive(Clone, Copy)]

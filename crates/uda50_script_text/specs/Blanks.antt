@@ -1,6 +1,6 @@
 -- The form in which the parser reads the lines of a script: without blanks at both ends, with one blank
 -- between words, and with no carriage return at the end.
-use Rattle.std.specs.Prelude.{ℕ, ◌==◌, ◌||◌, Bool, not, if◌then◌else◌, List, [], ◌∷◌, ◌++◌}
+use Rattle.std.specs.Prelude.{ℕ, ◌==◌, ◌||◌, ◌&&◌, nat_lt, Bool, not, if◌then◌else◌, List, [], ◌∷◌, ◌++◌}
 use Rattle.uda50_script_text.specs.declared.blanks.Blanks.{Blanks}
 use Rattle.uda50_script_text.specs.declared.blanks.Blanks.TheVariants.{Indent, Word, Gap}
 use Rattle.uda50_script_text.specs.declared.blanks.Blanks.TheVariants.{Return, GapAndReturn}
@@ -58,3 +58,12 @@ squeezed blanks (byte ∷ bytes) = passed blanks byte ++ squeezed (next blanks b
 abbrev pub blanks_after : Blanks → List ℕ → Blanks
 blanks_after blanks [] = blanks
 blanks_after blanks (byte ∷ bytes) = blanks_after (next blanks byte) bytes
+
+-- what is passed on of a text after a word, and then what is held back at its end
+abbrev pub passed_or_held : List ℕ → List ℕ
+passed_or_held bytes = squeezed Word bytes ++ held (blanks_after Word bytes)
+
+-- a byte of a word, a blank after a word, or a line feed after anything but a blank
+abbrev pub is_plain_after : ℕ → ℕ → Bool
+is_plain_after before byte =
+    nat_lt 32 byte || ((byte == 32 && nat_lt 32 before) || (byte == 10 && not (before == 32)))

@@ -1,9 +1,9 @@
 //! Blanks, which separate the words of a line.
-ghost use Rattle.std.specs.Prelude.{◌≡◌, ◌++◌, OnOk, IfOk};
+ghost use Rattle.std.specs.Prelude.{◌≡◌, ◌++◌, true, OnOk, IfOk};
 ghost use Rattle.uda50_script_text.specs.Blanks.{is_passed, held, released, passed};
 ghost use Rattle.uda50_script_text.specs.Blanks.{next, squeezed, blanks_after};
+ghost use Rattle.uda50_script_text.specs.Blanks.{passed_or_held, is_plain_after};
 
-use memchr::memchr2;
 use std::alloc::AllocError;
 
 /// What was read after the last word of a line. It is held back until the next byte shows whether the line
@@ -90,19 +90,24 @@ impl Blanks {
     }
 }
 
-/// Returns whether a text is passed on as it is if a word is before it and one is at its end: it has no tab
-/// and no carriage return, and no blank except single ones between words.
-pub(crate) fn is_plain(bytes: &[u8]) -> bool {
-    memchr2(b'\t', b'\r', bytes).is_none() && !has_blank_at_blank(bytes)
-}
-
-// Returns whether a blank is beside another blank or a line feed. It may also find other control characters.
-fn has_blank_at_blank(bytes: &[u8]) -> bool {
-    let mut found = false;
+/// Returns whether a text is passed on as it is after a word, with what is held back at its end. It may also
+/// reject a text that has other control characters.
+pub(crate) fn is_plain(bytes: &[u8]) -> bool
+    ensures plain { result ≡ true → passed_or_held bytes.now ≡ bytes.now }
+{
+    let mut plain = true;
     let mut before = b'x';
     for byte in bytes {
-        found |= (before <= b' ') & (*byte <= b' ') & (before | *byte != b'\n');
+        plain &= is_plain_after(before, *byte);
         before = *byte;
     }
-    found
+    plain
+}
+
+// Returns whether a byte is passed on as it is after another one: it is part of a word, a blank after a word, or
+// a line feed after anything but a blank.
+fn is_plain_after(before: u8, byte: u8) -> bool
+    ensures plain { result ≡ is_plain_after before byte }
+{
+    (byte > b' ') | ((byte == b' ') & (before > b' ')) | ((byte == b'\n') & (before != b' '))
 }

@@ -1,4 +1,6 @@
 //! The mistakes of lines.
+ghost use Rattle.std.specs.Prelude.{◌≡◌, None};
+ghost use Rattle.uda50_script_text.specs.Marks.{byte_order_mark};
 
 use std::fmt;
 use uda_grammar::{Expected, Part};
@@ -43,7 +45,11 @@ pub enum ByteOrderMark {
 
 impl Mistake {
     /// Returns the mistake of a line whose columns are those of the file.
-    pub fn at(expected: Expected) -> Mistake {
+    pub fn at(expected: Expected) -> Mistake
+        ensures column { result.column ≡ expected.column }
+        ensures expected { result.expected ≡ expected.part }
+        ensures intruder { result.intruder ≡ None }
+    {
         Mistake {
             column: expected.column as u64,
             expected: expected.part,
@@ -54,7 +60,9 @@ impl Mistake {
 
 impl ByteOrderMark {
     /// Returns the byte order mark with which a text begins.
-    pub fn of_text(text: &[u8]) -> Option<ByteOrderMark> {
+    pub fn of_text(text: &[u8]) -> Option<ByteOrderMark>
+        ensures mark { result ≡ byte_order_mark text.now }
+    {
         match text {
             [0xef, 0xbb, 0xbf, ..] => Some(ByteOrderMark::Utf8),
             [0xff, 0xfe, ..] | [0xfe, 0xff, ..] => Some(ByteOrderMark::Utf16),

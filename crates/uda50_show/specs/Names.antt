@@ -1,5 +1,5 @@
 -- Names without their control characters.
-use Rattle.std.specs.Prelude.{ℕ, ◌/◌, ◌%◌, Bool, if◌then◌else◌, nat_lt, nat_le, ◌&&◌, ◌||◌, List, ◌++◌, codes}
+use Rattle.std.specs.Prelude.{ℕ, Bool, if◌then◌else◌, nat_lt, nat_le, ◌&&◌, ◌||◌, List, ◌++◌, codes}
 use Rattle.std.specs.Char.{encode_utf8}
 use Rattle.uda50_show.specs.Hex.{hex_byte}
 

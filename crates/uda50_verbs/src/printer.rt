@@ -7,8 +7,8 @@ use std::io::{BufWriter, Write};
 use uda50_arguments::{Dump, DumpFormat};
 use uda50_show::{HexRow, OctalRow, RowForm, Squeeze};
 
-/// A squeezed dump prints each block whose number is a multiple of this one, and writes what it has gathered. So it
-/// ends when its reader has gone, though all blocks are the same.
+/// A squeezed dump prints a block though it repeats, if its number is a multiple of this one, and writes what it has
+/// gathered. So it ends when its reader has gone.
 const SIGN: u64 = 262_144;
 
 /// The blocks that are printed one after the other, with what was printed of them.
@@ -60,14 +60,14 @@ fn print_squeezed<W: Write + Drop>(
     (number, bytes): (u64, &[u8; 512]),
     format: DumpFormat,
 ) -> io::Result<()> {
-    let is_sign = number % SIGN == 0;
-    if squeeze.leaves_out(bytes) && !is_sign {
+    let repeats = squeeze.leaves_out(bytes);
+    if repeats && number % SIGN != 0 {
         return Ok(());
     }
     print_left_out(out, squeeze, number)?;
     squeeze.note_printed(number, bytes);
     print_block(out, (number, bytes), format, true)?;
-    if is_sign {
+    if repeats {
         out.flush()?;
     }
     Ok(())

@@ -1,7 +1,6 @@
 //! `uda50 copy`: copies an image to another through the controller.
 
 use crate::copy_record::CopyRecord;
-use crate::create::set_blocks;
 use crate::fault::{Fault, Reason};
 use crate::image::{block_fault, open_file};
 use crate::map_file::{MapFile, SavedMap};
@@ -9,7 +8,7 @@ use crate::outcome::Outcome;
 use crate::progress::CopyProgress;
 use crate::script::Drives;
 use crate::stream::{copy_from_stream, copy_to_output, is_stream};
-use crate::target::{Plan, written_blocks};
+use crate::target::{PartName, Plan, written_blocks};
 use std::cell::Cell;
 use std::fs::File;
 use std::io::{BufWriter, Write};
@@ -65,6 +64,9 @@ struct ImageCopy<'a, 'w> {
     size: u32,
     // The blocks to copy.
     blocks: Range<u32>,
+    // The block from which on the target has zeros, so that zeros needn't be written.
+    zeros_from: u32,
+    part: PartName<'w>,
     state: &'a CopyState,
 }
 
@@ -85,6 +87,12 @@ fn copy_image<'w>(rt: &HostRuntime, copy: &Copy<'w>) -> Result<Outcome, Fault<'w
         plan,
         size: source.blocks(),
         blocks,
+        zeros_from: if copy.sparse && plan.has_part() {
+            target.blocks_begun()
+        } else {
+            u32::MAX
+        },
+        part: PartName::of(copy, plan),
         state: &state,
     };
     job.run_or_abandon(source, target)
@@ -105,7 +113,7 @@ impl<'a, 'w> ImageCopy<'a, 'w> {
                 if copied == 0 && !self.plan.resumes() {
                     MapFile::of(self.copy, self.plan).remove(self.rt)?;
                 }
-                self.plan.abandon(self.rt, self.copy, copied, true)?;
+                self.part.leave(self.rt, self.plan, copied, true)?;
                 Ok(Outcome::FaultReported)
             }
         }
@@ -120,7 +128,7 @@ impl<'a, 'w> ImageCopy<'a, 'w> {
         let file = Fault::of_call(copy.to.path, target.handle())?;
         let mut copier = self.copier(
             source.into_image(&state.source),
-            target.into_image(self.size, self.is_sparse(), &state.target),
+            target.into_image(self.size, self.zeros_from < self.size, &state.target),
         )?;
         let copied = self.copy_unfinished(&mut copier, &mut record, &mut data);
         let ended = record.end();
@@ -130,21 +138,16 @@ impl<'a, 'w> ImageCopy<'a, 'w> {
         if copy.verify {
             self.verify(&mut copier)?;
         }
-        self.plan.complete(self.rt, copy, &file)?;
+        self.part.complete(self.rt, &file)?;
         let wanted = copy.map.is_some() || self.plan == Plan::LostBlocks;
         ended.save(self.rt, wanted)?;
         Ok(ended.outcome())
     }
 
-    // Returns whether blocks of zeros become holes of the target.
-    fn is_sparse(&self) -> bool {
-        self.copy.sparse && self.plan.has_part()
-    }
-
-    // Returns the blocks to read. Those in holes are left out if the target has zeros there.
+    // Returns the blocks to read. Blocks of zeros are left out if the target has zeros there.
     fn data(&self, source: &OpenImageFile) -> Result<DataBlocks, Fault<'w>> {
         let copy = self.copy;
-        if copy.sparse && matches!(self.plan, Plan::New | Plan::Resume) {
+        if self.zeros_from < self.size {
             Fault::of_call(copy.from.path, source.data(self.rt))
         } else {
             Ok(DataBlocks::all(self.size))
@@ -165,7 +168,7 @@ impl<'a, 'w> ImageCopy<'a, 'w> {
             file.begin(self.rt, &map, overwrites)?;
         }
         if overwrites {
-            Plan::mark(self.rt, copy.to.path)?;
+            self.part.take(self.rt)?;
         }
         let saves_always = overwrites || file.is_named();
         let blocks = self.blocks.start..self.blocks.end;
@@ -220,7 +223,11 @@ impl<'a, 'w> ImageCopy<'a, 'w> {
             let Some(blocks) = record.next(at) else {
                 return Ok(());
             };
-            let found = data.next(blocks.start);
+            let found = if blocks.start < self.zeros_from {
+                blocks.start..self.zeros_from
+            } else {
+                data.next(blocks.start)
+            };
             let start = found.start.min(blocks.end);
             let end = found.end.min(blocks.end);
             record.skip(blocks.start..start)?;
@@ -248,7 +255,7 @@ impl<'a, 'w> ImageCopy<'a, 'w> {
     fn set_length(&self, file: &File) -> Result<(), Fault<'w>> {
         let copy = self.copy;
         match self.plan.has_part() {
-            true => set_blocks(copy.to.path, file, self.size),
+            true => self.part.set_blocks(file, self.size),
             false => Ok(()),
         }
     }

@@ -2,12 +2,11 @@
 ghost use Rattle.std.specs.Prelude.{◌≤◌};
 
 use crate::copy::blocks_to_copy;
-use crate::create::set_blocks;
 use crate::fault::{Fault, Reason, STANDARD_INPUT, STANDARD_OUTPUT};
 use crate::image::{NamedImage, block_fault};
 use crate::outcome::Outcome;
 use crate::progress::CopyProgress;
-use crate::target::Plan;
+use crate::target::{PartName, Plan};
 use std::fs;
 use std::fs::{File, OpenFile};
 use std::io::{BufWriter, ErrorKind, IsTerminal, Read, Write};
@@ -88,8 +87,9 @@ fn take_stream<'w, R: Read + Drop>(
     };
     let target = plan.open(rt, copy, end)?;
     let file = Fault::of_call(copy.to.path, target.handle())?;
+    let part = PartName::of(copy, plan);
     if plan == Plan::Overwrite {
-        Plan::mark(rt, copy.to.path)?;
+        part.take(rt)?;
     }
     let failures = Failures::none();
     let image = target.into_image(STORE_LIMIT, copy.sparse && plan.has_part(), &failures);
@@ -104,29 +104,28 @@ fn take_stream<'w, R: Read + Drop>(
     let done = taken.run();
     let blocks = taken.at;
     drop(taken);
-    match complete(rt, copy, plan, &file, done.map(|_done| blocks)) {
+    let length = if plan.has_part() { Some(blocks) } else { None };
+    match complete(rt, &part, &file, done.map(|_done| length)) {
         Ok(()) => Ok(Outcome::Done),
         Err(fault) => {
             fault.print(rt);
-            plan.abandon(rt, copy, blocks, false)?;
+            part.leave(rt, plan, blocks, false)?;
             Ok(Outcome::FaultReported)
         }
     }
 }
 
-// Completes a target with that many blocks.
+// Completes a target, which has this length in blocks if it doesn't keep its own.
 fn complete<'w>(
     rt: &HostRuntime,
-    copy: &Copy<'w>,
-    plan: Plan,
+    part: &PartName<'w>,
     file: &File,
-    done: Result<u32, Fault<'w>>,
+    done: Result<Option<u32>, Fault<'w>>,
 ) -> Result<(), Fault<'w>> {
-    let blocks = done?;
-    if plan.has_part() {
-        set_blocks(copy.to.path, file, blocks)?;
+    if let Some(blocks) = done? {
+        part.set_blocks(file, blocks)?;
     }
-    plan.complete(rt, copy, file)
+    part.complete(rt, file)
 }
 
 // A copy of a stream to an image.

@@ -1,16 +1,18 @@
 //! The target file of a copy. While it is incomplete, its name ends in `.part`.
 
-use crate::create::check_existing;
+use crate::create::{check_existing, set_blocks};
 use crate::fault::{Fault, Reason};
 use crate::image::reason;
 use crate::map_file::path_of;
 use std::alloc::AllocError;
+use std::cell::Cell;
 use std::fs;
 use std::fs::{File, Metadata};
 use std::ops::Range;
 use std::os::unix::fs::{FileTypeExt, MetadataExt};
 use uda50_arguments::{BlockRange, Copy};
 use uda50_files::{Access, OpenError, TargetFile};
+use uda50_show::EscapedName;
 
 /// The end of the name of a target that is incomplete.
 pub(crate) const PART: &str = ".part";
@@ -121,55 +123,79 @@ impl Plan {
     }
 }
 
-impl Plan {
-    /// Gives an existing target the name of an incomplete one. It keeps its name where that isn't permitted.
-    pub(crate) fn mark(rt: &HostRuntime, path: &str) -> Result<bool, AllocError> {
-        let part = path_of(rt.alloc(), path, PART)?;
-        Ok(fs::rename(rt, path, part.as_str()).is_ok())
+/// The name of a target while it is incomplete.
+#[derive(Drop)]
+pub(crate) struct PartName<'w> {
+    // The path of the target.
+    path: &'w str,
+    // Whether the target has the other name now.
+    in_use: Cell<bool>,
+}
+
+impl<'w> PartName<'w> {
+    /// Returns the name for a target that was opened. A new one has it already.
+    pub(crate) fn of(copy: &Copy<'w>, plan: Plan) -> PartName<'w> {
+        PartName {
+            path: copy.to.path,
+            in_use: Cell::new(matches!(plan, Plan::New | Plan::Resume)),
+        }
     }
 
-    /// Syncs a complete target, and gives it its name.
-    pub(crate) fn complete<'w>(
-        self,
-        rt: &HostRuntime,
-        copy: &Copy<'w>,
-        file: &File,
-    ) -> Result<(), Fault<'w>> {
-        let path = copy.to.path;
-        if let Err(error) = file.sync_data() {
-            return Err(Fault::new(path, Reason::SyncFailed(error)));
-        }
-        if self.has_part() {
-            let part = path_of(rt.alloc(), path, PART)?;
-            if fs::metadata(rt, part.as_str()).is_ok() {
-                Fault::of_call(path, fs::rename(rt, part.as_str(), path))?;
-            }
+    /// Gives the name to an existing target. That keeps its own name where the folder can't be written.
+    pub(crate) fn take(&self, rt: &HostRuntime) -> Result<(), AllocError> {
+        let part = path_of(rt.alloc(), self.path, PART)?;
+        self.in_use
+            .set(fs::rename(rt, self.path, part.as_str()).is_ok());
+        Ok(())
+    }
+
+    /// Gives the target its own name.
+    pub(crate) fn give_back(&self, rt: &HostRuntime) -> Result<(), Fault<'w>> {
+        if self.in_use.get() {
+            let part = path_of(rt.alloc(), self.path, PART)?;
+            Fault::of_call(self.path, fs::rename(rt, part.as_str(), self.path))?;
+            self.in_use.set(false);
         }
         Ok(())
     }
 
-    /// Leaves a target that is incomplete. If no block was copied, it removes a new one, and gives an existing one its
-    /// name again. Otherwise it tells what is left.
-    pub(crate) fn abandon(
-        self,
+    /// Gives the target a length in blocks.
+    pub(crate) fn set_blocks(&self, file: &File, blocks: u32) -> Result<(), Fault<'w>> {
+        set_blocks(self.path, file, blocks)
+    }
+
+    /// Syncs a complete target, and gives it its own name.
+    pub(crate) fn complete(&self, rt: &HostRuntime, file: &File) -> Result<(), Fault<'w>> {
+        match file.sync_data() {
+            Ok(()) => self.give_back(rt),
+            Err(error) => Err(Fault::new(self.path, Reason::SyncFailed(error))),
+        }
+    }
+
+    /// Leaves an incomplete target. If no block was copied, a new one is removed, and an existing one gets its own name.
+    /// Otherwise a line tells what is left, and whether `--resume` can go on with it.
+    pub(crate) fn leave(
+        &self,
         rt: &HostRuntime,
-        copy: &Copy<'_>,
+        plan: Plan,
         copied: u32,
         resumable: bool,
-    ) -> Result<(), AllocError> {
-        let path = copy.to.path;
-        let part = path_of(rt.alloc(), path, PART)?;
-        match self {
-            Plan::New if copied == 0 => drop(fs::remove_file(rt, part.as_str())),
-            Plan::Overwrite if copied == 0 => drop(fs::rename(rt, part.as_str(), path)),
-            _ => {}
+    ) -> Result<(), Fault<'w>> {
+        let part = path_of(rt.alloc(), self.path, PART)?;
+        if copied == 0 && plan == Plan::New {
+            drop(fs::remove_file(rt, part.as_str()));
+            return Ok(());
         }
-        if self.has_part() && fs::metadata(rt, part.as_str()).is_ok() {
+        if copied == 0 && plan == Plan::Overwrite {
+            return self.give_back(rt);
+        }
+        if self.in_use.get() {
             let resume = if resumable {
                 "; --resume goes on with it"
             } else {
                 ""
             };
+            let part = EscapedName(part.as_str());
             let _ = eprintln!(rt; "uda50: {part}: is the incomplete copy{resume}");
         }
         Ok(())

@@ -1,6 +1,6 @@
 //! `uda50 copy`: copies an image to another through the controller.
 
-use crate::copy_record::CopyRecord;
+use crate::copy_record::{CopyRecord, EndedRecord};
 use crate::fault::{Fault, Reason};
 use crate::image::{block_fault, open_file};
 use crate::map_file::{MapFile, SavedMap};
@@ -122,26 +122,46 @@ impl<'a, 'w> ImageCopy<'a, 'w> {
     // Copies, and completes the target.
     fn run(&self, source: OpenImageFile, target: TargetFile) -> Result<Outcome, Fault<'w>> {
         let copy = self.copy;
-        let state = self.state;
-        let mut data = self.data(&source)?;
-        let mut record = self.record(target.blocks_begun())?;
         let file = Fault::of_call(copy.to.path, target.handle())?;
-        let mut copier = self.copier(
-            source.into_image(&state.source),
-            target.into_image(self.size, self.zeros_from < self.size, &state.target),
-        )?;
-        let copied = self.copy_unfinished(&mut copier, &mut record, &mut data);
-        let ended = record.end();
-        copied?;
-        let ended = ended?;
-        self.set_length(&file)?;
-        if copy.verify {
-            self.verify(&mut copier)?;
-        }
+        let ended = self.copy_files(source, target, &file)?;
         self.part.complete(self.rt, &file)?;
         let wanted = copy.map.is_some() || self.plan == Plan::LostBlocks;
         ended.save(self.rt, wanted)?;
         Ok(ended.outcome())
+    }
+
+    // Copies the blocks of an open file to another one, and compares them if that is asked for.
+    fn copy_files(
+        &self,
+        source: OpenImageFile,
+        target: TargetFile,
+        file: &File,
+    ) -> Result<EndedRecord<'w>, Fault<'w>> {
+        let data = self.data(&source)?;
+        let record = self.record(target.blocks_begun())?;
+        let state = self.state;
+        let source = source.into_image(&state.source);
+        let target = target.into_image(self.size, self.zeros_from < self.size, &state.target);
+        let mut copier = self.copier(source, target)?;
+        let ended = self.copy_blocks(&mut copier, record, data)?;
+        self.set_length(file)?;
+        self.verify(&mut copier)?;
+        Ok(ended)
+    }
+
+    // Copies the blocks that the record doesn't have, and ends the record.
+    fn copy_blocks(
+        &self,
+        copier: &mut Copier<Image<'a>>,
+        mut record: CopyRecord<'a, 'w>,
+        mut data: DataBlocks,
+    ) -> Result<EndedRecord<'w>, Fault<'w>> {
+        let copied = self.copy_unfinished(copier, &mut record, &mut data);
+        let ended = record.end();
+        match copied {
+            Ok(()) => ended,
+            Err(fault) => Err(fault),
+        }
     }
 
     // Returns the blocks to read. Blocks of zeros are left out if the target has zeros there.
@@ -260,9 +280,12 @@ impl<'a, 'w> ImageCopy<'a, 'w> {
         }
     }
 
-    // Compares the blocks of both images.
+    // Compares the blocks of both images, if that is asked for.
     fn verify(&self, copier: &mut Copier<Image<'a>>) -> Result<(), Fault<'w>> {
         let copy = self.copy;
+        if !copy.verify {
+            return Ok(());
+        }
         let Range { start, end } = self.blocks;
         let mut progress = CopyProgress::start(self.rt, copy.to.path, start..end);
         let compared = copier.compare(start..end, &mut progress);
@@ -272,23 +295,29 @@ impl<'a, 'w> ImageCopy<'a, 'w> {
 
     // Returns the fault for an error, with the file that it concerns.
     fn fault(&self, error: CopyError) -> Fault<'w> {
-        let copy = self.copy;
-        let state = self.state;
-        let (from, to) = (copy.from.path, copy.to.path);
-        match error {
-            CopyError::NoMemory => Fault::no_memory(),
-            CopyError::Read(Side::Source, block) => {
-                block_fault(from, block, StoreError::Read, &state.source)
-            }
-            CopyError::Read(Side::Target, block) => {
-                block_fault(to, block, StoreError::Read, &state.target)
-            }
-            CopyError::Write(block) => { block_fault(to, block, StoreError::Write, &state.target) }
-            CopyError::Differs(block) => Fault::new(to, Reason::Differs(block)),
-            CopyError::Rejected(Side::Source, status) => {
-                Fault::new(from, Reason::Rejected(status))
-            }
-            CopyError::Rejected(Side::Target, status) => Fault::new(to, Reason::Rejected(status)),
+        fault_of(self.copy, self.state, error)
+    }
+}
+
+// Returns the fault of a copy for an error, with the file that it concerns.
+fn fault_of<'w>(copy: &Copy<'w>, state: &CopyState, error: CopyError) -> Fault<'w> {
+    match error {
+        CopyError::NoMemory => Fault::no_memory(),
+        CopyError::Read(Side::Source, block) => {
+            block_fault(copy.from.path, block, StoreError::Read, &state.source)
+        }
+        CopyError::Read(Side::Target, block) => {
+            block_fault(copy.to.path, block, StoreError::Read, &state.target)
+        }
+        CopyError::Write(block) => {
+            block_fault(copy.to.path, block, StoreError::Write, &state.target)
+        }
+        CopyError::Differs(block) => Fault::new(copy.to.path, Reason::Differs(block)),
+        CopyError::Rejected(Side::Source, status) => {
+            Fault::new(copy.from.path, Reason::Rejected(status))
+        }
+        CopyError::Rejected(Side::Target, status) => {
+            Fault::new(copy.to.path, Reason::Rejected(status))
         }
     }
 }

@@ -1,7 +1,9 @@
 //! The failures of the calls on a file.
 
+use std::alloc::{AllocError, Global};
 use std::cell::Cell;
 use std::io;
+use std::rc::Rc;
 use uda_image::StoreError;
 
 /// A block that could not be read or written, and the reason.
@@ -15,43 +17,59 @@ pub struct Failure {
     pub cause: io::Error,
 }
 
-/// What failed on a file: the lowest block that could not be read or written, and the last sync. The file of an
-/// image notes them, and its owner asks for them afterwards.
+// The failures that are noted.
 #[derive(Drop)]
-pub struct Failures {
+struct Noted {
     lowest: Cell<Option<Failure>>,
     sync: Cell<Option<io::Error>>,
 }
 
+/// What failed on a file: the lowest block that could not be read or written, and the last sync. The file of an
+/// image notes them, and its owner asks for them afterwards. Both have a handle of the same failures.
+#[derive(Drop)]
+pub struct Failures {
+    noted: Rc<Noted>,
+}
+
 impl Failures {
     /// Makes the failures of a file on which nothing failed.
-    pub fn none() -> Failures {
-        Failures {
+    pub fn none(alloc: Global) -> Result<Failures, AllocError> {
+        let noted = Noted {
             lowest: Cell::new(None),
             sync: Cell::new(None),
+        };
+        match Rc::new(alloc, noted) {
+            Ok(noted) => Ok(Failures { noted }),
+            Err(_failed) => Err(AllocError),
         }
+    }
+
+    /// Returns another handle of the same failures.
+    pub fn share(&self) -> Result<Failures, AllocError> {
+        let noted = self.noted.clone()?;
+        Ok(Failures { noted })
     }
 
     /// Notes that a block could not be read or written.
     pub fn note(&self, failure: Failure) {
-        match self.lowest.get() {
+        match self.noted.lowest.get() {
             Some(lowest) if lowest.block <= failure.block => {}
-            _ => self.lowest.set(Some(failure)),
+            _ => self.noted.lowest.set(Some(failure)),
         }
     }
 
     /// Notes that the file could not be synced.
     pub fn note_sync(&self, error: io::Error) {
-        self.sync.set(Some(error));
+        self.noted.sync.set(Some(error));
     }
 
     /// Returns the failure of the lowest block that failed.
     pub fn lowest(&self) -> Option<Failure> {
-        self.lowest.get()
+        self.noted.lowest.get()
     }
 
     /// Returns the error of the last sync that failed.
     pub fn sync(&self) -> Option<io::Error> {
-        self.sync.get()
+        self.noted.sync.get()
     }
 }

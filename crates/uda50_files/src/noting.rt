@@ -10,14 +10,14 @@ use uda_image::{RawFile, StoreError};
 /// A file that notes which calls on it failed, and why. It doesn't note a call of several blocks that failed, since
 /// calls of its single blocks follow.
 #[derive(Drop)]
-pub struct NotingFile<'c> {
+pub struct NotingFile {
     file: File,
-    failures: &'c Failures,
+    failures: Failures,
 }
 
-impl<'c> NotingFile<'c> {
+impl NotingFile {
     /// Makes a file that notes its failures here.
-    pub fn new(file: File, failures: &'c Failures) -> NotingFile<'c> {
+    pub fn new(file: File, failures: Failures) -> NotingFile {
         NotingFile { file, failures }
     }
 
@@ -34,7 +34,7 @@ impl<'c> NotingFile<'c> {
     }
 }
 
-impl RawFile for NotingFile<'_> {
+impl RawFile for NotingFile {
     ghost content = { λ _. None };
 
     fn read_exact(&mut self, to: &mut [u8], offset: u64) -> io::Result<()> {

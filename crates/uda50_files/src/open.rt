@@ -7,6 +7,7 @@ use crate::failures::Failures;
 use crate::mounts::counts_exactly;
 use crate::noting::NotingFile;
 use crate::sparse::SparseFile;
+use std::alloc::AllocError;
 use std::fs::{File, Metadata, OpenFile, OpenOptions, TryLockError};
 use std::io::{Seek, SeekFrom};
 use std::os::unix::fs::{FileTypeExt, MetadataExt};
@@ -18,10 +19,10 @@ use uda_image::{FileImage, STORE_LIMIT};
 const MOST_INLINE: u64 = 65_536;
 
 /// A file of an image: zeros may become holes of it, and it notes its failures.
-pub type ImageFile<'c> = SparseFile<NotingFile<'c>>;
+pub type ImageFile = SparseFile<NotingFile>;
 
 /// An image in a file.
-pub type Image<'c> = FileImage<ImageFile<'c>>;
+pub type Image = FileImage<ImageFile>;
 
 /// The reason why a file can't be opened as an image.
 #[derive(Debug, Drop, Error)]
@@ -123,15 +124,15 @@ impl OpenImageFile {
     }
 
     /// Makes an image of the file, which notes its failures here. Blocks of zeros are written as all others.
-    pub fn into_image(self, failures: &Failures) -> Image<'_> {
+    pub fn into_image(self, failures: &Failures) -> Result<Image, AllocError> {
         let OpenImageFile {
             file,
             blocks,
             access,
         } = self;
         let length = 512 * u64::from(blocks);
-        let file = SparseFile::dense(NotingFile::new(file, failures), length);
-        FileImage::over(file, blocks.min(STORE_LIMIT), access.writes())
+        let file = SparseFile::dense(NotingFile::new(file, failures.share()?), length);
+        Ok(FileImage::over(file, blocks.min(STORE_LIMIT), access.writes()))
     }
 }
 
@@ -199,16 +200,21 @@ impl TargetFile {
 
     /// Makes an image of that many blocks, which notes its failures here. The file may become longer when blocks
     /// are written. If it is `sparse`, blocks of zeros aren't written past the end that it has now.
-    pub fn into_image(self, blocks: u32, sparse: bool, failures: &Failures) -> Image<'_> {
+    pub fn into_image(
+        self,
+        blocks: u32,
+        sparse: bool,
+        failures: &Failures,
+    ) -> Result<Image, AllocError> {
         let zeros_from = 512 * u64::from(self.blocks_begun());
         let length = 512 * u64::from(blocks);
-        let noting = NotingFile::new(self.file, failures);
+        let noting = NotingFile::new(self.file, failures.share()?);
         let file = if sparse {
             SparseFile::ending_in_zeros(noting, length, zeros_from)
         } else {
             SparseFile::dense(noting, length)
         };
-        FileImage::over(file, blocks.min(STORE_LIMIT), true)
+        Ok(FileImage::over(file, blocks.min(STORE_LIMIT), true))
     }
 }
 

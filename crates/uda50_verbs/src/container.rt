@@ -1,13 +1,13 @@
 //! Records that other programs put after the blocks of an image.
 
-use crate::fault::{Fault, Reason};
+use crate::fault::{Fault, Reason, RecordPlace};
 use crate::image::NamedImage;
 use std::fs::{File, OpenFile};
 use std::os::unix::fs::FileExt;
 use uda50_show::ContainerRecord;
 
 /// Returns the record in the last block of an image. A block that can't be read has none.
-pub(crate) fn last_record(image: &mut NamedImage<'_, '_>) -> Option<ContainerRecord> {
+pub(crate) fn last_record(image: &mut NamedImage<'_>) -> Option<ContainerRecord> {
     let last = image.size().checked_sub(1)?;
     let block = image.read_block_or_zeros(last).ok()?;
     ContainerRecord::read(&block)
@@ -24,7 +24,7 @@ pub(crate) fn explain_length<'w>(rt: &HostRuntime, fault: Fault<'w>) -> Fault<'w
 // Returns the reason for the length of a file. Its last bytes are searched for a record, and its last whole block.
 fn length_reason(rt: &HostRuntime, path: &str, bytes: u64) -> Reason {
     if let Some(record) = record_before(rt, path, bytes) {
-        let place = "its last 512 bytes are a";
+        let place = RecordPlace::LastBytes;
         return Reason::LengthWithRecord {
             bytes,
             place,
@@ -32,7 +32,7 @@ fn length_reason(rt: &HostRuntime, path: &str, bytes: u64) -> Reason {
         };
     }
     if let Some(record) = record_before(rt, path, bytes / 512 * 512) {
-        let place = "its last whole block is a";
+        let place = RecordPlace::LastBlock;
         return Reason::LengthWithRecord {
             bytes,
             place,

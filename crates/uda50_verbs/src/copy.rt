@@ -2,13 +2,14 @@
 
 use crate::copy_record::{CopyRecord, EndedRecord};
 use crate::fault::{Fault, Reason};
-use crate::image::{block_fault, open_file};
+use crate::image::{block_reason, open_file};
 use crate::map_file::{MapFile, SavedMap};
 use crate::outcome::Outcome;
 use crate::progress::CopyProgress;
 use crate::script::Drives;
 use crate::stream::{copy_from_stream, copy_to_output, is_stream};
 use crate::target::{PartName, Plan, written_blocks};
+use std::alloc::{AllocError, Global};
 use std::cell::Cell;
 use std::fs::File;
 use std::io::{BufWriter, Write};
@@ -45,12 +46,12 @@ struct CopyState {
 
 impl CopyState {
     // Makes the state of a copy that has done nothing.
-    fn new() -> CopyState {
-        CopyState {
-            source: Failures::none(),
-            target: Failures::none(),
+    fn new(alloc: Global) -> Result<CopyState, AllocError> {
+        Ok(CopyState {
+            source: Failures::none(alloc)?,
+            target: Failures::none(alloc)?,
             copied: Cell::new(0),
-        }
+        })
     }
 }
 
@@ -80,7 +81,7 @@ fn copy_image<'w>(rt: &HostRuntime, copy: &Copy<'w>) -> Result<Outcome, Fault<'w
         MapFile::of(copy, plan).check_new(rt)?;
     }
     let target = plan.open(rt, copy, blocks.end)?;
-    let state = CopyState::new();
+    let state = CopyState::new(rt.alloc())?;
     let job = ImageCopy {
         rt,
         copy,
@@ -140,8 +141,8 @@ impl<'a, 'w> ImageCopy<'a, 'w> {
         let data = self.data(&source)?;
         let record = self.record(target.blocks_begun())?;
         let state = self.state;
-        let source = source.into_image(&state.source);
-        let target = target.into_image(self.size, self.zeros_from < self.size, &state.target);
+        let source = source.into_image(&state.source)?;
+        let target = target.into_image(self.size, self.zeros_from < self.size, &state.target)?;
         let mut copier = self.copier(source, target)?;
         let ended = self.copy_blocks(&mut copier, record, data)?;
         self.set_length(file)?;
@@ -152,7 +153,7 @@ impl<'a, 'w> ImageCopy<'a, 'w> {
     // Copies the blocks that the record doesn't have, and ends the record.
     fn copy_blocks(
         &self,
-        copier: &mut Copier<Image<'a>>,
+        copier: &mut Copier<Image>,
         mut record: CopyRecord<'a, 'w>,
         mut data: DataBlocks,
     ) -> Result<EndedRecord<'w>, Fault<'w>> {
@@ -222,7 +223,7 @@ impl<'a, 'w> ImageCopy<'a, 'w> {
     }
 
     // Starts a driver over both images, and brings them online.
-    fn copier(&self, source: Image<'a>, target: Image<'a>) -> Result<Copier<Image<'a>>, Fault<'w>> {
+    fn copier(&self, source: Image, target: Image) -> Result<Copier<Image>, Fault<'w>> {
         let Ok(driver) = Driver::start(self.rt.alloc(), drives_of(source, target)) else {
             return Err(Fault::no_memory());
         };
@@ -234,7 +235,7 @@ impl<'a, 'w> ImageCopy<'a, 'w> {
     // Copies the blocks that the record doesn't have, and skips those without data.
     fn copy_unfinished(
         &self,
-        copier: &mut Copier<Image<'a>>,
+        copier: &mut Copier<Image>,
         record: &mut CopyRecord<'a, 'w>,
         data: &mut DataBlocks,
     ) -> Result<(), Fault<'w>> {
@@ -262,7 +263,7 @@ impl<'a, 'w> ImageCopy<'a, 'w> {
     // Copies blocks.
     fn copy_data(
         &self,
-        copier: &mut Copier<Image<'a>>,
+        copier: &mut Copier<Image>,
         record: &mut CopyRecord<'a, 'w>,
         blocks: Range<u32>,
     ) -> Result<(), Fault<'w>> {
@@ -281,7 +282,7 @@ impl<'a, 'w> ImageCopy<'a, 'w> {
     }
 
     // Compares the blocks of both images, if that is asked for.
-    fn verify(&self, copier: &mut Copier<Image<'a>>) -> Result<(), Fault<'w>> {
+    fn verify(&self, copier: &mut Copier<Image>) -> Result<(), Fault<'w>> {
         let copy = self.copy;
         if !copy.verify {
             return Ok(());
@@ -301,29 +302,31 @@ impl<'a, 'w> ImageCopy<'a, 'w> {
 
 // Returns the fault of a copy for an error, with the file that it concerns.
 fn fault_of<'w>(copy: &Copy<'w>, state: &CopyState, error: CopyError) -> Fault<'w> {
+    let name = match error.side() {
+        Some(Side::Source) => copy.from.path,
+        Some(Side::Target) => copy.to.path,
+        None => "uda50",
+    };
+    let reason = match error.side() {
+        Some(Side::Source) => reason(error, &state.source),
+        _ => reason(error, &state.target),
+    };
+    Fault::new(name, reason)
+}
+
+// Returns the reason for an error, which may be one of the failures of its file.
+fn reason(error: CopyError, failures: &Failures) -> Reason {
     match error {
-        CopyError::NoMemory => Fault::no_memory(),
-        CopyError::Read(Side::Source, block) => {
-            block_fault(copy.from.path, block, StoreError::Read, &state.source)
-        }
-        CopyError::Read(Side::Target, block) => {
-            block_fault(copy.to.path, block, StoreError::Read, &state.target)
-        }
-        CopyError::Write(block) => {
-            block_fault(copy.to.path, block, StoreError::Write, &state.target)
-        }
-        CopyError::Differs(block) => Fault::new(copy.to.path, Reason::Differs(block)),
-        CopyError::Rejected(Side::Source, status) => {
-            Fault::new(copy.from.path, Reason::Rejected(status))
-        }
-        CopyError::Rejected(Side::Target, status) => {
-            Fault::new(copy.to.path, Reason::Rejected(status))
-        }
+        CopyError::NoMemory => Reason::NoMemory,
+        CopyError::Read(_, block) => block_reason(block, StoreError::Read, failures),
+        CopyError::Write(block) => block_reason(block, StoreError::Write, failures),
+        CopyError::Differs(block) => Reason::Differs(block),
+        CopyError::Rejected(_, status) => Reason::Rejected(status),
     }
 }
 
 // Returns the drives of a copy: unit 0 with the source, and unit 1 with the target.
-fn drives_of<'c>(source: Image<'c>, target: Image<'c>) -> Drives<'c> {
+fn drives_of(source: Image, target: Image) -> Drives {
     let source = Drive {
         store: source,
         hard: true,

@@ -8,7 +8,6 @@ use crate::printer::BlockPrinter;
 use std::io::{BufWriter, IsTerminal, Write};
 use std::ops::Range;
 use uda50_arguments::{Dump, DumpFormat};
-use uda50_files::Failures;
 
 /// Prints blocks of an image, or of standard input.
 pub(crate) fn dump<'w, W: Write + Drop>(
@@ -20,8 +19,7 @@ pub(crate) fn dump<'w, W: Write + Drop>(
         check_terminal(rt, dump.format)?;
         return dump_input(rt, dump, out);
     }
-    let failures = Failures::none();
-    let mut image = NamedImage::open(rt, dump.image, &failures)?;
+    let mut image = NamedImage::open(rt, dump.image)?;
     check_terminal(rt, dump.format)?;
     let blocks = blocks_to_dump(dump, image.size())?;
     dump_blocks(&mut image, dump, blocks, out)
@@ -46,7 +44,7 @@ fn blocks_to_dump<'w>(dump: &Dump<'w>, blocks: u32) -> Result<Range<u32>, Fault<
 
 // Prints blocks of an image. Before the fault of a block that can't be read it prints all of the blocks before.
 fn dump_blocks<'w, W: Write + Drop>(
-    image: &mut NamedImage<'_, 'w>,
+    image: &mut NamedImage<'w>,
     dump: &Dump<'w>,
     blocks: Range<u32>,
     out: &mut BufWriter<W>,

@@ -27,13 +27,77 @@ fn verb_of(error: StoreError) -> &'static str {
     }
 }
 
+/// An option of `copy` that needs two images.
+#[derive(Clone, Copy, Debug, PartialEq, Eq)]
+pub enum CopyOption {
+    /// `--verify`
+    Verify,
+    /// `--resume`
+    Resume,
+    /// `--map`
+    Map,
+}
+
+impl fmt::Display for CopyOption {
+    fn fmt<W: fmt::Write>(&self, f: &mut fmt::Formatter<W>) -> fmt::Result {
+        f.write_str(match self {
+            CopyOption::Verify => "--verify",
+            CopyOption::Resume => "--resume",
+            CopyOption::Map => "--map",
+        })
+    }
+}
+
+/// The place of a record in a file whose length is not a multiple of 512.
+#[derive(Clone, Copy, Debug, PartialEq, Eq)]
+pub enum RecordPlace {
+    /// The last 512 bytes.
+    LastBytes,
+    /// The last whole block.
+    LastBlock,
+}
+
+impl fmt::Display for RecordPlace {
+    fn fmt<W: fmt::Write>(&self, f: &mut fmt::Formatter<W>) -> fmt::Result {
+        f.write_str(match self {
+            RecordPlace::LastBytes => "its last 512 bytes are a",
+            RecordPlace::LastBlock => "its last whole block is a",
+        })
+    }
+}
+
+/// The end of the name of a file, if that is made from another one's.
+#[derive(Clone, Copy, Debug, PartialEq, Eq)]
+pub enum Suffix {
+    /// It is the other name itself.
+    None,
+    /// The file is an incomplete copy.
+    Part,
+    /// The file is the map of a copy.
+    Map,
+    /// The file is the map of an incomplete copy.
+    PartMap,
+}
+
+impl Suffix {
+    /// Returns the text.
+    pub fn text(self) -> &'static str {
+        match self {
+            Suffix::None => "",
+            Suffix::Part => ".part",
+            Suffix::Map => ".map",
+            Suffix::PartMap => ".part.map",
+        }
+    }
+}
+
 /// A fault, with the file or stream that it concerns.
 #[derive(Debug, Drop)]
 pub struct Fault<'w> {
     /// The path of the file, or the name of the stream.
     pub name: &'w str,
-    /// What follows the path in the name of the file, if it is made from another one's.
-    pub suffix: &'static str,
+    /// What follows the path in the name of the file.
+    pub suffix: Suffix,
     /// The reason.
     pub reason: Reason,
 }
@@ -71,7 +135,7 @@ pub enum Reason {
         /// The length.
         bytes: u64,
         /// What is said of the record's place.
-        place: &'static str,
+        place: RecordPlace,
         /// The record.
         record: ContainerRecord,
     },
@@ -139,7 +203,7 @@ pub enum Reason {
     NoImage,
     /// An option of a copy needs two images.
     #[error("{0} needs images, and not a stream")]
-    NeedsImages(&'static str),
+    NeedsImages(CopyOption),
     /// A stream ended before the last block.
     #[error("ended after {} blocks and {bytes} bytes", Grouped(u64::from(*.blocks)))]
     Ended {
@@ -207,11 +271,11 @@ pub enum Reason {
 impl<'w> Fault<'w> {
     /// Makes a fault of a file or a stream.
     pub fn new(name: &'w str, reason: Reason) -> Fault<'w> {
-        Fault::of_derived(name, "", reason)
+        Fault::of_derived(name, Suffix::None, reason)
     }
 
     /// Makes a fault of a file whose name is another one's with a suffix.
-    pub fn of_derived(name: &'w str, suffix: &'static str, reason: Reason) -> Fault<'w> {
+    pub fn of_derived(name: &'w str, suffix: Suffix, reason: Reason) -> Fault<'w> {
         Fault {
             name,
             suffix,
@@ -307,7 +371,7 @@ impl fmt::Display for Fault<'_> {
             f,
             "{}{}: {}",
             EscapedName(self.name),
-            self.suffix,
+            self.suffix.text(),
             self.reason
         )
     }

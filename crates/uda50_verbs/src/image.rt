@@ -10,27 +10,25 @@ use uda50_files::{Access, Failure, Failures, Image, OpenError, OpenImageFile};
 
 /// An open image, its path, and the failures of its file.
 #[derive(Drop)]
-pub(crate) struct NamedImage<'c, 'w> {
+pub(crate) struct NamedImage<'w> {
     path: &'w str,
-    image: Image<'c>,
-    failures: &'c Failures,
+    image: Image,
+    failures: Failures,
 }
 
-impl<'c, 'w> NamedImage<'c, 'w> {
+impl<'w> NamedImage<'w> {
     /// Opens an image, or a block device, for reading. A stream is no image.
-    pub(crate) fn open(
-        rt: &HostRuntime,
-        name: ImageName<'w>,
-        failures: &'c Failures,
-    ) -> Result<NamedImage<'c, 'w>, Fault<'w>> {
+    pub(crate) fn open(rt: &HostRuntime, name: ImageName<'w>) -> Result<NamedImage<'w>, Fault<'w>> {
         let path = name.path;
         if name.is_stream() {
             return Err(Fault::new(path, Reason::NoImage));
         }
         let file = open_file(rt, path, Access::Read)?;
+        let failures = Failures::none(rt.alloc())?;
+        let image = file.into_image(&failures)?;
         Ok(NamedImage {
             path,
-            image: file.into_image(failures),
+            image,
             failures,
         })
     }
@@ -43,15 +41,13 @@ impl<'c, 'w> NamedImage<'c, 'w> {
     /// Reads a block. Returns zeros if the image doesn't have it.
     pub(crate) fn read_block_or_zeros(&mut self, block: u32) -> Result<[u8; 512], Fault<'w>> {
         let mut bytes = [0; 512];
-        if block < self.image.size() {
-            self.image.read(block, &mut bytes).map_err(|error| block_fault(
-                self.path,
-                block,
-                error,
-                self.failures,
-            ))?;
+        if block >= self.image.size() {
+            return Ok(bytes);
         }
-        Ok(bytes)
+        match self.image.read(block, &mut bytes) {
+            Ok(()) => Ok(bytes),
+            Err(error) => Err(block_fault(self.path, block, error, &self.failures)),
+        }
     }
 }
 
@@ -82,15 +78,15 @@ pub(crate) fn block_fault<'w>(
     error: StoreError,
     failures: &Failures,
 ) -> Fault<'w> {
-    Fault::new(
-        path,
-        match failures.lowest() {
-            Some(failure) if failure.block == block && is_told(&failure.cause) => {
-                cause_of(&failure)
-            }
-            _ => Reason::Block { block, error },
-        },
-    )
+    Fault::new(path, block_reason(block, error, failures))
+}
+
+/// Returns the reason why a block can't be read or written, which is the system's if that is known.
+pub(crate) fn block_reason(block: u32, error: StoreError, failures: &Failures) -> Reason {
+    match failures.lowest() {
+        Some(failure) if failure.block == block && is_told(&failure.cause) => cause_of(&failure),
+        _ => Reason::Block { block, error },
+    }
 }
 
 /// Returns the fault of the lowest block that failed, if the system's reason is known.

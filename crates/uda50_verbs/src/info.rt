@@ -9,7 +9,6 @@ use std::io;
 use std::io::Write;
 use uda50_arguments::ImageName;
 use uda50_description::{Contents, ImageFacts, StructureBlocks, error_json, image_json};
-use uda50_files::Failures;
 use uda50_show::{ContainerRecord, EscapedName, Grouped, TypesOfSize};
 
 /// Describes each image. If one has a fault, it prints the fault's line and continues with the others.
@@ -95,8 +94,7 @@ fn write_object<'w, W: Write>(
 
 // Reads the facts of an image.
 fn read_facts<'w>(rt: &HostRuntime, name: ImageName<'w>) -> Result<ImageFacts<'w>, Fault<'w>> {
-    let failures = Failures::none();
-    let mut image = match NamedImage::open(rt, name, &failures) {
+    let mut image = match NamedImage::open(rt, name) {
         Ok(image) => image,
         Err(fault) => return Err(explain_length(rt, fault)),
     };
@@ -112,7 +110,7 @@ fn read_facts<'w>(rt: &HostRuntime, name: ImageName<'w>) -> Result<ImageFacts<'w
 }
 
 // Reads the blocks that can hold a structure.
-fn read_structures<'w>(image: &mut NamedImage<'_, 'w>) -> Result<StructureBlocks, Fault<'w>> {
+fn read_structures<'w>(image: &mut NamedImage<'w>) -> Result<StructureBlocks, Fault<'w>> {
     Ok(StructureBlocks {
         zero: image.read_block_or_zeros(0)?,
         one: image.read_block_or_zeros(1)?,

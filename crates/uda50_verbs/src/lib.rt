@@ -28,5 +28,5 @@ mod trace;
 mod unreadable;
 
 pub use entry::{program, unreadable_arguments};
-pub use fault::{Fault, Reason};
+pub use fault::{CopyOption, Fault, Reason, RecordPlace, Suffix};
 pub use outcome::Outcome;

@@ -1,6 +1,6 @@
 //! The file with the map of a copy.
 
-use crate::fault::{Fault, Reason};
+use crate::fault::{Fault, Reason, Suffix};
 use crate::target::Plan;
 use std::alloc::{AllocError, Global};
 use std::io::ErrorKind;
@@ -8,20 +8,14 @@ use std::{fs, io};
 use uda50_arguments::Copy;
 use uda50_map::BlockMap;
 
-/// The end of the name of a map.
-const MAP: &str = ".map";
-
-/// The end of the name of a map of an incomplete target.
-const PART_MAP: &str = ".part.map";
-
 /// The names of the map of a copy.
 #[derive(Drop)]
 pub(crate) struct MapFile<'w> {
     // The path of the target, or of the map if it was named.
     base: &'w str,
     // What follows it in the name of the map, during the copy and afterwards.
-    during: &'static str,
-    afterwards: &'static str,
+    during: Suffix,
+    afterwards: Suffix,
 }
 
 impl<'w> MapFile<'w> {
@@ -30,20 +24,24 @@ impl<'w> MapFile<'w> {
         match copy.map {
             Some(path) => MapFile {
                 base: path,
-                during: "",
-                afterwards: "",
+                during: Suffix::None,
+                afterwards: Suffix::None,
             },
             None => MapFile {
                 base: copy.to.path,
-                during: if plan.has_part() { PART_MAP } else { MAP },
-                afterwards: MAP,
+                during: if plan.has_part() {
+                    Suffix::PartMap
+                } else {
+                    Suffix::Map
+                },
+                afterwards: Suffix::Map,
             },
         }
     }
 
     /// Fails if the map that the copy would leave exists already.
     pub(crate) fn check_new(&self, rt: &HostRuntime) -> Result<(), Fault<'w>> {
-        let path = path_of(rt.alloc(), self.base, self.afterwards)?;
+        let path = path_of(rt.alloc(), self.base, self.afterwards.text())?;
         match fs::metadata(rt, path.as_str()) {
             Ok(_) => Err(self.fault(self.afterwards, Reason::Exists)),
             Err(_) => Ok(()),
@@ -67,12 +65,12 @@ impl<'w> MapFile<'w> {
 
     /// Returns whether the map was named.
     pub(crate) fn is_named(&self) -> bool {
-        self.afterwards.is_empty()
+        self.afterwards == Suffix::None
     }
 
     /// Reads the map of a copy that ended early. Returns `None` if there is none.
     pub(crate) fn read(&self, rt: &HostRuntime) -> Result<Option<BlockMap>, Fault<'w>> {
-        let path = path_of(rt.alloc(), self.base, self.during)?;
+        let path = path_of(rt.alloc(), self.base, self.during.text())?;
         let text = match fs::read_to_string(rt, path.as_str()) {
             Ok(text) => text,
             Err(error) if error.kind() == ErrorKind::NotFound => return Ok(None),
@@ -97,21 +95,16 @@ impl<'w> MapFile<'w> {
     /// Removes the map that the copy had while it was incomplete, if that has another name than the one afterwards.
     pub(crate) fn remove(&self, rt: &HostRuntime) -> Result<(), Fault<'w>> {
         if self.during != self.afterwards {
-            let path = path_of(rt.alloc(), self.base, self.during)?;
+            let path = path_of(rt.alloc(), self.base, self.during.text())?;
             let _ = fs::remove_file(rt, path.as_str());
         }
         Ok(())
     }
 
     // Writes the map into a new file, which then takes the place of the old one.
-    fn write(
-        &self,
-        rt: &HostRuntime,
-        suffix: &'static str,
-        map: &BlockMap,
-    ) -> Result<(), Fault<'w>> {
+    fn write(&self, rt: &HostRuntime, suffix: Suffix, map: &BlockMap) -> Result<(), Fault<'w>> {
         let text = format!(in rt.alloc(); "{map}")?;
-        let path = path_of(rt.alloc(), self.base, suffix)?;
+        let path = path_of(rt.alloc(), self.base, suffix.text())?;
         let new = path_of(rt.alloc(), path.as_str(), ".new")?;
         match replace(rt, new.as_str(), path.as_str(), text.as_str()) {
             Ok(()) => Ok(()),
@@ -125,7 +118,7 @@ impl<'w> MapFile<'w> {
     }
 
     // Returns a fault of the map with this end of its name.
-    fn fault(&self, suffix: &'static str, reason: Reason) -> Fault<'w> {
+    fn fault(&self, suffix: Suffix, reason: Reason) -> Fault<'w> {
         Fault::of_derived(self.base, suffix, reason)
     }
 }

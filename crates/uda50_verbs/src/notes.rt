@@ -1,4 +1,4 @@
-//! What is noted of the streams of a script's run, so that a fault can tell its reason.
+//! What is noted of the streams and images of a script's run, so that a fault can tell its reason.
 
 use crate::fault::{Fault, Reason, STANDARD_ERROR, STANDARD_INPUT, STANDARD_OUTPUT};
 use crate::streams::{LastError, Noting};
@@ -7,12 +7,13 @@ use std::io;
 use std::io::{BufReader, Read};
 use uda_grammar::{Expected, ScriptError};
 use uda_script_run::TextError;
+use uda50_files::Failures;
 use uda50_script_text::{Mistake, ScriptLine, ScriptNotes, ScriptReader};
 
 /// The reader of a script that is executed, with a buffer.
 pub(crate) type ScriptText<'n, T> = BufReader<ScriptReader<'n, Noting<'n, T>>>;
 
-/// What is noted of the streams of a run.
+/// What is noted of the streams and images of a run.
 #[derive(Drop)]
 pub(crate) struct RunNotes {
     lines: ScriptNotes,
@@ -23,6 +24,8 @@ pub(crate) struct RunNotes {
     pub(crate) out: LastError,
     /// The last error of standard error.
     pub(crate) report: LastError,
+    /// The failures of the images of units 0 to 3.
+    pub(crate) failures: Vec<Failures>,
 }
 
 impl RunNotes {
@@ -34,6 +37,7 @@ impl RunNotes {
             input: LastError::none(),
             out: LastError::none(),
             report: LastError::none(),
+            failures: no_failures(alloc)?,
         })
     }
 
@@ -107,6 +111,20 @@ impl RunNotes {
             (false, false) => "standard output or error",
         }
     }
+}
+
+// Makes the failures of the images of units 0 to 3, on which nothing failed.
+fn no_failures(alloc: Global) -> Result<Vec<Failures>, AllocError> {
+    let mut all = Vec::new(alloc);
+    for _ in 0..4 {
+        push(&mut all, Failures::none(alloc)?)?;
+    }
+    Ok(all)
+}
+
+// Adds the failures of an image.
+fn push(all: &mut Vec<Failures>, failures: Failures) -> Result<(), AllocError> {
+    all.push(failures).map_err(AllocError::from)
 }
 
 // Returns the reason of a stream's last error, or another if there was none.

@@ -4,14 +4,13 @@ use crate::check::check;
 use crate::fault::{Fault, STANDARD_INPUT};
 use crate::notes::{RunNotes, ScriptText};
 use crate::outcome::Outcome;
-use crate::script::{Drives, Job, execute_script, no_failures, open_drives};
+use crate::script::{Drives, Job, execute_script, open_drives};
 use crate::streams::{Noting, open_script};
 use std::io;
 use std::io::{BufWriter, Read, Write};
 use uda_driver::Unwatched;
 use uda_script_run::{Channels, ReportStyle};
 use uda50_arguments::Run;
-use uda50_files::Failures;
 
 /// The capacity of the buffers of standard output and standard error, in bytes.
 const BUFFER: usize = 4_096;
@@ -22,22 +21,20 @@ pub(crate) fn run<'w>(rt: &HostRuntime, run: &Run<'w>) -> Result<Outcome, Fault<
     if run.check {
         return check(rt, run.script);
     }
-    let failures = no_failures();
-    let drives = open_drives(rt, run.units.as_slice(), &failures)?;
     let notes = RunNotes::new(rt.alloc())?;
+    let drives = open_drives(rt, run.units.as_slice(), &notes)?;
     if run.script == "-" {
         let no_data: &[u8] = &[];
         let text = notes.text(rt.alloc(), rt.stdin())?;
-        run_from(rt, job(run, &failures, &notes, text), no_data, drives)
+        run_from(rt, job(run, &notes, text), no_data, drives)
     } else {
         let text = notes.text(rt.alloc(), open_script(rt, run.script)?)?;
-        run_from(rt, job(run, &failures, &notes, text), rt.stdin(), drives)
+        run_from(rt, job(run, &notes, text), rt.stdin(), drives)
     }
 }
 
 fn job<'j, 'w, T: Read + Drop>(
     run: &'j Run<'w>,
-    failures: &'j [Failures; 4],
     notes: &'j RunNotes,
     text: ScriptText<'j, T>,
 ) -> Job<'j, 'w, T> {
@@ -46,7 +43,6 @@ fn job<'j, 'w, T: Read + Drop>(
         text,
         notes,
         units: run.units.as_slice(),
-        failures,
         style: ReportStyle {
             names: run.names,
             failures_only: run.quiet,
@@ -59,7 +55,7 @@ fn run_from<'w, T: Read + Drop, R: Read + Drop>(
     rt: &HostRuntime,
     job: Job<'_, 'w, T>,
     input: R,
-    drives: Drives<'_>,
+    drives: Drives,
 ) -> Result<Outcome, Fault<'w>> {
     let notes = job.notes;
     let mut channels = Channels {

@@ -13,7 +13,7 @@ use uda50_arguments::ImageName;
 use uda50_files::{Access, Failures, Image};
 
 /// The drives of units 0 to 3.
-pub(crate) type Drives<'c> = [Option<Drive<Image<'c>>>; 4];
+pub(crate) type Drives = [Option<Drive<Image>>; 4];
 
 /// A script, the images on which it is executed, and the style of its report.
 #[derive(Drop)]
@@ -26,8 +26,6 @@ pub(crate) struct Job<'j, 'w, T> {
     pub(crate) notes: &'j RunNotes,
     /// The images of units 0 to 3; `None` for no drive.
     pub(crate) units: &'j [Option<ImageName<'w>>],
-    /// The failures of these images.
-    pub(crate) failures: &'j [Failures; 4],
     /// The style of the report.
     pub(crate) style: ReportStyle,
 }
@@ -36,7 +34,7 @@ pub(crate) struct Job<'j, 'w, T> {
 pub(crate) fn execute_script<'w, T: Read + Drop, R: Read, W: Write, V: Write, H: Watch>(
     rt: &HostRuntime,
     job: Job<'_, 'w, T>,
-    drives: Drives<'_>,
+    drives: Drives,
     channels: &mut Channels<R, W, V, H>,
 ) -> Result<ScriptOutcome, Fault<'w>> {
     match Driver::start(rt.alloc(), drives) {
@@ -49,7 +47,7 @@ pub(crate) fn execute_script<'w, T: Read + Drop, R: Read, W: Write, V: Write, H:
 fn execute_on<'w, T: Read + Drop, R: Read, W: Write, V: Write, H: Watch>(
     rt: &HostRuntime,
     job: Job<'_, 'w, T>,
-    mut driver: Driver<Image<'_>>,
+    mut driver: Driver<Image>,
     channels: &mut Channels<R, W, V, H>,
 ) -> Result<ScriptOutcome, Fault<'w>> {
     let Job {
@@ -57,51 +55,41 @@ fn execute_on<'w, T: Read + Drop, R: Read, W: Write, V: Write, H: Watch>(
         text,
         notes,
         units,
-        failures,
         style,
     } = job;
     let done = run_buffered_text(rt.alloc(), style, text, channels, &mut driver);
     let outcome = done.map_err(|error| notes.fault(name, error));
-    print_failures(rt, units, failures);
-    sync(rt, driver.into_stores(), units, failures, outcome)
-}
-
-/// Makes the failures of images on which nothing failed.
-pub(crate) fn no_failures() -> [Failures; 4] {
-    [
-        Failures::none(),
-        Failures::none(),
-        Failures::none(),
-        Failures::none(),
-    ]
+    print_failures(rt, units, &notes.failures);
+    sync(rt, driver.into_stores(), units, &notes.failures, outcome)
 }
 
 /// Opens the images of units 0 to 3, in this order.
-pub(crate) fn open_drives<'c, 'w>(
+pub(crate) fn open_drives<'w>(
     rt: &HostRuntime,
     units: &[Option<ImageName<'w>>],
-    failures: &'c [Failures; 4],
-) -> Result<Drives<'c>, Fault<'w>> {
-    let [first, second, third, fourth] = failures;
-    Ok([
-        open_unit(rt, units, 0, first)?,
-        open_unit(rt, units, 1, second)?,
-        open_unit(rt, units, 2, third)?,
-        open_unit(rt, units, 3, fourth)?,
-    ])
+    notes: &RunNotes,
+) -> Result<Drives, Fault<'w>> {
+    let mut drives = [None, None, None, None];
+    for (number, (drive, unit)) in drives.iter_mut().zip(units).enumerate() {
+        if let Some(image) = unit {
+            *drive = open_unit(rt, units, number, *image, notes)?;
+        }
+    }
+    Ok(drives)
 }
 
-// Opens the image of the unit with this number. Returns `None` for no drive.
-fn open_unit<'c, 'w>(
+// Opens the image of the unit with this number.
+fn open_unit<'w>(
     rt: &HostRuntime,
     units: &[Option<ImageName<'w>>],
     number: usize,
-    failures: &'c Failures,
-) -> Result<Option<Drive<Image<'c>>>, Fault<'w>> {
-    let Some(Some(image)) = units.get(number) else {
+    image: ImageName<'w>,
+    notes: &RunNotes,
+) -> Result<Option<Drive<Image>>, Fault<'w>> {
+    let Some(failures) = notes.failures.get(number) else {
         return Ok(None);
     };
-    match open_drive(rt, *image, failures) {
+    match open_drive(rt, image, failures) {
         Ok(drive) => Ok(Some(drive)),
         Err(fault) => Err(with_user(rt, units, number, fault)),
     }
@@ -139,23 +127,23 @@ fn is_same_file(rt: &HostRuntime, unit: Option<ImageName<'_>>, path: &str) -> bo
 }
 
 // Opens an image as a drive.
-fn open_drive<'c, 'w>(
+fn open_drive<'w>(
     rt: &HostRuntime,
     image: ImageName<'w>,
-    failures: &'c Failures,
-) -> Result<Drive<Image<'c>>, Fault<'w>> {
+    failures: &Failures,
+) -> Result<Drive<Image>, Fault<'w>> {
     let access = if image.protected {
         Access::Read
     } else {
         Access::Write
     };
-    let store = open_file(rt, image.path, access)?.into_image(failures);
+    let store = open_file(rt, image.path, access)?.into_image(failures)?;
     let hard = image.protected;
     Ok(Drive { store, hard })
 }
 
 // Prints for each image why its lowest block that failed could not be read or written.
-fn print_failures(rt: &HostRuntime, units: &[Option<ImageName<'_>>], failures: &[Failures; 4]) {
+fn print_failures(rt: &HostRuntime, units: &[Option<ImageName<'_>>], failures: &[Failures]) {
     for (unit, failures) in units.iter().zip(failures) {
         if let Some(image) = unit {
             if let Some(fault) = failure_fault(image.path, failures) {
@@ -169,9 +157,9 @@ fn print_failures(rt: &HostRuntime, units: &[Option<ImageName<'_>>], failures: &
 // returned, and the others are printed.
 fn sync<'w>(
     rt: &HostRuntime,
-    mut drives: Drives<'_>,
+    mut drives: Drives,
     units: &[Option<ImageName<'w>>],
-    failures: &[Failures; 4],
+    failures: &[Failures],
     outcome: Result<ScriptOutcome, Fault<'w>>,
 ) -> Result<ScriptOutcome, Fault<'w>> {
     let mut last = outcome;

@@ -2,7 +2,7 @@
 ghost use Rattle.std.specs.Prelude.{◌≤◌};
 
 use crate::copy::blocks_to_copy;
-use crate::fault::{Fault, Reason, STANDARD_INPUT, STANDARD_OUTPUT};
+use crate::fault::{CopyOption, Fault, Reason, STANDARD_INPUT, STANDARD_OUTPUT};
 use crate::image::{NamedImage, block_fault};
 use crate::outcome::Outcome;
 use crate::progress::CopyProgress;
@@ -62,11 +62,11 @@ fn stream_name(path: &str) -> &str {
 // Fails if an option needs two images.
 fn check_options<'w>(copy: &Copy<'w>, name: &'w str) -> Result<(), Fault<'w>> {
     let option = if copy.verify {
-        "--verify"
+        CopyOption::Verify
     } else if copy.resumes {
-        "--resume"
+        CopyOption::Resume
     } else if copy.map.is_some() {
-        "--map"
+        CopyOption::Map
     } else {
         return Ok(());
     };
@@ -91,14 +91,14 @@ fn take_stream<'w, R: Read + Drop>(
     if plan == Plan::Overwrite {
         part.take(rt)?;
     }
-    let failures = Failures::none();
-    let image = target.into_image(STORE_LIMIT, copy.sparse && plan.has_part(), &failures);
+    let failures = Failures::none(rt.alloc())?;
+    let image = target.into_image(STORE_LIMIT, copy.sparse && plan.has_part(), &failures)?;
     let mut taken = StreamCopy {
         copy,
         name,
         stream,
         image,
-        failures: &failures,
+        failures,
         at: 0,
     };
     let done = taken.run();
@@ -134,8 +134,8 @@ struct StreamCopy<'a, 'w, R> {
     copy: &'a Copy<'w>,
     name: &'w str,
     stream: R,
-    image: Image<'a>,
-    failures: &'a Failures,
+    image: Image,
+    failures: Failures,
     // The next block of the stream.
     at: u32,
 }
@@ -210,14 +210,14 @@ impl<'a, 'w, R: Read> StreamCopy<'a, 'w, R> {
     fn write_block(&mut self, block: u32, bytes: &[u8]) -> Result<(), Fault<'w>> {
         let mut from = [0; BLOCK];
         let copy = self.copy;
-        let failures = self.failures;
         if block >= self.image.size() || bytes.len() != BLOCK {
             return Err(Fault::new(self.name, Reason::TooLarge(u64::from(block))));
         }
         from.copy_from_slice(bytes);
-        self.image
-            .write(block, &from)
-            .map_err(|error| block_fault(copy.to.path, block, error, failures))
+        match self.image.write(block, &from) {
+            Ok(()) => Ok(()),
+            Err(error) => Err(block_fault(copy.to.path, block, error, &self.failures)),
+        }
     }
 
     // Ends a copy whose stream ended, with that many bytes after its last whole block.
@@ -241,8 +241,7 @@ pub(crate) fn copy_to_output<'w, W: Write + Drop>(
     copy: &Copy<'w>,
     out: &mut BufWriter<W>,
 ) -> Result<Outcome, Fault<'w>> {
-    let failures = Failures::none();
-    let mut image = NamedImage::open(rt, copy.from, &failures)?;
+    let mut image = NamedImage::open(rt, copy.from)?;
     let blocks = blocks_to_copy(copy, image.size())?;
     check_options(copy, STANDARD_OUTPUT)?;
     if !copy.force && rt.stdout().is_terminal() {
@@ -262,7 +261,7 @@ pub(crate) fn copy_to_output<'w, W: Write + Drop>(
 
 // Writes blocks of an image. Lost blocks that are skipped are zeros.
 fn write_all<'w, W: Write + Drop>(
-    image: &mut NamedImage<'_, 'w>,
+    image: &mut NamedImage<'w>,
     skips_lost: bool,
     blocks: Range<u32>,
     progress: &mut CopyProgress<'_, 'w>,

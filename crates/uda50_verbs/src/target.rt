@@ -1,7 +1,7 @@
 //! The target file of a copy. While it is incomplete, its name ends in `.part`.
 
 use crate::create::{check_existing, set_blocks};
-use crate::fault::{Fault, Reason};
+use crate::fault::{Fault, Reason, Suffix};
 use crate::image::reason;
 use crate::map_file::path_of;
 use std::alloc::AllocError;
@@ -13,9 +13,6 @@ use std::os::unix::fs::{FileTypeExt, MetadataExt};
 use uda50_arguments::{BlockRange, Copy};
 use uda50_files::{Access, OpenError, TargetFile};
 use uda50_show::EscapedName;
-
-/// The end of the name of a target that is incomplete.
-pub(crate) const PART: &str = ".part";
 
 /// The most blocks that a copy reads before it writes them. When it reads others, they are written.
 const RUN: u32 = 2_048;
@@ -98,15 +95,19 @@ impl Plan {
         end: u32,
     ) -> Result<TargetFile, Fault<'w>> {
         let path = copy.to.path;
-        let part = path_of(rt.alloc(), path, PART)?;
+        let part = part_of(rt, path)?;
         match self {
             Plan::New => make(rt, copy, part.as_str()),
             Plan::Resume => opened(
                 path,
-                PART,
+                Suffix::Part,
                 TargetFile::open(rt, part.as_str(), Access::Write),
             ),
-            Plan::Overwrite => opened(path, "", TargetFile::open(rt, path, Access::Write)),
+            Plan::Overwrite => opened(
+                path,
+                Suffix::None,
+                TargetFile::open(rt, path, Access::Write),
+            ),
             Plan::Blocks | Plan::LostBlocks | Plan::Device => {
                 let access = if copy.device.is_some() {
                     Access::WriteDevice
@@ -115,7 +116,7 @@ impl Plan {
                 };
                 with_blocks(
                     copy,
-                    opened(path, "", TargetFile::open(rt, path, access))?,
+                    opened(path, Suffix::None, TargetFile::open(rt, path, access))?,
                     end,
                 )
             }
@@ -143,7 +144,7 @@ impl<'w> PartName<'w> {
 
     /// Gives the name to an existing target. That keeps its own name where the folder can't be written.
     pub(crate) fn take(&self, rt: &HostRuntime) -> Result<(), AllocError> {
-        let part = path_of(rt.alloc(), self.path, PART)?;
+        let part = part_of(rt, self.path)?;
         self.in_use
             .set(fs::rename(rt, self.path, part.as_str()).is_ok());
         Ok(())
@@ -152,7 +153,7 @@ impl<'w> PartName<'w> {
     /// Gives the target its own name.
     pub(crate) fn give_back(&self, rt: &HostRuntime) -> Result<(), Fault<'w>> {
         if self.in_use.get() {
-            let part = path_of(rt.alloc(), self.path, PART)?;
+            let part = part_of(rt, self.path)?;
             Fault::of_call(self.path, fs::rename(rt, part.as_str(), self.path))?;
             self.in_use.set(false);
         }
@@ -181,7 +182,7 @@ impl<'w> PartName<'w> {
         copied: u32,
         resumable: bool,
     ) -> Result<(), Fault<'w>> {
-        let part = path_of(rt.alloc(), self.path, PART)?;
+        let part = part_of(rt, self.path)?;
         if copied == 0 && plan == Plan::New {
             drop(fs::remove_file(rt, part.as_str()));
             return Ok(());
@@ -210,9 +211,14 @@ fn names_other(copy: &Copy<'_>) -> bool {
     }
 }
 
+// Returns the path of a target while it is incomplete.
+fn part_of(rt: &HostRuntime, path: &str) -> Result<String, AllocError> {
+    path_of(rt.alloc(), path, Suffix::Part.text())
+}
+
 // Returns whether an earlier copy left an incomplete target.
 fn part_exists<'w>(rt: &HostRuntime, path: &str) -> Result<bool, Fault<'w>> {
-    let part = path_of(rt.alloc(), path, PART)?;
+    let part = part_of(rt, path)?;
     Ok(fs::metadata(rt, part.as_str()).is_ok())
 }
 
@@ -220,12 +226,16 @@ fn part_exists<'w>(rt: &HostRuntime, path: &str) -> Result<bool, Fault<'w>> {
 fn make<'w>(rt: &HostRuntime, copy: &Copy<'w>, part: &str) -> Result<TargetFile, Fault<'w>> {
     let path = copy.to.path;
     if fs::metadata(rt, part).is_err() {
-        return opened(path, "", TargetFile::create(rt, part));
+        return opened(path, Suffix::None, TargetFile::create(rt, part));
     }
     if !copy.force {
-        return Err(Fault::of_derived(path, PART, Reason::PartExists));
+        return Err(Fault::of_derived(path, Suffix::Part, Reason::PartExists));
     }
-    let mut file = opened(path, PART, TargetFile::open(rt, part, Access::Write))?;
+    let mut file = opened(
+        path,
+        Suffix::Part,
+        TargetFile::open(rt, part, Access::Write),
+    )?;
     Fault::of_call(path, file.empty())?;
     Ok(file)
 }
@@ -233,7 +243,7 @@ fn make<'w>(rt: &HostRuntime, copy: &Copy<'w>, part: &str) -> Result<TargetFile,
 // Returns an open target, or the fault of one that can't be opened, with the end of its name.
 fn opened<'w>(
     path: &'w str,
-    suffix: &'static str,
+    suffix: Suffix,
     file: Result<TargetFile, OpenError>,
 ) -> Result<TargetFile, Fault<'w>> {
     match file {

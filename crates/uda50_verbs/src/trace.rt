@@ -4,7 +4,7 @@ use crate::fault::Fault;
 use crate::notes::{RunNotes, ScriptText};
 use crate::outcome::Outcome;
 use crate::run::script_name;
-use crate::script::{Drives, Job, execute_script, no_failures, open_drives};
+use crate::script::{Drives, Job, execute_script, open_drives};
 use crate::streams::{Noting, open_script};
 use std::io;
 use std::io::{Read, Write};
@@ -12,7 +12,6 @@ use uda_driver::{Trace, Watch};
 use uda_packet::status;
 use uda_script_run::{Channels, ReportStyle};
 use uda50_arguments::ImageName;
-use uda50_files::Failures;
 
 /// Executes a script on images as `run` does, and prints each turn of the port: what it fetched, executed
 /// or delivered, and the number of credits left. The blocks that the script reads are not printed.
@@ -22,24 +21,17 @@ pub(crate) fn trace<'w, W: Write>(
     units: &[Option<ImageName<'w>>],
     out: &mut W,
 ) -> Result<Outcome, Fault<'w>> {
-    let failures = no_failures();
-    let drives = open_drives(rt, units, &failures)?;
     let notes = RunNotes::new(rt.alloc())?;
+    let drives = open_drives(rt, units, &notes)?;
     if script == "-" {
         let no_data: &[u8] = &[];
         let text = notes.text(rt.alloc(), rt.stdin())?;
-        trace_job(
-            rt,
-            job(script, units, &failures, &notes, text),
-            no_data,
-            drives,
-            out,
-        )
+        trace_job(rt, job(script, units, &notes, text), no_data, drives, out)
     } else {
         let text = notes.text(rt.alloc(), open_script(rt, script)?)?;
         trace_job(
             rt,
-            job(script, units, &failures, &notes, text),
+            job(script, units, &notes, text),
             rt.stdin(),
             drives,
             out,
@@ -50,7 +42,6 @@ pub(crate) fn trace<'w, W: Write>(
 fn job<'j, 'w, T: Read + Drop>(
     script: &'w str,
     units: &'j [Option<ImageName<'w>>],
-    failures: &'j [Failures; 4],
     notes: &'j RunNotes,
     text: ScriptText<'j, T>,
 ) -> Job<'j, 'w, T> {
@@ -59,7 +50,6 @@ fn job<'j, 'w, T: Read + Drop>(
         text,
         notes,
         units,
-        failures,
         style: ReportStyle::PLAIN,
     }
 }
@@ -69,7 +59,7 @@ fn trace_job<'w, T: Read + Drop, R: Read + Drop, W: Write>(
     rt: &HostRuntime,
     job: Job<'_, 'w, T>,
     input: R,
-    drives: Drives<'_>,
+    drives: Drives,
     out: &mut W,
 ) -> Result<Outcome, Fault<'w>> {
     let notes = job.notes;

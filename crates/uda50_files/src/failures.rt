@@ -22,9 +22,11 @@ pub struct Failure {
 struct Noted {
     lowest: Cell<Option<Failure>>,
     sync: Cell<Option<io::Error>>,
+    written: Cell<bool>,
 }
 
-/// What failed on a file: the lowest block that could not be read or written, and the last sync. The file of an
+/// What failed on a file: the lowest block that could not be read or written, and the last sync. Also whether a write
+/// was tried. The file of an
 /// image notes them, and its owner asks for them afterwards. Both have a handle of the same failures.
 #[derive(Drop)]
 pub struct Failures {
@@ -37,6 +39,7 @@ impl Failures {
         let noted = Noted {
             lowest: Cell::new(None),
             sync: Cell::new(None),
+            written: Cell::new(false),
         };
         match Rc::new(alloc, noted) {
             Ok(noted) => Ok(Failures { noted }),
@@ -61,6 +64,16 @@ impl Failures {
     /// Notes that the file could not be synced.
     pub fn note_sync(&self, error: io::Error) {
         self.noted.sync.set(Some(error));
+    }
+
+    /// Notes that the file is written.
+    pub fn note_write(&self) {
+        self.noted.written.set(true);
+    }
+
+    /// Returns whether a write was tried.
+    pub fn was_written(&self) -> bool {
+        self.noted.written.get()
     }
 
     /// Returns the failure of the lowest block that failed.

@@ -46,6 +46,7 @@ impl RawFile for NotingFile {
     }
 
     fn write_all(&mut self, from: &[u8], offset: u64) -> io::Result<()> {
+        self.failures.note_write();
         self.noted(
             offset,
             StoreError::Write,
@@ -58,6 +59,7 @@ impl RawFile for NotingFile {
     }
 
     fn write_once(&mut self, from: &[u8], offset: u64) -> io::Result<usize> {
+        self.failures.note_write();
         self.file.write_at(from, offset)
     }
 

@@ -54,6 +54,14 @@ impl BlockMap {
         &self.entries
     }
 
+    /// Returns whether the map has all of these blocks.
+    pub fn covers(&self, blocks: &Range<u32>) -> bool {
+        match self.entries.first() {
+            Some(first) => first.start <= blocks.start && blocks.end <= self.end(),
+            None => false,
+        }
+    }
+
     /// Returns the block after the last one.
     pub fn end(&self) -> u32 {
         match self.entries.last() {

@@ -108,6 +108,7 @@ fn push(lines: &mut Vec<MapLine>, line: MapLine) -> Result<(), AllocError> {
 fn parse_lines(alloc: Global, text: &str) -> Result<Vec<MapLine>, MapError> {
     let mut lines = Vec::new(alloc);
     let mut is_first = true;
+    let mut end = 0;
     let mut line = 0u64;
     for text in text.lines() {
         line = line.saturating_add(1);
@@ -119,8 +120,11 @@ fn parse_lines(alloc: Global, text: &str) -> Result<Vec<MapLine>, MapError> {
             continue;
         }
         match MapLine::parse(text) {
-            Some(parsed) => push(&mut lines, parsed)?,
-            None => return Err(MapError::Line(line)),
+            Some(parsed) if parsed.start >= end => {
+                end = parsed.end;
+                push(&mut lines, parsed)?;
+            }
+            _ => return Err(MapError::Line(line)),
         }
     }
     Ok(lines)

@@ -3,12 +3,12 @@
 use crate::copy_record::{CopyRecord, EndedRecord};
 use crate::fault::{Fault, Reason};
 use crate::image::{block_reason, open_file};
-use crate::map_file::{MapFile, SavedMap};
+use crate::map_file::{MapFile, SavedMap, Saving};
 use crate::outcome::Outcome;
 use crate::progress::CopyProgress;
 use crate::script::Drives;
 use crate::stream::{copy_from_stream, copy_to_output, is_stream};
-use crate::target::{PartName, Plan, written_blocks};
+use crate::target::{PartName, Plan};
 use std::alloc::{AllocError, Global};
 use std::cell::Cell;
 use std::fs::File;
@@ -19,7 +19,7 @@ use uda_image::{Drive, StoreError};
 use uda50_arguments::Copy;
 use uda50_copy::{Copier, CopyError, Side};
 use uda50_files::{Access, DataBlocks, Failures, Image, OpenImageFile, TargetFile};
-use uda50_map::{BlockMap, BlockStatus};
+use uda50_map::BlockMap;
 
 /// Copies blocks of an image to the same block numbers of another image. With `--verify`, it then compares
 /// them. One of both may be a stream.
@@ -42,6 +42,8 @@ struct CopyState {
     source: Failures,
     target: Failures,
     copied: Cell<u32>,
+    // Whether a copy that ends now can be resumed.
+    resumable: Cell<bool>,
 }
 
 impl CopyState {
@@ -51,6 +53,7 @@ impl CopyState {
             source: Failures::none(alloc)?,
             target: Failures::none(alloc)?,
             copied: Cell::new(0),
+            resumable: Cell::new(true),
         })
     }
 }
@@ -76,9 +79,11 @@ fn copy_image<'w>(rt: &HostRuntime, copy: &Copy<'w>) -> Result<Outcome, Fault<'w
     let source = open_file(rt, copy.from.path, Access::Read)?;
     let blocks = blocks_to_copy(copy, source.blocks())?;
     let plan = Plan::of(rt, copy)?;
+    let map = MapFile::of(copy, plan);
+    map.check_named(rt, copy)?;
     let has_map = copy.skips_lost || copy.map.is_some();
     if has_map && !copy.force && !plan.resumes() {
-        MapFile::of(copy, plan).check_new(rt)?;
+        map.check_new(rt)?;
     }
     let target = plan.open(rt, copy, blocks.end)?;
     let state = CopyState::new(rt.alloc())?;
@@ -110,11 +115,13 @@ impl<'a, 'w> ImageCopy<'a, 'w> {
             Ok(outcome) => Ok(outcome),
             Err(fault) => {
                 fault.print(self.rt);
-                let copied = self.state.copied.get();
-                if copied == 0 && !self.plan.resumes() {
+                let state = self.state;
+                if self.plan.is_untouched(state.copied.get(), &state.target) {
                     MapFile::of(self.copy, self.plan).remove(self.rt)?;
+                    self.part.undo(self.rt, self.plan)?;
+                } else {
+                    self.part.tell(self.rt, state.resumable.get())?;
                 }
-                self.part.leave(self.rt, self.plan, copied, true)?;
                 Ok(Outcome::FaultReported)
             }
         }
@@ -139,12 +146,14 @@ impl<'a, 'w> ImageCopy<'a, 'w> {
         file: &File,
     ) -> Result<EndedRecord<'w>, Fault<'w>> {
         let data = self.data(&source)?;
-        let record = self.record(target.blocks_begun())?;
+        let record = self.record()?;
         let state = self.state;
         let source = source.into_image(&state.source)?;
         let target = target.into_image(self.size, self.zeros_from < self.size, &state.target)?;
         let mut copier = self.copier(source, target)?;
         let ended = self.copy_blocks(&mut copier, record, data)?;
+        state.resumable.set(false);
+        ended.forget(self.rt, self.blocks.start..self.blocks.end)?;
         self.set_length(file)?;
         self.verify(&mut copier)?;
         Ok(ended)
@@ -175,50 +184,42 @@ impl<'a, 'w> ImageCopy<'a, 'w> {
         }
     }
 
-    // Makes the record of the copy to a target of that many blocks. An existing file that will be overwritten gets
-    // its other name.
-    fn record(&self, length: u32) -> Result<CopyRecord<'a, 'w>, Fault<'w>> {
+    // Makes the record of the copy. An existing file that will be overwritten gets its other name, if the map is saved.
+    fn record(&self) -> Result<CopyRecord<'a, 'w>, Fault<'w>> {
         let copy = self.copy;
-        let file = MapFile::of(copy, self.plan);
-        let map = match self.plan.resumes() {
-            true => self.resumed_map(&file, length)?,
-            false => BlockMap::new(self.rt.alloc(), self.blocks.start..self.blocks.end)?,
-        };
-        let overwrites = self.plan == Plan::Overwrite;
-        if !self.plan.resumes() {
-            file.begin(self.rt, &map, overwrites)?;
-        }
-        if overwrites {
+        let state = self.state;
+        let saved = self.saved_map(MapFile::of(copy, self.plan))?;
+        if self.plan == Plan::Overwrite && saved.saving == Saving::Regularly {
             self.part.take(self.rt)?;
         }
-        let saves_always = overwrites || file.is_named();
         let blocks = self.blocks.start..self.blocks.end;
         let progress = CopyProgress::start(self.rt, copy.from.path, blocks);
-        let file = SavedMap {
-            map,
-            file,
-            saves_always,
-        };
-        let state = self.state;
-        Ok(CopyRecord::new(self.rt, progress, file, &state.copied))
+        Ok(CopyRecord::new(self.rt, progress, saved, &state.copied))
     }
 
-    // Returns the map of the copy that goes on: the one that it saved, or one by the length of its target.
-    fn resumed_map(&self, file: &MapFile<'w>, length: u32) -> Result<BlockMap, Fault<'w>> {
+    // Returns the map of a copy that begins, or of one that goes on.
+    fn saved_map(&self, file: MapFile<'w>) -> Result<SavedMap<'w>, Fault<'w>> {
+        if self.plan.resumes() {
+            let map = self.resumed_map(&file)?;
+            let saving = if self.plan.has_part() {
+                Saving::Regularly
+            } else {
+                Saving::IfLost
+            };
+            return Ok(SavedMap { map, file, saving });
+        }
+        let map = BlockMap::new(self.rt.alloc(), self.blocks.start..self.blocks.end)?;
+        let saving = file.begin(self.rt, &map, self.plan)?;
+        Ok(SavedMap { map, file, saving })
+    }
+
+    // Returns the map that a copy saved which goes on. It must have all blocks of the copy.
+    fn resumed_map(&self, file: &MapFile<'w>) -> Result<BlockMap, Fault<'w>> {
         let copy = self.copy;
         match file.read(self.rt)? {
-            Some(map) if map.end() <= self.size => Ok(map),
+            Some(map) if map.covers(&self.blocks) && map.end() <= self.size => Ok(map),
             Some(_map) => Err(file.fault_of_size()),
-            None if self.plan == Plan::LostBlocks => {
-                Err(Fault::new(copy.to.path, Reason::NothingToResume))
-            }
-            None => {
-                let blocks = self.blocks.start..self.blocks.end;
-                let written = written_blocks(&blocks, length);
-                let mut map = BlockMap::new(self.rt.alloc(), blocks)?;
-                map.set(written, BlockStatus::Finished)?;
-                Ok(map)
-            }
+            None => Err(Fault::new(copy.to.path, Reason::NothingToResume)),
         }
     }
 
@@ -239,10 +240,12 @@ impl<'a, 'w> ImageCopy<'a, 'w> {
         record: &mut CopyRecord<'a, 'w>,
         data: &mut DataBlocks,
     ) -> Result<(), Fault<'w>> {
-        let mut at = 0;
+        let last = self.blocks.end;
+        let mut at = self.blocks.start;
         for _ in 0..u32::MAX {
-            let Some(blocks) = record.next(at) else {
-                return Ok(());
+            let blocks = match record.next(at) {
+                Some(blocks) if blocks.start < last => blocks.start..blocks.end.min(last),
+                _ => return Ok(()),
             };
             let found = if blocks.start < self.zeros_from {
                 blocks.start..self.zeros_from

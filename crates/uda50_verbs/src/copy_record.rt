@@ -1,17 +1,17 @@
 //! The record of a copy: its map, and its progress.
 
 use crate::fault::Fault;
-use crate::map_file::SavedMap;
+use crate::map_file::{SavedMap, Saving};
 use crate::outcome::Outcome;
 use crate::progress::CopyProgress;
 use std::cell::Cell;
 use std::mem;
 use std::ops::Range;
 use uda50_copy::Observer;
-use uda50_map::BlockStatus;
+use uda50_map::{BlockMap, BlockStatus};
 
-/// The number of runs after which the map of an overwritten file is saved.
-const SAVED_RUNS: u32 = 32;
+/// The number of runs after which a map is saved.
+const SAVED_RUNS: u32 = 16;
 
 /// What a copy has done: the map of its blocks, which it saves in a file, and the lines of its progress.
 #[derive(Drop)]
@@ -92,7 +92,12 @@ impl<'r, 'w> CopyRecord<'r, 'w> {
         self.copied.set(self.copied.get().saturating_add(blocks));
         self.from = end;
         self.runs = self.runs.saturating_add(1);
-        if !lost.is_empty() || (self.saved.saves_always && self.runs >= SAVED_RUNS) {
+        let is_due = match self.saved.saving {
+            Saving::Never => false,
+            Saving::IfLost => !lost.is_empty(),
+            Saving::Regularly => !lost.is_empty() || self.runs >= SAVED_RUNS,
+        };
+        if is_due {
             self.runs = 0;
             let SavedMap { map, file, .. } = &self.saved;
             file.save(self.rt, map)?;
@@ -133,6 +138,16 @@ pub(crate) struct EndedRecord<'w> {
 }
 
 impl<'w> EndedRecord<'w> {
+    /// Forgets which blocks are copied, since it isn't known yet whether they reached the medium.
+    pub(crate) fn forget(&self, rt: &HostRuntime, blocks: Range<u32>) -> Result<(), Fault<'w>> {
+        let SavedMap { file, .. } = &self.saved;
+        if file.is_named() {
+            file.save(rt, &BlockMap::new(rt.alloc(), blocks)?)
+        } else {
+            file.remove(rt)
+        }
+    }
+
     /// Saves the map for later, if blocks were lost or if it is wanted. Removes that of the incomplete copy.
     pub(crate) fn save(&self, rt: &HostRuntime, wanted: bool) -> Result<(), Fault<'w>> {
         let SavedMap { map, file, .. } = &self.saved;

@@ -187,14 +187,23 @@ pub enum Reason {
     #[error("exists already; --resume goes on with it, --force begins anew")]
     PartExists,
     /// There is no copy to go on with.
-    #[error("no copy to resume: there is neither this file with .part after its name nor a map")]
+    #[error("no copy to resume: there is no map of one")]
     NothingToResume,
     /// A map of blocks can't be read.
     #[error("{0}")]
     Map(MapError),
     /// A map has blocks that the source doesn't have.
-    #[error("the map has more blocks than the source")]
+    #[error("the map is not one of the blocks to copy")]
     MapOfOther,
+    /// A map would be written over a file of the copy.
+    #[error("is a file of the copy, and not its map")]
+    MapIsImage,
+    /// The target is a device.
+    #[error("is a device; --device writes to it")]
+    Device,
+    /// The reader of the blocks that are copied to standard output has gone.
+    #[error("{0}")]
+    Output(io::Error),
     /// The option `--device` names another file.
     #[error("--device has to name the file to write")]
     OtherDevice,

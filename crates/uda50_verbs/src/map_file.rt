@@ -48,18 +48,35 @@ impl<'w> MapFile<'w> {
         }
     }
 
-    /// Begins the map of a copy. One that was named, or that `is_needed` to go on, is saved. Otherwise that of an earlier
-    /// incomplete copy is removed.
+    /// Fails if the named map is a file of the copy, or if a file of its name is no map.
+    pub(crate) fn check_named(&self, rt: &HostRuntime, copy: &Copy<'w>) -> Result<(), Fault<'w>> {
+        if !self.is_named() {
+            return Ok(());
+        }
+        let part = path_of(rt.alloc(), copy.to.path, Suffix::Part.text())?;
+        let files = [copy.from.path, copy.to.path, part.as_str()];
+        if files.iter().any(|path| *path == self.base) {
+            return Err(self.fault(Suffix::None, Reason::MapIsImage));
+        }
+        self.read(rt)?;
+        Ok(())
+    }
+
+    /// Returns how the map of a copy is saved that begins. That of a copy with an incomplete target is saved now.
+    /// Where the folder of an existing target can't be written, none is saved.
     pub(crate) fn begin(
         &self,
         rt: &HostRuntime,
         map: &BlockMap,
-        is_needed: bool,
-    ) -> Result<(), Fault<'w>> {
-        if is_needed || self.is_named() {
-            self.save(rt, map)
-        } else {
-            self.remove(rt)
+        plan: Plan,
+    ) -> Result<Saving, Fault<'w>> {
+        if !plan.has_part() && !self.is_named() {
+            return Ok(Saving::IfLost);
+        }
+        match self.save(rt, map) {
+            Ok(()) => Ok(Saving::Regularly),
+            Err(_fault) if plan == Plan::Overwrite && !self.is_named() => Ok(Saving::Never),
+            Err(fault) => Err(fault),
         }
     }
 
@@ -130,8 +147,19 @@ pub(crate) struct SavedMap<'w> {
     pub(crate) map: BlockMap,
     /// Its file.
     pub(crate) file: MapFile<'w>,
-    /// Whether the map is saved even if no block is lost.
-    pub(crate) saves_always: bool,
+    /// When it is saved during the copy.
+    pub(crate) saving: Saving,
+}
+
+/// When a map is saved during a copy.
+#[derive(Clone, Copy, Debug, PartialEq, Eq)]
+pub(crate) enum Saving {
+    /// Never.
+    Never,
+    /// After a run that lost blocks.
+    IfLost,
+    /// After such a run, and from time to time.
+    Regularly,
 }
 
 // Writes a text into a new file, and gives it the name of another one.

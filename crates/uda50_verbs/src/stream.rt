@@ -4,14 +4,15 @@ ghost use Rattle.std.specs.Prelude.{◌≤◌};
 use crate::copy::blocks_to_copy;
 use crate::fault::{CopyOption, Fault, Reason, STANDARD_INPUT, STANDARD_OUTPUT};
 use crate::image::{NamedImage, block_fault};
+use crate::map_file::MapFile;
 use crate::outcome::Outcome;
 use crate::progress::CopyProgress;
 use crate::target::{PartName, Plan};
-use std::fs;
 use std::fs::{File, OpenFile};
 use std::io::{BufWriter, ErrorKind, IsTerminal, Read, Write};
 use std::ops::Range;
 use std::os::unix::fs::FileTypeExt;
+use std::{fs, io};
 use uda_image::{BlockStore, STORE_LIMIT};
 use uda50_arguments::{Copy, ImageName};
 use uda50_copy::Observer;
@@ -88,6 +89,7 @@ fn take_stream<'w, R: Read + Drop>(
     let target = plan.open(rt, copy, end)?;
     let file = Fault::of_call(copy.to.path, target.handle())?;
     let part = PartName::of(copy, plan);
+    MapFile::of(copy, plan).remove(rt)?;
     if plan == Plan::Overwrite {
         part.take(rt)?;
     }
@@ -98,7 +100,7 @@ fn take_stream<'w, R: Read + Drop>(
         name,
         stream,
         image,
-        failures,
+        failures: failures.share()?,
         at: 0,
     };
     let done = taken.run();
@@ -109,7 +111,11 @@ fn take_stream<'w, R: Read + Drop>(
         Ok(()) => Ok(Outcome::Done),
         Err(fault) => {
             fault.print(rt);
-            part.leave(rt, plan, blocks, false)?;
+            if plan.is_untouched(blocks, &failures) {
+                part.undo(rt, plan)?;
+            } else {
+                part.tell(rt, false)?;
+            }
             Ok(Outcome::FaultReported)
         }
     }
@@ -147,7 +153,7 @@ impl<'a, 'w, R: Read> StreamCopy<'a, 'w, R> {
         for _ in 0..u32::MAX {
             let wanted = self.wanted();
             if wanted == 0 {
-                return Ok(());
+                return self.at_most();
             }
             let bytes = wanted * BLOCK;
             let read = self.fill(&mut piece[..bytes])?.min(bytes);
@@ -155,6 +161,15 @@ impl<'a, 'w, R: Read> StreamCopy<'a, 'w, R> {
             if read < bytes {
                 return self.end(read % BLOCK);
             }
+        }
+        Ok(())
+    }
+
+    // Fails if the stream has more blocks than an image can have.
+    fn at_most(&mut self) -> Result<(), Fault<'w>> {
+        let mut byte = [0; 1];
+        if self.at == STORE_LIMIT && self.fill(&mut byte)? > 0 {
+            return Err(Fault::new(self.name, Reason::TooLarge(u64::from(self.at) + 1)));
         }
         Ok(())
     }
@@ -252,11 +267,20 @@ pub(crate) fn copy_to_output<'w, W: Write + Drop>(
     let done = write_all(&mut image, copy.skips_lost, start..end, &mut progress, out);
     let lost = progress.end();
     done?;
+    to_output(out.flush())?;
     Ok(if lost > 0 {
         Outcome::Failed
     } else {
         Outcome::Done
     })
+}
+
+// Returns the result of a write to standard output. It is a fault of a copy if its reader has gone.
+fn to_output<'w>(written: io::Result<()>) -> Result<(), Fault<'w>> {
+    match written {
+        Ok(()) => Ok(()),
+        Err(error) => Err(Fault::new(STANDARD_OUTPUT, Reason::Output(error))),
+    }
 }
 
 // Writes blocks of an image. Lost blocks that are skipped are zeros.
@@ -269,10 +293,10 @@ fn write_all<'w, W: Write + Drop>(
 ) -> Result<(), Fault<'w>> {
     for block in blocks {
         match image.read_block_or_zeros(block) {
-            Ok(bytes) => out.write_all(&bytes)?,
+            Ok(bytes) => to_output(out.write_all(&bytes))?,
             Err(_fault) if skips_lost => {
                 progress.lost(block);
-                out.write_all(&[0; BLOCK])?;
+                to_output(out.write_all(&[0; BLOCK]))?;
             }
             Err(fault) => return Err(fault),
         }

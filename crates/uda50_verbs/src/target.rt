@@ -8,14 +8,10 @@ use std::alloc::AllocError;
 use std::cell::Cell;
 use std::fs;
 use std::fs::{File, Metadata};
-use std::ops::Range;
 use std::os::unix::fs::{FileTypeExt, MetadataExt};
 use uda50_arguments::{BlockRange, Copy};
-use uda50_files::{Access, OpenError, TargetFile};
+use uda50_files::{Access, Failures, OpenError, TargetFile};
 use uda50_show::EscapedName;
-
-/// The most blocks that a copy reads before it writes them. When it reads others, they are written.
-const RUN: u32 = 2_048;
 
 /// The way in which the target of a copy is opened.
 #[derive(Clone, Copy, Debug, PartialEq, Eq)]
@@ -46,6 +42,12 @@ impl Plan {
         }
         match fs::metadata(rt, path) {
             Ok(metadata) => Plan::of_existing(rt, copy, &metadata),
+            Err(_) if fs::symlink_metadata(rt, path).is_ok() => {
+                Err(Fault::new(path, Reason::Exists))
+            }
+            Err(_) if is_same(rt, copy.from.path, part_of(rt, path)?.as_str()) => {
+                Err(Fault::new(path, Reason::SameFile))
+            }
             Err(_) if !copy.resumes => Ok(Plan::New),
             Err(_) if part_exists(rt, path)? => Ok(Plan::Resume),
             Err(_) => Err(Fault::new(path, Reason::NothingToResume)),
@@ -62,10 +64,15 @@ impl Plan {
         let is_device = copy.device.is_some() && metadata.file_type().is_block_device();
         let has_part = copy.resumes && part_exists(rt, path)?;
         let tries_lost = copy.resumes && !has_part;
+        if metadata.file_type().is_block_device() && !is_device {
+            return Err(Fault::new(path, Reason::Device));
+        }
         if !is_device {
             check_existing(path, copy.force || tries_lost, metadata)?;
         }
-        if is_source(rt, copy, metadata) {
+        if is_same(rt, copy.from.path, path)
+            || is_same(rt, copy.from.path, part_of(rt, path)?.as_str())
+        {
             return Err(Fault::new(path, Reason::SameFile));
         }
         Ok(match copy.blocks {
@@ -80,6 +87,16 @@ impl Plan {
     /// Returns whether the target has another name while it is incomplete.
     pub(crate) fn has_part(self) -> bool {
         matches!(self, Plan::New | Plan::Overwrite | Plan::Resume)
+    }
+
+    /// Returns whether the target is as it was before: a new one if no block was copied, and an existing one if it was
+    /// not written.
+    pub(crate) fn is_untouched(self, copied: u32, failures: &Failures) -> bool {
+        match self {
+            Plan::New => copied == 0,
+            Plan::Overwrite => !failures.was_written(),
+            _ => false,
+        }
     }
 
     /// Returns whether an earlier copy goes on.
@@ -131,6 +148,8 @@ pub(crate) struct PartName<'w> {
     path: &'w str,
     // Whether the target has the other name now.
     in_use: Cell<bool>,
+    // Whether no file had the path.
+    is_new: bool,
 }
 
 impl<'w> PartName<'w> {
@@ -139,6 +158,7 @@ impl<'w> PartName<'w> {
         PartName {
             path: copy.to.path,
             in_use: Cell::new(matches!(plan, Plan::New | Plan::Resume)),
+            is_new: plan == Plan::New,
         }
     }
 
@@ -152,6 +172,9 @@ impl<'w> PartName<'w> {
 
     /// Gives the target its own name.
     pub(crate) fn give_back(&self, rt: &HostRuntime) -> Result<(), Fault<'w>> {
+        if self.is_new && fs::symlink_metadata(rt, self.path).is_ok() {
+            return Err(Fault::new(self.path, Reason::Exists));
+        }
         if self.in_use.get() {
             let part = part_of(rt, self.path)?;
             Fault::of_call(self.path, fs::rename(rt, part.as_str(), self.path))?;
@@ -173,24 +196,21 @@ impl<'w> PartName<'w> {
         }
     }
 
-    /// Leaves an incomplete target. If no block was copied, a new one is removed, and an existing one gets its own name.
-    /// Otherwise a line tells what is left, and whether `--resume` can go on with it.
-    pub(crate) fn leave(
-        &self,
-        rt: &HostRuntime,
-        plan: Plan,
-        copied: u32,
-        resumable: bool,
-    ) -> Result<(), Fault<'w>> {
-        let part = part_of(rt, self.path)?;
-        if copied == 0 && plan == Plan::New {
+    /// Undoes what was made of a target on which nothing was copied: removes a new one, and gives an existing one its own
+    /// name.
+    pub(crate) fn undo(&self, rt: &HostRuntime, plan: Plan) -> Result<(), Fault<'w>> {
+        if plan == Plan::New {
+            let part = part_of(rt, self.path)?;
             drop(fs::remove_file(rt, part.as_str()));
             return Ok(());
         }
-        if copied == 0 && plan == Plan::Overwrite {
-            return self.give_back(rt);
-        }
+        self.give_back(rt)
+    }
+
+    /// Prints a line that tells what is left of an incomplete target, and whether `--resume` can go on with it.
+    pub(crate) fn tell(&self, rt: &HostRuntime, resumable: bool) -> Result<(), Fault<'w>> {
         if self.in_use.get() {
+            let part = part_of(rt, self.path)?;
             let resume = if resumable {
                 "; --resume goes on with it"
             } else {
@@ -265,17 +285,10 @@ fn with_blocks<'w>(copy: &Copy<'w>, file: TargetFile, end: u32) -> Result<Target
     }
 }
 
-// Returns whether the target is the source, by the same name or by another.
-fn is_source(rt: &HostRuntime, copy: &Copy<'_>, target: &Metadata) -> bool {
-    match fs::metadata(rt, copy.from.path) {
-        Ok(source) => source.dev() == target.dev() && source.ino() == target.ino(),
-        Err(_) => false,
+// Returns whether two paths are of one file.
+fn is_same(rt: &HostRuntime, one: &str, other: &str) -> bool {
+    match (fs::metadata(rt, one), fs::metadata(rt, other)) {
+        (Ok(one), Ok(other)) => one.dev() == other.dev() && one.ino() == other.ino(),
+        _ => false,
     }
-}
-
-/// Returns the blocks of a copy that an incomplete target has for certain, by its length in blocks. The blocks of the
-/// last run may be written in part.
-pub(crate) fn written_blocks(blocks: &Range<u32>, length: u32) -> Range<u32> {
-    let Range { start, end } = *blocks;
-    start..length.saturating_sub(RUN).max(start).min(end)
 }

@@ -42,8 +42,19 @@ struct CopyState {
     source: Failures,
     target: Failures,
     copied: Cell<u32>,
-    // Whether a copy that ends now can be resumed.
-    resumable: Cell<bool>,
+    // What the copy does.
+    phase: Cell<Phase>,
+}
+
+// What a copy does.
+#[derive(Clone, Copy, Debug, PartialEq, Eq)]
+enum Phase {
+    // It makes its target and its map.
+    Starting,
+    // It copies blocks.
+    Copying,
+    // It compares and syncs what it copied.
+    Completing,
 }
 
 impl CopyState {
@@ -53,7 +64,7 @@ impl CopyState {
             source: Failures::none(alloc)?,
             target: Failures::none(alloc)?,
             copied: Cell::new(0),
-            resumable: Cell::new(true),
+            phase: Cell::new(Phase::Starting),
         })
     }
 }
@@ -113,18 +124,29 @@ impl<'a, 'w> ImageCopy<'a, 'w> {
     ) -> Result<Outcome, Fault<'w>> {
         match self.run(source, target) {
             Ok(outcome) => Ok(outcome),
-            Err(fault) => {
-                fault.print(self.rt);
-                let state = self.state;
-                if self.plan.is_untouched(state.copied.get(), &state.target) {
-                    MapFile::of(self.copy, self.plan).remove(self.rt)?;
-                    self.part.undo(self.rt, self.plan)?;
-                } else {
-                    self.part.tell(self.rt, state.resumable.get())?;
-                }
-                Ok(Outcome::FaultReported)
+            Err(fault) => self.abandon(&fault),
+        }
+    }
+
+    // Prints the fault of a copy, and what is left of its target.
+    fn abandon(&self, fault: &Fault<'_>) -> Result<Outcome, Fault<'w>> {
+        fault.print(self.rt);
+        let state = self.state;
+        let map = MapFile::of(self.copy, self.plan);
+        if self.plan.is_untouched(state.copied.get(), &state.target) {
+            map.remove(self.rt)?;
+            self.part.undo(self.rt, self.plan)?;
+            return Ok(Outcome::FaultReported);
+        }
+        match state.phase.get() {
+            Phase::Starting => {}
+            Phase::Copying => self.part.tell(self.rt, true)?,
+            Phase::Completing => {
+                map.forget(self.rt, self.blocks.start..self.blocks.end)?;
+                self.part.tell(self.rt, false)?;
             }
         }
+        Ok(Outcome::FaultReported)
     }
 
     // Copies, and completes the target.
@@ -148,12 +170,12 @@ impl<'a, 'w> ImageCopy<'a, 'w> {
         let data = self.data(&source)?;
         let record = self.record()?;
         let state = self.state;
+        state.phase.set(Phase::Copying);
         let source = source.into_image(&state.source)?;
         let target = target.into_image(self.size, self.zeros_from < self.size, &state.target)?;
         let mut copier = self.copier(source, target)?;
         let ended = self.copy_blocks(&mut copier, record, data)?;
-        state.resumable.set(false);
-        ended.forget(self.rt, self.blocks.start..self.blocks.end)?;
+        state.phase.set(Phase::Completing);
         self.set_length(file)?;
         self.verify(&mut copier)?;
         Ok(ended)

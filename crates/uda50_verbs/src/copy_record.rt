@@ -8,7 +8,7 @@ use std::cell::Cell;
 use std::mem;
 use std::ops::Range;
 use uda50_copy::Observer;
-use uda50_map::{BlockMap, BlockStatus};
+use uda50_map::BlockStatus;
 
 /// The number of runs after which a map is saved.
 const SAVED_RUNS: u32 = 16;
@@ -138,16 +138,6 @@ pub(crate) struct EndedRecord<'w> {
 }
 
 impl<'w> EndedRecord<'w> {
-    /// Forgets which blocks are copied, since it isn't known yet whether they reached the medium.
-    pub(crate) fn forget(&self, rt: &HostRuntime, blocks: Range<u32>) -> Result<(), Fault<'w>> {
-        let SavedMap { file, .. } = &self.saved;
-        if file.is_named() {
-            file.save(rt, &BlockMap::new(rt.alloc(), blocks)?)
-        } else {
-            file.remove(rt)
-        }
-    }
-
     /// Saves the map for later, if blocks were lost or if it is wanted. Removes that of the incomplete copy.
     pub(crate) fn save(&self, rt: &HostRuntime, wanted: bool) -> Result<(), Fault<'w>> {
         let SavedMap { map, file, .. } = &self.saved;

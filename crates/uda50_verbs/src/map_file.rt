@@ -4,6 +4,7 @@ use crate::fault::{Fault, Reason, Suffix};
 use crate::target::Plan;
 use std::alloc::{AllocError, Global};
 use std::io::ErrorKind;
+use std::ops::Range;
 use std::{fs, io};
 use uda50_arguments::Copy;
 use uda50_map::BlockMap;
@@ -107,6 +108,15 @@ impl<'w> MapFile<'w> {
     /// Writes the map after a copy.
     pub(crate) fn finish(&self, rt: &HostRuntime, map: &BlockMap) -> Result<(), Fault<'w>> {
         self.write(rt, self.afterwards, map)
+    }
+
+    /// Forgets which blocks are copied, since they may not be right.
+    pub(crate) fn forget(&self, rt: &HostRuntime, blocks: Range<u32>) -> Result<(), Fault<'w>> {
+        if self.is_named() {
+            self.save(rt, &BlockMap::new(rt.alloc(), blocks)?)
+        } else {
+            self.remove(rt)
+        }
     }
 
     /// Removes the map that the copy had while it was incomplete, if that has another name than the one afterwards.

@@ -1,5 +1,5 @@
 //! Ranges of blocks with one status.
-ghost use Rattle.std.specs.Prelude.{◌≡◌, ◌≤◌, ◌↔◌, min, max, IsTrue};
+ghost use Rattle.std.specs.Prelude.{◌≡◌, ◌≤◌, ◌↔◌, min, max, true, IsTrue};
 ghost use Rattle.uda50_map.specs.Status.{status_character};
 
 use std::fmt;
@@ -55,6 +55,14 @@ impl MapEntry {
         ensures value { IsTrue result ↔ (self.now.end ≤ self.now.start) }
     {
         self.end <= self.start
+    }
+
+    /// Returns whether an entry goes on with the same status where this one ends.
+    pub fn is_followed_by(&self, entry: &MapEntry) -> bool
+        ensures status { result ≡ true → self.now.status ≡ entry.now.status }
+        ensures end { result ≡ true → self.now.end ≡ entry.now.start }
+    {
+        self.status == entry.status && self.end == entry.start
     }
 
     /// Returns the blocks of this entry that are before a block.

@@ -1,22 +1,40 @@
 //! Maps of blocks.
-ghost use Rattle.std.specs.Prelude.{IfSome};
+ghost use Rattle.std.specs.Prelude.{◌≡◌, ℕ, ◌<◌, ◌≤◌, ◌⊎◌, true, false, [], ◌∷◌, ◌++◌, if◌then◌else◌, IfSome, IfNone, IfOk, OnOk, OnErr};
+ghost use Rattle.uda50_map.specs.Map.{is_within, statuses_at, changed, IsUntried, IsSet, IsFinishedFrom, AreForward};
 ghost use Rattle.uda50_map.specs.Status.{AreLater};
 
 use crate::entry::{BlockStatus, MapEntry};
 use std::alloc::{AllocError, Global};
 use std::fmt;
+use std::marker::Model;
 use std::ops::Range;
 
 /// The status of each block of a range: entries that follow each other, in rising order.
+///
+/// Contracts see the entries.
 #[derive(Debug, Drop)]
 pub struct BlockMap {
     alloc: Global,
     entries: Vec<MapEntry>,
 }
 
+impl Model for BlockMap {
+    ghost use Rattle.std.specs.Prelude.{List};
+    ghost use Rattle.uda50_map.specs.declared.entry.MapEntry.{MapEntry};
+    ghost use Rattle.uda50_map.specs.Map.{AreForward};
+
+    ghost Value = { List MapEntry };
+
+    ghost view = { λ map. map.entries.items };
+
+    ghost invariant = { λ map. AreForward map.entries.items };
+}
+
 impl BlockMap {
     /// Makes a map of blocks that have not been tried.
-    pub fn new(alloc: Global, blocks: Range<u32>) -> Result<BlockMap, AllocError> {
+    pub fn new(alloc: Global, blocks: Range<u32>) -> Result<BlockMap, AllocError>
+        ensures untried { IfOk result (IsUntried blocks.start blocks.end) }
+    {
         let mut map = BlockMap {
             alloc,
             entries: Vec::new(alloc),
@@ -24,33 +42,29 @@ impl BlockMap {
         let Range { start, end } = blocks;
         map.entries.push(MapEntry {
             start,
-            end,
+            end: end.max(start),
             status: BlockStatus::NonTried,
         })?;
         Ok(map)
     }
 
-    /// Gives blocks a status.
-    pub fn set(&mut self, blocks: Range<u32>, status: BlockStatus) -> Result<(), AllocError> {
-        let Range { start, end } = blocks;
+    /// Gives blocks a status. Those that the map doesn't have are left out.
+    pub fn set(&mut self, blocks: Range<u32>, status: BlockStatus) -> Result<(), AllocError>
+        ensures set { OnOk result (IsSet blocks.start blocks.end status self.old self.new) }
+        ensures unchanged { OnErr result (self.new ≡ self.old) }
+    {
         let mut entries = Vec::new(self.alloc);
         for entry in self.entries.iter() {
-            append(&mut entries, entry.before(start))?;
-            append(
-                &mut entries,
-                MapEntry {
-                    status,
-                    ..entry.from(start).before(end)
-                },
-            )?;
-            append(&mut entries, entry.from(end.max(start)))?;
+            append_set(&mut entries, *entry, &blocks, status)?;
         }
         self.entries = entries;
         Ok(())
     }
 
     /// Returns the entries.
-    pub fn entries(&self) -> &[MapEntry] {
+    pub fn entries(&self) -> &[MapEntry]
+        ensures value { result.now ≡ self.now }
+    {
         &self.entries
     }
 
@@ -73,10 +87,11 @@ impl BlockMap {
     /// Returns the next blocks that are not finished, of those from `from` on.
     pub fn next_unfinished(&self, from: u32) -> Option<Range<u32>>
         ensures later { IfSome result (λ blocks. AreLater from blocks.start blocks.end) }
+        ensures all_finished { IfNone result (IsFinishedFrom from self.now) }
     {
         for entry in self.entries.iter() {
             let rest = entry.from(from);
-            if rest.status != BlockStatus::Finished && !rest.is_empty() {
+            if !is_finished(&rest) {
                 return Some(rest.start..rest.end);
             }
         }
@@ -84,18 +99,57 @@ impl BlockMap {
     }
 }
 
+// Returns whether all blocks of an entry are finished.
+fn is_finished(entry: &MapEntry) -> bool
+    ensures finished { result ≡ true → entry.now.status ≡ BlockStatus.Finished ⊎ entry.now.end ≤ entry.now.start }
+    ensures other { result ≡ false → entry.now.start < entry.now.end }
+{
+    entry.status == BlockStatus::Finished || entry.is_empty()
+}
+
+// Adds an entry after the others, and gives these blocks of it a status.
+fn append_set(
+    entries: &mut Vec<MapEntry>,
+    entry: MapEntry,
+    blocks: &Range<u32>,
+    status: BlockStatus,
+) -> Result<(), AllocError>
+    requires forward { entry.start ≤ entry.end }
+    requires all_forward { AreForward entries.old.items }
+    ensures all_forward { AreForward entries.new.items }
+    ensures set { OnOk result ((block : ℕ) → statuses_at entries.new.items block
+        ≡ statuses_at entries.old.items block
+        ++ (if is_within blocks.now.start blocks.now.end block then changed status (statuses_at (entry ∷ []) block)
+        else statuses_at (entry ∷ []) block)) }
+{
+    let Range { start, end } = *blocks;
+    let changed = MapEntry {
+        status,
+        ..entry.from(start).before(end)
+    };
+    append(entries, entry.before(start))?;
+    append(entries, changed)?;
+    append(entries, entry.from(end.max(start)))
+}
+
 // Adds an entry after the others. One that is empty is left out, and one with the status of the last is joined to it.
-fn append(entries: &mut Vec<MapEntry>, entry: MapEntry) -> Result<(), AllocError> {
+fn append(entries: &mut Vec<MapEntry>, entry: MapEntry) -> Result<(), AllocError>
+    requires all_forward { AreForward entries.old.items }
+    ensures all_forward { AreForward entries.new.items }
+    ensures added { OnOk result ((block : ℕ) → statuses_at entries.new.items block
+        ≡ statuses_at entries.old.items block ++ statuses_at (entry ∷ []) block) }
+{
     if entry.is_empty() {
         return Ok(());
     }
     if let Some(last) = entries.last_mut() {
-        if last.status == entry.status && last.end == entry.start {
+        if last.is_followed_by(&entry) {
             last.end = entry.end;
             return Ok(());
         }
     }
-    entries.push(entry).map_err(AllocError::from)
+    entries.push(entry)?;
+    Ok(())
 }
 
 /// Writes the map as a mapfile of ddrescue.

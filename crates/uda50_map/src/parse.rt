@@ -36,7 +36,7 @@ struct MapLine {
 impl MapLine {
     // Reads a line of a position, a size and a status.
     fn parse(text: &str) -> Option<MapLine> {
-        let mut words = text.split_ascii_whitespace();
+        let mut words = text.split_whitespace();
         let start = number(words.next()?)?;
         let size = number(words.next()?)?;
         let status = BlockStatus::of_character(words.next()?)?;

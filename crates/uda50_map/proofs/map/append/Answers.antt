@@ -1,0 +1,13 @@
+use Rattle.std.proofs.Common.{arith}
+use Rattle.std.proofs.lemmas.Grind.{common_steps}
+use Rattle.uda50_map.proofs.MapLaws.{statuses_at-append, joined_last}
+use Rattle.uda50_map.proofs.map.append.Goals as goal
+
+pub returns-then-is_followed_by-clause-added : goal.returns-then-is_followed_by-clause-added
+returns-then-is_followed_by-clause-added c = λ block.
+    joined_last _ _ _ c.args.entry block c.requires.all_forward (grind (arith, common_steps))
+    c.in-Some.ensures.value (c.is_followed_by.ensures.status c.if-is_followed_by.true)
+    (c.is_followed_by.ensures.end c.if-is_followed_by.true) (grind (arith, common_steps))
+
+pub returns-clause-added : goal.returns-clause-added
+returns-clause-added c = λ block. grind (arith, common_steps, statuses_at-append)

@@ -134,25 +134,28 @@ fn decode_line<W: Write + Drop>(
             progress.packets = progress.packets.saturating_add(1);
             let is_valid = packet.is_valid();
             progress.invalid |= !is_valid;
-            put_packet(out, progress.packets, &packet, is_valid)?;
+            if is_valid || !put_compatible(out, progress.packets, &packet)? {
+                put_text(out, progress.packets, &packet)?;
+            }
         }
     }
     Ok(())
 }
 
-// Prints a packet.
-fn put_packet<W: Write + Drop>(
+// Prints a packet as a message that only the compatible profile has. Returns whether it is one.
+#[inline(never)]
+fn put_compatible<W: Write + Drop>(
     out: &mut BufWriter<W>,
     number: u64,
     packet: &Packet,
-    is_valid: bool,
-) -> io::Result<()> {
-    if !is_valid {
-        if let Some(message) = CompatibleMessage::read(packet) {
-            return put_message(out, number, &message);
+) -> io::Result<bool> {
+    match CompatibleMessage::read(packet) {
+        Some(message) => {
+            put_message(out, number, &message)?;
+            Ok(true)
         }
+        None => Ok(false),
     }
-    put_text(out, number, packet)
 }
 
 // Prints the text of a packet. If it might be too long for the write of the packets that are gathered, these

@@ -1,17 +1,45 @@
 -- Writes to files that end in zeros.
-use Rattle.std.proofs.Common.{◌≡◌, ◌+◌, ◌-◌, ◌<◌, ◌≤◌, ℕ, List, true, Option, Some, None, bytes_eq, length, take, drop, replicate, get_or, IfSome, sym, ap, subst, ◌∙◌, inl, inr, arith, length-drop}
+use Rattle.std.proofs.Common.{◌≡◌, ◌+◌, ◌-◌, ◌<◌, ◌≤◌, ℕ, List, Option, Some, None, length, take, drop, replicate, get_or, IfSome, sym, ap, subst, ◌∙◌, inl, inr, arith, length-take, length-drop}
 use Rattle.std.proofs.lemmas.Bool.{cases_lt}
-use Rattle.std.proofs.lemmas.List.{same_lists, get_or-drop, get_or-replicate, take-replicate, length-replicate}
-use Rattle.std.proofs.lemmas.Slice.Eq.{bytes_eq-Decides}
+use Rattle.std.proofs.lemmas.List.{same_lists, get_or-drop, get_or-take, get_or-replicate, length-replicate}
+use Rattle.std.proofs.lemmas.Grind.{same_number_lists}
 use Rattle.uda_mem.specs.Put.{put}
 use Rattle.uda_mem.proofs.PutLaws.{length-put, get_or-put_before, get_or-put_at, get_or-put_behind}
-use Rattle.uda50_files.specs.Zeros.{AreZeros, EndsInZeros, SparseState, IsAsSupposed}
+use Rattle.uda50_files.specs.Zeros.{AreZeros, AreAtMost, EndsInZeros, SparseState, IsAsSupposed}
 
--- bytes that are the first of many zeros are zeros
-pub zeros_cut : (bytes : List ℕ) (n : ℕ) → length bytes ≤ n
-    → bytes_eq bytes (take (length bytes) (replicate n 0)) ≡ true → AreZeros bytes
-zeros_cut bytes n fits same =
-    (bytes_eq-Decides bytes (take (length bytes) (replicate n 0))).0 same ∙ take-replicate (length bytes) n 0 fits
+-- bytes of which none is larger than 0
+pub zeros_of : (bytes : List ℕ) (count : ℕ) → AreAtMost 0 count bytes → length bytes ≤ count → AreZeros bytes
+zeros_of bytes count least whole =
+    same_number_lists bytes (replicate (length bytes) 0) (sym (length-replicate (length bytes) 0)) (λ k below.
+    let zero : get_or bytes k 0 ≤ 0 = least k (omega (arith, below, whole)) in
+    let is : get_or bytes k 0 ≡ 0 = omega (arith, zero) in
+    is ∙ sym (get_or-replicate (length bytes) k 0 0 below))
+
+-- one byte more
+pub most_more : (bytes : List ℕ) (i most next : ℕ) → AreAtMost most i bytes → most ≤ next → get_or bytes i 0 ≤ next
+    → AreAtMost next (i + 1) bytes
+most_more bytes i most next least grows this k below = elim (cases_lt k i) [
+  | inl low ↦ let old = least k low in omega (arith, old, grows)
+  | inr high ↦ let same : k ≡ i = omega (arith, below, high) in rw same this
+]
+
+-- the bytes of a part more
+pub part_more : (bytes : List ℕ) (at end most : ℕ) → AreAtMost 0 at bytes → at ≤ end
+    → AreAtMost most (length (take (end - at) (drop at bytes))) (take (end - at) (drop at bytes)) → most ≤ 0
+    → end ≤ length bytes
+    → AreAtMost 0 end bytes
+part_more bytes at end most least forward part none within k below = elim (cases_lt k at) [
+  | inl low ↦ least k low
+  | inr high ↦
+      let size : length (take (end - at) (drop at bytes)) ≡ end - at =
+      length-take (end - at) (drop at bytes) ∙ omega (arith, within, forward, length-drop at bytes) in
+      let inside : k - at < end - at = omega (arith, below, high) in
+      let this : get_or (take (end - at) (drop at bytes)) (k - at) 0 ≤ most = part (k - at) (rw size inside) in
+      let same : get_or (take (end - at) (drop at bytes)) (k - at) 0 ≡ get_or bytes k 0 =
+      get_or-take (end - at) (drop at bytes) (k - at) 0 inside ∙ get_or-drop at bytes (k - at) 0
+      ∙ ap (λ (i : ℕ). get_or bytes i 0) (omega (arith, high)) in
+      omega (arith, this, none, same)
+]
 
 -- a byte at the end of such a file
 zero_byte : (size from : ℕ) (bytes : List ℕ) (k d : ℕ) → EndsInZeros size from bytes → from ≤ k → k < length bytes
@@ -81,7 +109,6 @@ zeros_next file from next at ys supposed is later over within =
     follows file.content file.length from next at ys (subst (λ (z : Option ℕ). IfSome z (λ (f : ℕ). IfSome file.content (EndsInZeros file.length f))) is supposed) later over within
 
 pub ruleset zero_laws = (
-  zeros_cut,
   zeros_held,
   zeros_next,
 )

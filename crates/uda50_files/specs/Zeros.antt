@@ -1,8 +1,12 @@
 -- Files that end in zeros.
-use Rattle.std.specs.Prelude.{◌≡◌, ℕ, List, length, drop, replicate, Option, IfSome}
+use Rattle.std.specs.Prelude.{◌≡◌, ℕ, ◌<◌, ◌≤◌, List, length, get_or, drop, replicate, Option, IfSome}
 
 abbrev pub AreZeros : List ℕ → Type 0
 AreZeros bytes = bytes ≡ replicate (length bytes) 0
+
+-- the first bytes, of which none is larger than this
+abbrev pub AreAtMost : ℕ → ℕ → List ℕ → Type 0
+AreAtMost largest count bytes = (k : ℕ) → k < count → get_or bytes k 0 ≤ largest
 
 -- a file: its bytes, if they are known, and what is supposed of it: its length, and an offset from which on all of its
 -- bytes are zeros

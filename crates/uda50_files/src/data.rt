@@ -1,26 +1,21 @@
 //! The blocks of a file that have data.
-ghost use Rattle.std.specs.Prelude.{◌≤◌};
+ghost use Rattle.std.specs.Prelude.{◌<◌, ◌≤◌};
 
-use crate::sparse::are_zeros;
+use crate::ahead::{AHEAD_BYTES, ReadAhead};
 use std::alloc::{AllocError, Global};
 use std::fs::File;
 use std::ops::Range;
-use std::os::unix::fs::FileExt;
 
-/// The number of blocks that are searched at once: 64 KB.
-const STEP: u32 = 128;
+/// The most blocks that are read at once.
+const AHEAD: u32 = (AHEAD_BYTES / 512) as u32;
 
-/// The bytes of a transfer, of which zeros are compared at once.
-const PIECE: usize = 16_384;
-
-/// The most blocks that are taken for data after a block that has some.
-const MOST: u32 = 2_048;
+/// The blocks that are compared with zeros at once: those of one transfer.
+const PIECE: u32 = 32;
 
 /// The blocks of an image that have data. The others are zeros.
 #[derive(Drop)]
 pub struct DataBlocks {
     search: Search,
-    blocks: u32,
 }
 
 // The way in which data is found.
@@ -34,102 +29,120 @@ enum Search {
     Reading(Reading),
 }
 
-// A file that is searched for data, room for what is read of it, and the number of blocks that are taken for data next.
+// A file that is searched for data, the part of it that was read last, and the blocks of that part.
 #[derive(Drop)]
 struct Reading {
     file: File,
-    room: Vec<u8>,
-    stretch: u32,
+    ahead: ReadAhead,
+    part: Range<u32>,
 }
 
 impl DataBlocks {
     /// Makes the data of an image in which all blocks are taken for data.
-    pub fn all(blocks: u32) -> DataBlocks {
+    pub fn all() -> DataBlocks {
         DataBlocks {
             search: Search::All,
-            blocks,
         }
     }
 
     /// Makes the data of an image that has none.
-    pub fn none(blocks: u32) -> DataBlocks {
+    pub fn none() -> DataBlocks {
         DataBlocks {
             search: Search::None,
-            blocks,
         }
     }
 
-    /// Makes the data of a file, which is read to find it.
-    pub fn in_file(alloc: Global, file: File, blocks: u32) -> Result<DataBlocks, AllocError> {
-        let mut room = Vec::new(alloc);
-        room.resize(512 * STEP as usize, 0)?;
-        Ok(DataBlocks {
+    /// Makes the data of a file, which is read to find it. The image of the file has another handle of what is read.
+    pub(crate) fn in_file(file: File, ahead: ReadAhead) -> DataBlocks {
+        DataBlocks {
             search: Search::Reading(Reading {
                 file,
-                room,
-                stretch: STEP,
+                ahead,
+                part: 0..0,
             }),
-            blocks,
-        })
+        }
     }
 
-    /// Returns the next blocks to read for data, of those from `from` on. Those before them are zeros. There are none
-    /// if the range is empty. Blocks that can't be read are among them.
-    pub fn next(&mut self, from: u32) -> Range<u32>
-        ensures later { from ≤ result.start }
+    /// Returns the next of these blocks that have data. Those before them are zeros. Those after them have not been
+    /// searched. Blocks that can't be read count as data. If there are no next blocks, all before the end of the range
+    /// are zeros.
+    pub fn next(&mut self, blocks: Range<u32>) -> Range<u32>
+        requires some { blocks.start < blocks.end }
+        ensures later { blocks.start ≤ result.start }
         ensures ordered { result.start ≤ result.end }
+        ensures within { result.end ≤ blocks.end }
+        ensures proceeds { blocks.start < result.end }
     {
-        let last = self.blocks.max(from);
         match &mut self.search {
-            Search::All => from..last,
-            Search::None => last..last,
-            Search::Reading(reading) => reading.next(from, last),
+            Search::All => blocks,
+            Search::None => blocks.end..blocks.end,
+            Search::Reading(reading) => reading.next(blocks),
+        }
+    }
+
+    /// Ends the search. The image of the file reads all blocks from the file again.
+    pub fn end(self) {
+        if let Search::Reading(reading) = &self.search {
+            reading.ahead.forget();
         }
     }
 }
 
 impl Reading {
-    // Returns the next blocks to read for data, of those from `from` up to `last`.
-    fn next(&mut self, from: u32, last: u32) -> Range<u32>
-        requires ordered { from ≤ last }
-        ensures later { from ≤ result.start }
+    // Returns the next of these blocks that have data, as far as they are read at once.
+    fn next(&mut self, blocks: Range<u32>) -> Range<u32>
+        requires some { blocks.start < blocks.end }
+        ensures later { blocks.start ≤ result.start }
         ensures ordered { result.start ≤ result.end }
+        ensures within { result.end ≤ blocks.end }
+        ensures proceeds { blocks.start < result.end }
     {
-        let start = self.first_data(from, last);
-        if start != from {
-            self.stretch = STEP;
-        }
-        let end = start.saturating_add(self.stretch).min(last).max(start);
-        self.stretch = self.stretch.saturating_add(self.stretch).min(MOST);
-        start..end
+        let Range { start, end } = blocks;
+        let end = self.read_from(start, end);
+        let data = self.first_piece(start, end, false);
+        let rest = data.saturating_add(PIECE).min(end);
+        data..self.first_piece(rest, end, true)
     }
 
-    // Returns the first block, of those from `from` up to `last`, from which on there are blocks that aren't zeros.
-    fn first_data(&mut self, from: u32, last: u32) -> u32
+    // Reads blocks from one on, of those before `last`, unless it was read already. Returns the block after them.
+    fn read_from(&mut self, block: u32, last: u32) -> u32
+        requires some { block < last }
+        ensures some { block < result }
+        ensures within { result ≤ last }
+    {
+        if block < self.part.start || block >= self.part.end {
+            let count = AHEAD.min(last - block);
+            self.ahead.read(&self.file, byte_of(block), bytes_in(count));
+            self.part = block..block + count;
+        }
+        self.part.end.min(last)
+    }
+
+    // Returns the start of the first piece, of those from a block up to `end`, that is known to be zeros, if `zeros`,
+    // or that isn't, otherwise. Returns `end` if there is none.
+    fn first_piece(&self, from: u32, end: u32, zeros: bool) -> u32
+        requires ordered { from ≤ end }
         ensures later { from ≤ result }
+        ensures within { result ≤ end }
     {
         let mut at = from;
-        for _ in 0..u32::MAX {
-            if at >= last || !self.has_zeros(at, STEP.min(last - at)) {
-                return at;
+        while at < end {
+            let count = PIECE.min(end - at);
+            if self.ahead.has_zeros(byte_of(at), bytes_in(count)) == zeros {
+                break;
             }
-            at = at.saturating_add(STEP).min(last);
+            at += count;
         }
         at
     }
-
-    // Returns whether these blocks can be read, and are zeros.
-    fn has_zeros(&mut self, block: u32, count: u32) -> bool {
-        let bytes = (512 * count as usize).min(self.room.len());
-        let to = &mut self.room.as_mut_slice()[..bytes];
-        reads_zeros(&self.file, to, 512 * u64::from(block))
-    }
 }
 
-// Returns whether bytes of a file can be read, and are zeros.
-fn reads_zeros(file: &File, to: &mut [u8], offset: u64) -> bool {
-    match file.read_exact_at(to, offset) {
-        Ok(()) => to.chunks(PIECE).all(|piece| are_zeros(piece)),
-        Err(_error) => false,
-    }
+// Returns the offset of a block in bytes.
+fn byte_of(block: u32) -> u64 {
+    512 * u64::from(block)
+}
+
+// Returns the number of bytes of that many blocks.
+fn bytes_in(count: u32) -> usize {
+    512 * count as usize
 }

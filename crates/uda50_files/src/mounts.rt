@@ -18,7 +18,7 @@ pub(crate) fn counts_exactly(rt: &HostRuntime, device: u64) -> bool {
 
 // Returns whether a line of `mountinfo` is of this device, and of such a file system.
 fn is_exact_mount(line: &str, device: u64) -> bool {
-    let mut words = line.split_ascii_whitespace();
+    let mut words = line.split(' ');
     let is_device = match words.nth(2) {
         Some(numbers) => device_of(numbers) == Some(device),
         None => false,
@@ -29,7 +29,7 @@ fn is_exact_mount(line: &str, device: u64) -> bool {
 // Returns whether a line of `mountinfo` has such a file system. Its type follows a word that is a hyphen.
 fn is_exact_type(line: &str) -> bool {
     match line.split_once(" - ") {
-        Some((_, rest)) => match rest.split_ascii_whitespace().next() {
+        Some((_, rest)) => match rest.split(' ').next() {
             Some(name) => EXACT.iter().any(|exact| *exact == name),
             None => false,
         },

@@ -2,6 +2,7 @@
 ghost use Rattle.std.specs.Prelude.{◌≤◌};
 ghost use Rattle.uda_image.specs.Limits.{store_limit};
 
+use crate::ahead::ReadAhead;
 use crate::data::DataBlocks;
 use crate::failures::Failures;
 use crate::mounts::counts_exactly;
@@ -111,18 +112,6 @@ impl OpenImageFile {
         self.blocks
     }
 
-    /// Returns the blocks that have data. A file without blocks on the disk has none, if its file system counts them
-    /// exactly.
-    pub fn data(&self, rt: &HostRuntime) -> io::Result<DataBlocks> {
-        let metadata = self.file.metadata()?;
-        let is_large = metadata.len() > MOST_INLINE;
-        if is_large && metadata.blocks() == 0 && counts_exactly(rt, metadata.dev()) {
-            return Ok(DataBlocks::none(self.blocks));
-        }
-        let file = self.file.try_clone()?;
-        Ok(DataBlocks::in_file(rt.alloc(), file, self.blocks)?)
-    }
-
     /// Makes an image of the file, which notes its failures here. Blocks of zeros are written as all others.
     pub fn into_image(self, failures: &Failures) -> Result<Image, AllocError> {
         let OpenImageFile {
@@ -130,10 +119,54 @@ impl OpenImageFile {
             blocks,
             access,
         } = self;
-        let length = 512 * u64::from(blocks);
-        let file = SparseFile::dense(NotingFile::new(file, failures.share()?), length);
-        Ok(FileImage::over(file, blocks.min(STORE_LIMIT), access.writes()))
+        let file = NotingFile::new(file, failures.share()?);
+        Ok(image_over(file, blocks, access.writes()))
     }
+
+    /// Makes an image of the file, which is only read and notes its failures here, and finds its data. The image
+    /// takes what was read to find data.
+    pub fn into_searched_image(
+        self,
+        rt: &HostRuntime,
+        failures: &Failures,
+    ) -> io::Result<SearchedImage> {
+        let OpenImageFile { file, blocks, .. } = self;
+        let failures = failures.share()?;
+        if is_one_hole(rt, &file.metadata()?) {
+            return Ok(SearchedImage {
+                image: image_over(NotingFile::new(file, failures), blocks, false),
+                data: DataBlocks::none(),
+            });
+        }
+        let ahead = ReadAhead::empty(rt.alloc())?;
+        let searched = file.try_clone()?;
+        let file = NotingFile::with_ahead(file, failures, ahead.share()?);
+        Ok(SearchedImage {
+            image: image_over(file, blocks, false),
+            data: DataBlocks::in_file(searched, ahead),
+        })
+    }
+}
+
+/// An image, and the blocks of it that have data.
+#[derive(Drop)]
+pub struct SearchedImage {
+    /// The image.
+    pub image: Image,
+    /// Its data.
+    pub data: DataBlocks,
+}
+
+// Returns whether a file has no blocks on the disk, and so no data, if its file system counts them exactly.
+fn is_one_hole(rt: &HostRuntime, metadata: &Metadata) -> bool {
+    let is_large = metadata.len() > MOST_INLINE;
+    is_large && metadata.blocks() == 0 && counts_exactly(rt, metadata.dev())
+}
+
+// Makes an image of that many blocks over a file, in which blocks of zeros are written as all others.
+fn image_over(file: NotingFile, blocks: u32, writes: bool) -> Image {
+    let file = SparseFile::dense(file, 512 * u64::from(blocks));
+    FileImage::over(file, blocks.min(STORE_LIMIT), writes)
 }
 
 /// A file that becomes an image, of any length, with its lock.

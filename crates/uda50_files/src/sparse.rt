@@ -1,14 +1,14 @@
 //! Files in which blocks of zeros become holes.
 ghost use Rattle.std.specs.Prelude.{◌≡◌, ◌+◌, ◌≤◌, true, None, Some, length, IfSome};
 ghost use Rattle.uda_mem.specs.Put.{put};
-ghost use Rattle.uda50_files.specs.Zeros.{AreZeros, EndsInZeros};
+ghost use Rattle.uda50_files.specs.Zeros.{AreZeros, AreAtMost, EndsInZeros};
 
 use std::io;
 use std::marker::Model;
 use uda_image::RawFile;
 
-/// Zeros to compare with: as many as one transfer has.
-static ZEROS: [u8; 16_384] = [0; 16_384];
+/// The number of bytes of which all are looked at before the next, so that a processor looks at many at once.
+const CHUNK: usize = 512;
 
 /// A file in which zeros aren't written where it holds zeros already. So a new file has a hole there.
 ///
@@ -40,7 +40,7 @@ impl<F: RawFile> Model for SparseFile<F> {
 }
 
 impl<F: RawFile> SparseFile<F> {
-    /// Makes a file of `length` bytes that is written as it is told.
+    /// Makes a file of `length` bytes in which zeros are written as all other bytes.
     pub fn dense(file: F, length: u64) -> SparseFile<F>
         ensures file { result ≡ record { content = F.content file; length = length; zeros_from = None } }
     {
@@ -90,12 +90,30 @@ impl<F: RawFile> SparseFile<F> {
     }
 }
 
-/// Returns whether these bytes, if they aren't more than one transfer has, are zeros.
-#[tactic(auto, using(crate::proofs::ZeroLaws::zero_laws))]
+/// Returns whether these bytes are zeros.
 pub(crate) fn are_zeros(bytes: &[u8]) -> bool
     ensures zeros { result ≡ true → AreZeros bytes.now }
 {
-    bytes.len() <= ZEROS.len() && bytes == &ZEROS[..bytes.len()]
+    let mut at = 0;
+    while at < bytes.len() {
+        let end = at.saturating_add(CHUNK).min(bytes.len());
+        if largest(&bytes[at..end]) > 0 {
+            return false;
+        }
+        at = end;
+    }
+    true
+}
+
+// Returns the largest of some bytes, or 0 if there are none.
+fn largest(bytes: &[u8]) -> u8
+    ensures largest { AreAtMost result (length bytes.now) bytes.now }
+{
+    let mut largest = 0;
+    for byte in bytes {
+        largest = largest.max(*byte);
+    }
+    largest
 }
 
 impl<F: RawFile> RawFile for SparseFile<F> {

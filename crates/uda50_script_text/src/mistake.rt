@@ -91,10 +91,11 @@ impl Foreign {
     }
 }
 
-/// Writes a text such as `U+00A0` or `byte 0xff`.
+/// Writes a text such as `U+00A0` or `byte 0xff`. The name of a carriage return follows its number.
 impl fmt::Display for Foreign {
     fn fmt<W: fmt::Write>(&self, f: &mut fmt::Formatter<W>) -> fmt::Result {
         match self {
+            Foreign::Character('\r') => f.write_str("U+000D, a carriage return"),
             Foreign::Character(character) => write!(f, "U+{:04X}", u32::from(*character)),
             Foreign::Byte(byte) => write!(f, "byte {byte:#04x}"),
         }

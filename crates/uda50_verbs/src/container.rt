@@ -9,7 +9,7 @@ use uda50_show::ContainerRecord;
 /// Returns the record in the last block of an image. A block that can't be read has none.
 pub(crate) fn last_record(image: &mut NamedImage<'_>) -> Option<ContainerRecord> {
     let last = image.size().checked_sub(1)?;
-    let block = image.read_block_or_zeros(last).ok()?;
+    let block = image.block_or_zeros(last).ok()?;
     ContainerRecord::read(&block)
 }
 

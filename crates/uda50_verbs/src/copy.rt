@@ -1,4 +1,5 @@
 //! `uda50 copy`: copies an image to another through the controller.
+ghost use Rattle.std.specs.Prelude.{◌<◌};
 
 use crate::copy_record::{CopyRecord, EndedRecord};
 use crate::fault::{Fault, Reason};
@@ -18,7 +19,7 @@ use uda_driver::Driver;
 use uda_image::{Drive, StoreError};
 use uda50_arguments::Copy;
 use uda50_copy::{Copier, CopyError, Side};
-use uda50_files::{Access, DataBlocks, Failures, Image, OpenImageFile, TargetFile};
+use uda50_files::{Access, DataBlocks, Failures, Image, OpenImageFile, SearchedImage, TargetFile};
 use uda50_map::BlockMap;
 
 /// Copies blocks of an image to the same block numbers of another image. With `--verify`, it then compares
@@ -133,20 +134,27 @@ impl<'a, 'w> ImageCopy<'a, 'w> {
         fault.print(self.rt);
         let state = self.state;
         let map = MapFile::of(self.copy, self.plan);
-        if self.plan.is_untouched(state.copied.get(), &state.target) {
+        if self.is_untouched() {
             map.remove(self.rt)?;
             self.part.undo(self.rt, self.plan)?;
             return Ok(Outcome::FaultReported);
         }
         match state.phase.get() {
             Phase::Starting => {}
-            Phase::Copying => self.part.tell(self.rt, true)?,
+            Phase::Copying => self.part.tell(self.rt, true, &state.target)?,
             Phase::Completing => {
                 map.forget(self.rt, self.blocks.start..self.blocks.end)?;
-                self.part.tell(self.rt, false)?;
+                self.part.tell(self.rt, false, &state.target)?;
             }
         }
         Ok(Outcome::FaultReported)
+    }
+
+    // Returns whether the target is as it was before. The length of an existing one is set last.
+    fn is_untouched(&self) -> bool {
+        let state = self.state;
+        let has_length = self.plan == Plan::Overwrite && state.phase.get() == Phase::Completing;
+        !has_length && self.plan.is_untouched(state.copied.get(), &state.target)
     }
 
     // Copies, and completes the target.
@@ -167,11 +175,13 @@ impl<'a, 'w> ImageCopy<'a, 'w> {
         target: TargetFile,
         file: &File,
     ) -> Result<EndedRecord<'w>, Fault<'w>> {
-        let data = self.data(&source)?;
+        let SearchedImage {
+            image: source,
+            data,
+        } = self.searched(source)?;
         let record = self.record()?;
         let state = self.state;
         state.phase.set(Phase::Copying);
-        let source = source.into_image(&state.source)?;
         let target = target.into_image(self.size, self.zeros_from < self.size, &state.target)?;
         let mut copier = self.copier(source, target)?;
         let ended = self.copy_blocks(&mut copier, record, data)?;
@@ -189,6 +199,7 @@ impl<'a, 'w> ImageCopy<'a, 'w> {
         mut data: DataBlocks,
     ) -> Result<EndedRecord<'w>, Fault<'w>> {
         let copied = self.copy_unfinished(copier, &mut record, &mut data);
+        data.end();
         let ended = record.end();
         match copied {
             Ok(()) => ended,
@@ -196,14 +207,18 @@ impl<'a, 'w> ImageCopy<'a, 'w> {
         }
     }
 
-    // Returns the blocks to read. Blocks of zeros are left out if the target has zeros there.
-    fn data(&self, source: &OpenImageFile) -> Result<DataBlocks, Fault<'w>> {
+    // Makes an image of the source, and finds its data. All blocks are data unless the target has zeros already.
+    fn searched(&self, source: OpenImageFile) -> Result<SearchedImage, Fault<'w>> {
         let copy = self.copy;
+        let failures = &self.state.source;
         if self.zeros_from < self.size {
-            Fault::of_call(copy.from.path, source.data(self.rt))
-        } else {
-            Ok(DataBlocks::all(self.size))
+            let searched = source.into_searched_image(self.rt, failures);
+            return Fault::of_call(copy.from.path, searched);
         }
+        Ok(SearchedImage {
+            image: source.into_image(failures)?,
+            data: DataBlocks::all(),
+        })
     }
 
     // Makes the record of the copy. An existing file that will be overwritten gets its other name, if the map is saved.
@@ -269,20 +284,27 @@ impl<'a, 'w> ImageCopy<'a, 'w> {
                 Some(blocks) if blocks.start < last => blocks.start..blocks.end.min(last),
                 _ => return Ok(()),
             };
-            let found = if blocks.start < self.zeros_from {
-                blocks.start..self.zeros_from
-            } else {
-                data.next(blocks.start)
-            };
-            let start = found.start.min(blocks.end);
-            let end = found.end.min(blocks.end);
-            record.skip(blocks.start..start)?;
+            let from = blocks.start;
+            let Range { start, end } = self.next_data(data, blocks);
+            record.skip(from..start)?;
             if start < end {
                 self.copy_data(copier, record, start..end)?;
             }
             at = end;
         }
         Ok(())
+    }
+
+    // Returns the next of these blocks to copy, of which there is one at least. The others before the end of the result
+    // are zeros in both images.
+    fn next_data(&self, data: &mut DataBlocks, blocks: Range<u32>) -> Range<u32>
+        requires some { blocks.start < blocks.end }
+    {
+        if blocks.start < self.zeros_from {
+            blocks.start..blocks.end.min(self.zeros_from)
+        } else {
+            data.next(blocks)
+        }
     }
 
     // Copies blocks.

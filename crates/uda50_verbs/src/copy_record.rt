@@ -1,4 +1,6 @@
 //! The record of a copy: its map, and its progress.
+ghost use Rattle.std.specs.Prelude.{IfSome};
+ghost use Rattle.uda50_map.specs.Status.{AreLater};
 
 use crate::fault::Fault;
 use crate::map_file::{SavedMap, Saving};
@@ -10,8 +12,12 @@ use std::ops::Range;
 use uda50_copy::Observer;
 use uda50_map::BlockStatus;
 
-/// The number of runs after which a map is saved.
-const SAVED_RUNS: u32 = 16;
+/// The number of blocks after which a map is saved. With those of the run that reaches it, at most 32,768 blocks
+/// aren't saved.
+const SAVED_BLOCKS: u32 = 30_720;
+
+/// The number of blocks after which it is saved, if some of them are lost: those of the longest run.
+const SAVED_WITH_LOST: u32 = 2_048;
 
 /// What a copy has done: the map of its blocks, which it saves in a file, and the lines of its progress.
 #[derive(Drop)]
@@ -21,10 +27,12 @@ pub(crate) struct CopyRecord<'r, 'w> {
     saved: SavedMap<'w>,
     // The number of blocks that were copied.
     copied: &'r Cell<u32>,
-    // The current run: its first block, its lost blocks, and the number of runs since the map was saved.
+    // The current run: its first block, and its lost blocks.
     from: u32,
     lost: Vec<u32>,
-    runs: u32,
+    // The number of blocks that the copy has done since the map was saved, and whether some of them are lost.
+    unsaved: u32,
+    has_lost: bool,
     // What kept the record from noting a run.
     failed: Result<(), Fault<'w>>,
 }
@@ -44,20 +52,28 @@ impl<'r, 'w> CopyRecord<'r, 'w> {
             copied,
             from: 0,
             lost: Vec::new(rt.alloc()),
-            runs: 0,
+            unsaved: 0,
+            has_lost: false,
             failed: Ok(()),
         }
     }
 
     /// Returns the next blocks that are not copied, of those from `from` on.
-    pub(crate) fn next(&self, from: u32) -> Option<Range<u32>> {
+    pub(crate) fn next(&self, from: u32) -> Option<Range<u32>>
+        ensures later { IfSome result (λ blocks. AreLater from blocks.start blocks.end) }
+    {
         self.saved.map.next_unfinished(from)
     }
 
     /// Notes that these blocks are zeros in both images, and that the copy goes on after them.
     pub(crate) fn skip(&mut self, blocks: Range<u32>) -> Result<(), Fault<'w>> {
-        self.from = blocks.end;
-        self.saved.map.set(blocks, BlockStatus::Finished)?;
+        let Range { start, end } = blocks;
+        self.from = start;
+        if start < end {
+            self.finish(end)?;
+            self.progress.reached(end);
+            self.save_if_due()?;
+        }
         Ok(())
     }
 
@@ -81,24 +97,39 @@ impl<'r, 'w> CopyRecord<'r, 'w> {
 
     // Notes the blocks of a run.
     fn note_run(&mut self, end: u32) -> Result<(), Fault<'w>> {
-        self.saved.map.set(self.from..end, BlockStatus::Finished)?;
+        let blocks = end.saturating_sub(self.from);
+        self.copied.set(self.copied.get().saturating_add(blocks));
+        self.finish(end)?;
         let lost = mem::replace(&mut self.lost, Vec::new(self.rt.alloc()));
+        self.has_lost |= !lost.is_empty();
         for block in lost.iter() {
             self.saved
                 .map
                 .set(*block..block.saturating_add(1), BlockStatus::Bad)?;
         }
+        self.save_if_due()
+    }
+
+    // Notes that the blocks up to `end` are done.
+    fn finish(&mut self, end: u32) -> Result<(), Fault<'w>> {
         let blocks = end.saturating_sub(self.from);
-        self.copied.set(self.copied.get().saturating_add(blocks));
+        self.saved.map.set(self.from..end, BlockStatus::Finished)?;
+        self.unsaved = self.unsaved.saturating_add(blocks);
         self.from = end;
-        self.runs = self.runs.saturating_add(1);
+        Ok(())
+    }
+
+    // Saves the map if it is time.
+    fn save_if_due(&mut self) -> Result<(), Fault<'w>> {
         let is_due = match self.saved.saving {
             Saving::Never => false,
-            Saving::IfLost => !lost.is_empty(),
-            Saving::Regularly => !lost.is_empty() || self.runs >= SAVED_RUNS,
+            Saving::IfLost => self.has_lost,
+            Saving::Regularly if self.has_lost => self.unsaved >= SAVED_WITH_LOST,
+            Saving::Regularly => self.unsaved >= SAVED_BLOCKS,
         };
         if is_due {
-            self.runs = 0;
+            self.unsaved = 0;
+            self.has_lost = false;
             let SavedMap { map, file, .. } = &self.saved;
             file.save(self.rt, map)?;
         }

@@ -50,10 +50,11 @@ fn dump_blocks<'w, W: Write + Drop>(
     out: &mut BufWriter<W>,
 ) -> Result<Outcome, Fault<'w>> {
     let mut printer = BlockPrinter::new(dump);
+    let mut bytes = [0; 512];
     let end = blocks.end;
     for block in blocks {
-        match image.read_block_or_zeros(block) {
-            Ok(bytes) => printer.print(out, u64::from(block), &bytes)?,
+        match image.read_block(block, &mut bytes) {
+            Ok(()) => printer.print(out, u64::from(block), &bytes)?,
             Err(fault) => {
                 printer.end(out, u64::from(block))?;
                 return Err(fault);

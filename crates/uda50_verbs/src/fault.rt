@@ -30,6 +30,8 @@ fn verb_of(error: StoreError) -> &'static str {
 /// An option of `copy` that needs two images.
 #[derive(Clone, Copy, Debug, PartialEq, Eq)]
 pub enum CopyOption {
+    /// `--continue`
+    Continue,
     /// `--verify`
     Verify,
     /// `--resume`
@@ -41,6 +43,7 @@ pub enum CopyOption {
 impl fmt::Display for CopyOption {
     fn fmt<W: fmt::Write>(&self, f: &mut fmt::Formatter<W>) -> fmt::Result {
         f.write_str(match self {
+            CopyOption::Continue => "--continue",
             CopyOption::Verify => "--verify",
             CopyOption::Resume => "--resume",
             CopyOption::Map => "--map",
@@ -88,6 +91,25 @@ impl Suffix {
             Suffix::Map => ".map",
             Suffix::PartMap => ".part.map",
         }
+    }
+}
+
+/// The length of a stream that ended.
+#[derive(Clone, Copy, Debug, PartialEq, Eq)]
+pub struct StreamLength {
+    /// The number of its whole blocks.
+    pub blocks: u32,
+    /// The number of the bytes after them.
+    pub bytes: usize,
+}
+
+/// Writes a text such as `1 block and 488 bytes`.
+impl fmt::Display for StreamLength {
+    fn fmt<W: fmt::Write>(&self, f: &mut fmt::Formatter<W>) -> fmt::Result {
+        let blocks = if self.blocks == 1 { "block" } else { "blocks" };
+        let bytes = if self.bytes == 1 { "byte" } else { "bytes" };
+        let whole = Grouped(u64::from(self.blocks));
+        write!(f, "{whole} {blocks} and {} {bytes}", self.bytes)
     }
 }
 
@@ -192,6 +214,9 @@ pub enum Reason {
     /// A map of blocks can't be read.
     #[error("{0}")]
     Map(MapError),
+    /// A map is not a text.
+    #[error("the map is not a text in UTF-8")]
+    MapIsNoText,
     /// A map has blocks that the source doesn't have.
     #[error("the map is not one of the blocks to copy")]
     MapOfOther,
@@ -214,13 +239,8 @@ pub enum Reason {
     #[error("{0} needs images, and not a stream")]
     NeedsImages(CopyOption),
     /// A stream ended before the last block.
-    #[error("ended after {} blocks and {bytes} bytes", Grouped(u64::from(*.blocks)))]
-    Ended {
-        /// The number of its whole blocks.
-        blocks: u32,
-        /// The number of the bytes after them.
-        bytes: usize,
-    },
+    #[error("ended after {0}")]
+    Ended(StreamLength),
     /// A stream can't be read.
     #[error("cannot be read")]
     Unreadable,

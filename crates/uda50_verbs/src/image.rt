@@ -39,15 +39,28 @@ impl<'w> NamedImage<'w> {
     }
 
     /// Reads a block. Returns zeros if the image doesn't have it.
-    pub(crate) fn read_block_or_zeros(&mut self, block: u32) -> Result<[u8; 512], Fault<'w>> {
+    pub(crate) fn block_or_zeros(&mut self, block: u32) -> Result<[u8; 512], Fault<'w>> {
         let mut bytes = [0; 512];
+        if block < self.size() {
+            self.read_block(block, &mut bytes)?;
+        }
+        Ok(bytes)
+    }
+
+    /// Reads a block of the image into `to`.
+    pub(crate) fn read_block(&mut self, block: u32, to: &mut [u8; 512]) -> Result<(), Fault<'w>> {
         if block >= self.image.size() {
-            return Ok(bytes);
+            return Err(self.fault_of(block));
         }
-        match self.image.read(block, &mut bytes) {
-            Ok(()) => Ok(bytes),
-            Err(error) => Err(block_fault(self.path, block, error, &self.failures)),
+        match self.image.read(block, to) {
+            Ok(()) => Ok(()),
+            Err(_error) => Err(self.fault_of(block)),
         }
+    }
+
+    // Returns the fault of a block that can't be read.
+    fn fault_of(&self, block: u32) -> Fault<'w> {
+        block_fault(self.path, block, StoreError::Read, &self.failures)
     }
 }
 

@@ -112,9 +112,9 @@ fn read_facts<'w>(rt: &HostRuntime, name: ImageName<'w>) -> Result<ImageFacts<'w
 // Reads the blocks that can hold a structure.
 fn read_structures<'w>(image: &mut NamedImage<'w>) -> Result<StructureBlocks, Fault<'w>> {
     Ok(StructureBlocks {
-        zero: image.read_block_or_zeros(0)?,
-        one: image.read_block_or_zeros(1)?,
-        thirty_one: image.read_block_or_zeros(31)?,
+        zero: image.block_or_zeros(0)?,
+        one: image.block_or_zeros(1)?,
+        thirty_one: image.block_or_zeros(31)?,
     })
 }
 

@@ -92,6 +92,9 @@ impl<'w> MapFile<'w> {
         let text = match fs::read_to_string(rt, path.as_str()) {
             Ok(text) => text,
             Err(error) if error.kind() == ErrorKind::NotFound => return Ok(None),
+            Err(error) if error.kind() == ErrorKind::InvalidData => {
+                return Err(self.fault(self.during, Reason::MapIsNoText));
+            }
             Err(error) => return Err(self.fault(self.during, Reason::of(error))),
         };
         match BlockMap::parse(rt.alloc(), text.as_str()) {

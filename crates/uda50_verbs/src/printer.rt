@@ -39,7 +39,7 @@ impl BlockPrinter {
         bytes: &[u8; 512],
     ) -> io::Result<()> {
         match &mut self.squeeze {
-            None => print_block(out, (number, bytes), self.format, false),
+            None => print_block(out, (number, bytes), self.format),
             Some(squeeze) => print_squeezed(out, squeeze, (number, bytes), self.format),
         }
     }
@@ -66,7 +66,7 @@ fn print_squeezed<W: Write + Drop>(
     }
     print_left_out(out, squeeze, number)?;
     squeeze.note_printed(number, bytes);
-    print_block(out, (number, bytes), format, true)?;
+    print_rows(out, (number, bytes), format, has_repeated_rows(bytes))?;
     if repeats {
         out.flush()?;
     }
@@ -85,27 +85,62 @@ fn print_left_out<W: Write + Drop>(
     }
 }
 
-// Prints a block, or writes its bytes. A squeezed dump leaves out the rows that repeat.
+// Prints a block, or writes its bytes.
 fn print_block<W: Write + Drop>(
     out: &mut BufWriter<W>,
     (number, bytes): (u64, &[u8; 512]),
     format: DumpFormat,
+) -> io::Result<()> {
+    match format {
+        DumpFormat::Raw { .. } => out.write_all(bytes),
+        _ => print_rows(out, (number, bytes), format, false),
+    }
+}
+
+// Returns whether some row of a block repeats the row before it.
+#[inline(never)]
+fn has_repeated_rows(block: &[u8; 512]) -> bool {
+    for row in 0..32 {
+        if RowForm::of(block, row) != RowForm::Printed {
+            return true;
+        }
+    }
+    false
+}
+
+// Prints the rows of a block. If it `squeezes`, it leaves out those that repeat.
+fn print_rows<W: Write + Drop>(
+    out: &mut BufWriter<W>,
+    (number, block): (u64, &[u8; 512]),
+    format: DumpFormat,
     squeezes: bool,
 ) -> io::Result<()> {
-    if let DumpFormat::Raw { .. } = format {
-        return out.write_all(bytes);
-    }
     writeln!(out, "block {number}")?;
     for row in 0..32u16 {
-        if !squeezes || !put_repeated(out, bytes, row)? {
-            put_row(out, bytes, row, format)?;
+        if squeezes && put_repeated(out, block, row)? {
+            continue;
+        }
+        let offset = 16 * row;
+        let start = usize::from(offset);
+        let mut bytes = [0; 16];
+        bytes.copy_from_slice(&block[start..start + 16]);
+        if format == DumpFormat::Octal {
+            let row = OctalRow { offset, bytes };
+            let mut line = [b'\n'; 81];
+            line[..80].copy_from_slice(&row.text());
+            put_line(out, &line, &row)?;
+        } else {
+            let row = HexRow { offset, bytes };
+            let mut line = [b'\n'; 73];
+            line[..72].copy_from_slice(&row.text());
+            put_line(out, &line, &row)?;
         }
     }
     Ok(())
 }
 
-// Returns whether a row repeats the row before it. Writes the line that stands for such rows at the first of them.
-#[inline(always)]
+// Returns whether a row repeats the row before it. At the first of such rows it writes their line.
+#[inline(never)]
 fn put_repeated<W: Write + Drop>(
     out: &mut BufWriter<W>,
     block: &[u8; 512],
@@ -119,57 +154,6 @@ fn put_repeated<W: Write + Drop>(
         RowForm::LeftOut => {}
     }
     Ok(true)
-}
-
-// Writes the line of a row.
-#[inline(always)]
-fn put_row<W: Write + Drop>(
-    out: &mut BufWriter<W>,
-    block: &[u8; 512],
-    row: u16,
-    format: DumpFormat,
-) -> io::Result<()>
-    requires { row < 32 }
-{
-    let offset = 16 * row;
-    let start = usize::from(offset);
-    let mut bytes = [0; 16];
-    bytes.copy_from_slice(&block[start..start + 16]);
-    if format == DumpFormat::Octal {
-        put_octal(out, offset, bytes)
-    } else {
-        put_hexadecimal(out, offset, bytes)
-    }
-}
-
-// Writes the line of a row in octal.
-#[inline(always)]
-fn put_octal<W: Write + Drop>(
-    out: &mut BufWriter<W>,
-    offset: u16,
-    bytes: [u8; 16],
-) -> io::Result<()>
-    requires { offset < 512 }
-{
-    let row = OctalRow { offset, bytes };
-    let mut line = [b'\n'; 81];
-    line[..80].copy_from_slice(&row.text());
-    put_line(out, &line, &row)
-}
-
-// Writes the line of a row in hexadecimal.
-#[inline(always)]
-fn put_hexadecimal<W: Write + Drop>(
-    out: &mut BufWriter<W>,
-    offset: u16,
-    bytes: [u8; 16],
-) -> io::Result<()>
-    requires { offset < 512 }
-{
-    let row = HexRow { offset, bytes };
-    let mut line = [b'\n'; 73];
-    line[..72].copy_from_slice(&row.text());
-    put_line(out, &line, &row)
 }
 
 // Writes the line of a row. A line that doesn't fit into the buffer goes to it in the pieces of the row's

@@ -2,7 +2,7 @@
 ghost use Rattle.std.specs.Prelude.{◌≤◌};
 
 use crate::copy::blocks_to_copy;
-use crate::fault::{CopyOption, Fault, Reason, STANDARD_INPUT, STANDARD_OUTPUT};
+use crate::fault::{CopyOption, Fault, Reason, STANDARD_INPUT, STANDARD_OUTPUT, StreamLength};
 use crate::image::{NamedImage, block_fault};
 use crate::map_file::MapFile;
 use crate::outcome::Outcome;
@@ -44,6 +44,10 @@ pub(crate) fn copy_from_stream<'w>(
     copy: &Copy<'w>,
 ) -> Result<Outcome, Fault<'w>> {
     let name = stream_name(copy.from.path);
+    if copy.skips_lost {
+        let option = Reason::NeedsImages(CopyOption::Continue);
+        return Err(Fault::new(name, option));
+    }
     check_options(copy, name)?;
     if copy.from.is_stream() {
         return take_stream(rt, copy, name, rt.stdin());
@@ -114,7 +118,7 @@ fn take_stream<'w, R: Read + Drop>(
             if plan.is_untouched(blocks, &failures) {
                 part.undo(rt, plan)?;
             } else {
-                part.tell(rt, false)?;
+                part.tell(rt, false, &failures)?;
             }
             Ok(Outcome::FaultReported)
         }
@@ -239,13 +243,13 @@ impl<'a, 'w, R: Read> StreamCopy<'a, 'w, R> {
     fn end(&self, bytes: usize) -> Result<(), Fault<'w>> {
         match self.copy.blocks {
             None if bytes == 0 => Ok(()),
-            _ => Err(Fault::new(
-                self.name,
-                Reason::Ended {
+            _ => {
+                let length = StreamLength {
                     blocks: self.at,
                     bytes,
-                },
-            )),
+                };
+                Err(Fault::new(self.name, Reason::Ended(length)))
+            }
         }
     }
 }
@@ -259,6 +263,9 @@ pub(crate) fn copy_to_output<'w, W: Write + Drop>(
     let mut image = NamedImage::open(rt, copy.from)?;
     let blocks = blocks_to_copy(copy, image.size())?;
     check_options(copy, STANDARD_OUTPUT)?;
+    if copy.device.is_some() {
+        return Err(Fault::new(STANDARD_OUTPUT, Reason::OtherDevice));
+    }
     if !copy.force && rt.stdout().is_terminal() {
         return Err(Fault::new(STANDARD_OUTPUT, Reason::Terminal));
     }
@@ -291,9 +298,10 @@ fn write_all<'w, W: Write + Drop>(
     progress: &mut CopyProgress<'_, 'w>,
     out: &mut BufWriter<W>,
 ) -> Result<(), Fault<'w>> {
+    let mut bytes = [0; BLOCK];
     for block in blocks {
-        match image.read_block_or_zeros(block) {
-            Ok(bytes) => to_output(out.write_all(&bytes))?,
+        match image.read_block(block, &mut bytes) {
+            Ok(()) => to_output(out.write_all(&bytes))?,
             Err(_fault) if skips_lost => {
                 progress.lost(block);
                 to_output(out.write_all(&[0; BLOCK]))?;

@@ -150,6 +150,8 @@ pub(crate) struct PartName<'w> {
     in_use: Cell<bool>,
     // Whether no file had the path.
     is_new: bool,
+    // Whether it is a device, which has no other name.
+    is_device: bool,
 }
 
 impl<'w> PartName<'w> {
@@ -159,6 +161,7 @@ impl<'w> PartName<'w> {
             path: copy.to.path,
             in_use: Cell::new(matches!(plan, Plan::New | Plan::Resume)),
             is_new: plan == Plan::New,
+            is_device: copy.device.is_some(),
         }
     }
 
@@ -207,8 +210,18 @@ impl<'w> PartName<'w> {
         self.give_back(rt)
     }
 
-    /// Prints a line that tells what is left of an incomplete target, and whether `--resume` can go on with it.
-    pub(crate) fn tell(&self, rt: &HostRuntime, resumable: bool) -> Result<(), Fault<'w>> {
+    /// Prints a line that tells what is left of an incomplete target, and whether `--resume` can go on with it. It also
+    /// names a device that was written.
+    pub(crate) fn tell(
+        &self,
+        rt: &HostRuntime,
+        resumable: bool,
+        target: &Failures,
+    ) -> Result<(), Fault<'w>> {
+        if self.is_device && target.was_written() {
+            let device = EscapedName(self.path);
+            let _ = eprintln!(rt; "uda50: {device}: is the incomplete copy");
+        }
         if self.in_use.get() {
             let part = part_of(rt, self.path)?;
             let resume = if resumable {

@@ -1,5 +1,5 @@
 //! The blocks of a file that have data.
-ghost use Rattle.std.specs.Prelude.{◌<◌, ◌≤◌};
+ghost use Rattle.std.specs.Prelude.{◌<◌, ◌≤◌, max};
 
 use crate::ahead::{AHEAD_BYTES, ReadAhead};
 use std::alloc::{AllocError, Global};
@@ -65,18 +65,21 @@ impl DataBlocks {
 
     /// Returns the next of these blocks that have data. Those before them are zeros. Those after them have not been
     /// searched. Blocks that can't be read count as data. If there are no next blocks, all before the end of the range
-    /// are zeros.
+    /// are zeros. Of no blocks there is none with data.
     pub fn next(&mut self, blocks: Range<u32>) -> Range<u32>
-        requires some { blocks.start < blocks.end }
         ensures later { blocks.start ≤ result.start }
         ensures ordered { result.start ≤ result.end }
-        ensures within { result.end ≤ blocks.end }
-        ensures proceeds { blocks.start < result.end }
+        ensures within { result.end ≤ max blocks.start blocks.end }
+        ensures proceeds { blocks.start < blocks.end → blocks.start < result.end }
     {
+        let Range { start, end } = blocks;
+        if start >= end {
+            return start..start;
+        }
         match &mut self.search {
-            Search::All => blocks,
-            Search::None => blocks.end..blocks.end,
-            Search::Reading(reading) => reading.next(blocks),
+            Search::All => start..end,
+            Search::None => end..end,
+            Search::Reading(reading) => reading.next(start..end),
         }
     }
 

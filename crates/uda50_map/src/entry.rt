@@ -1,6 +1,6 @@
 //! Ranges of blocks with one status.
 ghost use Rattle.std.specs.Prelude.{◌≡◌, ◌≤◌, ◌↔◌, min, max, true, IsTrue};
-ghost use Rattle.uda50_map.specs.Status.{status_character};
+ghost use Rattle.uda50_map.specs.Status.{status_character, status_of};
 
 use std::fmt;
 
@@ -28,7 +28,9 @@ impl BlockStatus {
     }
 
     /// Returns the status of a character. Blocks that were read in part have not been tried one by one.
-    pub fn of_character(text: &str) -> Option<BlockStatus> {
+    pub fn of_character(text: &str) -> Option<BlockStatus>
+        ensures value { result ≡ status_of text.now }
+    {
         match text {
             "?" | "*" | "/" => Some(BlockStatus::NonTried),
             "-" => Some(BlockStatus::Bad),
@@ -61,6 +63,7 @@ impl MapEntry {
     pub fn is_followed_by(&self, entry: &MapEntry) -> bool
         ensures status { result ≡ true → self.now.status ≡ entry.now.status }
         ensures end { result ≡ true → self.now.end ≡ entry.now.start }
+        ensures followed { self.now.status ≡ entry.now.status → self.now.end ≡ entry.now.start → result ≡ true }
     {
         self.status == entry.status && self.end == entry.start
     }

@@ -123,12 +123,12 @@ fn append_set(
         else statuses_at (entry ∷ []) block)) }
 {
     let Range { start, end } = *blocks;
-    let changed = MapEntry {
+    let inside = MapEntry {
         status,
         ..entry.from(start).before(end)
     };
     append(entries, entry.before(start))?;
-    append(entries, changed)?;
+    append(entries, inside)?;
     append(entries, entry.from(end.max(start)))
 }
 

@@ -1,5 +1,4 @@
 //! `uda50 copy`: copies an image to another through the controller.
-ghost use Rattle.std.specs.Prelude.{◌<◌};
 
 use crate::copy_record::{CopyRecord, EndedRecord};
 use crate::fault::{Fault, Reason};
@@ -295,11 +294,8 @@ impl<'a, 'w> ImageCopy<'a, 'w> {
         Ok(())
     }
 
-    // Returns the next of these blocks to copy, of which there is one at least. The others before the end of the result
-    // are zeros in both images.
-    fn next_data(&self, data: &mut DataBlocks, blocks: Range<u32>) -> Range<u32>
-        requires some { blocks.start < blocks.end }
-    {
+    // Returns the next of these blocks to copy. The others before the end of the result are zeros in both images.
+    fn next_data(&self, data: &mut DataBlocks, blocks: Range<u32>) -> Range<u32> {
         if blocks.start < self.zeros_from {
             blocks.start..blocks.end.min(self.zeros_from)
         } else {

@@ -1,5 +1,5 @@
 //! Reading of the lines of a text, and printing of the packets that they complete.
-ghost use Rattle.std.specs.Prelude.{◌≡◌, ◌+◌, ◌<◌, min, true, IfOk, IfErr};
+ghost use Rattle.std.specs.Prelude.{◌≡◌, ◌<◌, true, IfOk, IfErr};
 ghost use Rattle.uda50_decode.specs.Errors.{IsCounted};
 
 use crate::error::DecodeError;
@@ -123,44 +123,34 @@ fn decode_line<W: Write + Drop>(
     let mut word = 0u64;
     for token in tokens.split_ascii_whitespace() {
         word = word.saturating_add(1);
-        match progress.reader.push_token(token) {
-            Ok(None) => {}
-            Ok(Some(packet)) => put_packet(out, progress, &packet)?,
+        let packet = match progress.reader.push_token(token) {
+            Ok(packet) => packet,
             Err(error) => {
                 out.flush()?;
                 return Err(DecodeError::Token { line, word, error });
+            }
+        };
+        if let Some(packet) = packet {
+            progress.packets = progress.packets.saturating_add(1);
+            let is_valid = packet.is_valid();
+            progress.invalid |= !is_valid;
+            if is_valid || !put_compatible(out, progress.packets, packet)? {
+                put_text(out, progress.packets, &packet)?;
             }
         }
     }
     Ok(())
 }
 
-// Counts a packet, and prints it. It isn't inlined, since most tokens complete none.
-#[inline(never)]
-fn put_packet<W: Write + Drop>(
-    out: &mut BufWriter<W>,
-    progress: &mut DecodeProgress,
-    packet: &Packet,
-) -> io::Result<()>
-    ensures counted { progress.new ≡ min (progress.old + 1) 0xFFFFFFFFFFFFFFFF }
-{
-    progress.packets = progress.packets.saturating_add(1);
-    let is_valid = packet.is_valid();
-    progress.invalid |= !is_valid;
-    if is_valid || !put_compatible(out, progress.packets, packet)? {
-        put_text(out, progress.packets, packet)?;
-    }
-    Ok(())
-}
-
-// Prints a packet as a message that only the compatible profile has. Returns whether it is one.
+// Prints a packet as a message that only the compatible profile has. Returns whether it is one. It takes a copy and
+// isn't inlined, so that a token that completes no packet costs nothing for it.
 #[inline(never)]
 fn put_compatible<W: Write + Drop>(
     out: &mut BufWriter<W>,
     number: u64,
-    packet: &Packet,
+    packet: Packet,
 ) -> io::Result<bool> {
-    match CompatibleMessage::read(packet) {
+    match CompatibleMessage::read(&packet) {
         Some(message) => {
             put_message(out, number, &message)?;
             Ok(true)

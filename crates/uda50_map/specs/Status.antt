@@ -13,7 +13,8 @@ status_character Finished = 43
 -- the status of a text. Blocks with * or / failed as a part of more blocks, and were not tried one by one
 abbrev pub status_of : List ℕ → Option BlockStatus
 status_of text =
-    if bytes_eq text (codes "?") || (bytes_eq text (codes "*") || bytes_eq text (codes "/")) then Some NonTried
+    if bytes_eq text (codes "?") || (bytes_eq text (codes "*") || bytes_eq text (codes "/"))
+    then Some NonTried
     else if bytes_eq text (codes "-") then Some Bad
     else if bytes_eq text (codes "+") then Some Finished
     else None

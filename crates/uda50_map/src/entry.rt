@@ -63,7 +63,8 @@ impl MapEntry {
     pub fn is_followed_by(&self, entry: &MapEntry) -> bool
         ensures status { result ≡ true → self.now.status ≡ entry.now.status }
         ensures end { result ≡ true → self.now.end ≡ entry.now.start }
-        ensures followed { self.now.status ≡ entry.now.status → self.now.end ≡ entry.now.start → result ≡ true }
+        ensures followed { self.now.status ≡ entry.now.status → self.now.end ≡ entry.now.start
+            → result ≡ true }
     {
         self.status == entry.status && self.end == entry.start
     }

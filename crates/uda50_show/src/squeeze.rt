@@ -9,7 +9,7 @@ use std::fmt;
 pub enum RowForm {
     /// The row.
     Printed,
-    /// A line `*`, which stands for this row and for all after it that repeat it.
+    /// A line `*` in place of this row and of all after it that repeat it.
     Star,
     /// Nothing: the row before it is a repeated one too.
     LeftOut,

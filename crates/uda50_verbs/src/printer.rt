@@ -1,10 +1,9 @@
 //! Printing of blocks.
-ghost use Rattle.std.specs.Prelude.{◌≤◌};
+ghost use Rattle.std.specs.Prelude.{◌<◌};
 
 use std::fmt::Display;
 use std::io;
 use std::io::{BufWriter, Write};
-use std::ops::Range;
 use uda50_arguments::{Dump, DumpFormat};
 use uda50_show::{HexRow, OctalRow, RowForm, Squeeze};
 
@@ -67,12 +66,7 @@ fn print_squeezed<W: Write + Drop>(
     }
     print_left_out(out, squeeze, number)?;
     squeeze.note_printed(number, bytes);
-    writeln!(out, "block {number}")?;
-    if has_repeated_rows(bytes) {
-        print_squeezed_rows(out, bytes, format)?;
-    } else {
-        print_rows(out, bytes, format, 0..32)?;
-    }
+    print_rows(out, (number, bytes), format, has_repeated_rows(bytes))?;
     if repeats {
         out.flush()?;
     }
@@ -99,14 +93,12 @@ fn print_block<W: Write + Drop>(
 ) -> io::Result<()> {
     match format {
         DumpFormat::Raw { .. } => out.write_all(bytes),
-        _ => {
-            writeln!(out, "block {number}")?;
-            print_rows(out, bytes, format, 0..32)
-        }
+        _ => print_rows(out, (number, bytes), format, false),
     }
 }
 
 // Returns whether some row of a block repeats the row before it.
+#[inline(never)]
 fn has_repeated_rows(block: &[u8; 512]) -> bool {
     for row in 1..32 {
         let is_alike = block[16 * row] == block[16 * row - 16];
@@ -117,33 +109,18 @@ fn has_repeated_rows(block: &[u8; 512]) -> bool {
     false
 }
 
-// Prints the rows of a block, but those that repeat the row before them.
-#[inline(never)]
-fn print_squeezed_rows<W: Write + Drop>(
-    out: &mut BufWriter<W>,
-    block: &[u8; 512],
-    format: DumpFormat,
-) -> io::Result<()> {
-    for row in 0..32u16 {
-        match RowForm::of(block, usize::from(row)) {
-            RowForm::Printed => print_rows(out, block, format, row..row + 1)?,
-            RowForm::Star => writeln!(out, "*")?,
-            RowForm::LeftOut => {}
-        }
-    }
-    Ok(())
-}
-
-// Prints some rows of a block.
+// Prints the rows of a block. If it `squeezes`, it leaves out those that repeat.
 fn print_rows<W: Write + Drop>(
     out: &mut BufWriter<W>,
-    block: &[u8; 512],
+    (number, block): (u64, &[u8; 512]),
     format: DumpFormat,
-    rows: Range<u16>,
-) -> io::Result<()>
-    requires within { rows.end ≤ 32 }
-{
-    for row in rows.start..rows.end {
+    squeezes: bool,
+) -> io::Result<()> {
+    writeln!(out, "block {number}")?;
+    for row in 0..32u16 {
+        if squeezes && put_repeated(out, block, row)? {
+            continue;
+        }
         let offset = 16 * row;
         let start = usize::from(offset);
         let mut bytes = [0; 16];
@@ -163,15 +140,33 @@ fn print_rows<W: Write + Drop>(
     Ok(())
 }
 
+// Returns whether a row repeats the row before it. At the first of such rows it writes their line.
+#[inline(never)]
+fn put_repeated<W: Write + Drop>(
+    out: &mut BufWriter<W>,
+    block: &[u8; 512],
+    row: u16,
+) -> io::Result<bool>
+    requires { row < 32 }
+{
+    match RowForm::of(block, usize::from(row)) {
+        RowForm::Printed => return Ok(false),
+        RowForm::Star => writeln!(out, "*")?,
+        RowForm::LeftOut => {}
+    }
+    Ok(true)
+}
+
 // Writes the line of a row. A line that doesn't fit into the buffer goes to it in the pieces of the row's
-// `Display`, and the buffer goes out when the next of these doesn't fit.
+// `Display`, and the buffer goes out when the next of these doesn't fit. The test for room is the one that `write_all`
+// makes, so that no failure is left for a line that passes it. A buffer never holds more than its capacity.
 fn put_line<W: Write + Drop>(
     out: &mut BufWriter<W>,
     line: &[u8],
     row: &impl Display,
 ) -> io::Result<()> {
-    let room = out.capacity().saturating_sub(out.buffer().len());
-    if line.len() <= room {
+    let room = out.capacity().wrapping_sub(out.buffer().len());
+    if line.len() < room {
         out.write_all(line)
     } else {
         writeln!(out, "{row}")

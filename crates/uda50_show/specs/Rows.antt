@@ -12,29 +12,33 @@ glyph d = digit_glyph false d
 abbrev pub printable : ℕ → ℕ
 printable byte = if nat_le 32 byte && nat_le byte 126 then byte else 46
 
--- a space and the two hexadecimal digits of a byte
-abbrev pub hex_cell : ℕ → List ℕ
-hex_cell byte = 32 ∷ glyph (byte / 16) ∷ glyph (byte % 16) ∷ []
-
--- the first hexadecimal digit of a byte
+-- the high hexadecimal digit of a byte
 abbrev pub high_glyph : ℕ → ℕ
 high_glyph byte = glyph (byte / 16)
 
--- its second one
+-- the low hexadecimal digit of a byte
 abbrev pub low_glyph : ℕ → ℕ
 low_glyph byte = glyph (byte % 16)
-
--- a space and the six octal digits of a word
-abbrev pub octal_cell : ℕ → List ℕ
-octal_cell word =
-    32 ∷ glyph (word / 32768) ∷ glyph (word / 4096 % 8) ∷ glyph (word / 512 % 8) ∷ glyph (word / 64 % 8)
-    ∷ glyph (word / 8 % 8) ∷ glyph (word % 8) ∷ []
 
 -- the octal digit of a word in the place of a power of eight
 abbrev pub octal_glyph : ℕ → ℕ → ℕ
 octal_glyph power word = glyph (word / power % 8)
 
--- the six octal digits of words: the first one of each, the second one of each, and so on
+-- a space and the two hexadecimal digits of a byte
+abbrev pub hex_cell : ℕ → List ℕ
+hex_cell byte = 32 ∷ high_glyph byte ∷ low_glyph byte ∷ []
+
+-- a space and the six octal digits of a word
+abbrev pub octal_cell : ℕ → List ℕ
+octal_cell word =
+    32 ∷ octal_glyph 32768 word ∷ octal_glyph 4096 word ∷ octal_glyph 512 word ∷ octal_glyph 64 word
+    ∷ octal_glyph 8 word ∷ octal_glyph 1 word ∷ []
+
+-- the high digits of bytes, and the low ones
+abbrev pub hex_columns : List ℕ → List (List ℕ)
+hex_columns bytes = map high_glyph bytes ∷ map low_glyph bytes ∷ []
+
+-- the first octal digits of words, the second ones, and so on
 abbrev pub octal_columns : List ℕ → List (List ℕ)
 octal_columns words =
     map (octal_glyph 32768) words ∷ map (octal_glyph 4096) words ∷ map (octal_glyph 512) words

@@ -58,12 +58,25 @@ pub(crate) fn octal_word(word: u16) -> [u8; 6]
     ]
 }
 
-/// Returns the digit of the low four bits.
+/// Returns the digit of the low four bits, from a table.
 pub(crate) fn digit(number: u16) -> u8
     ensures value { result ≡ glyph (number % 16) }
     ensures ascii { result < 128 }
 {
     b"0123456789abcdef"[usize::from(number & 15)]
+}
+
+/// Returns the digit of a number below 16. The compiler can vectorize a loop that computes digits, but not one that
+/// reads them from a table.
+pub(crate) fn computed_digit(number: u8) -> u8
+    requires number { number < 16 }
+    ensures value { result ≡ glyph number }
+{
+    if number < 10 {
+        b'0' + number
+    } else {
+        b'a' - 10 + number
+    }
 }
 
 /// Writes the digits of a number in the pieces of a number with a width: the zeros before it, if it has

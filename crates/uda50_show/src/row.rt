@@ -1,10 +1,12 @@
 //! Rows of a dump.
 ghost use Rattle.std.specs.Prelude.{◌≡◌, ◌≤◌, ◌+◌, ◌<◌, ◌^◌, Some, map};
 ghost use Rattle.std.specs.Fmt.{WritesOnOk};
-ghost use Rattle.uda50_show.specs.Rows.{hex_row, octal_row, hex_offset, octal_offset, hex_cell, octal_cell, row_text, printable, glyph, high_glyph, low_glyph, octal_glyph, octal_columns};
+ghost use Rattle.uda50_show.specs.Rows.{hex_row, octal_row, hex_offset, octal_offset, row_text, printable};
+ghost use Rattle.uda50_show.specs.Rows.{hex_cell, octal_cell, high_glyph, low_glyph, hex_columns, octal_glyph};
+ghost use Rattle.uda50_show.specs.Rows.{octal_columns};
 ghost use Rattle.uda50_show.specs.Block.{words, word_at};
 
-use crate::digits::{digit, hex_byte, octal_word, write_ascii, write_number};
+use crate::digits::{computed_digit, digit, hex_byte, octal_word, write_ascii, write_number};
 use crate::text::printable;
 use byteorder::{ByteOrder, LittleEndian};
 use std::fmt;
@@ -119,76 +121,54 @@ fn octal_offset(offset: u16) -> [u8; 4]
 fn hex_cells(bytes: &[u8; 16]) -> [[u8; 3]; 16]
     ensures cells { result ≡ map hex_cell bytes.now }
 {
-    let digits = hex_digits(bytes);
+    let [high, low] = hex_digits(bytes);
     let mut cells = [[b' '; 3]; 16];
     for n in 0..16 {
-        cells[n] = [b' ', digits.high[n], digits.low[n]];
+        cells[n] = [b' ', high[n], low[n]];
     }
     cells
 }
 
-// The hexadecimal digits of bytes: the first one of each, and the second one of each.
-#[derive(Clone, Copy)]
-struct HexDigits {
-    high: [u8; 16],
-    low: [u8; 16],
-}
-
-// Returns the hexadecimal digits of bytes. It isn't inlined: then the compiler takes all of the bytes at once.
+// Returns the high hexadecimal digit of each byte, and the low one of each. It isn't inlined, so that the compiler
+// vectorizes it.
 #[inline(never)]
-fn hex_digits(bytes: &[u8; 16]) -> HexDigits
-    ensures high { result.high ≡ map high_glyph bytes.now }
-    ensures low { result.low ≡ map low_glyph bytes.now }
+fn hex_digits(bytes: &[u8; 16]) -> [[u8; 16]; 2]
+    ensures digits { result ≡ hex_columns bytes.now }
 {
-    HexDigits {
-        high: high_digits(bytes),
-        low: low_digits(bytes),
-    }
+    [high_digits(bytes), low_digits(bytes)]
 }
 
-// Returns the first hexadecimal digit of each byte.
+// Returns the high hexadecimal digit of each byte.
 fn high_digits(bytes: &[u8; 16]) -> [u8; 16]
     ensures digits { result ≡ map high_glyph bytes.now }
 {
     let mut digits = [0; 16];
     for n in 0..16 {
-        digits[n] = hex_digit(bytes[n] >> 4);
+        digits[n] = computed_digit(bytes[n] >> 4);
     }
     digits
 }
 
-// Returns the second hexadecimal digit of each byte.
+// Returns the low hexadecimal digit of each byte.
 fn low_digits(bytes: &[u8; 16]) -> [u8; 16]
     ensures digits { result ≡ map low_glyph bytes.now }
 {
     let mut digits = [0; 16];
     for n in 0..16 {
-        digits[n] = hex_digit(bytes[n] & 15);
+        digits[n] = computed_digit(bytes[n] & 15);
     }
     digits
-}
-
-// Returns a hexadecimal digit. A table would be read for one byte after the other.
-fn hex_digit(number: u8) -> u8
-    requires { number < 16 }
-    ensures value { result ≡ glyph number }
-{
-    if number < 10 {
-        b'0' + number
-    } else {
-        b'a' - 10 + number
-    }
 }
 
 // Returns the words of the bytes as cells in octal.
 fn octal_cells(bytes: &[u8; 16]) -> [[u8; 7]; 8]
     ensures cells { result ≡ map octal_cell (words 8 bytes.now) }
 {
-    word_cells(&row_words(bytes))
+    cells_of_words(&row_words(bytes))
 }
 
 // Returns words as cells in octal.
-fn word_cells(words: &[u16; 8]) -> [[u8; 7]; 8]
+fn cells_of_words(words: &[u16; 8]) -> [[u8; 7]; 8]
     ensures cells { result ≡ map octal_cell words.now }
 {
     let [a, b, c, d, e, f] = octal_digits(words);
@@ -207,24 +187,24 @@ fn word_cells(words: &[u16; 8]) -> [[u8; 7]; 8]
     cells
 }
 
-// Returns the octal digits of words: the first one of each, the second one of each, and so on. It isn't inlined: then
-// the compiler takes all of the words at once.
+// Returns the first octal digit of each word, the second one of each, and so on. They are as wide as the words, so that
+// one vector has eight. It isn't inlined, so that the compiler vectorizes it.
 #[inline(never)]
 fn octal_digits(words: &[u16; 8]) -> [[u16; 8]; 6]
     ensures digits { result ≡ octal_columns words.now }
 {
     [
-        octal_digit_of_each(words, 15),
-        octal_digit_of_each(words, 12),
-        octal_digit_of_each(words, 9),
-        octal_digit_of_each(words, 6),
-        octal_digit_of_each(words, 3),
-        octal_digit_of_each(words, 0),
+        octal_column(words, 15),
+        octal_column(words, 12),
+        octal_column(words, 9),
+        octal_column(words, 6),
+        octal_column(words, 3),
+        octal_column(words, 0),
     ]
 }
 
-// Returns an octal digit of each word, that of the three bits from a bit on.
-fn octal_digit_of_each(words: &[u16; 8], bit: u32) -> [u16; 8]
+// Returns the octal digit of each word whose lowest bit is `bit`.
+fn octal_column(words: &[u16; 8], bit: u32) -> [u16; 8]
     requires { bit < 16 }
     ensures digits { result ≡ map (octal_glyph (2 ^ bit)) words.now }
 {
@@ -235,7 +215,7 @@ fn octal_digit_of_each(words: &[u16; 8], bit: u32) -> [u16; 8]
     digits
 }
 
-// Returns the words of the bytes.
+// Returns the eight words of a row.
 fn row_words(bytes: &[u8; 16]) -> [u16; 8]
     ensures words { result ≡ words 8 bytes.now }
 {

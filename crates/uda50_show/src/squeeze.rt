@@ -9,7 +9,7 @@ use std::fmt;
 pub enum RowForm {
     /// The row.
     Printed,
-    /// A line `*` in place of this row and of all after it that repeat it.
+    /// A line `*` in place of this row and of the rows right after it that repeat it.
     Star,
     /// Nothing: the row before it is a repeated one too.
     LeftOut,

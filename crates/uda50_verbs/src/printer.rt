@@ -97,7 +97,8 @@ fn print_block<W: Write + Drop>(
     }
 }
 
-// Returns whether some row of a block repeats the row before it.
+// Returns whether some row of a block repeats the row before it. It isn't inlined, for the same reason as
+// `put_repeated`.
 #[inline(never)]
 fn has_repeated_rows(block: &[u8; 512]) -> bool {
     for row in 1..32 {
@@ -109,7 +110,7 @@ fn has_repeated_rows(block: &[u8; 512]) -> bool {
     false
 }
 
-// Prints the rows of a block. If it `squeezes`, it leaves out those that repeat.
+// Prints a line with a block's number, and its rows. If it `squeezes`, a `*` replaces rows that repeat.
 fn print_rows<W: Write + Drop>(
     out: &mut BufWriter<W>,
     (number, block): (u64, &[u8; 512]),
@@ -140,7 +141,8 @@ fn print_rows<W: Write + Drop>(
     Ok(())
 }
 
-// Returns whether a row repeats the row before it. At the first of such rows it writes their line.
+// Returns whether a row repeats the row before it. It writes a `*` for the first of such rows. It isn't inlined, since
+// that made a dump of other rows slower.
 #[inline(never)]
 fn put_repeated<W: Write + Drop>(
     out: &mut BufWriter<W>,
@@ -157,9 +159,9 @@ fn put_repeated<W: Write + Drop>(
     Ok(true)
 }
 
-// Writes the line of a row. A line that doesn't fit into the buffer goes to it in the pieces of the row's
-// `Display`, and the buffer goes out when the next of these doesn't fit. The test for room is the one that `write_all`
-// makes, so that no failure is left for a line that passes it. A buffer never holds more than its capacity.
+// Writes the line of a row. If it leaves no room in the buffer, it goes there in the pieces of the row's `Display`. The
+// buffer goes out when the next piece doesn't fit. `write_all` makes the same test, so that the compiler can leave out
+// what may fail in it. The subtraction never wraps, since a buffer holds at most its capacity.
 fn put_line<W: Write + Drop>(
     out: &mut BufWriter<W>,
     line: &[u8],

@@ -1,24 +1,31 @@
 use Rattle.std.proofs.Common.{◌≡◌, ℕ, List, ◌+◌, ◌<◌, ◌∷◌, [], ◌++◌, map, take, length, rules, sym, ap, ◌∙◌, arith}
 use Rattle.std.specs.Prelude.{slice_set, slice_index_or}
 use Rattle.std.proofs.lemmas.List.{map_more, take_more_set, get_or-map}
-use Rattle.uda50_show.specs.Rows.{hex_cell, high_glyph, low_glyph}
+use Rattle.uda50_show.specs.Rows.{hex_cell, high_glyph, low_glyph, hex_columns}
 use Rattle.uda50_show.proofs.row.hex_cells.Goals as goal
 
+-- the digits in a place of columns, after a space
+abbrev digits_at : List (List ℕ) → ℕ → List ℕ
+digits_at columns n =
+    32 ∷ slice_index_or (slice_index_or columns 0 []) n 0 ∷ slice_index_or (slice_index_or columns 1 []) n 0 ∷ []
+
+-- they are the cell of the byte in this place
+cell_at : (bytes : List ℕ) (n : ℕ) → n < length bytes
+    → digits_at (hex_columns bytes) n ≡ hex_cell (slice_index_or bytes n 0)
+cell_at bytes n within =
+    let high = get_or-map high_glyph bytes n 0 0 within in
+    let low = get_or-map low_glyph bytes n 0 0 within in
+    rw (high, low)
+
 -- one cell more
-cell_more : (cells : List (List ℕ)) (bytes high low : List ℕ) (n : ℕ) → n < length cells → n < length bytes
-    → take n cells ≡ map hex_cell (take n bytes) → high ≡ map high_glyph bytes → low ≡ map low_glyph bytes
-    → take (n + 1) (slice_set cells n (32 ∷ slice_index_or high n 0 ∷ slice_index_or low n 0 ∷ []))
-    ≡ map hex_cell (take (n + 1) bytes)
-cell_more cells bytes high low n less within so_far highs lows =
-    let byte = slice_index_or bytes n 0 in
-    let first : slice_index_or high n 0 ≡ high_glyph byte =
-        ap (λ (t : List ℕ). slice_index_or t n 0) highs ∙ get_or-map high_glyph bytes n 0 0 within in
-    let second : slice_index_or low n 0 ≡ low_glyph byte =
-        ap (λ (t : List ℕ). slice_index_or t n 0) lows ∙ get_or-map low_glyph bytes n 0 0 within in
+cell_more : (cells columns : List (List ℕ)) (bytes : List ℕ) (n : ℕ) → n < length cells → n < length bytes
+    → take n cells ≡ map hex_cell (take n bytes) → columns ≡ hex_columns bytes
+    → take (n + 1) (slice_set cells n (digits_at columns n)) ≡ map hex_cell (take (n + 1) bytes)
+cell_more cells columns bytes n less within so_far are =
     take_more_set cells n _ less
-    ∙ ap (λ (t : List (List ℕ)). t ++ (32 ∷ slice_index_or high n 0 ∷ slice_index_or low n 0 ∷ []) ∷ []) so_far
-    ∙ ap (λ (d : ℕ). map hex_cell (take n bytes) ++ (32 ∷ d ∷ slice_index_or low n 0 ∷ []) ∷ []) first
-    ∙ ap (λ (d : ℕ). map hex_cell (take n bytes) ++ (32 ∷ high_glyph byte ∷ d ∷ []) ∷ []) second
+    ∙ ap (λ (t : List (List ℕ)). t ++ digits_at columns n ∷ []) so_far
+    ∙ ap (λ (c : List (List ℕ)). map hex_cell (take n bytes) ++ digits_at c n ∷ []) are
+    ∙ ap (λ (t : List ℕ). map hex_cell (take n bytes) ++ t ∷ []) (cell_at bytes n within)
     ∙ sym (map_more hex_cell bytes n 0 within)
 
 pub loop-n-preserved : goal.loop-n-preserved
@@ -27,6 +34,6 @@ loop-n-preserved c =
     record {
       long = search rules;
       made =
-          cell_more _ _ _ _ _ (omega (arith, now.long, c.loop-n-test.true)) (omega (arith, c.fits-bytes, c.loop-n-test.true)) now.made
-          c.hex_digits-digits.ensures.high c.hex_digits-digits.ensures.low;
+          cell_more _ _ _ _ (omega (arith, now.long, c.loop-n-test.true))
+          (omega (arith, c.told-bytes, c.loop-n-test.true)) now.made c.hex_digits.ensures.digits;
     }

@@ -1,4 +1,5 @@
-use Rattle.std.proofs.Common.{◌≡◌, ℕ, List, ◌+◌, ◌*◌, ◌<◌, ◌++◌, ◌∷◌, [], rules, refl, sym, ap, ◌∙◌, arith, add-one, take, length}
+use Rattle.std.proofs.Common.{◌≡◌, ℕ, List, ◌+◌, ◌*◌, ◌<◌, ◌++◌, ◌∷◌, [], rules, refl, sym, ap, ◌∙◌, arith}
+use Rattle.std.proofs.Common.{add-one, take, length}
 use Rattle.std.specs.Prelude.{slice_set}
 use Rattle.std.proofs.lemmas.List.{take_more_set}
 use Rattle.uda50_show.specs.Block.{words, word_at}

@@ -1,9 +1,10 @@
-use Rattle.std.proofs.Common.{◌≡◌, ℕ, List, ◌+◌, ◌/◌, ◌%◌, ◌<◌, ◌∷◌, [], ◌++◌, map, take, length, rules, sym, ap, ◌∙◌, arith}
+use Rattle.std.proofs.Common.{◌≡◌, ℕ, List, ◌+◌, ◌/◌, ◌%◌, ◌<◌, ◌∷◌, [], ◌++◌, map, take, length, rules}
+use Rattle.std.proofs.Common.{sym, ap, ◌∙◌, arith}
 use Rattle.std.specs.Prelude.{slice_set, slice_index_or}
 use Rattle.std.proofs.lemmas.List.{map_more, take_more_set, get_or-map}
 use Rattle.uda50_show.proofs.Ascii.{glyph_ascii}
 use Rattle.uda50_show.specs.Rows.{octal_cell, octal_glyph, octal_columns}
-use Rattle.uda50_show.proofs.row.word_cells.Goals as goal
+use Rattle.uda50_show.proofs.row.cells_of_words.Goals as goal
 
 -- the digits in a place of columns, after a space
 abbrev digits_at : List (List ℕ) → ℕ → List ℕ
@@ -13,15 +14,12 @@ digits_at columns n =
     ∷ slice_index_or (slice_index_or columns 4 []) n 0 ∷ slice_index_or (slice_index_or columns 5 []) n 0 ∷ []
 
 -- they are the cell of the word in this place
-cell_at : (words : List ℕ) (n : ℕ) → n < length words → slice_index_or words n 0 < 65536
-    → digits_at (octal_columns words) n ≡ octal_cell (slice_index_or words n 0)
-cell_at words n within small =
+cell_at : (words : List ℕ) (n : ℕ) → n < length words → digits_at (octal_columns words) n ≡ octal_cell (slice_index_or words n 0)
+cell_at words n within =
     let word = slice_index_or words n 0 in
     let at : (power : ℕ) → slice_index_or (map (octal_glyph power) words) n 0 ≡ octal_glyph power word =
         λ power. get_or-map (octal_glyph power) words n 0 0 within in
-    let first : word / 32768 % 8 ≡ word / 32768 = omega arith in
-    let last : word / 1 % 8 ≡ word % 8 = omega arith in
-    rw (at 32768, at 4096, at 512, at 64, at 8, at 1, first, last)
+    rw (at 32768, at 4096, at 512, at 64, at 8, at 1)
 
 -- a digit of a column fits into a byte
 narrow : (power n : ℕ) (words digits : List ℕ) → n < length words → digits ≡ map (octal_glyph power) words
@@ -34,14 +32,13 @@ narrow power n words digits within are =
 
 -- one cell more
 cell_more : (cells columns : List (List ℕ)) (words : List ℕ) (n : ℕ) → n < length cells → n < length words
-    → slice_index_or words n 0 < 65536
     → take n cells ≡ map octal_cell (take n words) → columns ≡ octal_columns words
     → take (n + 1) (slice_set cells n (digits_at columns n)) ≡ map octal_cell (take (n + 1) words)
-cell_more cells columns words n less within small so_far are =
+cell_more cells columns words n less within so_far are =
     take_more_set cells n _ less
     ∙ ap (λ (t : List (List ℕ)). t ++ digits_at columns n ∷ []) so_far
     ∙ ap (λ (c : List (List ℕ)). map octal_cell (take n words) ++ digits_at c n ∷ []) are
-    ∙ ap (λ (t : List ℕ). map octal_cell (take n words) ++ t ∷ []) (cell_at words n within small)
+    ∙ ap (λ (t : List ℕ). map octal_cell (take n words) ++ t ∷ []) (cell_at words n within)
     ∙ sym (map_more octal_cell words n 0 within)
 
 pub loop-n-preserved : goal.loop-n-preserved
@@ -51,7 +48,7 @@ loop-n-preserved c =
       long = search rules;
       made =
           cell_more _ _ _ _ (omega (arith, now.long, c.loop-n-test.true))
-          (omega (arith, c.told-words, c.loop-n-test.true)) (c.fits-words _) now.made c.octal_digits.ensures.digits;
+          (omega (arith, c.told-words, c.loop-n-test.true)) now.made c.octal_digits.ensures.digits;
     }
 
 pub overflow_cast-cells : goal.overflow_cast-cells

@@ -175,13 +175,7 @@ fn cells_of_words(words: &[u16; 8]) -> [[u8; 7]; 8]
     let mut cells = [[b' '; 7]; 8];
     for n in 0..8 {
         cells[n] = [
-            b' ',
-            a[n] as u8,
-            b[n] as u8,
-            c[n] as u8,
-            d[n] as u8,
-            e[n] as u8,
-            f[n] as u8,
+            b' ', a[n] as u8, b[n] as u8, c[n] as u8, d[n] as u8, e[n] as u8, f[n] as u8,
         ];
     }
     cells

@@ -18,7 +18,7 @@ cell_at : (words : List ℕ) (n : ℕ) → n < length words → digits_at (octal
 cell_at words n within =
     let word = slice_index_or words n 0 in
     let at : (power : ℕ) → slice_index_or (map (octal_glyph power) words) n 0 ≡ octal_glyph power word =
-        λ power. get_or-map (octal_glyph power) words n 0 0 within in
+    λ power. get_or-map (octal_glyph power) words n 0 0 within in
     rw (at 32768, at 4096, at 512, at 64, at 8, at 1)
 
 -- a digit of a column fits into a byte
@@ -27,7 +27,7 @@ narrow : (power n : ℕ) (words digits : List ℕ) → n < length words → digi
 narrow power n words digits within are =
     let word = slice_index_or words n 0 in
     let is : slice_index_or digits n 0 ≡ octal_glyph power word =
-        ap (λ (t : List ℕ). slice_index_or t n 0) are ∙ get_or-map (octal_glyph power) words n 0 0 within in
+    ap (λ (t : List ℕ). slice_index_or t n 0) are ∙ get_or-map (octal_glyph power) words n 0 0 within in
     omega (arith, is, glyph_ascii (word / power % 8) (omega arith))
 
 -- one cell more

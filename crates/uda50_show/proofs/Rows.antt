@@ -1,15 +1,10 @@
 -- The parts of rows, one after another.
-use Rattle.std.proofs.Common.{◌≡◌, ℕ, ◌+◌, ◌/◌, ◌%◌, ◌<◌, List, [], ◌∷◌, ◌++◌, length, get_or, take, drop, map, refl, sym, ap, ◌∙◌, append-nil, append_assoc, arith}
+use Rattle.std.proofs.Common.{◌≡◌, ℕ, ◌+◌, ◌/◌, ◌%◌, ◌<◌, List, [], ◌∷◌, ◌++◌, length, get_or, take, drop, sym, ap, ◌∙◌, append-nil, append_assoc, arith}
 use Rattle.std.specs.List.{flat_map}
 use Rattle.std.proofs.lemmas.List.{take_at, drop_at, drop_all, length-drop, length-append, take_more, flat_map_more}
 use borrow.Rule.Slice.PartMut.{put_mid}
 use Rattle.uda50_show.specs.Rows.{glyph, hex_cell}
 use Rattle.uda50_show.specs.Hex.{hex_byte}
-
-pub flat_cells : {X : Type 0} (cell : X → List ℕ) (xs : List X)
-    → flat_map (λ x. x) (map cell xs) ≡ flat_map cell xs
-flat_cells cell [] = refl
-flat_cells cell (x ∷ xs) = ap (λ (t : List ℕ). cell x ++ t) (flat_cells cell xs)
 
 -- one cell more
 pub cell_more : (cell : ℕ → List ℕ) (front piece xs : List ℕ) (i : ℕ) → i < length xs

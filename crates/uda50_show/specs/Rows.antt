@@ -44,6 +44,10 @@ octal_columns words =
     map (octal_glyph 32768) words ∷ map (octal_glyph 4096) words ∷ map (octal_glyph 512) words
     ∷ map (octal_glyph 64) words ∷ map (octal_glyph 8) words ∷ map (octal_glyph 1) words ∷ []
 
+-- the low byte of a number
+abbrev pub low_byte : ℕ → ℕ
+low_byte n = n % 256
+
 -- the printed bytes between bars, after two spaces
 abbrev pub row_text : List ℕ → List ℕ
 row_text bytes = codes "  |" ++ map printable bytes ++ codes "|"

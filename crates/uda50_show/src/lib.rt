@@ -2,6 +2,7 @@
 #![tactic(auto)]
 
 mod boot_block;
+mod cells;
 mod checksum;
 mod compatible;
 mod container;

@@ -1,12 +1,11 @@
 //! Rows of a dump.
-ghost use Rattle.std.specs.Prelude.{◌≡◌, ◌≤◌, ◌+◌, ◌<◌, ◌^◌, Some, map};
+ghost use Rattle.std.specs.Prelude.{◌≡◌, ◌≤◌, ◌+◌, ◌<◌, Some, map};
 ghost use Rattle.std.specs.Fmt.{WritesOnOk};
 ghost use Rattle.uda50_show.specs.Rows.{hex_row, octal_row, hex_offset, octal_offset, row_text, printable};
-ghost use Rattle.uda50_show.specs.Rows.{hex_cell, octal_cell, high_glyph, low_glyph, hex_columns, octal_glyph};
-ghost use Rattle.uda50_show.specs.Rows.{octal_columns};
 ghost use Rattle.uda50_show.specs.Block.{words, word_at};
 
-use crate::digits::{computed_digit, digit, hex_byte, octal_word, write_ascii, write_number};
+use crate::cells::{hex_cells, octal_cells};
+use crate::digits::{digit, hex_byte, octal_word, write_ascii, write_number};
 use crate::text::printable;
 use byteorder::{ByteOrder, LittleEndian};
 use std::fmt;
@@ -29,7 +28,7 @@ impl HexRow {
     {
         let mut text = [b' '; 72];
         text[..4].copy_from_slice(&hex_offset(self.offset));
-        text[4..52].copy_from_slice(hex_cells(&self.bytes).as_flattened());
+        text[4..52].copy_from_slice(&hex_cells(&self.bytes));
         text[52..].copy_from_slice(&characters(&self.bytes));
         text
     }
@@ -66,7 +65,7 @@ impl OctalRow {
     {
         let mut text = [b' '; 80];
         text[..4].copy_from_slice(&octal_offset(self.offset));
-        text[4..60].copy_from_slice(octal_cells(&self.bytes).as_flattened());
+        text[4..60].copy_from_slice(&octal_cells(&self.bytes));
         text[60..].copy_from_slice(&characters(&self.bytes));
         text
     }
@@ -117,109 +116,6 @@ fn octal_offset(offset: u16) -> [u8; 4]
     ]
 }
 
-// Returns the bytes as cells in hexadecimal.
-fn hex_cells(bytes: &[u8; 16]) -> [[u8; 3]; 16]
-    ensures cells { result ≡ map hex_cell bytes.now }
-{
-    let [high, low] = hex_digits(bytes);
-    let mut cells = [[b' '; 3]; 16];
-    for n in 0..16 {
-        cells[n] = [b' ', high[n], low[n]];
-    }
-    cells
-}
-
-// Returns the high hexadecimal digit of each byte, and the low one of each. It isn't inlined, so that the compiler
-// vectorizes it.
-#[inline(never)]
-fn hex_digits(bytes: &[u8; 16]) -> [[u8; 16]; 2]
-    ensures digits { result ≡ hex_columns bytes.now }
-{
-    [high_digits(bytes), low_digits(bytes)]
-}
-
-// Returns the high hexadecimal digit of each byte.
-fn high_digits(bytes: &[u8; 16]) -> [u8; 16]
-    ensures digits { result ≡ map high_glyph bytes.now }
-{
-    let mut digits = [0; 16];
-    for n in 0..16 {
-        digits[n] = computed_digit(bytes[n] >> 4);
-    }
-    digits
-}
-
-// Returns the low hexadecimal digit of each byte.
-fn low_digits(bytes: &[u8; 16]) -> [u8; 16]
-    ensures digits { result ≡ map low_glyph bytes.now }
-{
-    let mut digits = [0; 16];
-    for n in 0..16 {
-        digits[n] = computed_digit(bytes[n] & 15);
-    }
-    digits
-}
-
-// Returns the words of the bytes as cells in octal.
-fn octal_cells(bytes: &[u8; 16]) -> [[u8; 7]; 8]
-    ensures cells { result ≡ map octal_cell (words 8 bytes.now) }
-{
-    cells_of_words(&row_words(bytes))
-}
-
-// Returns words as cells in octal.
-fn cells_of_words(words: &[u16; 8]) -> [[u8; 7]; 8]
-    ensures cells { result ≡ map octal_cell words.now }
-{
-    let [a, b, c, d, e, f] = octal_digits(words);
-    let mut cells = [[b' '; 7]; 8];
-    for n in 0..8 {
-        cells[n] = [
-            b' ', a[n] as u8, b[n] as u8, c[n] as u8, d[n] as u8, e[n] as u8, f[n] as u8,
-        ];
-    }
-    cells
-}
-
-// Returns the first octal digit of each word, the second one of each, and so on. They are as wide as the words, so that
-// one vector has eight. It isn't inlined, so that the compiler vectorizes it.
-#[inline(never)]
-fn octal_digits(words: &[u16; 8]) -> [[u16; 8]; 6]
-    ensures digits { result ≡ octal_columns words.now }
-{
-    [
-        octal_column(words, 15),
-        octal_column(words, 12),
-        octal_column(words, 9),
-        octal_column(words, 6),
-        octal_column(words, 3),
-        octal_column(words, 0),
-    ]
-}
-
-// Returns the octal digit of each word whose lowest bit is `bit`.
-fn octal_column(words: &[u16; 8], bit: u32) -> [u16; 8]
-    requires { bit < 16 }
-    ensures digits { result ≡ map (octal_glyph (2 ^ bit)) words.now }
-{
-    let mut digits = [0; 8];
-    for n in 0..8 {
-        digits[n] = u16::from(b'0') + (words[n] >> bit & 7);
-    }
-    digits
-}
-
-// Returns the eight words of a row.
-fn row_words(bytes: &[u8; 16]) -> [u16; 8]
-    ensures words { result ≡ words 8 bytes.now }
-{
-    let mut words = [0; 8];
-    for n in 0..8 {
-        words[n] = word_at(bytes, 2 * n);
-    }
-    words
-}
-
 // Returns bytes as characters between bars, after two spaces.
 fn characters(bytes: &[u8; 16]) -> [u8; 20]
     ensures text { result ≡ row_text bytes.now }
@@ -231,8 +127,8 @@ fn characters(bytes: &[u8; 16]) -> [u8; 20]
     text
 }
 
-// Returns the word at an offset, low byte first.
-fn word_at(bytes: &[u8; 16], offset: usize) -> u16
+/// Returns the word at an offset, low byte first.
+pub(crate) fn word_at(bytes: &[u8; 16], offset: usize) -> u16
     requires { offset + 2 ≤ 16 }
     ensures { result ≡ word_at offset bytes.now }
 {

@@ -1,7 +1,7 @@
 use Rattle.std.proofs.Common.{ℕ, List, ◌++◌, replicate, ap, ◌∙◌, refl, rules}
 use Rattle.std.specs.List.{flat_map}
 use Rattle.uda50_show.specs.Rows.{hex_offset, hex_cell}
-use Rattle.uda50_show.proofs.Rows.{flat_cells, three_parts}
+use Rattle.uda50_show.proofs.Rows.{three_parts}
 use Rattle.uda50_show.proofs.row.HexRow.text.Goals as goal
 
 pub returns : goal.returns
@@ -9,8 +9,7 @@ returns c =
     let row = c.args.self.now in
     let offset = c.copy_from_slice.ensures.after ∙ c.hex_offset.ensures.text in
     let cells =
-    c.copy_from_slice-2.ensures.after ∙ c.as_flattened.ensures.value
-    ∙ ap (flat_map (λ (x : List ℕ). x)) c.hex_cells.ensures.cells ∙ flat_cells hex_cell row.bytes in
+    c.copy_from_slice-2.ensures.after ∙ c.hex_cells.ensures.cells in
     let characters = c.copy_from_slice-3.ensures.after ∙ c.characters.ensures.text in
     record {
       text =

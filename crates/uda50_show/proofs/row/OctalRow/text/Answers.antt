@@ -2,7 +2,7 @@ use Rattle.std.proofs.Common.{ℕ, List, ◌++◌, replicate, ap, ◌∙◌, ref
 use Rattle.std.specs.List.{flat_map}
 use Rattle.uda50_show.specs.Block.{words}
 use Rattle.uda50_show.specs.Rows.{octal_offset, octal_cell}
-use Rattle.uda50_show.proofs.Rows.{flat_cells, three_parts}
+use Rattle.uda50_show.proofs.Rows.{three_parts}
 use Rattle.uda50_show.proofs.row.OctalRow.text.Goals as goal
 
 pub returns : goal.returns
@@ -10,8 +10,7 @@ returns c =
     let row = c.args.self.now in
     let offset = c.copy_from_slice.ensures.after ∙ c.octal_offset.ensures.text in
     let cells =
-    c.copy_from_slice-2.ensures.after ∙ c.as_flattened.ensures.value
-    ∙ ap (flat_map (λ (x : List ℕ). x)) c.octal_cells.ensures.cells ∙ flat_cells octal_cell (words 8 row.bytes) in
+    c.copy_from_slice-2.ensures.after ∙ c.octal_cells.ensures.cells in
     let characters = c.copy_from_slice-3.ensures.after ∙ c.characters.ensures.text in
     record {
       text =

@@ -1,6 +1,6 @@
 use Rattle.std.proofs.Common.{◌≡◌, ◌^◌, take, length, map}
 use Rattle.uda50_show.specs.Rows.{octal_glyph}
-use Rattle.uda50_show.proofs.row.octal_column.Given as goal
+use Rattle.uda50_show.proofs.cells.octal_column.Given as goal
 
 -- the first of them are made
 abbrev pub invariant-loop-n : goal.invariant-loop-n

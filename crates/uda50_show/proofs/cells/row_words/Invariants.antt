@@ -1,6 +1,6 @@
 use Rattle.std.proofs.Common.{◌≡◌, take, length}
 use Rattle.uda50_show.specs.Block.{words}
-use Rattle.uda50_show.proofs.row.row_words.Given as goal
+use Rattle.uda50_show.proofs.cells.row_words.Given as goal
 
 -- the first of them are read
 abbrev pub invariant-loop-n : goal.invariant-loop-n

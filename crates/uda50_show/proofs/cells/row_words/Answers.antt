@@ -3,7 +3,7 @@ use Rattle.std.proofs.Common.{add-one, take, length}
 use Rattle.std.specs.Prelude.{slice_set}
 use Rattle.std.proofs.lemmas.List.{take_more_set}
 use Rattle.uda50_show.specs.Block.{words, word_at}
-use Rattle.uda50_show.proofs.row.row_words.Goals as goal
+use Rattle.uda50_show.proofs.cells.row_words.Goals as goal
 
 pub loop-n-init : goal.loop-n-init
 unfolding words

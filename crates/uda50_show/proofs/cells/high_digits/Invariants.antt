@@ -1,6 +1,6 @@
 use Rattle.std.proofs.Common.{◌≡◌, take, length, map}
 use Rattle.uda50_show.specs.Rows.{high_glyph}
-use Rattle.uda50_show.proofs.row.high_digits.Given as goal
+use Rattle.uda50_show.proofs.cells.high_digits.Given as goal
 
 -- the first of them are made
 abbrev pub invariant-loop-n : goal.invariant-loop-n

@@ -1,6 +1,7 @@
 pub mod Words
 pub mod Calls
 pub mod Changes
+pub mod Elsewhere
 pub mod AtOnce
 pub mod Blocks
 pub mod Moves

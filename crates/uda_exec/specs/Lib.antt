@@ -12,5 +12,6 @@ pub mod SetUnit
 pub mod Compare
 pub mod Comparing
 pub mod GuestExecution
+pub mod BufferUse
 pub mod Laws
 pub mod Saved

@@ -15,15 +15,18 @@ ghost use Rattle.uda_exec.specs.Execution.{Executes, ExecutesAt};
 ghost use Rattle.uda_exec.specs.Named.{oldest_named, guest_op_named, taken_out, aborted, progress_of};
 ghost use Rattle.uda_exec.specs.GuestOps.{op_at, with_accepted, newest_guest};
 ghost use Rattle.uda_exec.specs.GuestExecution.{ExecutesGuestAt};
+ghost use Rattle.uda_exec.specs.BufferUse.{buffer_use_at};
+ghost use Rattle.uda_exec.specs.Order.{IsEligible};
 ghost use Rattle.uda_exec.specs.Saved.{saved_exec, exec_fits, exec_restored, infos_of, units_restored, unit_restored};
 
+use crate::buffer_use::{BufferUse, buffer_use};
 use crate::drive_unit::{DriveUnit, UnitInfo};
 use crate::guest_commands::execute_as;
 use crate::guest_ops::{GuestOps, drop_op, note_op, op_at};
 use crate::named::{place_named, progress};
 use crate::reply::{guest_reply, plain_body, refuse, reply};
 use crate::saved::{SavedExec, copied, units_fit};
-use crate::scheduler::{Position, next_place};
+use crate::scheduler::{Position, is_eligible, next_place};
 use arrayvec::ArrayVec;
 use std::fmt;
 use std::marker::Model;
@@ -336,14 +339,57 @@ impl<S: BlockStore> Exec<S> {
         ensures executes { IfSome result (λ end.
             (j : ℕ) × ExecutesGuestAt j self.old memory.old end self.new memory.new) }
     {
-        let pending = self.pending.as_slice();
-        let place = next_place(pending, self.position)?;
+        let _ = &self.units;
+        let place = self.next()?;
+        Some(self.execute_at_in(place, memory))
+    }
+
+    /// Returns the index of the pending command that [`execute_next_in`](Exec::execute_next_in) executes, or
+    /// None if nothing is pending. The oldest pending command has index 0.
+    #[inline(always)]
+    pub fn next(&self) -> Option<usize>
+        ensures none_iff_empty { IsNone result ↔ (self.now.pending ≡ []) }
+        ensures eligible { IfSome result (λ place. IsEligible self.now.pending place) }
+        ensures within { IfSome result (λ place. place < PENDING_LIMIT) }
+    {
+        next_place(self.pending.as_slice(), self.position)
+    }
+
+    /// Returns whether the pending command at this index exists and is eligible.
+    pub fn may_execute(&self, place: usize) -> bool
+        ensures eligible { IsTrue result ↔ IsEligible self.now.pending place }
+    {
+        place < self.pending.len() && is_eligible(self.pending.as_slice(), place)
+    }
+
+    /// Returns the part of host memory that the pending command at this index uses, or None if there is no
+    /// such command.
+    pub fn buffer_use_at(&self, place: usize) -> Option<BufferUse>
+        ensures buffer { result ≡ buffer_use_at self.now place }
+    {
+        let command = self.pending.get(place).copied()?;
+        let op = op_at(self.guest_ops.as_slice(), place);
+        Some(buffer_use(GuestCommand { command, op }))
+    }
+
+    /// Executes the pending command at this index, which is eligible ([`may_execute`](Exec::may_execute)). It is
+    /// otherwise as [`execute_next_in`](Exec::execute_next_in).
+    #[inline(always)]
+    pub fn execute_at_in(&mut self, place: usize, memory: &mut [u8]) -> Reply
+        requires memory { IsMemory memory.old }
+        requires eligible { IsEligible self.old.pending place }
+        ensures fewer { length self.new.pending + 1 ≡ length self.old.pending }
+        ensures four_units { length self.new.units ≡ 4 }
+        ensures well_formed { AreWellFormed self.new.units }
+        ensures length { length memory.new ≡ length memory.old }
+        ensures executes { ExecutesGuestAt place self.old memory.old result self.new memory.new }
+    {
         let op = op_at(self.guest_ops.as_slice(), place);
         let taken = remove_pending(&mut self.pending, place);
         drop_op(&mut self.guest_ops, place);
         self.position.move_to(taken);
         let asked = GuestCommand { command: taken, op };
-        Some(execute_as(&mut self.units, asked, memory))
+        execute_as(&mut self.units, asked, memory)
     }
 
     /// Drops the pending commands, which get no end message. Makes every unit with a drive available, without

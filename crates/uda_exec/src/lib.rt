@@ -10,6 +10,7 @@
 #![tactic(auto)]
 
 mod block_transfer;
+mod buffer_use;
 mod compare;
 mod drive_unit;
 mod executor;
@@ -23,6 +24,7 @@ mod reply;
 mod saved;
 mod scheduler;
 
+pub use buffer_use::BufferUse;
 pub use drive_unit::UnitInfo;
 pub use executor::{Exec, PENDING};
 pub use saved::{SavedExec, restored_is_saved};

@@ -9,8 +9,8 @@ use crate::block_transfer::block_count;
 use uda_disk::{Mode, Refusal};
 use uda_packet::Transfer;
 
-// Returns the length of a transfer's buffer in bytes. An Access and an Erase have no buffer.
-fn transfer_buffer_length(t: Transfer) -> u32
+/// Returns the length of a transfer's buffer in bytes. An Access and an Erase have no buffer.
+pub(crate) fn transfer_buffer_length(t: Transfer) -> u32
     ensures { result ≡ transfer_buffer_length t }
 {
     if t.kind.has_buffer() { t.bytes } else { 0 }

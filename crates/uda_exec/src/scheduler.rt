@@ -74,8 +74,8 @@ fn command_may_overtake(older: Command, command: Command) -> bool
     !same_unit(older, command) || (is_transfer(older) && is_transfer(command))
 }
 
-// Returns whether the command at this index is eligible: it may overtake every older one.
-fn is_eligible(pending: &[Command], place: usize) -> bool
+/// Returns whether the command at this index is eligible: it may overtake every older one.
+pub fn is_eligible(pending: &[Command], place: usize) -> bool
     requires { place < length pending.now }
     ensures { IsTrue result ↔ IsEligible pending.now place }
 {
@@ -90,6 +90,7 @@ fn is_eligible(pending: &[Command], place: usize) -> bool
 
 /// Returns the index of the next command to execute, or None if nothing is pending. `position` is that of the
 /// last transfer.
+#[inline(always)]
 pub fn next_place(pending: &[Command], position: Position) -> Option<usize>
     ensures none { IsNone result ↔ (pending.now ≡ []) }
     ensures may { IfSome result (λ place. IsEligible pending.now place) }

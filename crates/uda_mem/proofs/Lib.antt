@@ -1,2 +1,3 @@
 pub mod PutLaws
 pub mod WordLaws
+pub mod RangeLaws

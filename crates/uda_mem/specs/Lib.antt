@@ -3,3 +3,4 @@ pub mod Put
 pub mod Words
 pub mod Slices
 pub mod Windows
+pub mod Ranges

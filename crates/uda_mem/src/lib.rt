@@ -8,10 +8,12 @@
 
 mod block;
 mod memory;
+mod range;
 mod slice;
 
 pub use block::as_block;
 pub use memory::{HostMemory, MEMORY_LIMIT, NoMemory};
+pub use range::ByteRange;
 pub use slice::{
     SLICE_LIMIT, block_at, has, is_memory, len, put_bytes, put_word, put_zeros, read_word, window,
     word_at, write_word,

@@ -9,3 +9,5 @@ pub mod TraceLaws
 pub mod PossibleLaws
 pub mod PortSteps
 pub mod Saving
+pub mod MemoryUseLaws
+pub mod StartupUseLaws

@@ -11,8 +11,10 @@ pub mod PortInvariant
 pub mod Count
 pub mod Report
 pub mod Startup
+pub mod StartupUse
 pub mod Trace
 pub mod Turn
+pub mod MemoryUse
 pub mod Events
 pub mod Display
 pub mod Possible

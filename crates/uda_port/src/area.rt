@@ -6,10 +6,12 @@ ghost use Rattle.uda_port.specs.declared.profile.Profile.TheVariants.{Strict};
 ghost use Rattle.uda_port.specs.Ring.{is_ring_length};
 ghost use Rattle.uda_port.specs.Startup.{area_of, IsArea, has_area, memory_with_area, rings_size, ring_base};
 ghost use Rattle.uda_port.specs.Startup.{response_count, command_count, high_addresses, refuses_third};
+ghost use Rattle.uda_port.specs.StartupUse.{area_range};
 ghost use Rattle.uda_port.specs.Possible.{addresses_by};
 
 use crate::profile::Profile;
 use crate::ring::Ring;
+use uda_mem::ByteRange;
 use uda_packet::Bus;
 
 /// The position and size of a host's rings, with the bytes below them that belong to the area.
@@ -66,6 +68,18 @@ impl Area {
         self.base >= self.below && (self.base + self.size()) as usize <= memory.len()
     }
 
+    /// Returns the range of the area, which is in memory.
+    pub(crate) fn range(&self) -> ByteRange
+        requires sound { IsArea self.now }
+        requires above { self.now.below ≤ self.now.base }
+        ensures range { result ≡ area_range self.now }
+    {
+        ByteRange {
+            at: self.base - self.below,
+            bytes: self.below + self.size(),
+        }
+    }
+
     /// Zeroes the area: the bytes below the ring base that belong to it, and both rings.
     pub(crate) fn zero(&self, memory: &mut [u8])
         requires sound { IsArea self.now }
@@ -93,8 +107,8 @@ impl Area {
           place = 0;
         } }
     {
-        let behind = self.base + 4 * u32::from(self.responses);
-        Ring::placed(behind, self.commands)
+        let following = self.base + 4 * u32::from(self.responses);
+        Ring::placed(following, self.commands)
     }
 
     // Returns the number of bytes of both rings.

@@ -91,8 +91,8 @@ pub(crate) fn has_room(profile: Profile, memory: &[u8], address: u32, size: u16)
     }
 }
 
-// Returns whether a packet with a text of `size` bytes is wholly in memory, at an even address.
-fn has_text(memory: &[u8], address: u32, size: u16) -> bool
+/// Returns whether a packet with a text of `size` bytes is wholly in memory, at an even address.
+pub(crate) fn has_text(memory: &[u8], address: u32, size: u16) -> bool
     ensures { IsTrue result ↔ HasText memory.now address size }
 {
     address % 2 == 0 && address >= 4 && uda_mem::has(memory, address, u32::from(size))

@@ -331,11 +331,19 @@ impl Ring {
         requires memory { IsMemory memory.now }
         ensures owns { result ≡ any_owned (next_descriptor memory.now (ring_before self.now)) }
     {
-        let before = (self.place + (self.count - 1)) % self.count;
-        match Descriptor::read_in(memory, self.base + 4 * u32::from(before)) {
+        match Descriptor::read_in(memory, self.address_before()) {
             Some(descriptor) => descriptor.is_owned(),
             None => false,
         }
+    }
+
+    /// Returns the address of the descriptor before the next one.
+    pub(crate) fn address_before(&self) -> u32
+        ensures address { result ≡ descriptor_address (ring_before self.now) }
+        ensures even { result % 2 ≡ 0 }
+    {
+        let before = (self.place + (self.count - 1)) % self.count;
+        self.base + 4 * u32::from(before)
     }
 
     /// Returns the address that is `bytes` bytes below the ring base, or None if the base is smaller.
@@ -388,8 +396,8 @@ impl Ring {
         if next < self.count { next } else { 0 }
     }
 
-    // Returns the address of the next descriptor.
-    fn address(&self) -> u32
+    /// Returns the address of the next descriptor.
+    pub(crate) fn address(&self) -> u32
         ensures address { result ≡ descriptor_address self.now }
         ensures even { result % 2 ≡ 0 }
         ensures within { result + 4 < 2 ^ 32 }

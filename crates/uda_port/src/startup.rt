@@ -219,8 +219,8 @@ fn refuses_second(profile: Profile, word: u16) -> bool
     }
 }
 
-// Returns whether the third word asks for a feature that the profile doesn't support.
-fn refuses_third(profile: Profile, word: u16) -> bool
+/// Returns whether the third word asks for a feature that the profile doesn't support.
+pub(crate) fn refuses_third(profile: Profile, word: u16) -> bool
     ensures { result ≡ refuses_third profile word }
 {
     match profile {

@@ -139,7 +139,7 @@ impl<S: BlockStore> Port<S> {
         ensures well_formed { AreWellFormed self.new.exec.units }
     {
         let mut trace = Trace::Idle;
-        self.take_turn(memory, &mut trace);
+        self.take_turn(memory, None, &mut trace);
         self.keep();
         trace
     }
@@ -155,7 +155,7 @@ impl<S: BlockStore> Port<S> {
         ensures four_units { length self.new.exec.units ≡ 4 }
         ensures well_formed { AreWellFormed self.new.exec.units }
     {
-        let turn = self.take_turn(memory, trace);
+        let turn = self.take_turn(memory, None, trace);
         self.keep();
         turn
     }

@@ -1,16 +1,18 @@
 //! The turns of a port.
 //!
 //! UDA50 Programmer's Documentation Kit: command ring polling, message envelopes, credits.
-ghost use Rattle.std.specs.Prelude.{◌≡◌, ◌≢◌, ◌+◌, ◌<◌, ◌≤◌, IfSome, IfOk, IfErr, option_map, slice_get, [], ◌∷◌, ◌++◌, length};
+ghost use Rattle.std.specs.Prelude.{◌≡◌, ◌≢◌, ◌+◌, ◌<◌, ◌≤◌, IfSome, IfOk, IfErr, IsNone, ◌↔◌, ℕ, option_map, slice_get, [], ◌∷◌, ◌++◌, length};
 ghost use Rattle.std.specs.Prelude.{take, Some, true, ◌||◌};
 ghost use Rattle.uda_mem.specs.Slices.{IsMemory};
 ghost use Rattle.uda_disk.specs.Units.{AreWellFormed};
 ghost use Rattle.uda_exec.specs.Disks.{PENDING_LIMIT};
+ghost use Rattle.uda_exec.specs.Order.{IsEligible};
 ghost use Rattle.circular_buffer.specs.Buffer.{buffer};
 ghost use Rattle.uda_port.specs.Port.{CreditsAgree, next_grant, command_indicator, response_indicator};
 ghost use Rattle.uda_port.specs.Interrupt.{IsBelow};
-ghost use Rattle.uda_port.specs.Turn.{FetchRule, ExecuteRule, DeliverRule, NotifyRule, LaterRulesEffect, FirstRuleEffect, RunningTurn};
-ghost use Rattle.uda_port.specs.Turn.{TurnEffect, delivery_of, may_fetch};
+ghost use Rattle.uda_port.specs.Turn.{FetchRule, ExecutesOne, ExecuteRule, DeliverRule, NotifyRule, LaterRulesEffect, FirstRuleEffect, RunningTurn};
+ghost use Rattle.uda_port.specs.Turn.{TurnEffect, delivery_of, may_fetch, port_turn_on, port_not_polling};
+ghost use Rattle.uda_port.specs.MemoryUse.{IsChoice, ExecutesChosen};
 ghost use Rattle.uda_port.specs.Trace.{Reports, ReportsIf};
 ghost use Rattle.uda_port.specs.declared.turn.Turn.TheVariants.{Fetched, Executed, Idle as IdleTurn};
 ghost use Rattle.uda_port.specs.declared.trace.Trace.TheVariants.{Idle, Dead as TraceDead};
@@ -127,7 +129,7 @@ impl<S: BlockStore> Port<S> {
         ensures well_formed { AreWellFormed self.new.exec.units }
     {
         let mut trace = Trace::Idle;
-        let turn = self.take_turn(memory, &mut trace);
+        let turn = self.take_turn(memory, None, &mut trace);
         self.keep();
         turn
     }
@@ -143,16 +145,24 @@ impl<S: BlockStore> Port<S> {
         let _ = &self.credits;
     }
 
-    // Runs a turn, by the phase, and reports it in `trace`. It isn't inlined, so that it writes the record only
-    // once, where it is.
+    // Runs a turn, by the phase, and reports it in `trace`. If it executes a command, that is the chosen one, or
+    // one that the port chooses. The function isn't inlined, so that it writes the record only once, where it is.
     #[inline(never)]
-    pub(crate) fn take_turn(&mut self, memory: &mut [u8], trace: &mut Trace) -> Turn
+    pub(crate) fn take_turn(
+        &mut self,
+        memory: &mut [u8],
+        choice: Option<usize>,
+        trace: &mut Trace,
+    ) -> Turn
         requires memory { IsMemory memory.old }
+        requires choice { IsChoice self.old.exec.pending choice }
         ensures effect { TurnEffect self.old.phase self.old memory.old result self.new memory.new }
+        ensures chosen { ExecutesChosen choice result (port_not_polling (port_turn_on self.old), memory.old)
+            (self.new, memory.new) }
         ensures reports { Reports result trace.new self.old self.new }
     {
         match self.phase {
-            Phase::Running => self.run(memory, trace),
+            Phase::Running => self.run(memory, choice, trace),
             Phase::Dead { cause } => {
                 report_dead(trace, cause);
                 Turn::Dead
@@ -169,14 +179,17 @@ impl<S: BlockStore> Port<S> {
 
     // Runs a turn of a running port.
     #[tactic(auto, using(crate::proofs::TurnLaws::running_turn))]
-    fn run(&mut self, memory: &mut [u8], trace: &mut Trace) -> Turn
+    fn run(&mut self, memory: &mut [u8], choice: Option<usize>, trace: &mut Trace) -> Turn
         requires memory { IsMemory memory.old }
         requires running { self.old.phase ≡ Running }
+        requires choice { IsChoice self.old.exec.pending choice }
         ensures effect { RunningTurn self.old memory.old result self.new memory.new }
+        ensures chosen { ExecutesChosen choice result (port_not_polling (port_turn_on self.old), memory.old)
+            (self.new, memory.new) }
         ensures reports { Reports result trace.new self.old self.new }
     {
         self.turns.add(1);
-        match self.lines(memory, trace) {
+        match self.lines(memory, choice, trace) {
             Ok(turn) => turn,
             Err(cause) => {
                 self.die(cause);
@@ -187,10 +200,18 @@ impl<S: BlockStore> Port<S> {
     }
 
     // Applies the first rule that fits.
-    fn lines(&mut self, memory: &mut [u8], trace: &mut Trace) -> Result<Turn, Fatal>
+    fn lines(
+        &mut self,
+        memory: &mut [u8],
+        choice: Option<usize>,
+        trace: &mut Trace,
+    ) -> Result<Turn, Fatal>
         requires memory { IsMemory memory.old }
         requires running { self.old.phase ≡ Running }
+        requires choice { IsChoice self.old.exec.pending choice }
         ensures effect { FirstRuleEffect self.old memory.old result self.new memory.new }
+        ensures chosen { IfOk result (λ turn. ExecutesChosen choice turn (port_not_polling self.old, memory.old)
+            (self.new, memory.new)) }
         ensures cause { IfErr result (λ cause. CanDie self.new.profile self.new.phase cause) }
         ensures reports { IfOk result (λ turn. Reports turn trace.new self.old self.new) }
     {
@@ -199,21 +220,29 @@ impl<S: BlockStore> Port<S> {
             Ok(true) => Ok(Turn::Fetched),
             Ok(false) => {
                 self.polling = false;
-                self.rest(memory, trace)
+                self.rest(memory, choice, trace)
             }
         }
     }
 
     // Applies the rules after the first.
     #[tactic(auto, using(crate::proofs::TurnLaws::none_first))]
-    fn rest(&mut self, memory: &mut [u8], trace: &mut Trace) -> Result<Turn, Fatal>
+    fn rest(
+        &mut self,
+        memory: &mut [u8],
+        choice: Option<usize>,
+        trace: &mut Trace,
+    ) -> Result<Turn, Fatal>
         requires memory { IsMemory memory.old }
         requires running { self.old.phase ≡ Running }
+        requires choice { IsChoice self.old.exec.pending choice }
         ensures effect { LaterRulesEffect self.old memory.old result self.new memory.new }
+        ensures chosen { IfOk result (λ turn. ExecutesChosen choice turn (self.old, memory.old)
+            (self.new, memory.new)) }
         ensures cause { IfErr result (λ cause. CanDie self.new.profile self.new.phase cause) }
         ensures reports { IfOk result (λ turn. Reports turn trace.new self.old self.new) }
     {
-        if self.execute(memory, trace) {
+        if self.execute(memory, choice, trace) {
             return Ok(Turn::Executed);
         }
         let Some(end) = self.waiting.front().copied() else {
@@ -289,9 +318,9 @@ impl<S: BlockStore> Port<S> {
         }
     }
 
-    // Returns whether the port may fetch: it polls, and its host isn't without credit in the compatible
-    // profile.
-    fn may_fetch(&self) -> bool
+    /// Returns whether the port may fetch: it polls, and its host isn't without credit in the compatible
+    /// profile.
+    pub(crate) fn may_fetch(&self) -> bool
         ensures { result ≡ may_fetch self.now }
     {
         self.polling && !self.lacks_credit()
@@ -309,25 +338,54 @@ impl<S: BlockStore> Port<S> {
     }
 
     // Applies the second rule: executes a pending command, if there is one.
-    fn execute(&mut self, memory: &mut [u8], trace: &mut Trace) -> bool
+    fn execute(&mut self, memory: &mut [u8], choice: Option<usize>, trace: &mut Trace) -> bool
         requires memory { IsMemory memory.old }
         requires running { self.old.phase ≡ Running }
+        requires choice { IsChoice self.old.exec.pending choice }
         ensures running { self.new.phase ≡ Running }
         ensures effect { ExecuteRule self.old memory.old result self.new memory.new }
+        ensures chosen { result ≡ true → ExecutesChosen choice Executed (self.old, memory.old)
+            (self.new, memory.new) }
         ensures reports { ReportsIf result Executed trace.new (self.old, self.new) }
     {
-        let pending = self.exec.pending();
-        if pending == 0 {
-            return false;
-        }
-        let Some(end) = self.exec.execute_next_in(memory) else {
+        let Some(place) = self.place_by(choice) else {
             return false;
         };
+        self.execute_at(memory, place, trace);
+        true
+    }
+
+    // Returns the index of the pending command to execute, or None if nothing is pending.
+    fn place_by(&self, choice: Option<usize>) -> Option<usize>
+        requires choice { IsChoice self.now.exec.pending choice }
+        ensures none_iff_empty { IsNone result ↔ (self.now.exec.pending ≡ []) }
+        ensures eligible { IfSome result (λ place. IsEligible self.now.exec.pending place) }
+        ensures chosen { IfSome result (λ place. (j : ℕ) → choice ≡ Some j → place ≡ j) }
+    {
+        if self.exec.pending() == 0 {
+            return None;
+        }
+        match choice {
+            None => self.exec.next(),
+            Some(place) => Some(place),
+        }
+    }
+
+    // Executes the pending command at this index, which is eligible, and queues its end message.
+    fn execute_at(&mut self, memory: &mut [u8], place: usize, trace: &mut Trace)
+        requires memory { IsMemory memory.old }
+        requires running { self.old.phase ≡ Running }
+        requires eligible { IsEligible self.old.exec.pending place }
+        ensures running { self.new.phase ≡ Running }
+        ensures effect { ExecutesOne place self.old memory.old self.new memory.new }
+        ensures reports { Reports Executed trace.new self.old self.new }
+    {
+        let pending = self.exec.pending();
+        let end = self.exec.execute_at_in(place, memory);
         self.load.add(pending);
         self.guest.note_end(&end);
         hold(&mut self.waiting, end);
         *trace = Trace::Executed(end);
-        true
     }
 
     // Applies the third rule: delivers the first queued end message, if the port owns the next response
@@ -398,8 +456,8 @@ impl<S: BlockStore> Port<S> {
         Ok(true)
     }
 
-    // Returns the next attention message that is due, or None.
-    fn notice(&self) -> Option<Notice>
+    /// Returns the next attention message that is due, or None.
+    pub(crate) fn notice(&self) -> Option<Notice>
         ensures text { option_map (λ n. take n.message.size n.message.text) result ≡ attention_text self.now }
         ensures due { IfSome result (λ n. first_due self.now.guest.attentions ≡ Some n.drive) }
         ensures within { IfSome result (λ n. n.message.size ≤ 48) }
@@ -420,8 +478,9 @@ impl<S: BlockStore> Port<S> {
         })
     }
 
-    // Returns the text of an end message, with as many bytes as the profile gives it.
-    fn end_text(&self, end: &Reply) -> Message
+    /// Returns the text of an end message, with as many bytes as the profile gives it.
+    #[inline(always)]
+    pub(crate) fn end_text(&self, end: &Reply) -> Message
         ensures text { take result.size result.text ≡ end_text self.now end.now }
         ensures within { result.size ≤ 48 }
         ensures whole { self.now.profile ≡ Strict → result.size ≡ 48 }
@@ -451,8 +510,8 @@ impl<S: BlockStore> Port<S> {
         }
     }
 
-    // Returns the address of the command interrupt indicator, if the next fetch must set it.
-    fn command_indicator(&self, memory: &[u8], next: Descriptor) -> Option<u32>
+    /// Returns the address of the command interrupt indicator, if the next fetch must set it.
+    pub(crate) fn command_indicator(&self, memory: &[u8], next: Descriptor) -> Option<u32>
         requires memory { IsMemory memory.now }
         requires next { next_descriptor memory.now self.now.commands ≡ Some next }
         ensures indicator { result ≡ command_indicator self.now memory.now }
@@ -466,8 +525,8 @@ impl<S: BlockStore> Port<S> {
         }
     }
 
-    // Returns the address of the response interrupt indicator, if the next delivery must set it.
-    fn response_indicator(&self, memory: &[u8], next: Descriptor) -> Option<u32>
+    /// Returns the address of the response interrupt indicator, if the next delivery must set it.
+    pub(crate) fn response_indicator(&self, memory: &[u8], next: Descriptor) -> Option<u32>
         requires memory { IsMemory memory.now }
         requires next { next_descriptor memory.now self.now.responses ≡ Some next }
         ensures indicator { result ≡ response_indicator self.now memory.now }
@@ -561,10 +620,10 @@ fn initializing(trace: &mut Trace) -> Turn
     idle(trace)
 }
 
-// Stores the trace record of a dead port. That is rare, so the function isn't inlined.
+/// Stores the trace record of a dead port. That is rare, so the function isn't inlined.
 #[cold]
 #[inline(never)]
-fn report_dead(trace: &mut Trace, cause: Fatal)
+pub(crate) fn report_dead(trace: &mut Trace, cause: Fatal)
     ensures { trace.new ≡ TraceDead cause }
 {
     *trace = Trace::Dead(cause);

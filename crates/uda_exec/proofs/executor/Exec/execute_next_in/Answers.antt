@@ -1,32 +1,11 @@
-use Rattle.std.proofs.Common.{◌≡◌, Some, List}
-use Rattle.std.specs.Prelude.{slice_get}
-use Rattle.uda_exec.specs.GuestOps.{op_at}
-use Rattle.uda_exec.proofs.Words.{Command, IsEligible}
 use Rattle.uda_exec.proofs.Units.{faithful_stays, sure_stays}
 use Rattle.uda_exec.proofs.executor.Exec.execute_next_in.Goals as goal
 
 pub returns-clause-faithful : goal.returns-clause-faithful
-returns-clause-faithful g c = rw (← c.self.view_is) (faithful_stays _ _ c.execute_as.ensures.all_attributes)
+returns-clause-faithful g c = faithful_stays _ _ c.execute_at_in.ensures.executes.all_attributes_stay
 
 pub returns-clause-infallible : goal.returns-clause-infallible
-returns-clause-infallible g c = rw (← c.self.view_is) (sure_stays _ _ c.execute_as.ensures.all_attributes)
+returns-clause-infallible g c = sure_stays _ _ c.execute_at_in.ensures.executes.all_attributes_stay
 
 pub returns-clause-executes : goal.returns-clause-executes
-returns-clause-executes g c =
-    let items : List Command = c.self.inside.pending.items in
-    let may : IsEligible items c.in_ok-place.place =
-    rw c.as_slice-pending.ensures.value at c.in_ok-place.ensures.may in
-    let here : slice_get items c.in_ok-place.place ≡ Some c.remove_pending-taken.result =
-    c.remove_pending-taken.ensures.value in
-    let op : c.op_at-op.result ≡ op_at c.self.inside.guest_ops.items c.in_ok-place.place =
-    rw c.as_slice.ensures.value at c.op_at-op.ensures in
-    rw (← c.self.view_is) (
-      c.in_ok-place.place,
-      record {
-        command = c.remove_pending-taken.result;
-        taken = record { stands = here; may = may; taken = c.remove_pending-taken.ensures.left };
-        ops_left = c.drop_op.ensures.dropped;
-        executes = rw op at c.execute_as.ensures.executes;
-        all_attributes_stay = c.execute_as.ensures.all_attributes;
-      },
-    )
+returns-clause-executes g c = (c.in_ok-place.place, c.execute_at_in.ensures.executes)

@@ -1,0 +1,77 @@
+use Rattle.std.proofs.Common.{List, rules, sym, ap, ap₂, subst, ◌∙◌}
+use Rattle.std.specs.Prelude.{All}
+use Rattle.uda_mem.specs.Ranges.{LiesIn}
+use Rattle.uda_mem.specs.declared.range.ByteRange.{ByteRange}
+use Rattle.uda_port.specs.declared.memory_use.MemoryUse.{MemoryUse}
+use Rattle.uda_port.specs.declared.turn_at.Fate.{Fate}
+use Rattle.uda_port.specs.Turn.{may_fetch}
+use Rattle.uda_port.specs.MemoryUse.{fate_in, CanFail, EffectBy, IsLocal, written_by_fate}
+use Rattle.uda_port.proofs.MemoryUseLaws.{access_any, is_local, without_buffer, fate_fails, fate_lies, written_there}
+use Rattle.uda_port.proofs.port.Port.take_turn_at.Goals as goal
+
+pub returns-clause-effect : goal.returns-clause-effect
+returns-clause-effect g c =
+    let old = c.args.self.now in
+    let uses = c.memory_use-uses.ensures.uses in
+    let access = access_any old c.args.memory.now 0 c.args.place
+    ∙ sym (ap (λ (u : MemoryUse). u.access) uses) in
+    let fate = ap (fate_in old.phase c.args.missing (may_fetch old)) access ∙ sym c.fate-fate.ensures in
+    subst
+    (λ (f : Fate). EffectBy f old c.args.memory.now c.turn_by-turn.result c.turn_by-turn.new.self c.turn_by-turn.new.memory)
+    (sym fate) c.turn_by-turn.ensures.effect
+
+pub returns-clause-local : goal.returns-clause-local
+returns-clause-local g c =
+    let old = c.args.self.now in
+    let memory = c.args.memory.now in
+    let uses = c.memory_use-uses.ensures.uses in
+    let access = access_any old memory 0 c.args.place ∙ sym (ap (λ (u : MemoryUse). u.access) uses) in
+    let fate = ap (fate_in old.phase c.args.missing (may_fetch old)) access ∙ sym c.fate-fate.ensures in
+    let local = is_local c.args.missing c.args.place old memory c.turn_by-turn.result c.turn_by-turn.new.self
+    c.turn_by-turn.new.memory c.fate-fate.result c.rings_are_sound.ensures.sound fate c.turn_by-turn.ensures.effect
+    c.turn_by-turn.ensures.chosen in
+    let written = c.written_by_fate.ensures
+    ∙ ap (λ (u : MemoryUse). written_by_fate c.fate-fate.result u.written) uses in
+    subst
+    (λ (w : List ByteRange). IsLocal c.args.missing c.args.place (old, memory)
+    (record { turn = c.turn_by-turn.result; written = w }) (c.turn_by-turn.new.self, c.turn_by-turn.new.memory))
+    (sym written) local
+
+pub turn_by-turn-requires : goal.turn_by-turn-requires
+turn_by-turn-requires g c =
+    let access = ap (λ (u : MemoryUse). u.access) c.memory_use-uses.ensures.uses in (
+      search rules,
+      (
+        c.requires.memory,
+        (
+          access,
+          (
+            c.requires.place,
+            (
+              λ is. without_buffer c.args.self.now.phase c.args.missing (may_fetch c.args.self.now)
+                  c.memory_use-uses.result.access (sym c.fate-fate.ensures ∙ is),
+              subst (CanFail c.args.self.now.profile c.args.self.now.phase) (sym c.fate-fate.ensures)
+                  (fate_fails c.args.self.now.profile c.args.self.now.phase c.args.missing (may_fetch c.args.self.now)
+                  c.memory_use-uses.result.access),
+            ),
+          ),
+        ),
+      ),
+    )
+
+pub returns-clause-within : goal.returns-clause-within
+returns-clause-within g c =
+    subst (All (LiesIn c.args.memory.now)) (sym c.written_by_fate.ensures)
+    (fate_lies c.args.memory.now c.fate-fate.result c.memory_use-uses.result.written
+    c.memory_use-uses.ensures.written_within)
+
+pub returns-clause-written : goal.returns-clause-written
+returns-clause-written g c =
+    let old = c.args.self.now in
+    let memory = c.args.memory.now in
+    let uses = c.memory_use-uses.ensures.uses in
+    let access = access_any old memory 0 c.args.place ∙ sym (ap (λ (u : MemoryUse). u.access) uses) in
+    let fate = ap (fate_in old.phase c.args.missing (may_fetch old)) access ∙ sym c.fate-fate.ensures in
+    λ other agrees. c.written_by_fate.ensures
+    ∙ ap₂ written_by_fate (sym fate) (ap (λ (u : MemoryUse). u.written) uses)
+    ∙ written_there c.args.missing c.args.place old memory other agrees

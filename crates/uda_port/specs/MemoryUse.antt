@@ -1,0 +1,256 @@
+-- What a turn reads and writes of host memory. A caller whose memory is behind a map copies only that.
+-- UDA50 Programmer's Documentation Kit: command ring polling, message envelopes, UNIBUS addresses.
+use Rattle.std.specs.Prelude.{◌≡◌, ◌≤◌, ◌<◌, ℕ, ◌+◌, ◌-◌, ◌%◌, Bool, true, false, ◌&&◌, nat_eq, nat_le, List, [], ◌∷◌, length}
+use Rattle.std.specs.Prelude.{Option, Some, None, option_map, if◌then◌else◌, All, ⊤}
+use Rattle.uda_mem.specs.declared.range.ByteRange.{ByteRange}
+use Rattle.uda_mem.specs.Ranges.{EMPTY_RANGE, range_in, SameIn, carried}
+use Rattle.uda_mem.specs.Words.{word_at}
+use Rattle.uda_packet.specs.declared.command.Command.{Command}
+use Rattle.uda_exec.specs.declared.buffer_use.BufferUse.{BufferUse}
+use Rattle.uda_exec.specs.BufferUse.{buffer_use_at}
+use Rattle.uda_exec.specs.Order.{IsEligible}
+use Rattle.uda_port.specs.declared.memory_use.Access.{Access}
+use Rattle.uda_port.specs.declared.memory_use.Access.TheVariants.{Nothing, Fetch, Execute, Wait, Deliver}
+use Rattle.uda_port.specs.declared.memory_use.MemoryUse.{MemoryUse}
+use Rattle.uda_port.specs.declared.memory_use.Missing.{Missing}
+use Rattle.uda_port.specs.declared.turn_at.TurnTaken.{TurnTaken}
+use Rattle.uda_port.specs.declared.turn_at.Fate.{Fate}
+use Rattle.uda_port.specs.declared.turn_at.Fate.TheVariants.{Usual, FailsInFetch, FailsLater, WithoutBuffer}
+use Rattle.uda_port.specs.declared.descriptor.Descriptor.{Descriptor}
+use Rattle.uda_port.specs.declared.phase.Fatal.{Fatal}
+use Rattle.uda_port.specs.declared.phase.Fatal.TheVariants.{PacketRead, PacketWrite, RingRead}
+use Rattle.uda_port.specs.declared.phase.Phase.{Phase}
+use Rattle.uda_port.specs.declared.phase.Phase.TheVariants.{Running}
+use Rattle.uda_port.specs.declared.profile.Profile.{Profile}
+use Rattle.uda_port.specs.declared.profile.Profile.TheVariants.{Strict, Compatible}
+use Rattle.uda_port.specs.declared.turn.Turn.{Turn}
+use Rattle.uda_port.specs.declared.turn.Turn.TheVariants.{Executed, Dead}
+use Rattle.uda_port.specs.Possible.{CanDie}
+use Rattle.uda_port.specs.Ring.{is_owned, RingState, descriptor_address, next_descriptor}
+use Rattle.uda_port.specs.Interrupt.{ring_before}
+use Rattle.uda_port.specs.Packet.{text_address}
+use Rattle.uda_port.specs.Report.{next_text}
+use Rattle.uda_port.specs.Port.{PortState, command_indicator, response_indicator}
+use Rattle.uda_port.specs.Startup.{failed_port}
+use Rattle.uda_port.specs.Turn.{TurnEffect, ExecuteRule, ExecutesOne, may_fetch, port_turn_on, port_not_polling}
+
+-- ---- ranges
+
+-- the next descriptor of each ring, and the one before it
+abbrev pub descriptor_ranges : PortState → List ℕ → List ByteRange
+descriptor_ranges port memory =
+    range_in memory (descriptor_address port.commands) 4
+    ∷ range_in memory (descriptor_address (ring_before port.commands)) 4
+    ∷ range_in memory (descriptor_address port.responses) 4
+    ∷ range_in memory (descriptor_address (ring_before port.responses)) 4 ∷ []
+
+-- a packet with a text of n bytes at an address: its text, and the four bytes below it
+abbrev pub packet_range : List ℕ → ℕ → ℕ → ByteRange
+packet_range memory at n = range_in memory (at - 4) (n + 4)
+
+-- an interrupt indicator, if it is set
+abbrev pub indicator_range : Option ℕ → ByteRange
+indicator_range None = EMPTY_RANGE
+indicator_range (Some at) = record { at = at; bytes = 2 }
+
+-- the second word of the next descriptor
+abbrev pub returned_range : RingState → ByteRange
+returned_range r = record { at = descriptor_address r + 2; bytes = 2 }
+
+abbrev pub NONE_WRITTEN : List ByteRange
+NONE_WRITTEN = EMPTY_RANGE ∷ EMPTY_RANGE ∷ EMPTY_RANGE ∷ EMPTY_RANGE ∷ []
+
+-- ---- what the next turn uses
+
+-- nothing but the descriptors
+abbrev pub no_use : Access → MemoryUse
+no_use access = record { access = access; body = EMPTY_RANGE; written = NONE_WRITTEN }
+
+-- whether a packet with a text of n bytes is usable at an address
+abbrev pub has_text : List ℕ → ℕ → ℕ → Bool
+has_text memory at n = nat_eq (at % 2) 0 && (nat_le 4 at && nat_le (at + n) (length memory))
+
+-- whether a text of n bytes can be written there
+abbrev pub has_room : Profile → List ℕ → ℕ → ℕ → Bool
+has_room Strict memory at n = has_text memory at 48 && nat_le 48 (word_at memory (at - 4))
+has_room (Compatible identity) memory at n = has_text memory at n
+
+-- a fetch reads the packet, and sets the interrupt indicator and the descriptor if it is readable
+abbrev pub written_by_fetch : PortState → List ℕ → Bool → List ByteRange
+written_by_fetch port memory false = NONE_WRITTEN
+written_by_fetch port memory true =
+    indicator_range (command_indicator port memory) ∷ returned_range port.commands ∷ EMPTY_RANGE
+    ∷ EMPTY_RANGE ∷ []
+
+abbrev pub fetch_use : PortState → List ℕ → ℕ → MemoryUse
+fetch_use port memory at = record {
+  access = Fetch;
+  body = packet_range memory at 48;
+  written = written_by_fetch port memory (has_text memory at 48);
+}
+
+-- a command uses its buffer
+abbrev pub command_use : List ℕ → Option BufferUse → MemoryUse
+command_use memory None = no_use Execute
+command_use memory (Some u) = record {
+  access = Execute;
+  body = range_in memory u.start u.used;
+  written = range_in memory u.start u.changed ∷ EMPTY_RANGE ∷ EMPTY_RANGE ∷ EMPTY_RANGE ∷ [];
+}
+
+-- a delivery writes the text, its envelope, the interrupt indicator and the descriptor, in this order, if
+-- there is room
+abbrev pub written_by_delivery : PortState → List ℕ → ByteRange → Bool → List ByteRange
+written_by_delivery port memory text false = NONE_WRITTEN
+written_by_delivery port memory text true =
+    text ∷ record { at = text.at - 4; bytes = 4 } ∷ indicator_range (response_indicator port memory)
+    ∷ returned_range port.responses ∷ []
+
+abbrev pub delivery_use : PortState → List ℕ → ByteRange → MemoryUse
+delivery_use port memory text = record {
+  access = Deliver;
+  body = packet_range memory text.at text.bytes;
+  written = written_by_delivery port memory text (has_room port.profile memory text.at text.bytes);
+}
+
+-- a message of n bytes waits for this response descriptor
+abbrev pub message_use : PortState → List ℕ → ℕ → Option Descriptor → MemoryUse
+message_use port memory n None = no_use Wait
+message_use port memory n (Some d) =
+    if is_owned d then delivery_use port memory (record { at = text_address port.profile d; bytes = n })
+    else no_use Wait
+
+-- nothing is fetched: the pending command at index j is executed, or else a message of this length delivered
+abbrev pub later_use : PortState → List ℕ → ℕ → List Command → Option ℕ → MemoryUse
+later_use port memory j (c ∷ cs) size = command_use memory (buffer_use_at port.exec j)
+later_use port memory j [] None = no_use Nothing
+later_use port memory j [] (Some n) = message_use port memory n (next_descriptor memory port.responses)
+
+-- the number of bytes of the next message, if there is one
+abbrev pub next_size : PortState → Option ℕ
+next_size port = option_map (λ text. length text) (next_text port)
+
+abbrev pub use_without_fetch : PortState → List ℕ → ℕ → MemoryUse
+use_without_fetch port memory j = later_use port memory j port.exec.pending (next_size port)
+
+-- the next command descriptor is this
+abbrev pub use_found : PortState → List ℕ → ℕ → Option Descriptor → MemoryUse
+use_found port memory j None = no_use Nothing
+use_found port memory j (Some d) =
+    if is_owned d then fetch_use port memory (text_address port.profile d) else use_without_fetch port memory j
+
+-- the port may fetch, or may not
+abbrev pub use_running : PortState → List ℕ → ℕ → Bool → MemoryUse
+use_running port memory j true = use_found port memory j (next_descriptor memory port.commands)
+use_running port memory j false = use_without_fetch port memory j
+
+abbrev pub use_in : Phase → PortState → List ℕ → ℕ → MemoryUse
+use_in Running port memory j = use_running port memory j (may_fetch port)
+use_in _ port memory j = no_use Nothing
+
+-- what the next turn uses, if it executes the pending command at index j when it executes one
+abbrev pub use_of : PortState → List ℕ → ℕ → MemoryUse
+use_of port memory j = use_in port.phase port memory j
+
+-- ---- addresses that lead nowhere
+
+-- A turn is as usual. Or it fails with a fatal error, before it stops polling or afterwards. Or it executes a
+-- command as if memory had no bytes.
+abbrev pub fate_at : Missing → Access → Fate
+fate_at missing Nothing = Usual
+fate_at missing Fetch = if missing.body then FailsInFetch PacketRead else Usual
+fate_at missing Execute = if missing.body then WithoutBuffer else Usual
+fate_at missing Wait = if missing.responses then FailsLater RingRead else Usual
+fate_at missing Deliver =
+    if missing.responses then FailsLater RingRead else if missing.body then FailsLater PacketWrite else Usual
+
+-- a port that may fetch reads the next command descriptor first
+abbrev pub fate_running : Missing → Bool → Access → Fate
+fate_running missing polls access =
+    if polls && missing.commands then FailsInFetch RingRead else fate_at missing access
+
+abbrev pub fate_in : Phase → Missing → Bool → Access → Fate
+fate_in Running missing polls access = fate_running missing polls access
+fate_in _ missing polls access = Usual
+
+abbrev pub fate_of : Missing → PortState → List ℕ → Fate
+fate_of missing port memory = fate_in port.phase missing (may_fetch port) (use_of port memory 0).access
+
+-- a port of this profile and in this phase can have this fate
+abbrev pub CanFail : Profile → Phase → Fate → Type 0
+CanFail profile phase (FailsInFetch cause) = CanDie profile phase cause
+CanFail profile phase (FailsLater cause) = CanDie profile phase cause
+CanFail profile phase _ = ⊤
+
+-- the port fails, and memory is unchanged
+pub record FailsUnread (cause : Fatal) (before : PortState) (turn : Turn) (new : PortState) : Type 0 where
+  pub answer : turn ≡ Dead
+  pub died : new ≡ failed_port before cause
+
+-- a command is executed as if memory had no bytes
+pub record ExecutesWithout (before : PortState) (turn : Turn) (new : PortState) : Type 0 where
+  pub answer : turn ≡ Executed
+  pub executes : ExecuteRule before [] true new []
+
+abbrev pub EffectBy : Fate → PortState → List ℕ → Turn → PortState → List ℕ → Type 0
+EffectBy Usual old memory turn new memory_after = TurnEffect old.phase old memory turn new memory_after
+EffectBy (FailsInFetch cause) old memory turn new memory_after =
+    FailsUnread cause (port_turn_on old) turn new × (memory_after ≡ memory)
+EffectBy (FailsLater cause) old memory turn new memory_after =
+    FailsUnread cause (port_not_polling (port_turn_on old)) turn new × (memory_after ≡ memory)
+EffectBy WithoutBuffer old memory turn new memory_after =
+    ExecutesWithout (port_not_polling (port_turn_on old)) turn new × (memory_after ≡ memory)
+
+-- a turn of which some addresses lead nowhere: the rule that needs one of them is as at the end of memory
+abbrev pub EffectWithout : Missing → PortState → List ℕ → Turn → PortState → List ℕ → Type 0
+EffectWithout missing old memory turn new memory_after =
+    EffectBy (fate_of missing old memory) old memory turn new memory_after
+
+abbrev pub written_by_fate : Fate → List ByteRange → List ByteRange
+written_by_fate Usual ranges = ranges
+written_by_fate _ ranges = NONE_WRITTEN
+
+-- what the turn writes, in this order
+abbrev pub written_of : Missing → PortState → List ℕ → ℕ → List ByteRange
+written_of missing port memory j = written_by_fate (fate_of missing port memory) (use_of port memory j).written
+
+-- ---- the law
+
+-- a memory of the same length that has the same descriptors where the turn reads them
+pub record AgreesInDescriptors (port : PortState) (memory other : List ℕ) : Type 0 where
+  pub same_length : length other ≡ length memory
+  pub same_descriptors : All (SameIn memory other) (descriptor_ranges port memory)
+
+-- a memory of the same length that has the same bytes where the turn reads
+pub record Agrees (port : PortState) (j : ℕ) (memory other : List ℕ) : Type 0 where
+  pub same_length : length other ≡ length memory
+  pub same_descriptors : All (SameIn memory other) (descriptor_ranges port memory)
+  pub same_body : SameIn memory other (use_of port memory j).body
+
+-- A turn changed memory only in the ranges that it wrote. In any other memory that agrees where the turn reads,
+-- it has the same effect, and leaves there what is carried.
+pub record IsLocal (missing : Missing) (j : ℕ) (before : PortState × List ℕ) (taken : TurnTaken)
+    (after : PortState × List ℕ) : Type 0 where
+  pub only : after.1 ≡ carried taken.written after.1 before.1
+  pub elsewhere : (other : List ℕ) → Agrees before.0 j before.1 other
+      → EffectWithout missing before.0 other taken.turn after.0 (carried taken.written after.1 other)
+
+-- the pending command at index j is eligible, if any is pending
+abbrev pub IsPlace : List Command → ℕ → Type 0
+IsPlace pending j = 0 < length pending → IsEligible pending j
+
+-- a choice of the next command: the pending command at this index, or None if the port itself chooses
+abbrev pub IsChoice : List Command → Option ℕ → Type 0
+IsChoice pending choice = (j : ℕ) → choice ≡ Some j → IsPlace pending j
+
+-- a turn that executes a command executes the one that was chosen
+abbrev pub ExecutesChosen : Option ℕ → Turn → PortState × List ℕ → PortState × List ℕ → Type 0
+ExecutesChosen choice turn before after =
+    (j : ℕ) → choice ≡ Some j → turn ≡ Executed → ExecutesOne j before.0 before.1 after.0 after.1
+
+-- what is always true of a port's rings, and of the additional operations of a strict port
+pub record HasSoundRings (port : PortState) : Type 0 where
+  pub place : port.commands.place < port.commands.count
+  pub even : port.responses.base % 2 ≡ 0
+  pub ordered : port.responses.base ≤ port.commands.base
+  pub strict : port.profile ≡ Strict → port.exec.guest_ops ≡ []

@@ -1,0 +1,315 @@
+//! What a turn reads and writes of host memory.
+//!
+//! UDA50 Programmer's Documentation Kit: command ring polling, message envelopes, UNIBUS addresses.
+ghost use Rattle.std.specs.Prelude.{◌≡◌, ◌≤◌, ◌<◌, ◌+◌, ℕ, List, All, IfSome, Some, length};
+ghost use Rattle.uda_mem.specs.Slices.{IsMemory};
+ghost use Rattle.uda_mem.specs.Ranges.{LiesIn, range_in};
+ghost use Rattle.uda_exec.specs.Disks.{PENDING_LIMIT};
+ghost use Rattle.uda_port.specs.Fetch.{IsNext};
+ghost use Rattle.uda_port.specs.Interrupt.{ring_before};
+ghost use Rattle.uda_port.specs.Packet.{text_address};
+ghost use Rattle.uda_port.specs.Ring.{descriptor_address};
+ghost use Rattle.uda_port.specs.Turn.{may_fetch};
+ghost use Rattle.uda_port.specs.MemoryUse.{IsPlace, descriptor_ranges, packet_range, indicator_range, returned_range};
+ghost use Rattle.uda_port.specs.MemoryUse.{no_use, fetch_use, written_by_fetch, has_text, command_use, delivery_use};
+ghost use Rattle.uda_port.specs.MemoryUse.{written_by_delivery, has_room, use_without_fetch, use_running, use_of};
+ghost use Rattle.uda_port.specs.MemoryUse.{next_size, AgreesInDescriptors};
+
+use crate::descriptor::Descriptor;
+use crate::packet::{TEXT, has_room, has_text};
+use crate::phase::Phase;
+use crate::port::Port;
+use crate::ring::{NextDescriptor, Ring};
+use uda_exec::BufferUse;
+use uda_image::BlockStore;
+use uda_mem::ByteRange;
+
+/// What the next turn does with host memory, in addition to reading descriptors.
+#[derive(Clone, Copy, Debug, PartialEq, Eq)]
+pub enum Access {
+    /// Nothing. The port doesn't run, it has nothing to do, or the next command descriptor isn't in memory.
+    Nothing,
+    /// The port reads a command packet, and returns its descriptor.
+    Fetch,
+    /// The port executes a pending command, which may use its buffer.
+    Execute,
+    /// Nothing. A message waits, and the port doesn't own the next response descriptor or can't read it.
+    Wait,
+    /// The port writes a message to its buffer, and returns the descriptor.
+    Deliver,
+}
+
+/// What the next turn uses of host memory, in addition to the descriptors that it reads
+/// ([`descriptor_ranges`](Port::descriptor_ranges)).
+#[derive(Clone, Copy, Debug, PartialEq, Eq)]
+pub struct MemoryUse {
+    /// What the turn does.
+    pub access: Access,
+    /// The packet, or the buffer of the command. The turn reads or writes it, or part of it.
+    pub body: ByteRange,
+    /// What the turn writes, in this order. Some of the ranges may be empty.
+    pub written: [ByteRange; 4],
+}
+
+/// Which of the addresses that a turn uses lead nowhere.
+#[derive(Clone, Copy, Debug, PartialEq, Eq)]
+pub struct Missing {
+    /// Those of the next command descriptor.
+    pub commands: bool,
+    /// Those of the next response descriptor.
+    pub responses: bool,
+    /// Those of [`MemoryUse::body`].
+    pub body: bool,
+}
+
+pub(crate) const NONE_WRITTEN: [ByteRange; 4] = [
+    ByteRange::EMPTY,
+    ByteRange::EMPTY,
+    ByteRange::EMPTY,
+    ByteRange::EMPTY,
+];
+
+impl<S: BlockStore> Port<S> {
+    /// Returns the index of the pending command that the next turn executes, if it executes one. It is for
+    /// [`memory_use`](Port::memory_use) and [`turn_at`](Port::turn_at), and remains valid until something else
+    /// is done with the port.
+    pub fn next_place(&self) -> usize
+        ensures place { IsPlace self.now.exec.pending result }
+        ensures within { result < PENDING_LIMIT }
+    {
+        self.exec.next().unwrap_or(0)
+    }
+
+    /// Returns the ranges of the next command descriptor, the one before it, the next response descriptor, and
+    /// the one before that. Of memory only the length matters.
+    pub fn descriptor_ranges(&self, memory: &[u8]) -> [ByteRange; 4]
+        requires memory { IsMemory memory.now }
+        ensures ranges { result ≡ descriptor_ranges self.now memory.now }
+        ensures within { All (LiesIn memory.now) result }
+    {
+        [
+            self.commands.next_range(memory),
+            self.commands.range_before(memory),
+            self.responses.next_range(memory),
+            self.responses.range_before(memory),
+        ]
+    }
+
+    /// Returns what the next turn uses of memory, if it executes the pending command at index `place` when it
+    /// executes one. Of memory only the descriptors matter, and in the strict profile the length word of a
+    /// response buffer.
+    pub fn memory_use(&self, memory: &[u8], place: usize) -> MemoryUse
+        requires memory { IsMemory memory.now }
+        ensures uses { result ≡ use_of self.now memory.now place }
+        ensures body_by_descriptors { (other : List ℕ) → AgreesInDescriptors self.now memory.now other
+            → (use_of self.now other place).body ≡ result.body }
+        ensures body_within { LiesIn memory.now result.body }
+        ensures written_within { All (LiesIn memory.now) result.written }
+    {
+        self.use_by_phase(memory, place)
+    }
+
+    // Returns what the next turn uses of memory.
+    fn use_by_phase(&self, memory: &[u8], place: usize) -> MemoryUse
+        requires memory { IsMemory memory.now }
+        ensures uses { result ≡ use_of self.now memory.now place }
+        ensures body_within { LiesIn memory.now result.body }
+        ensures written_within { All (LiesIn memory.now) result.written }
+    {
+        match self.phase {
+            Phase::Running => self.use_running(memory, place),
+            _ => no_use(Access::Nothing),
+        }
+    }
+
+    // Returns what a running port uses.
+    fn use_running(&self, memory: &[u8], place: usize) -> MemoryUse
+        requires memory { IsMemory memory.now }
+        ensures uses { result ≡ use_running self.now memory.now place (may_fetch self.now) }
+        ensures body_within { LiesIn memory.now result.body }
+        ensures written_within { All (LiesIn memory.now) result.written }
+    {
+        if !self.may_fetch() {
+            return self.use_without_fetch(memory, place);
+        }
+        match self.commands.next(memory) {
+            NextDescriptor::OutsideMemory => no_use(Access::Nothing),
+            NextDescriptor::OwnedByHost => self.use_without_fetch(memory, place),
+            NextDescriptor::OwnedByPort(next) => self.fetch_use(memory, next),
+        }
+    }
+
+    // Returns what the fetch of a packet uses.
+    fn fetch_use(&self, memory: &[u8], next: Descriptor) -> MemoryUse
+        requires memory { IsMemory memory.now }
+        requires next { IsNext self.now.commands memory.now next }
+        requires there { descriptor_address self.now.commands + 4 ≤ length memory.now }
+        ensures uses { result ≡ fetch_use self.now memory.now (text_address self.now.profile next) }
+        ensures body_within { LiesIn memory.now result.body }
+        ensures written_within { All (LiesIn memory.now) result.written }
+    {
+        let at = next.text_address(self.profile);
+        MemoryUse {
+            access: Access::Fetch,
+            body: packet_range(memory, at, TEXT),
+            written: self.written_by_fetch(memory, next, has_text(memory, at, TEXT)),
+        }
+    }
+
+    // Returns what a fetch writes, if the packet is readable.
+    fn written_by_fetch(&self, memory: &[u8], next: Descriptor, readable: bool) -> [ByteRange; 4]
+        requires memory { IsMemory memory.now }
+        requires next { IsNext self.now.commands memory.now next }
+        requires there { descriptor_address self.now.commands + 4 ≤ length memory.now }
+        ensures written { result ≡ written_by_fetch self.now memory.now readable }
+        ensures within { All (LiesIn memory.now) result }
+    {
+        if !readable {
+            return NONE_WRITTEN;
+        }
+        [
+            indicator_range(self.command_indicator(memory, next)),
+            self.commands.returned_range(),
+            ByteRange::EMPTY,
+            ByteRange::EMPTY,
+        ]
+    }
+
+    // Returns what a port uses that fetches nothing.
+    fn use_without_fetch(&self, memory: &[u8], place: usize) -> MemoryUse
+        requires memory { IsMemory memory.now }
+        ensures uses { result ≡ use_without_fetch self.now memory.now place }
+        ensures body_within { LiesIn memory.now result.body }
+        ensures written_within { All (LiesIn memory.now) result.written }
+    {
+        if self.exec.pending() > 0 {
+            return command_use(memory, self.exec.buffer_use_at(place));
+        }
+        let Some(size) = self.next_size() else {
+            return no_use(Access::Nothing);
+        };
+        match self.responses.next(memory) {
+            NextDescriptor::OutsideMemory => no_use(Access::Wait),
+            NextDescriptor::OwnedByHost => no_use(Access::Wait),
+            NextDescriptor::OwnedByPort(next) => self.delivery_use(memory, next, size),
+        }
+    }
+
+    // Returns the number of bytes of the next message, or None if there is none.
+    fn next_size(&self) -> Option<u16>
+        ensures size { result ≡ next_size self.now }
+        ensures short { IfSome result (λ n. n ≤ 48) }
+    {
+        match self.waiting.front() {
+            Some(end) => Some(self.end_text(end).size),
+            None => Some(self.notice()?.message.size),
+        }
+    }
+
+    // Returns what the delivery of a message of `size` bytes uses.
+    fn delivery_use(&self, memory: &[u8], next: Descriptor, size: u16) -> MemoryUse
+        requires memory { IsMemory memory.now }
+        requires next { IsNext self.now.responses memory.now next }
+        requires there { descriptor_address self.now.responses + 4 ≤ length memory.now }
+        requires short { size ≤ 48 }
+        ensures uses { result ≡ delivery_use self.now memory.now
+            (record { at = text_address self.now.profile next; bytes = size }) }
+        ensures body_within { LiesIn memory.now result.body }
+        ensures written_within { All (LiesIn memory.now) result.written }
+    {
+        let at = next.text_address(self.profile);
+        let mut uses = MemoryUse {
+            access: Access::Deliver,
+            body: packet_range(memory, at, size),
+            written: NONE_WRITTEN,
+        };
+        if has_room(self.profile, memory, at, size) {
+            let text = ByteRange {
+                at,
+                bytes: u32::from(size),
+            };
+            let envelope = ByteRange {
+                at: at - 4,
+                bytes: 4,
+            };
+            let indicator = indicator_range(self.response_indicator(memory, next));
+            uses.written = [text, envelope, indicator, self.responses.returned_range()];
+        }
+        uses
+    }
+}
+
+impl Ring {
+    // Returns the range of the next descriptor.
+    fn next_range(&self, memory: &[u8]) -> ByteRange
+        requires memory { IsMemory memory.now }
+        ensures range { result ≡ range_in memory.now (descriptor_address self.now) 4 }
+        ensures within { LiesIn memory.now result }
+    {
+        ByteRange::clipped(self.address(), 4, memory)
+    }
+
+    // Returns the range of the descriptor before it.
+    fn range_before(&self, memory: &[u8]) -> ByteRange
+        requires memory { IsMemory memory.now }
+        ensures range { result ≡ range_in memory.now (descriptor_address (ring_before self.now)) 4 }
+        ensures within { LiesIn memory.now result }
+    {
+        ByteRange::clipped(self.address_before(), 4, memory)
+    }
+
+    // Returns the range of the second word of the next descriptor.
+    fn returned_range(&self) -> ByteRange
+        ensures range { result ≡ returned_range self.now }
+    {
+        ByteRange {
+            at: self.address() + 2,
+            bytes: 2,
+        }
+    }
+}
+
+// Returns the use of a turn that does this and uses only descriptors.
+fn no_use(access: Access) -> MemoryUse
+    ensures { result ≡ no_use access }
+{
+    MemoryUse {
+        access,
+        body: ByteRange::EMPTY,
+        written: NONE_WRITTEN,
+    }
+}
+
+// Returns the use of a turn that executes a command with this buffer.
+fn command_use(memory: &[u8], buffer: Option<BufferUse>) -> MemoryUse
+    requires memory { IsMemory memory.now }
+    ensures uses { result ≡ command_use memory.now buffer }
+    ensures body_within { LiesIn memory.now result.body }
+    ensures written_within { All (LiesIn memory.now) result.written }
+{
+    let mut uses = no_use(Access::Execute);
+    if let Some(buffer) = buffer {
+        uses.body = ByteRange::clipped(buffer.start, buffer.used, memory);
+        uses.written[0] = ByteRange::clipped(buffer.start, buffer.changed, memory);
+    }
+    uses
+}
+
+// Returns the range of a packet with a text of `size` bytes at an address.
+fn packet_range(memory: &[u8], at: u32, size: u16) -> ByteRange
+    requires memory { IsMemory memory.now }
+    ensures range { result ≡ packet_range memory.now at size }
+    ensures within { LiesIn memory.now result }
+{
+    ByteRange::clipped(at.saturating_sub(4), u32::from(size) + 4, memory)
+}
+
+// Returns the range of an interrupt indicator that is set, if any.
+fn indicator_range(indicator: Option<u32>) -> ByteRange
+    ensures { result ≡ indicator_range indicator }
+{
+    match indicator {
+        None => ByteRange::EMPTY,
+        Some(at) => ByteRange { at, bytes: 2 },
+    }
+}

@@ -1,0 +1,252 @@
+//! Turns over memory behind a map.
+//!
+//! UDA50 Programmer's Documentation Kit: command ring polling, message envelopes, UNIBUS addresses.
+ghost use Rattle.std.specs.Prelude.{◌≡◌, ◌↔◌, ℕ, List, All, IsTrue, length};
+ghost use Rattle.uda_mem.specs.Slices.{IsMemory};
+ghost use Rattle.uda_mem.specs.Ranges.{LiesIn};
+ghost use Rattle.uda_disk.specs.Units.{AreWellFormed};
+ghost use Rattle.uda_exec.specs.Order.{IsEligible};
+ghost use Rattle.uda_port.specs.Port.{CreditsAgree};
+ghost use Rattle.uda_port.specs.Trace.{Reports, Traces, turn_of};
+ghost use Rattle.uda_port.specs.Turn.{ExecutesOne, may_fetch, port_turn_on, port_not_polling};
+ghost use Rattle.uda_port.specs.MemoryUse.{use_of, fate_at, fate_running, fate_in, FailsUnread, ExecutesWithout};
+ghost use Rattle.uda_port.specs.MemoryUse.{EffectBy, EffectWithout, written_by_fate, IsLocal, IsPlace};
+ghost use Rattle.uda_port.specs.MemoryUse.{HasSoundRings, CanFail, Agrees, written_of};
+ghost use Rattle.uda_port.specs.Possible.{CanDie};
+ghost use Rattle.uda_port.specs.declared.memory_use.Access.TheVariants.{Execute};
+ghost use Rattle.uda_port.specs.declared.phase.Phase.TheVariants.{Running};
+ghost use Rattle.uda_port.specs.declared.turn.Turn.TheVariants.{Executed};
+ghost use Rattle.uda_port.specs.declared.turn_at.Fate.TheVariants.{Usual, WithoutBuffer};
+
+use crate::memory_use::{Access, Missing, NONE_WRITTEN};
+use crate::phase::{Fatal, Phase};
+use crate::port::Port;
+use crate::trace::Trace;
+use crate::turn::{Turn, report_dead};
+use uda_image::BlockStore;
+use uda_mem::ByteRange;
+
+/// A turn that was taken, and what it wrote.
+#[derive(Clone, Copy, Debug, PartialEq, Eq)]
+pub struct TurnTaken {
+    /// What the turn did.
+    pub turn: Turn,
+    /// The ranges of memory that it wrote, in this order. Some of them may be empty.
+    pub written: [ByteRange; 4],
+}
+
+/// How a turn goes, by the addresses that lead nowhere.
+#[derive(Clone, Copy, Debug, PartialEq, Eq)]
+pub enum Fate {
+    /// As usual.
+    Usual,
+    /// The port fails before it stops polling.
+    FailsInFetch(Fatal),
+    /// The port fails after it has stopped polling.
+    FailsLater(Fatal),
+    /// The port executes a command as if memory had no bytes.
+    WithoutBuffer,
+}
+
+// A turn: its command, what it does, and its fate.
+#[derive(Clone, Copy, Debug, PartialEq, Eq)]
+struct TurnPlan {
+    place: usize,
+    access: Access,
+    fate: Fate,
+}
+
+impl<S: BlockStore> Port<S> {
+    /// Runs one turn over memory behind a map ([`turn_in`](Port::turn_in)). `memory` is a window as long as the
+    /// bus. `place` is the index of [`next_place`](Port::next_place), and the turn executes the command there when
+    /// it executes one.
+    ///
+    /// Before the turn the caller copies [`descriptor_ranges`](Port::descriptor_ranges) into the window, and then
+    /// the body of [`memory_use`](Port::memory_use). Nothing else in the window matters. After the turn the
+    /// caller copies the written ranges out of the window, in their order.
+    ///
+    /// `missing` tells which of these ranges have an address that leads nowhere. A turn that needs one is as at the
+    /// end of memory. For a packet, a response buffer or the next descriptor of a ring the port fails. A command
+    /// whose buffer is missing ends with status 0x0069 unless an earlier check fails, and moves nothing. A turn
+    /// that doesn't need the range is as usual. A missing descriptor before the next one counts as one that the
+    /// host owns, so the caller fills its range with zeros.
+    ///
+    /// UDA50 Programmer's Documentation Kit: command ring polling, UNIBUS addresses, fatal errors.
+    pub fn turn_at(&mut self, memory: &mut [u8], place: usize, missing: Missing) -> TurnTaken
+        requires memory { IsMemory memory.old }
+        requires place { IsPlace self.old.exec.pending place }
+        ensures effect { EffectWithout missing self.old memory.old result.turn self.new memory.new }
+        ensures local { IsLocal missing place (self.old, memory.old) result (self.new, memory.new) }
+        ensures within { All (LiesIn memory.old) result.written }
+        ensures written { (other : List ℕ) → Agrees self.old place memory.old other
+            → result.written ≡ written_of missing self.old other place }
+        ensures credits { CreditsAgree self.new }
+        ensures four_units { length self.new.exec.units ≡ 4 }
+        ensures well_formed { AreWellFormed self.new.exec.units }
+    {
+        let mut trace = Trace::Idle;
+        self.turn_traced_at(memory, place, missing, &mut trace)
+    }
+
+    /// Does the same and stores the trace record of the turn ([`turn_at`](Port::turn_at)).
+    pub fn turn_traced_at(
+        &mut self,
+        memory: &mut [u8],
+        place: usize,
+        missing: Missing,
+        trace: &mut Trace,
+    ) -> TurnTaken
+        requires memory { IsMemory memory.old }
+        requires place { IsPlace self.old.exec.pending place }
+        ensures effect { EffectWithout missing self.old memory.old result.turn self.new memory.new }
+        ensures local { IsLocal missing place (self.old, memory.old) result (self.new, memory.new) }
+        ensures within { All (LiesIn memory.old) result.written }
+        ensures written { (other : List ℕ) → Agrees self.old place memory.old other
+            → result.written ≡ written_of missing self.old other place }
+        ensures turn { result.turn ≡ turn_of trace.new }
+        ensures accurate { Traces trace.new self.old self.new }
+        ensures credits { CreditsAgree self.new }
+        ensures four_units { length self.new.exec.units ≡ 4 }
+        ensures well_formed { AreWellFormed self.new.exec.units }
+    {
+        let taken = self.take_turn_at(memory, place, missing, trace);
+        self.keep();
+        taken
+    }
+
+    /// Returns whether the pending command at index `place` is eligible, or nothing is pending.
+    pub fn is_place(&self, place: usize) -> bool
+        ensures place { IsTrue result ↔ IsPlace self.now.exec.pending place }
+    {
+        self.exec.pending() == 0 || self.exec.may_execute(place)
+    }
+
+    fn take_turn_at(
+        &mut self,
+        memory: &mut [u8],
+        place: usize,
+        missing: Missing,
+        trace: &mut Trace,
+    ) -> TurnTaken
+        requires memory { IsMemory memory.old }
+        requires place { IsPlace self.old.exec.pending place }
+        ensures effect { EffectWithout missing self.old memory.old result.turn self.new memory.new }
+        ensures local { IsLocal missing place (self.old, memory.old) result (self.new, memory.new) }
+        ensures within { All (LiesIn memory.old) result.written }
+        ensures written { (other : List ℕ) → Agrees self.old place memory.old other
+            → result.written ≡ written_of missing self.old other place }
+        ensures reports { Reports result.turn trace.new self.old self.new }
+    {
+        self.rings_are_sound();
+        let uses = self.memory_use(memory, place);
+        let fate = self.fate(missing, uses.access);
+        let plan = TurnPlan {
+            place,
+            access: uses.access,
+            fate,
+        };
+        let turn = self.turn_by(memory, plan, trace);
+        TurnTaken {
+            turn,
+            written: written_by_fate(fate, uses.written),
+        }
+    }
+
+    // States what is always true of the rings, and of the operations of a strict port.
+    fn rings_are_sound(&self)
+        ensures sound { HasSoundRings self.now }
+    {
+        let _address = self.responses.address();
+        let _place = self.commands.place();
+    }
+
+    // Returns the fate of a turn that does this.
+    fn fate(&self, missing: Missing, access: Access) -> Fate
+        ensures { result ≡ fate_in self.now.phase missing (may_fetch self.now) access }
+    {
+        match self.phase {
+            Phase::Running => fate_running(missing, self.may_fetch(), access),
+            _ => Fate::Usual,
+        }
+    }
+
+    // Runs a turn by its plan.
+    fn turn_by(&mut self, memory: &mut [u8], plan: TurnPlan, trace: &mut Trace) -> Turn
+        requires memory { IsMemory memory.old }
+        requires access { plan.access ≡ (use_of self.old memory.old plan.place).access }
+        requires place { IsPlace self.old.exec.pending plan.place }
+        requires buffer { plan.fate ≡ WithoutBuffer → plan.access ≡ Execute }
+        requires dies { CanFail self.old.profile self.old.phase plan.fate }
+        ensures effect { EffectBy plan.fate self.old memory.old result self.new memory.new }
+        ensures chosen { plan.fate ≡ Usual → result ≡ Executed
+            → ExecutesOne plan.place (port_not_polling (port_turn_on self.old)) memory.old self.new memory.new }
+        ensures reports { Reports result trace.new self.old self.new }
+    {
+        match plan.fate {
+            Fate::Usual => self.take_turn(memory, Some(plan.place), trace),
+            Fate::FailsInFetch(cause) => self.fail_turn(cause, trace),
+            Fate::FailsLater(cause) => {
+                self.polling = false;
+                self.fail_turn(cause, trace)
+            }
+            Fate::WithoutBuffer => self.turn_without_buffer(plan.place, trace),
+        }
+    }
+
+    // Runs a turn that executes a command as if memory had no bytes.
+    fn turn_without_buffer(&mut self, place: usize, trace: &mut Trace) -> Turn
+        requires running { self.old.phase ≡ Running }
+        requires eligible { IsEligible self.old.exec.pending place }
+        ensures executes { ExecutesWithout (port_not_polling (port_turn_on self.old)) result self.new }
+        ensures reports { Reports result trace.new self.old self.new }
+    {
+        let mut none: [u8; 0] = [];
+        self.polling = false;
+        self.take_turn(&mut none, Some(place), trace)
+    }
+
+    // Runs a turn that fails with this error.
+    fn fail_turn(&mut self, cause: Fatal, trace: &mut Trace) -> Turn
+        requires dies { CanDie self.old.profile self.old.phase cause }
+        ensures failed { FailsUnread cause (port_turn_on self.old) result self.new }
+        ensures reports { Reports result trace.new self.old self.new }
+    {
+        self.turns.add(1);
+        self.die(cause);
+        report_dead(trace, cause);
+        Turn::Dead
+    }
+}
+
+// Returns the fate of a turn of a running port, by whether it polls.
+fn fate_running(missing: Missing, polls: bool, access: Access) -> Fate
+    ensures { result ≡ fate_running missing polls access }
+{
+    if polls && missing.commands {
+        return Fate::FailsInFetch(Fatal::RingRead);
+    }
+    fate_at(missing, access)
+}
+
+// Returns the fate of a turn that does this.
+fn fate_at(missing: Missing, access: Access) -> Fate
+    ensures { result ≡ fate_at missing access }
+{
+    match access {
+        Access::Fetch if missing.body => Fate::FailsInFetch(Fatal::PacketRead),
+        Access::Execute if missing.body => Fate::WithoutBuffer,
+        Access::Wait | Access::Deliver if missing.responses => Fate::FailsLater(Fatal::RingRead),
+        Access::Deliver if missing.body => Fate::FailsLater(Fatal::PacketWrite),
+        _ => Fate::Usual,
+    }
+}
+
+// Returns what a turn with this fate writes, of these ranges.
+fn written_by_fate(fate: Fate, written: [ByteRange; 4]) -> [ByteRange; 4]
+    ensures { result ≡ written_by_fate fate written }
+{
+    match fate {
+        Fate::Usual => written,
+        Fate::FailsInFetch(_) | Fate::FailsLater(_) | Fate::WithoutBuffer => NONE_WRITTEN,
+    }
+}

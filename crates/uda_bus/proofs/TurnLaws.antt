@@ -1,0 +1,263 @@
+-- The laws of ranges that are read from a bus and written on it, and of turns over them.
+use Rattle.std.proofs.Common.{◌≡◌, ◌↔◌, IsTrue, ℕ, ◌+◌, ◌-◌, ◌<◌, ◌≤◌, suc, min, Bool, true, false, List, [], ◌∷◌, length, get_or, take, drop, refl, sym, ap, ◌∙◌, subst, arith, length-drop, length-take}
+use Rattle.std.specs.Prelude.{All}
+use Rattle.std.proofs.Math.Bool.{not}
+use borrow.Rule.Slice.PartMut.{put_mid}
+use Rattle.std.proofs.Math.Seq.{drop-cons}
+use Rattle.std.proofs.lemmas.List.{drop_all}
+use Rattle.std.proofs.lemmas.List.Elements.{All-head, All-tail}
+use Rattle.uda_mem.specs.declared.range.ByteRange.{ByteRange}
+use Rattle.uda_mem.specs.Put.{put, part}
+use Rattle.uda_mem.specs.Ranges.{EMPTY_RANGE, LiesIn, SameIn, carried, range_in}
+use Rattle.uda_mem.proofs.PutLaws.{length-put, put_mid-put, put-nil}
+use Rattle.uda_mem.proofs.RangeLaws.{length-carried}
+use Rattle.uda_port.specs.declared.memory_use.Missing.{Missing}
+use Rattle.uda_port.specs.declared.turn_at.TurnTaken.{TurnTaken}
+use Rattle.uda_port.specs.Interrupt.{ring_before}
+use Rattle.uda_port.specs.Port.{PortState}
+use Rattle.uda_port.specs.Ring.{descriptor_address}
+use Rattle.uda_port.specs.MemoryUse.{descriptor_ranges, use_of, written_of, Agrees, AgreesInDescriptors, IsLocal, IsPlace}
+use Rattle.uda_bus.specs.declared.map.BusMap.{BusMap}
+use Rattle.uda_bus.specs.Bytes.{shown, stored, AllLead}
+use Rattle.uda_bus.specs.Turns.{bus_memory, stored_ranges, TellsMissing, IsMissing, TurnsBehind}
+use Rattle.uda_bus.proofs.ShownLaws.{length-shown, part_shown}
+use Rattle.uda_bus.proofs.CarriedLaws.{carried_agrees, carried_same, all_same-sym, all_same-trans, all_kept}
+
+-- the range at an index
+abbrev pub range_at : List ByteRange → ℕ → ByteRange
+range_at rs i = get_or rs i EMPTY_RANGE
+
+-- ---- one range
+
+-- no byte of a range is read
+pub read_nothing : (window bus : List ℕ) (at n : ℕ) → n ≡ 0 → window ≡ put window at (part bus at n)
+unfolding part
+read_nothing window bus at n none = rw none (sym (put-nil window at))
+
+-- the bytes of a range are read
+pub read_there : (map : BusMap) (memory window new : List ℕ) (at n : ℕ) → n ≤ length window - at → (n ≡ 0 → ⊥)
+    → new ≡ shown map memory at (length (take (at + n - at) (drop at window)))
+    → put_mid at (at + n - at) window new
+    ≡ put window at (part (bus_memory map (length window) memory) at n)
+read_there map memory window new at n within some read =
+    let count : at + n - at ≡ n = omega arith in
+    let size : length (take (at + n - at) (drop at window)) ≡ n =
+    length-take (at + n - at) (drop at window) ∙ omega (arith, length-drop at window) in
+    let bytes : new ≡ shown map memory at n = read ∙ ap (shown map memory at) size in
+    let long : length new ≡ n = ap length bytes ∙ length-shown map memory at n in
+    ap (λ m. put_mid at m window new) count ∙ put_mid-put window at n new long (omega arith)
+    ∙ ap (put window at) (bytes ∙ sym (part_shown map memory (length window) at n within))
+
+-- the bytes of a range are written
+pub write_there : (map : BusMap) (memory window new : List ℕ) (at n : ℕ)
+    → new ≡ stored map memory at (take (at + n - at) (drop at window))
+    → new ≡ stored map memory at (part window at n)
+unfolding part
+write_there map memory window new at n written =
+    let count : at + n - at ≡ n = omega arith in
+    written ∙ ap (λ m. stored map memory at (take m (drop at window))) count
+
+pub write_nothing : (map : BusMap) (memory window : List ℕ) (at n : ℕ) → n ≡ 0
+    → memory ≡ stored map memory at (part window at n)
+unfolding part
+write_nothing map memory window at n none = rw none refl
+
+-- ---- flags
+
+pub tells_missing : (map : BusMap) (memory : List ℕ) (r : ByteRange) (whole : Bool)
+    → IsTrue whole ↔ AllLead map memory r.at r.bytes → TellsMissing map memory r (not whole)
+tells_missing map memory r true is = (λ _. is.0 refl, λ _. refl)
+tells_missing map memory r false is =
+    (λ e. absurd (let no = e in cc), λ all. absurd (let no = is.1 all in cc))
+
+-- the same of the range at an index of a list
+pub told_at : (map : BusMap) (memory : List ℕ) (rs others : List ByteRange) (i : ℕ) (whole : Bool)
+    → rs ≡ others → IsTrue whole ↔ AllLead map memory (range_at rs i).at (range_at rs i).bytes
+    → TellsMissing map memory (range_at others i) (not whole)
+told_at map memory rs others i whole same is =
+    subst (λ (r : List ByteRange). TellsMissing map memory (range_at r i) (not whole)) same
+    (tells_missing map memory (range_at rs i) whole is)
+
+-- the same of a range of another memory of this length
+pub tells_missing-in : (map : BusMap) (memory bus window : List ℕ) (at : ℕ) (flag : Bool)
+    → length bus ≡ length window → TellsMissing map memory (range_in window at 4) flag
+    → TellsMissing map memory (range_in bus at 4) flag
+tells_missing-in map memory bus window at flag long tells =
+    subst (λ n. TellsMissing map memory (record { at = at; bytes = min 4 (n - at) }) flag) (sym long) tells
+
+-- ---- ranges in a row
+
+pub stored_next : (map : BusMap) (rs : List ByteRange) (i : ℕ) (window memory new whole : List ℕ)
+    → i < length rs
+    → new ≡ stored map memory (range_at rs i).at (part window (range_at rs i).at (range_at rs i).bytes)
+    → stored_ranges map (drop i rs) window memory ≡ whole
+    → stored_ranges map (drop (i + 1) rs) window new ≡ whole
+stored_next map rs i window memory new whole below written before =
+    let one : i + 1 ≡ suc i = omega arith in
+    ap (λ j. stored_ranges map (drop j rs) window new) one
+    ∙ ap (stored_ranges map (drop (suc i) rs) window) written
+    ∙ sym (ap (λ (left : List ByteRange). stored_ranges map left window memory)
+    (drop-cons rs i EMPTY_RANGE below))
+    ∙ before
+
+pub stored_all : (map : BusMap) (rs : List ByteRange) (i : ℕ) (window memory whole : List ℕ) → length rs ≤ i
+    → stored_ranges map (drop i rs) window memory ≡ whole → memory ≡ whole
+stored_all map rs i window memory whole past before =
+    sym (ap (λ (left : List ByteRange). stored_ranges map left window memory) (drop_all i rs past)) ∙ before
+
+-- ranges lie in each memory of this length
+pub lie_in : (rs : List ByteRange) (memory other : List ℕ) → length other ≡ length memory
+    → All (LiesIn memory) rs → All (LiesIn other) rs
+lie_in rs memory other long all =
+    subst (λ n. All (λ (r : ByteRange). r.bytes ≤ n - r.at) rs) (sym long) all
+
+-- memories that share these ranges store the same
+pub stored_same : (map : BusMap) (rs : List ByteRange) (a b memory : List ℕ) → All (SameIn a b) rs
+    → stored_ranges map rs a memory ≡ stored_ranges map rs b memory
+stored_same map [] a b memory all = refl
+stored_same map (r ∷ rs) a b memory all =
+    ap (λ (bytes : List ℕ). stored_ranges map rs a (stored map memory r.at bytes))
+    (sym (All-head (SameIn a b) r rs all))
+    ∙ stored_same map rs a b (stored map memory r.at (part b r.at r.bytes)) (All-tail (SameIn a b) r rs all)
+
+-- ---- what a turn reads
+
+-- a window after a range of the bus was read into it
+abbrev Reads : BusMap → List ℕ → List ℕ → ByteRange → List ℕ → Type 0
+Reads map memory window r new =
+    new ≡ put window r.at (part (bus_memory map (length window) memory) r.at r.bytes)
+
+-- a range is read into a window of this length
+read_as : (map : BusMap) (memory window new : List ℕ) (r : ByteRange) (size : ℕ) → length window ≡ size
+    → Reads map memory window r new → new ≡ carried (r ∷ []) (bus_memory map size memory) window
+read_as map memory window new r size long reads =
+    reads ∙ ap (λ n. put window r.at (part (bus_memory map n memory) r.at r.bytes)) long
+
+length-read : (map : BusMap) (memory window new : List ℕ) (r : ByteRange) (size : ℕ) → length window ≡ size
+    → Reads map memory window r new → length new ≡ size
+length-read map memory window new r size long reads =
+    let bus = bus_memory map (length window) memory in
+    ap length reads ∙ length-put window r.at (part bus r.at r.bytes) ∙ long
+
+ranges_of_length : (port : PortState) (memory other : List ℕ) → length other ≡ length memory
+    → descriptor_ranges port other ≡ descriptor_ranges port memory
+ranges_of_length port memory other long =
+    let clipped : ℕ → ℕ → ByteRange = λ n at. record { at = at; bytes = min 4 (n - at) } in
+    ap (λ n. clipped n (descriptor_address port.commands)
+    ∷ clipped n (descriptor_address (ring_before port.commands))
+    ∷ clipped n (descriptor_address port.responses)
+    ∷ clipped n (descriptor_address (ring_before port.responses)) ∷ []) long
+
+module _ (port : PortState) (map : BusMap) (memory window : List ℕ) where
+  abbrev pub bus : List ℕ
+  bus = bus_memory map (length window) memory
+
+  length-bus : length bus ≡ length window
+  length-bus = length-shown map memory 0 (length window)
+
+  four_read : (w1 w2 w3 w4 : List ℕ) (a b c d : ByteRange) → Reads map memory window a w1
+      → Reads map memory w1 b w2 → Reads map memory w2 c w3 → Reads map memory w3 d w4
+      → w4 ≡ carried (a ∷ b ∷ c ∷ d ∷ []) bus window
+  four_read w1 w2 w3 w4 a b c d h1 h2 h3 h4 =
+      let size = length window in
+      let l1 = length-read map memory window w1 a size refl h1 in
+      let l2 = length-read map memory w1 w2 b size l1 h2 in
+      let l3 = length-read map memory w2 w3 c size l2 h3 in
+      let second = read_as map memory w1 w2 b size l1 h2 ∙ ap (carried (b ∷ []) bus) h1 in
+      let third = read_as map memory w2 w3 c size l2 h3 ∙ ap (carried (c ∷ []) bus) second in
+      read_as map memory w3 w4 d size l3 h4 ∙ ap (carried (d ∷ []) bus) third
+
+  pub descriptors_agree : (w1 w2 w3 w4 : List ℕ) (rs : List ByteRange) → rs ≡ descriptor_ranges port window
+      → Reads map memory window (range_at rs 0) w1 → Reads map memory w1 (range_at rs 1) w2
+      → Reads map memory w2 (range_at rs 2) w3 → Reads map memory w3 (range_at rs 3) w4
+      → AgreesInDescriptors port w4 bus
+  descriptors_agree w1 w2 w3 w4 rs is h1 h2 h3 h4 =
+      let all = descriptor_ranges port window in
+      let read : w4 ≡ carried all bus window =
+      four_read w1 w2 w3 w4 (range_at rs 0) (range_at rs 1) (range_at rs 2) (range_at rs 3) h1 h2 h3 h4
+      ∙ ap (λ (r : List ByteRange).
+      carried (range_at r 0 ∷ range_at r 1 ∷ range_at r 2 ∷ range_at r 3 ∷ []) bus window) is in
+      let long : length w4 ≡ length window = ap length read ∙ length-carried all bus window in
+      let shared : All (SameIn bus w4) all =
+      subst (λ (w : List ℕ). All (SameIn bus w) all) (sym read)
+      (carried_agrees all bus window (sym length-bus)) in
+      record {
+        same_length = length-bus ∙ sym long;
+        same_descriptors =
+            subst (All (SameIn w4 bus)) (sym (ranges_of_length port window w4 long))
+            (all_same-sym all bus w4 shared);
+      }
+
+  module _ (place : ℕ) (w1 w2 : List ℕ) (body : ByteRange) where
+    pub used_agree : length w1 ≡ length window → AgreesInDescriptors port w1 bus
+        → ((other : List ℕ) → AgreesInDescriptors port w1 other → (use_of port other place).body ≡ body)
+        → Reads map memory w1 body w2 → Agrees port place w2 bus
+    used_agree long agrees same_body reads =
+        let all = descriptor_ranges port w1 in
+        let same : length w1 ≡ length bus = long ∙ sym length-bus in
+        let read : w2 ≡ carried (body ∷ []) bus w1 =
+        read_as map memory w1 w2 body (length window) long reads in
+        let kept : length w2 ≡ length w1 = ap length read ∙ length-carried (body ∷ []) bus w1 in
+        let before : All (SameIn bus w1) all = all_same-sym all w1 bus agrees.same_descriptors in
+        let after : All (SameIn bus w2) all =
+        subst (λ (w : List ℕ). All (SameIn bus w) all) (sym read)
+        (all_kept (body ∷ []) all bus w1 same before) in
+        let fits : AgreesInDescriptors port w1 w2 = record {
+          same_length = kept;
+          same_descriptors = all_same-trans all w1 bus w2 agrees.same_descriptors after;
+        } in
+        let here : SameIn w2 bus body =
+        sym (All-head (SameIn bus w2) body []
+        (subst (λ (w : List ℕ). All (SameIn bus w) (body ∷ [])) (sym read)
+        (carried_agrees (body ∷ []) bus w1 same))) in
+        record {
+          same_length = sym (kept ∙ same);
+          same_descriptors =
+              subst (All (SameIn w2 bus)) (sym (ranges_of_length port w1 w2 kept))
+              (all_same-sym all bus w2 after);
+          same_body = subst (SameIn w2 bus) (sym (same_body w2 fits)) here;
+        }
+
+    pub is_missing : (commands responses whole : Bool) → AgreesInDescriptors port w1 bus
+        → ((other : List ℕ) → AgreesInDescriptors port w1 other → (use_of port other place).body ≡ body)
+        → TellsMissing map memory (range_in window (descriptor_address port.commands) 4) commands
+        → TellsMissing map memory (range_in window (descriptor_address port.responses) 4) responses
+        → IsTrue whole ↔ AllLead map memory body.at body.bytes
+        → IsMissing map (length window) (port, memory) place
+        (record { commands = commands; responses = responses; body = not whole })
+    is_missing commands responses whole agrees same_body told told' leads = record {
+      commands =
+          tells_missing-in map memory bus window (descriptor_address port.commands) commands length-bus told;
+      responses =
+          tells_missing-in map memory bus window (descriptor_address port.responses) responses length-bus
+          told';
+      body =
+          subst (λ (r : ByteRange). TellsMissing map memory r (not whole)) (sym (same_body bus agrees))
+          (tells_missing map memory body whole leads);
+    }
+
+  pub turns_behind : (place : ℕ) (missing : Missing) (w2 w3 : List ℕ) (taken : TurnTaken)
+      (after : PortState × List ℕ) → IsPlace port.exec.pending place
+      → IsMissing map (length window) (port, memory) place missing → Agrees port place w2 bus
+      → IsLocal missing place (port, w2) taken (after.0, w3)
+      → ((other : List ℕ) → Agrees port place w2 other → taken.written ≡ written_of missing port other place)
+      → after.1 ≡ stored_ranges map taken.written w3 memory
+      → TurnsBehind map (length window) (port, memory) taken.turn after
+  turns_behind place missing w2 w3 taken after is_place is_missing agrees local is_written stores =
+      let written = taken.written in
+      let bus_after = carried written w3 bus in
+      let kept : length w3 ≡ length w2 = ap length local.only ∙ length-carried written w3 w2 in
+      let shared : All (SameIn w3 bus_after) written =
+      carried_agrees written w3 bus (agrees.same_length ∙ sym kept) in
+      record {
+        place = place;
+        missing = missing;
+        written = written;
+        bus_after = bus_after;
+        is_place = is_place;
+        is_missing = is_missing;
+        is_written = is_written bus agrees;
+        effect = local.elsewhere bus agrees;
+        only = carried_same written w3 bus_after bus shared;
+        memory_is = stores ∙ stored_same map written w3 bus_after memory shared;
+      }

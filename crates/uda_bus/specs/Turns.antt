@@ -1,0 +1,68 @@
+-- Turns of a port whose guest's memory is behind a map, and words that are written to its SA.
+-- PDP-11 UNIBUS map, VAX UNIBUS adapter, Q-bus map: map registers. UDA50 Programmer's Documentation Kit:
+-- UNIBUS addresses.
+use Rattle.std.specs.Prelude.{◌≡◌, ◌↔◌, ℕ, Bool, false, List, [], ◌∷◌}
+use Rattle.uda_mem.specs.declared.range.ByteRange.{ByteRange}
+use Rattle.uda_mem.specs.Put.{part}
+use Rattle.uda_mem.specs.Ranges.{range_in, carried}
+use Rattle.uda_port.specs.declared.memory_use.Missing.{Missing}
+use Rattle.uda_port.specs.declared.turn.Turn.{Turn}
+use Rattle.uda_port.specs.Port.{PortState}
+use Rattle.uda_port.specs.Ring.{descriptor_address}
+use Rattle.uda_port.specs.MemoryUse.{use_of, written_of, EffectWithout, IsPlace}
+use Rattle.uda_port.specs.StartupUse.{range_zeroed, range_written, WordEffect}
+use Rattle.uda_bus.specs.declared.map.BusMap.{BusMap}
+use Rattle.uda_bus.specs.Bytes.{shown, stored, AllLead}
+
+-- the memory that a bus of this many addresses shows
+abbrev pub bus_memory : BusMap → ℕ → List ℕ → List ℕ
+bus_memory map size memory = shown map memory 0 size
+
+-- memory after these ranges of a bus were written to it, in this order
+abbrev pub stored_ranges : BusMap → List ByteRange → List ℕ → List ℕ → List ℕ
+stored_ranges map [] bus memory = memory
+stored_ranges map (r ∷ rest) bus memory =
+    stored_ranges map rest bus (stored map memory r.at (part bus r.at r.bytes))
+
+-- a flag is set exactly if an address of a range leads nowhere
+abbrev pub TellsMissing : BusMap → List ℕ → ByteRange → Bool → Type 0
+TellsMissing map memory r flag = (flag ≡ false) ↔ AllLead map memory r.at r.bytes
+
+-- which of the ranges that a turn reads have an address that leads nowhere
+pub record IsMissing (map : BusMap) (size : ℕ) (before : PortState × List ℕ) (place : ℕ)
+    (missing : Missing) : Type 0 where
+  pub commands : TellsMissing map before.1
+      (range_in (bus_memory map size before.1) (descriptor_address before.0.commands) 4) missing.commands
+  pub responses : TellsMissing map before.1
+      (range_in (bus_memory map size before.1) (descriptor_address before.0.responses) 4) missing.responses
+  pub body : TellsMissing map before.1 (use_of before.0 (bus_memory map size before.1) place).body
+      missing.body
+
+-- One turn over guest memory behind a map is a turn on what the bus shows. Then what it wrote is stored, in
+-- this order, and nothing else changes.
+pub record TurnsBehind (map : BusMap) (size : ℕ) (before : PortState × List ℕ) (turn : Turn)
+    (after : PortState × List ℕ) : Type 0 where
+  pub place : ℕ
+  pub missing : Missing
+  pub written : List ByteRange
+  pub bus_after : List ℕ
+  pub is_place : IsPlace before.0.exec.pending place
+  pub is_missing : IsMissing map size before place missing
+  pub is_written : written ≡ written_of missing before.0 (bus_memory map size before.1) place
+  pub effect : EffectWithout missing before.0 (bus_memory map size before.1) turn after.0 bus_after
+  pub only : bus_after ≡ carried written bus_after (bus_memory map size before.1)
+  pub memory_is : after.1 ≡ stored_ranges map written bus_after before.1
+
+-- A word that the guest writes to SA is written over what the bus shows. Then what it zeroed is stored, and
+-- nothing else changes.
+pub record WritesSaBehind (map : BusMap) (size : ℕ) (before : PortState × List ℕ) (word : ℕ)
+    (after : PortState × List ℕ) : Type 0 where
+  pub missing : Bool
+  pub written : ByteRange
+  pub bus_after : List ℕ
+  pub is_missing : TellsMissing map before.1
+      (range_zeroed before.0.phase before.0 (bus_memory map size before.1) word) missing
+  pub is_written : written ≡ range_written missing (before.0, bus_memory map size before.1) word
+  pub effect : WordEffect missing (before.0, bus_memory map size before.1) word (after.0, bus_after)
+  pub only : bus_after ≡ carried (written ∷ []) bus_after (bus_memory map size before.1)
+  pub memory_is : after.1 ≡ stored_ranges map (written ∷ []) bus_after before.1

@@ -1,0 +1,263 @@
+//! Turns of a port whose guest's memory is behind a map, and words that are written to its SA.
+ghost use Rattle.std.specs.Prelude.{◌≡◌, ◌↔◌, ◌%◌, ◌^◌, ◌≤◌, [], ◌∷◌, All, length, IsTrue};
+ghost use Rattle.std.specs.Prelude.{IsOk, IfOk, IfErr};
+ghost use Rattle.uda_mem.specs.Put.{part};
+ghost use Rattle.uda_mem.specs.Ranges.{range_in, LiesIn, carried};
+ghost use Rattle.uda_mem.specs.Slices.{IsMemory};
+ghost use Rattle.uda_disk.specs.Units.{AreWellFormed};
+ghost use Rattle.uda_port.specs.MemoryUse.{Agrees, AgreesInDescriptors};
+ghost use Rattle.uda_port.specs.Port.{CreditsAgree};
+ghost use Rattle.uda_port.specs.Ring.{descriptor_address};
+ghost use Rattle.uda_port.specs.Trace.{Traces, turn_of};
+ghost use Rattle.uda_bus.specs.Bytes.{stored, AllLead};
+ghost use Rattle.uda_bus.specs.Turns.{bus_memory, stored_ranges, IsMissing, TurnsBehind, WritesSaBehind};
+ghost use Rattle.uda_bus.specs.Turns.{TellsMissing};
+
+use crate::map::BusMap;
+use std::alloc::Global;
+use std::marker::Model;
+use uda_image::BlockStore;
+use uda_mem::{ByteRange, NoMemory};
+use uda_port::{Missing, Port, Trace, Turn};
+
+/// The memory of a bus as a port sees it for a turn: as many bytes as the bus has addresses.
+#[derive(Debug, Drop)]
+pub struct Window {
+    bytes: Vec<u8>,
+}
+
+impl Model for Window {
+    ghost use Rattle.std.specs.Prelude.{List, ℕ};
+    ghost use Rattle.uda_mem.specs.Slices.{IsMemory};
+
+    ghost Value = { List ℕ };
+
+    ghost view = { λ w. w.bytes.items };
+
+    ghost invariant = { λ w. IsMemory w.bytes.items };
+}
+
+impl Window {
+    /// Returns a window of no bytes.
+    pub fn new(alloc: Global) -> Window
+        ensures none { length result ≡ 0 }
+    {
+        Window {
+            bytes: Vec::new(alloc),
+        }
+    }
+
+    /// Makes the window as long as a bus of `size` addresses. `size` is even and at most
+    /// [`SLICE_LIMIT`](uda_mem::SLICE_LIMIT). Does nothing if the window has that length already.
+    ///
+    /// Fails with [`NoMemory`] and changes nothing if `alloc` cannot allocate the bytes.
+    pub fn fit(&mut self, alloc: Global, size: u32) -> Result<(), NoMemory>
+        requires even { size % 2 ≡ 0 }
+        requires within { size ≤ 2 ^ 22 }
+        ensures fits { IfOk result (λ _. length self.new ≡ size) }
+        ensures unchanged { IfErr result (λ _. self.new ≡ self.old) }
+        ensures ready { length self.old ≡ size → IsOk result }
+        ensures same { length self.old ≡ size → self.new ≡ self.old }
+    {
+        if self.bytes.len() != size as usize {
+            self.bytes = Vec::from_elem(alloc, 0, size as usize)?;
+        }
+        Ok(())
+    }
+}
+
+impl BusMap<'_> {
+    /// Runs one turn of a port whose guest's memory is behind the map. The bus has as many addresses as the
+    /// window has bytes, and nothing else in the window matters.
+    ///
+    /// What the turn reads is read from the bus first, and what it wrote is then written to the bus in its
+    /// order. A descriptor, packet or buffer with an address that leads nowhere is as at the end of memory.
+    ///
+    /// UDA50 Programmer's Documentation Kit: command ring polling, UNIBUS addresses.
+    pub fn turn<S: BlockStore>(
+        &self,
+        port: &mut Port<S>,
+        memory: &mut [u8],
+        window: &mut Window,
+        trace: &mut Trace,
+    ) -> Turn
+        ensures effect { TurnsBehind self.now (length window.old) (port.old, memory.old) result
+            (port.new, memory.new) }
+        ensures turn { result ≡ turn_of trace.new }
+        ensures accurate { Traces trace.new port.old port.new }
+        ensures credits { CreditsAgree port.new }
+        ensures four_units { length port.new.exec.units ≡ 4 }
+        ensures well_formed { AreWellFormed port.new.exec.units }
+        ensures window { length window.new ≡ length window.old }
+        ensures length { length memory.new ≡ length memory.old }
+    {
+        self.turn_in(port, memory, window.bytes.as_mut_slice(), trace)
+    }
+
+    // Does the same over the bytes of a window.
+    fn turn_in<S: BlockStore>(
+        &self,
+        port: &mut Port<S>,
+        memory: &mut [u8],
+        window: &mut [u8],
+        trace: &mut Trace,
+    ) -> Turn
+        requires window { IsMemory window.old }
+        ensures effect { TurnsBehind self.now (length window.old) (port.old, memory.old) result
+            (port.new, memory.new) }
+        ensures turn { result ≡ turn_of trace.new }
+        ensures accurate { Traces trace.new port.old port.new }
+        ensures credits { CreditsAgree port.new }
+        ensures four_units { length port.new.exec.units ≡ 4 }
+        ensures well_formed { AreWellFormed port.new.exec.units }
+        ensures window { length window.new ≡ length window.old }
+        ensures length { length memory.new ≡ length memory.old }
+    {
+        let place = port.next_place();
+        let missing = self.read_used(port, memory, place, window);
+        let taken = port.turn_traced_at(window, place, missing, trace);
+        self.write_ranges(memory, &taken.written, window);
+        taken.turn
+    }
+
+    /// Writes `word` to SA of a port whose guest's memory is behind the map. The bus has as many addresses as
+    /// the window has bytes, and nothing else in the window matters.
+    ///
+    /// The communication area that the word zeroes is then written to the bus. An area with an address that
+    /// leads nowhere is as one past the end of memory.
+    ///
+    /// UDA50 Programmer's Documentation Kit: initialization, UNIBUS addresses.
+    pub fn write_sa<S: BlockStore>(
+        &self,
+        port: &mut Port<S>,
+        word: u16,
+        memory: &mut [u8],
+        window: &mut Window,
+    )
+        ensures effect { WritesSaBehind self.now (length window.old) (port.old, memory.old) word
+            (port.new, memory.new) }
+        ensures window { length window.new ≡ length window.old }
+        ensures length { length memory.new ≡ length memory.old }
+    {
+        self.write_sa_in(port, word, memory, window.bytes.as_mut_slice());
+    }
+
+    // Does the same over the bytes of a window.
+    fn write_sa_in<S: BlockStore>(
+        &self,
+        port: &mut Port<S>,
+        word: u16,
+        memory: &mut [u8],
+        window: &mut [u8],
+    )
+        ensures effect { WritesSaBehind self.now (length window.old) (port.old, memory.old) word
+            (port.new, memory.new) }
+        ensures window { length window.new ≡ length window.old }
+        ensures length { length memory.new ≡ length memory.old }
+    {
+        let area = port.range_zeroed(word, window);
+        let missing = !self.leads(memory, area.at, area.bytes);
+        let written = port.write_sa_at(word, window, missing);
+        self.write_range(memory, written, window);
+    }
+
+    // Reads into a window what a turn reads from the bus. Returns which addresses lead nowhere.
+    fn read_used<S: BlockStore>(
+        &self,
+        port: &Port<S>,
+        memory: &[u8],
+        place: usize,
+        window: &mut [u8],
+    ) -> Missing
+        requires window { IsMemory window.old }
+        ensures agrees { Agrees port.now place window.new
+            (bus_memory self.now (length window.old) memory.now) }
+        ensures missing { IsMissing self.now (length window.old) (port.now, memory.now) place result }
+        ensures length { length window.new ≡ length window.old }
+    {
+        let missing = self.read_descriptors(port, memory, window);
+        let body = port.memory_use(window, place).body;
+        let whole = self.read_range(memory, body, window);
+        Missing {
+            body: !whole,
+            ..missing
+        }
+    }
+
+    // Reads into a window the descriptors that a turn reads. Returns which of their addresses lead nowhere.
+    fn read_descriptors<S: BlockStore>(
+        &self,
+        port: &Port<S>,
+        memory: &[u8],
+        window: &mut [u8],
+    ) -> Missing
+        requires window { IsMemory window.old }
+        ensures agrees { AgreesInDescriptors port.now window.new
+            (bus_memory self.now (length window.old) memory.now) }
+        ensures commands { TellsMissing self.now memory.now
+            (range_in window.old (descriptor_address port.now.commands) 4) result.commands }
+        ensures responses { TellsMissing self.now memory.now
+            (range_in window.old (descriptor_address port.now.responses) 4) result.responses }
+        ensures length { length window.new ≡ length window.old }
+    {
+        let [command, command_before, response, response_before] = port.descriptor_ranges(window);
+        let commands = !self.read_range(memory, command, window);
+        self.read_range(memory, command_before, window);
+        let responses = !self.read_range(memory, response, window);
+        self.read_range(memory, response_before, window);
+        Missing {
+            commands,
+            responses,
+            body: false,
+        }
+    }
+
+    // Reads a range of the bus into a window. Returns whether each of its addresses leads to a byte of
+    // memory.
+    fn read_range(&self, memory: &[u8], range: ByteRange, window: &mut [u8]) -> bool
+        requires within { LiesIn window.old range }
+        ensures window { window.new
+            ≡ carried (range ∷ []) (bus_memory self.now (length window.old) memory.now) window.old }
+        ensures length { length window.new ≡ length window.old }
+        ensures whole { IsTrue result ↔ AllLead self.now memory.now range.at range.bytes }
+    {
+        if range.bytes == 0 {
+            return true;
+        }
+        let start = range.at as usize;
+        self.read(
+            memory,
+            range.at,
+            &mut window[start..start + range.bytes as usize],
+        )
+    }
+
+    // Writes these ranges of a window on the bus, in their order.
+    fn write_ranges(&self, memory: &mut [u8], ranges: &[ByteRange], window: &[u8])
+        requires within { All (LiesIn window.now) ranges.now }
+        ensures stored { memory.new ≡ stored_ranges self.now ranges.now window.now memory.old }
+        ensures length { length memory.new ≡ length memory.old }
+    {
+        for range in ranges {
+            self.write_range(memory, *range, window);
+        }
+    }
+
+    // Writes a range of a window on the bus.
+    fn write_range(&self, memory: &mut [u8], range: ByteRange, window: &[u8])
+        requires within { LiesIn window.now range }
+        ensures stored { memory.new
+            ≡ stored self.now memory.old range.at (part window.now range.at range.bytes) }
+        ensures length { length memory.new ≡ length memory.old }
+    {
+        if range.bytes == 0 {
+            return;
+        }
+        let start = range.at as usize;
+        self.write(
+            memory,
+            range.at,
+            &window[start..start + range.bytes as usize],
+        );
+    }
+}

@@ -1,25 +1,28 @@
 /* uda50.h: a simulated UDA50 disk controller, for an emulator of a PDP-11 or a VAX.
 
-   The functions are in groups: lifecycle, drives, registers, turns, inspection, save and restore, and failures for
-   tests. The project's docs/C.md shows how an emulator uses them, and docs/PORT.md says what the controller does.
+   The functions are in groups: lifecycle, drives, registers, turns, memory behind map registers, memory
+   behind calls, inspection, save and restore, and failures for tests. The project's docs/C.md shows how an emulator uses
+   them, and docs/PORT.md says what the controller does.
 
    A `uda50` is the handle of one controller. Set it to zero before its first use, pass its address, and neither copy
    it nor write into it. Every function accepts every handle. On a handle without a controller, each function except
    uda50_new and uda50_new_as changes nothing, and returns UDA50_NO_CONTROLLER, or 0 or false if its result is no
    status.
 
-   Pass no null pointer; only the `at` of an empty image may be null. The handle, image structs, images, guest memory
-   and what a call fills must not overlap. The library can't detect an overlap. One array for two units is an
-   overlap, and so is an image inside guest memory.
+   Pass no null pointer. Only the `at` of an empty image, and the `registers` of a map whose `count` is 0, may be null.
+   The handle, image structs, images, maps and their registers, guest memory, windows and what a call fills must not
+   overlap. The library can't detect an overlap. One array for two units is an overlap, and so is an image inside guest
+   memory.
 
    Guest memory is passed to each call that uses it, as a pointer and a number of bytes. Byte n is what the guest's
-   bus shows at address n: pass no more bytes than the bus has memory. The library reads and writes it in place, only
-   during that call, so the next call may pass other memory. No other thread writes it during the call. A word is
+   bus shows at address n: pass no more bytes than the bus has memory. Only the calls over map registers get all of the
+   machine's memory. The library reads and writes it in place, only during that call, so the next call may pass other
+   memory. No other thread writes it during the call. A word is
    stored low byte first: an array of uint16_t serves on a little-endian machine only.
 
    One call at a time uses a handle. A handle may go from one thread to another, if a lock or the start or end of a
-   thread orders the calls. Threads may use different handles at once. No call blocks. Only uda50_new, uda50_new_as
-   and uda50_format_last_turn allocate memory. */
+   thread orders the calls. Threads may use different handles at once. No call blocks. Only uda50_new, uda50_new_as,
+   uda50_format_last_turn and the calls over map registers allocate memory. */
 #ifndef UDA50_H
 #define UDA50_H
 
@@ -61,9 +64,10 @@ enum {
     UDA50_NO_SUCH_UNIT = 66,     /* the unit isn't 0 to 3 */
     UDA50_ALREADY_ATTACHED = 67, /* the unit has an image */
     UDA50_NOT_ATTACHED = 68,     /* the unit has no image */
-    UDA50_BAD_LENGTH = 69,       /* an image isn't one or more whole blocks, guest memory has an odd length, or a saved
-                                    state hasn't UDA50_STATE_LENGTH bytes */
-    UDA50_TOO_LARGE = 70,        /* an image has more than UDA50_MAX_BLOCKS blocks, or guest memory more than 4 MB */
+    UDA50_BAD_LENGTH = 69,       /* an image isn't one or more whole blocks, guest memory or a bus has an odd length, or
+                                    a saved state hasn't UDA50_STATE_LENGTH bytes */
+    UDA50_TOO_LARGE = 70,        /* an image has more than UDA50_MAX_BLOCKS blocks, or guest memory that is one array, or
+                                    a bus, more than 4,194,304 bytes */
     UDA50_NOT_EMPTY = 71,        /* a struct that an image is to be put into isn't empty */
     UDA50_HAS_CONTROLLER = 72,   /* the handle has a controller */
     UDA50_NO_SUCH_BUS = 73,      /* the bus isn't UDA50_UNIBUS or UDA50_QBUS */
@@ -71,10 +75,11 @@ enum {
     UDA50_OTHER_VERSION = 75,    /* a saved state has another version */
     UDA50_BAD_STATE = 76,        /* no controller has the saved state */
     UDA50_OTHER_IMAGES = 77,     /* the images aren't as many and as long as the saved ones, or not as protected */
-    UDA50_BAD_FIRST_UNIT = 78    /* first_unit is above 65,532: the last unit's would be above 65,535 */
+    UDA50_BAD_FIRST_UNIT = 78,   /* first_unit is above 65,532: the last unit's would be above 65,535 */
+    UDA50_BAD_MAP = 79           /* `page` or `scale` of a map is above 31 */
 };
 
-/* What a turn did. uda50_turn and uda50_run return it. */
+/* What a turn did. Each call that takes turns returns it. */
 enum {
     UDA50_IDLE = 0,      /* nothing: the port is in the initialization, has nothing to do or no response descriptor */
     UDA50_FETCHED = 1,   /* it fetched a packet from the command ring */
@@ -209,6 +214,104 @@ uint32_t uda50_turn(uda50 *handle, uint8_t *memory, size_t length);
    descriptor, which the guest gives by a write to its memory. Then call it again now and then, while `queued` or
    `attentions` of uda50_get_state isn't 0. */
 uint32_t uda50_run(uda50 *handle, uint32_t turns, uint8_t *memory, size_t length);
+
+/* ---- Memory behind map registers ---- */
+
+/* Map registers, through which a bus reaches the guest's memory. Bus address a leads to byte
+       ((registers[a >> page] & frame) << scale) + (a & ((1 << page) - 1))
+   of memory, if that register exists and has all bits of `valid` set, and the byte is in memory. Otherwise it leads
+   nowhere. Two registers may lead to one page. Set to zero what a machine doesn't have.
+
+     PDP-11/70 UNIBUS map    count 31, page 13, frame 0x3fffff
+     VAX-11/780 UBA          count 496, page 9, frame 0x1fffff, valid 0x80000000, scale 9
+     MicroVAX Q-bus          in_memory 8192, page 9, frame 0xfffff, valid 0x80000000, scale 9
+
+   Registers that lie in the guest's memory are `in_memory` longwords, low byte first, from index `at` on. `registers` and
+   `count` are ignored then. */
+typedef struct {
+    const uint32_t *registers;
+    size_t count;
+    uint32_t page;  /* how many low bits of an address are the offset in a page */
+    uint32_t frame; /* the bits of a register that say where its page begins */
+    uint32_t valid; /* the bits that are set in a register in use */
+    uint32_t scale; /* by how many places the bits of `frame` are shifted to the left */
+    uint64_t at;
+    uint32_t in_memory;
+} uda50_map;
+
+/* These do what uda50_turn, uda50_run and uda50_write_sa do, in memory of any length behind map registers. A turn first
+   reads from the bus what it may need: four descriptors, and a packet or a buffer. Then it writes the ranges that it may
+   have changed, in the order of a controller's writes, and the bytes of each by rising address. Of the rest of memory it
+   reads only registers that lie there.
+
+   What has an address that leads nowhere is answered as at the end of memory. A command ends with status 0x0069 because
+   of its buffer, unless an earlier check fails. These are fatal: a packet, the buffer of a message, the communication
+   area, and the next descriptor of a ring when a turn needs it. A descriptor before the next one counts as the host's,
+   and an interrupt indicator isn't written. Nothing else is affected.
+
+   The first call, and one for a bus with another number of addresses, allocates a window of that many bytes. Each
+   returns the first that holds of UDA50_NO_CONTROLLER, UDA50_BAD_MAP, UDA50_TOO_LARGE, UDA50_BAD_LENGTH and
+   UDA50_NO_MEMORY. Otherwise uda50_turn_mapped and uda50_run_mapped return what uda50_turn and uda50_run do, and
+   uda50_write_sa_mapped returns UDA50_OK. */
+uint32_t uda50_turn_mapped(uda50 *handle, uint8_t *memory, size_t length, const uda50_map *map);
+uint32_t uda50_run_mapped(uda50 *handle, uint32_t turns, uint8_t *memory, size_t length, const uda50_map *map);
+uint32_t uda50_write_sa_mapped(uda50 *handle, uint16_t word, uint8_t *memory, size_t length, const uda50_map *map);
+
+/* ---- Memory behind calls ---- */
+
+/* For guest memory that the emulator reaches by calls of its own. uda50_bus.h makes the calls of this group in their
+   order; most emulators use that, and not these.
+
+   The emulator has a window with as many bytes as the bus has addresses. For a turn:
+     1. it copies into the window the ranges of uda50_get_descriptors from the guest's memory;
+     2. it copies the range of uda50_get_body;
+     3. it sets `missing`, and calls uda50_turn_at with the struct of these calls;
+     4. it copies the written ranges to the guest's memory, in their order.
+   A byte whose address leads nowhere is 0 in the window. The rest of the window has no influence, and stays as it is. For
+   a word for SA it asks uda50_get_zeroed, tests the addresses of that range, calls uda50_write_sa_at, and copies out the
+   range that this fills in. */
+
+/* Bytes from a bus address on. `bytes` may be 0. Otherwise all of them are within the window. */
+typedef struct {
+    uint32_t at;
+    uint32_t bytes;
+} uda50_range;
+
+/* The bits of `missing`: the ranges that have an address that leads nowhere. */
+enum {
+    UDA50_MISSING_COMMAND = 1,  /* the first descriptor: the next one of the command ring */
+    UDA50_MISSING_RESPONSE = 2, /* the third: the next one of the response ring */
+    UDA50_MISSING_BODY = 4      /* the body */
+};
+
+/* What the next turn uses of the guest's memory. Only `missing` is the emulator's to set. */
+typedef struct {
+    uda50_range descriptors[4]; /* the next one of the command ring, the one before it; the same of the response ring */
+    uda50_range body;           /* the packet, or the buffer of a command or a message */
+    uda50_range written[4];     /* what the turn may have changed, in the order of its writes */
+    uint32_t place;             /* the command that the turn executes, if it executes one, by its index */
+    uint32_t missing;
+} uda50_turn_use;
+
+/* Fills the descriptors of *turn. Of the window only the length matters. Returns UDA50_OK, or the first that holds of
+   UDA50_NO_CONTROLLER, UDA50_BAD_LENGTH and UDA50_TOO_LARGE. */
+uint32_t uda50_get_descriptors(uda50 *handle, const uint8_t *window, size_t length, uda50_turn_use *turn);
+
+/* Fills the body and the place of *turn. Returns as uda50_get_descriptors does. */
+uint32_t uda50_get_body(uda50 *handle, const uint8_t *window, size_t length, uda50_turn_use *turn);
+
+/* Runs one turn, and fills the written ranges of *turn. Returns as uda50_turn does. What has a missing address is
+   answered as by the calls over map registers. */
+uint32_t uda50_turn_at(uda50 *handle, uint8_t *window, size_t length, uda50_turn_use *turn);
+
+/* Fills *area with the range that the word sets to zero if it is written to SA. Returns UDA50_OK or
+   UDA50_NO_CONTROLLER. */
+uint32_t uda50_get_zeroed(uda50 *handle, uint16_t word, const uint8_t *window, size_t length, uda50_range *area);
+
+/* Writes SA for the guest, as uda50_write_sa does, and fills *area with the range that was set to zero in the window.
+   `missing` says that an address of the area leads nowhere. Returns UDA50_OK or UDA50_NO_CONTROLLER. */
+uint32_t uda50_write_sa_at(uda50 *handle, uint16_t word, uint8_t *window, size_t length, bool missing,
+                           uda50_range *area);
 
 /* ---- Inspection ---- */
 

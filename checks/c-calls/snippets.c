@@ -20,6 +20,9 @@ bool save(uda50 *uda, uint8_t state[UDA50_STATE_LENGTH]);
 bool restore(uda50 *uda, uda50_file *file, const uint8_t state[UDA50_STATE_LENGTH]);
 bool attach(uda50 *uda, uint32_t unit, uda50_file *file, const char *path);
 bool detach(uda50 *uda, uint32_t unit, uda50_file *file);
+uint32_t take_turns_of_11_70(uda50 *uda), take_turns_by_calls(uda50 *uda);
+void write_sa_of_11_70(uda50 *uda, uint16_t word);
+bool read_byte(uint32_t address, uint8_t *byte), write_byte(uint32_t address, uint8_t byte);
 bool execute(void);
 void assert_request(uint16_t vector), withdraw_request(void);
 
@@ -238,6 +241,42 @@ static void save_and_restore(void)
     EXPECT(uda50_free(&second, images), UDA50_OK);
 }
 
+/* The guest's bus, by calls. An address past the end of memory leads nowhere. */
+bool read_byte(uint32_t address, uint8_t *byte)
+{
+    if (address < MEMORY)
+        *byte = memory[address];
+    return address < MEMORY;
+}
+
+bool write_byte(uint32_t address, uint8_t byte)
+{
+    if (address < MEMORY)
+        memory[address] = byte;
+    return address < MEMORY;
+}
+
+/* A guest of the PDP-11/70 begins while the map is off, and another emulator continues by calls. */
+static void reach_memory(void)
+{
+    static const uint16_t words[] = { FIRST_WORD, BASE, 0, 1 };
+    uda50_image images[UDA50_UNITS] = { { NULL, 0 } };
+    uda50 uda = { NULL };
+
+    EXPECT(uda50_new(&uda, true), UDA50_OK);
+    for (int n = 0; n < 4; n++)
+        write_sa_of_11_70(&uda, words[n]);
+    uda50_read_ip(&uda);
+    EXPECT(take_turns_of_11_70(&uda), UDA50_IDLE);
+    memset(memory + BASE, 0, RINGS);
+    give_response(0);
+    post(0, (command){ GET_UNIT_STATUS, 0, 5, 0, 0 });
+    uda50_read_ip(&uda);
+    EXPECT(take_turns_by_calls(&uda), UDA50_IDLE);
+    EXPECT(get16(response_at(0)), 5);
+    EXPECT(uda50_free(&uda, images), UDA50_OK);
+}
+
 static void attach_nothing(void)
 {
     uda50 none = { NULL };
@@ -286,6 +325,7 @@ int main(void)
     run();
     attach_nothing();
     save_and_restore();
+    reach_memory();
     fclose(stderr);
     expect_errors();
     return ended();

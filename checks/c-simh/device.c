@@ -27,6 +27,7 @@ t_stat rq_set_type(UNIT *unit, int32 type, char *text, void *desc);
 static uint16 words[WORDS];
 uint16 *M = words;
 uint32 cpu_bme, cpu_opt = BUS_U;
+int32 ub_map[31]; /* the map, which is off */
 t_addr cpu_memsize = 2 * WORDS;
 int32 int_req[IPL_HLVL], tmr_poll = 1, clk_tps = 60, saved_PC, sim_switches;
 UNIT cpu_unit;
@@ -110,19 +111,6 @@ t_stat show_vec(FILE *to, UNIT *unit, int32 value, void *desc)
 t_value get_uint(char *text, uint32 radix, t_value limit, t_stat *status)
 {
     *status = SCPE_ARG;
-    return 0;
-}
-
-/* There is no map: the bus shows the memory. */
-int32 Map_ReadW(uint32 from, int32 bytes, uint16 *to)
-{
-    memcpy(to, M + from / 2, (size_t)bytes);
-    return 0;
-}
-
-int32 Map_WriteW(uint32 to, int32 bytes, uint16 *from)
-{
-    memcpy(M + to / 2, from, (size_t)bytes);
     return 0;
 }
 

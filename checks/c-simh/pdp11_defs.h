@@ -104,8 +104,6 @@ t_stat set_addr_flt(UNIT *unit, int32 value, char *text, void *desc);
 t_stat show_addr(FILE *to, UNIT *unit, int32 value, void *desc);
 t_stat show_vec(FILE *to, UNIT *unit, int32 value, void *desc);
 t_value get_uint(char *text, uint32 radix, t_value limit, t_stat *status);
-int32 Map_ReadW(uint32 from, int32 bytes, uint16 *to);
-int32 Map_WriteW(uint32 to, int32 bytes, uint16 *from);
 
 #define sim_fseek fseek
 #define sim_fread fread

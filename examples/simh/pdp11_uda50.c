@@ -5,9 +5,8 @@
    whose files are mapped, the steps of the start-up and the port's turns as timed events, the interrupts, the guest's
    memory, and the state that SIMH saves and restores.
 
-   On a PDP-11 the library works in the memory as SIMH keeps it: an array of words of the host's own order, so the
-   host must be little-endian. While the UNIBUS map is on, a window of 248 KB is copied through SIMH's calls instead,
-   once an event. On a VAX a window of 4 MB is copied through the map of the Q-bus, once an event. */
+   The library works in the memory as SIMH keeps it: an array of words or longwords of the host's own order, so the host
+   must be little-endian. While the UNIBUS map of a PDP-11 is on, and on a VAX always, it goes through the map. */
 #if defined(VM_VAX)
 #include "vax_defs.h"
 #else
@@ -220,76 +219,63 @@ static uint16 first_unit(controller *it)
 #endif
 }
 
-/* The guest's memory as the bus shows it. */
-typedef struct {
-    uint8 *at;
-    size_t length;
-} bus_memory;
-
+/* The guest's memory, and the registers of the map through which the bus reaches it, if the map is on. */
 #if defined(VM_VAX)
 
-enum { WINDOW_BYTES = 1 << 22, PAGE = 512 };
+extern uint32 *M;
+extern int32 cq_mbr; /* where in memory the registers are */
 
-t_bool qba_map_addr_c(uint32 bus_address, uint32 *address);
-static uint8 window[WINDOW_BYTES], before[WINDOW_BYTES];
-
-/* Whether the map of the Q-bus leads the page to memory. It is asked first, since Map_ReadB makes an error known. */
-static bool is_mapped(uint32 page)
+static uint32 memory_bytes(void)
 {
-    uint32 address;
-
-    return qba_map_addr_c(page, &address) && ADDR_IS_MEM(address);
+    return (uint32)MEMSIZE;
 }
 
-static bus_memory lend_memory(void)
+static bool find_map(uda50_map *map)
 {
-    memset(window, 0, sizeof window);
-    for (uint32 page = 0; page < WINDOW_BYTES; page += PAGE)
-        if (is_mapped(page))
-            Map_ReadB(page, PAGE, window + page);
-    memcpy(before, window, sizeof window);
-    return (bus_memory){window, sizeof window};
-}
-
-static void take_memory_back(void)
-{
-    for (uint32 page = 0; page < WINDOW_BYTES; page += PAGE)
-        if (memcmp(window + page, before + page, PAGE) != 0 && is_mapped(page))
-            Map_WriteB(page, PAGE, window + page);
+    *map = (uda50_map){.page = 9, .frame = 0xfffff, .valid = 0x80000000, .scale = 9};
+    map->at = (uint32)cq_mbr;
+    map->in_memory = 8192;
+    return true;
 }
 
 #else
 
-enum { UNIBUS_BYTES = 0760000, PAGE = 020000 };
-
 extern uint16 *M;
+extern int32 ub_map[];
 extern uint32 cpu_bme, cpu_opt;
 extern t_addr cpu_memsize; /* without the I/O page */
 extern int32 saved_PC;
-static uint16 window[UNIBUS_BYTES / 2], before[UNIBUS_BYTES / 2];
 
-static bus_memory lend_memory(void)
+static uint32 memory_bytes(void)
 {
-    bus_memory memory = {(uint8 *)M, (size_t)cpu_memsize};
-
-    if (cpu_bme) {
-        memset(window, 0, sizeof window);
-        for (uint32 page = 0; page < UNIBUS_BYTES; page += PAGE) /* a register of the map each */
-            Map_ReadW(page, PAGE, window + page / 2);
-        memcpy(before, window, sizeof window);
-        memory = (bus_memory){(uint8 *)window, sizeof window};
-    }
-    return memory;
+    return (uint32)cpu_memsize;
 }
 
-static void take_memory_back(void)
+static bool find_map(uda50_map *map)
 {
-    for (uint32 i = 0; cpu_bme && i < UNIBUS_BYTES / 2; i++)
-        if (window[i] != before[i])
-            Map_WriteW(2 * i, 2, window + i);
+    *map = (uda50_map){.registers = (const uint32_t *)ub_map, .count = 31, .page = 13, .frame = 0x3fffff};
+    return cpu_bme != 0;
 }
 
 #endif
+
+static uint32 run(controller *it, uint32 turns)
+{
+    uda50_map map;
+
+    return find_map(&map) ? uda50_run_mapped(&it->uda, turns, (uint8 *)M, memory_bytes(), &map)
+                          : uda50_run(&it->uda, turns, (uint8 *)M, memory_bytes());
+}
+
+static void write_sa(controller *it, uint16 word)
+{
+    uda50_map map;
+
+    if (!find_map(&map))
+        uda50_write_sa(&it->uda, word, (uint8 *)M, memory_bytes());
+    else if (uda50_write_sa_mapped(&it->uda, word, (uint8 *)M, memory_bytes(), &map) != UDA50_OK)
+        printf("RQ: no memory for the window of the bus\n");
+}
 
 /* A processor has one request for all controllers, and asks by rq_acknowledge which of them it is. */
 static void request_interrupt(controller *it)
@@ -373,11 +359,9 @@ t_stat rq_wr(int32 data, int32 address, int32 access)
 t_stat rq_step(UNIT *unit)
 {
     controller *it = of_unit(unit);
-    bus_memory memory = lend_memory();
     uda50_state state;
 
-    uda50_write_sa(&it->uda, (uint16_t)it->word, memory.at, memory.length);
-    take_memory_back();
+    write_sa(it, (uint16)it->word);
     if (uda50_get_state(&it->uda, &state) == UDA50_OK && state.vector != 0)
         it->dib.vec = state.vector + VEC_Q;
     request_interrupt(it);
@@ -385,13 +369,13 @@ t_stat rq_step(UNIT *unit)
 }
 
 /* One turn at a time, each with its line. */
-static uint32 traced_turns(controller *it, bus_memory memory)
+static uint32 traced_turns(controller *it)
 {
     uint32 kind = UDA50_IDLE;
     uint8_t line[LINE];
 
     for (int32 turn = 0; turn < rq_turns; turn++) {
-        kind = uda50_turn(&it->uda, memory.at, memory.length);
+        kind = run(it, 1);
         if (kind == UDA50_IDLE || kind >= UDA50_DEAD)
             break;
         if (uda50_format_last_turn(&it->uda, line, sizeof line) == UDA50_OK)
@@ -404,12 +388,9 @@ static uint32 traced_turns(controller *it, bus_memory memory)
 t_stat rq_turn(UNIT *unit)
 {
     controller *it = of_unit(unit);
-    bus_memory memory = lend_memory();
-    uint32 kind = DEBUG_PRD(it->device) ? traced_turns(it, memory)
-                                        : uda50_run(&it->uda, (uint32_t)rq_turns, memory.at, memory.length);
+    uint32 kind = DEBUG_PRD(it->device) ? traced_turns(it) : run(it, (uint32)rq_turns);
     uda50_state state;
 
-    take_memory_back();
     request_interrupt(it);
     if (kind == UDA50_IDLE && uda50_get_state(&it->uda, &state) == UDA50_OK && state.queued == 0)
         return SCPE_OK;

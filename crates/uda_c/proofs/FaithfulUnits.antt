@@ -22,6 +22,11 @@ use Rattle.uda_port.specs.declared.turn.Turn.TheVariants.{Fetched, Executed, Del
 use Rattle.uda_port.specs.Port.{PortState, port_restarted, port_after_ip_read, port_with_drive, drive_put, protected_drive, read_only_at}
 use Rattle.uda_port.specs.Message.{message_in}
 use Rattle.uda_port.specs.Startup.{has_bit, after_wrap_request, area_of, has_area, refuses_second, refuses_third, asks_test, after_sa_write}
+use Rattle.uda_port.specs.declared.memory_use.Missing.{Missing}
+use Rattle.uda_port.specs.declared.turn_at.Fate.{Fate}
+use Rattle.uda_port.specs.declared.turn_at.Fate.TheVariants.{Usual, FailsInFetch, FailsLater, WithoutBuffer}
+use Rattle.uda_port.specs.MemoryUse.{EffectBy, EffectWithout, fate_of}
+use Rattle.uda_port.specs.StartupUse.{WordEffect}
 use Rattle.uda_port.specs.Turn.{port_turn_on, port_with_message, ExecutesFor, TurnEffect, RunningTurn, GoesOn, Fails, InFetch, InRest, FetchRule}
 
 -- ---- a change that keeps the fixed attributes of all units keeps them faithful
@@ -135,6 +140,23 @@ pub turn_faithful : (turn : Turn) (old : PortState) (memory : List ℕ) (new : P
 turn_faithful turn old memory new after goes =
     along old new (turn_natures old.phase turn old memory new after goes)
 
+-- ---- a turn over memory behind a map
+
+pub effect_natures : (fate : Fate) (turn : Turn) (old : PortState) (memory : List ℕ) (new : PortState) (after : List ℕ)
+    → EffectBy fate old memory turn new after → all_attributes new ≡ all_attributes old
+effect_natures Usual turn old memory new after goes = turn_natures old.phase turn old memory new after goes
+effect_natures (FailsInFetch cause) turn old memory new after goes = ap all_attributes goes.0.died
+effect_natures (FailsLater cause) turn old memory new after goes = ap all_attributes goes.0.died
+effect_natures WithoutBuffer turn old memory new after goes =
+    let x = goes.0.executes in
+    executed_natures old.profile x.0 old.exec [] x.1.end new.exec [] x.1.executes
+
+pub effect_faithful : (missing : Missing) (turn : Turn) (old : PortState) (memory : List ℕ) (new : PortState)
+    (after : List ℕ) → EffectWithout missing old memory turn new after → AllFaithful old.exec.units
+    → AllFaithful new.exec.units
+effect_faithful missing turn old memory new after goes =
+    along old new (effect_natures (fate_of missing old memory) turn old memory new after goes)
+
 -- ---- the registers
 
 chosen : (a : Bool) (one other : PortState) (same : List (Option FixedAttributes)) → all_attributes one ≡ same
@@ -175,6 +197,12 @@ pub word_faithful : (old : PortState) (memory : List ℕ) (word : ℕ) (new : Po
     → AllFaithful new.exec.units
 word_faithful old memory word new after is = along old new
     (ap (λ (x : PortState × List ℕ). all_attributes x.0) is ∙ word_natures old.phase old memory word)
+
+pub word_at_faithful : (missing : Bool) (before : PortState × List ℕ) (word : ℕ) (after : PortState × List ℕ)
+    → WordEffect missing before word after → AllFaithful before.0.exec.units → AllFaithful after.0.exec.units
+word_at_faithful false before word after is =
+    word_faithful before.0 before.1 word after.0 after.1 is
+word_at_faithful true before word after is = word_faithful before.0 [] word after.0 [] is.0
 
 asked_natures : (p : Phase) (old : PortState) → all_attributes (port_after_ip_read p old) ≡ all_attributes old
 asked_natures Running old = refl

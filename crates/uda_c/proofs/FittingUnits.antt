@@ -28,16 +28,23 @@ use Rattle.uda_port.specs.declared.turn.Turn.TheVariants.{Fetched, Executed, Del
 use Rattle.uda_port.specs.Guest.{is_due, attention_set, is_online_now}
 use Rattle.uda_port.specs.Message.{message_in, flags_kept}
 use Rattle.uda_port.specs.Port.{PortState, port_restarted, port_after_ip_read, port_with_drive, drive_put, read_only_by, attention_due, with_type}
-use Rattle.uda_port.specs.Possible.{has_run, is_of_turn}
+use Rattle.uda_port.specs.Possible.{has_run, is_of_turn, CanDie}
 use Rattle.uda_port.specs.declared.saved.Saved.{Saved}
 use Rattle.uda_port.specs.declared.saved.RestoreError.{RestoreError}
 use Rattle.uda_port.specs.Saved.{RestoreEffect, saved_port}
-use Rattle.uda_port.specs.Startup.{has_bit, after_wrap_request, area_of, has_area, refuses_second, refuses_third, asks_test, after_sa_write}
-use Rattle.uda_port.specs.Turn.{port_turn_on, port_with_message, TurnEffect, RunningTurn, GoesOn, Fails, InFetch, InRest, FetchRule}
+use Rattle.uda_port.specs.Startup.{has_bit, after_wrap_request, area_of, has_area, refuses_second, refuses_third, asks_test, after_sa_write, failed_port}
+use Rattle.uda_port.specs.Turn.{port_turn_on, port_with_message, port_not_polling, may_fetch, ExecutesOne, TurnEffect, RunningTurn, GoesOn, Fails, InFetch, InRest, FetchRule}
+use Rattle.uda_port.specs.declared.memory_use.Access.{Access}
+use Rattle.uda_port.specs.declared.memory_use.Missing.{Missing}
+use Rattle.uda_port.specs.declared.turn_at.Fate.{Fate}
+use Rattle.uda_port.specs.declared.turn_at.Fate.TheVariants.{Usual, FailsInFetch, FailsLater, WithoutBuffer}
+use Rattle.uda_port.specs.MemoryUse.{use_of, fate_in, fate_of, CanFail, EffectBy, EffectWithout}
+use Rattle.uda_port.specs.StartupUse.{WordEffect}
+use Rattle.uda_port.proofs.MemoryUseLaws.{fate_fails}
 use Rattle.uda_c.specs.ControllerState.{ControllerState}
 use Rattle.uda_c.specs.Controllers.{controller_failing, controller_at_start, unit_failing}
 use Rattle.uda_c.specs.Fits.{UnitNotice, unit_fits, notice_of, fits_at, is_as_attached, FitsController, numbers_fit, fits_in, fits_controller}
-use Rattle.uda_c.proofs.FaithfulUnits.{turn_natures}
+use Rattle.uda_c.proofs.FaithfulUnits.{turn_natures, effect_natures}
 
 abbrev AllFit : PortState → Type 0
 AllFit port = (u : ℕ) → u < 4 → fits_at port u ≡ true
@@ -234,6 +241,19 @@ message_phase : (old : PortState) (m : Result GuestCommand Reply) → (port_with
 message_phase old (Ok c) = refl
 message_phase old (Err r) = refl
 
+executed_keeps : (j : ℕ) (old : PortState) (memory : List ℕ) (new : PortState) (after : List ℕ)
+    → old.phase ≡ Running → ExecutesOne j (port_not_polling (port_turn_on old)) memory new after
+    → unit_attributes new.exec.units ≡ unit_attributes old.exec.units → Keeps old new
+executed_keeps j old memory new after runs goes same = record {
+  profile = ap (λ (p : PortState). p.profile) goes.others;
+  kinds = ap (λ (p : PortState). p.guest.types) goes.others
+      ∙ after_kinds (is_online_now goes.end) old.guest goes.end.unit;
+  less = λ u is. after_less (is_online_now goes.end) old.guest goes.end.unit u
+      (sym (ap (λ (p : PortState). is_due p.guest.attentions u) goes.others) ∙ is);
+  attributes = same;
+  run = run_by Running new.phase (ap (λ (p : PortState). p.phase) goes.others ∙ runs) refl;
+}
+
 running_keeps : (turn : Turn) (old : PortState) (memory : List ℕ) (new : PortState) (after : List ℕ)
     → old.phase ≡ Running → RunningTurn old memory turn new after
     → unit_attributes new.exec.units ≡ unit_attributes old.exec.units → Keeps old new
@@ -248,16 +268,7 @@ running_keeps Fetched old memory new after runs goes same = record {
       (ap (λ (p : PortState). p.phase) goes.others ∙ message_phase (port_turn_on old) (message_in old.profile goes.packet) ∙ runs) refl;
 }
 running_keeps Executed old memory new after runs goes same =
-    let others = goes.rest.1.others in
-    record {
-      profile = ap (λ (p : PortState). p.profile) others;
-      kinds = ap (λ (p : PortState). p.guest.types) others
-          ∙ after_kinds (is_online_now goes.rest.1.end) old.guest goes.rest.1.end.unit;
-      less = λ u is. after_less (is_online_now goes.rest.1.end) old.guest goes.rest.1.end.unit u
-          (sym (ap (λ (p : PortState). is_due p.guest.attentions u) others) ∙ is);
-      attributes = same;
-      run = run_by Running new.phase (ap (λ (p : PortState). p.phase) others ∙ runs) refl;
-    }
+    executed_keeps goes.rest.0 old memory new after runs goes.rest.1 same
 running_keeps Delivered old memory new after runs goes same =
     let others = goes.rest.1.others in
     record {
@@ -343,6 +354,71 @@ turn_fits turn old memory new after goes is =
     let same = turn_natures old.phase turn old memory new after goes in
     fits_by old new (turn_profile old.phase turn old memory new after refl goes same)
     (turn_by old.phase turn old memory new after refl goes same is.units) is
+
+-- a turn over memory behind a map
+failing_keeps : (cause : Fatal) (old new : PortState) → is_of_turn cause ≡ true
+    → new ≡ failed_port old cause → Keeps old new
+failing_keeps cause old new of_turn died = record {
+  profile = ap (λ (p : PortState). p.profile) died;
+  kinds = ap (λ (p : PortState). p.guest.types) died;
+  less = less_by _ _ (ap (λ (p : PortState). p.guest.attentions) died);
+  attributes = ap (λ (p : PortState). unit_attributes p.exec.units) died;
+  run = ap (λ (p : PortState). has_run p.phase) died ∙ of_turn;
+}
+
+fails_running : (phase : Phase) (missing : Missing) (polls : Bool) (access : Access)
+    → (fate_in phase missing polls access ≡ Usual → ⊥) → phase ≡ Running
+fails_running Running missing polls access fails = refl
+fails_running (Dead cause) missing polls access fails = absurd (fails refl)
+fails_running Step1 missing polls access fails = absurd (fails refl)
+fails_running (Step2 first) missing polls access fails = absurd (fails refl)
+fails_running (Step3 first second) missing polls access fails = absurd (fails refl)
+fails_running (Wrap before) missing polls access fails = absurd (fails refl)
+fails_running PurgeTest missing polls access fails = absurd (fails refl)
+fails_running PollTest missing polls access fails = absurd (fails refl)
+fails_running Step4 missing polls access fails = absurd (fails refl)
+
+module _ (missing : Missing) (turn : Turn) (old : PortState) (memory : List ℕ) (new : PortState) (after : List ℕ)
+    (same : unit_attributes new.exec.units ≡ unit_attributes old.exec.units) where
+  abbrev access : Access
+  access = (use_of old memory 0).access
+
+  runs : (fate : Fate) → fate_of missing old memory ≡ fate → (fate ≡ Usual → ⊥) → old.phase ≡ Running
+  runs fate is fails =
+      fails_running old.phase missing (may_fetch old) access (λ usual. fails (sym is ∙ usual))
+
+  of_turn : (cause : Fatal) → CanDie old.profile old.phase cause → old.phase ≡ Running → is_of_turn cause ≡ true
+  of_turn cause can phase = sym can.ran ∙ ap has_run phase
+
+  can : (fate : Fate) → fate_of missing old memory ≡ fate → CanFail old.profile old.phase fate
+  can fate is =
+      subst (CanFail old.profile old.phase) is
+      (fate_fails old.profile old.phase missing (may_fetch old) access)
+
+  keeps_by : (fate : Fate) → fate_of missing old memory ≡ fate → EffectBy fate old memory turn new after
+      → FitsController old → FitsController new
+  keeps_by Usual is goes fits = turn_fits turn old memory new after goes fits
+  keeps_by (FailsInFetch cause) is goes fits =
+      let phase = runs (FailsInFetch cause) is (λ usual. absurd (cc)) in
+      let before = port_turn_on old in
+      let keeps = failing_keeps cause before new (of_turn cause (can (FailsInFetch cause) is) phase) goes.0.died in
+      fits_by old new keeps.profile (kept_fits before new keeps fits.units) fits
+  keeps_by (FailsLater cause) is goes fits =
+      let phase = runs (FailsLater cause) is (λ usual. absurd (cc)) in
+      let before = port_not_polling (port_turn_on old) in
+      let keeps = failing_keeps cause before new (of_turn cause (can (FailsLater cause) is) phase) goes.0.died in
+      fits_by old new keeps.profile (kept_fits before new keeps fits.units) fits
+  keeps_by WithoutBuffer is goes fits =
+      let phase = runs WithoutBuffer is (λ usual. absurd (cc)) in
+      let x = goes.0.executes in
+      let keeps = executed_keeps x.0 old [] new [] phase x.1 same in
+      fits_by old new keeps.profile (kept_fits old new keeps fits.units) fits
+
+pub effect_fits : (missing : Missing) (turn : Turn) (old : PortState) (memory : List ℕ) (new : PortState)
+    (after : List ℕ) → EffectWithout missing old memory turn new after → FitsController old → FitsController new
+effect_fits missing turn old memory new after goes =
+    keeps_by missing turn old memory new after
+    (effect_natures (fate_of missing old memory) turn old memory new after goes) (fate_of missing old memory) refl goes
 
 -- ---- the registers
 
@@ -434,6 +510,11 @@ pub word_fits : (old : PortState) (memory : List ℕ) (word : ℕ) (new : PortSt
 word_fits old memory word new after is fits =
     subst FitsController (sym (ap (λ (x : PortState × List ℕ). x.0) is))
     (moved_fits old (after_sa_write old.phase old memory word).0 (word_moves old.phase old memory word refl) fits)
+
+pub word_at_fits : (missing : Bool) (before : PortState × List ℕ) (word : ℕ) (after : PortState × List ℕ)
+    → WordEffect missing before word after → FitsController before.0 → FitsController after.0
+word_at_fits false before word after is = word_fits before.0 before.1 word after.0 after.1 is
+word_at_fits true before word after is = word_fits before.0 [] word after.0 [] is.0
 
 asked_moves : (p : Phase) (old : PortState) → old.phase ≡ p → Moves old (port_after_ip_read p old)
 asked_moves Running old is = record { profile = refl; guest = refl; exec = refl; run = λ run. run }

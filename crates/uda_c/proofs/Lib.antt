@@ -9,3 +9,4 @@ pub mod Lending
 pub mod FaithfulUnits
 pub mod FittingUnits
 pub mod SavedUnits
+pub mod MapTurns

@@ -4,6 +4,8 @@ use Rattle.uda_port.specs.declared.turn.Turn.{Turn}
 use Rattle.uda_c.specs.declared.call_status.CallStatus.{CallStatus}
 use Rattle.uda_c.specs.declared.call_status.CallStatus.TheVariants.{RanTurn}
 use Rattle.uda_c.specs.Controllers.{TakesTurn}
+use Rattle.uda_c.specs.declared.map.MappedBus.{MappedBus}
+use Rattle.uda_c.specs.Maps.{TakesTurnBehind, TakesTurnsBehind}
 use Rattle.uda_c.specs.Runs.{Machine, TakesTurns, does_nothing}
 
 -- a turn, and then the rest of the run
@@ -22,3 +24,19 @@ pub run_over : (limit k : ℕ) (before : CallStatus) (old : Machine) (turn : Tur
 run_over limit k before old turn next h over takes =
     let left : limit - k ≡ suc (limit - (k + 1)) = omega (arith, h) in
     rw left (turn, next, takes, rw over (refl, refl))
+
+-- the same of turns over guest memory behind a map
+module _ (bus : MappedBus) (limit k : ℕ) (before : CallStatus) (old : Machine) (turn : Turn) (next : Machine)
+    (below : k < limit) (takes : TakesTurnBehind bus old (RanTurn turn) next) where
+  pub run_on_behind : (after : CallStatus × Machine) → does_nothing turn ≡ false
+      → TakesTurnsBehind bus (limit - (k + 1)) (RanTurn turn) next after
+      → TakesTurnsBehind bus (limit - k) before old after
+  run_on_behind after goes rest =
+      let left : limit - k ≡ suc (limit - (k + 1)) = omega (arith, below) in
+      rw left (turn, next, takes, rw goes rest)
+
+  pub run_over_behind : does_nothing turn ≡ true
+      → TakesTurnsBehind bus (limit - k) before old (RanTurn turn, next)
+  run_over_behind over =
+      let left : limit - k ≡ suc (limit - (k + 1)) = omega (arith, below) in
+      rw left (turn, next, takes, rw over (refl, refl))

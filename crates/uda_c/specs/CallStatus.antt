@@ -6,7 +6,7 @@ use Rattle.uda_c.specs.declared.call_status.CallStatus.{CallStatus}
 use Rattle.uda_c.specs.declared.call_status.CallStatus.TheVariants.{Done, RanTurn, NoController, NoMemory, NoSuchUnit}
 use Rattle.uda_c.specs.declared.call_status.CallStatus.TheVariants.{AlreadyAttached, NotAttached, BadLength, TooLarge}
 use Rattle.uda_c.specs.declared.call_status.CallStatus.TheVariants.{NotEmpty, HasController, NoSuchBus, NoSuchType}
-use Rattle.uda_c.specs.declared.call_status.CallStatus.TheVariants.{OtherVersion, BadState, OtherImages, BadFirstUnit}
+use Rattle.uda_c.specs.declared.call_status.CallStatus.TheVariants.{OtherVersion, BadState, OtherImages, BadFirstUnit, BadMap}
 
 abbrev pub turn_code : Turn → ℕ
 turn_code turn.Idle = 0
@@ -34,3 +34,4 @@ status_code OtherVersion = 75
 status_code BadState = 76
 status_code OtherImages = 77
 status_code BadFirstUnit = 78
+status_code BadMap = 79

@@ -281,10 +281,14 @@ pub record TakesInterrupt (old : ControllerState) (before : ℕ) (told : Bool) (
 
 -- ---- a controller of the compatible profile
 
--- a handle without a controller gets one of this profile, if the numbers of its units don't go round
+-- a handle without a controller gets one of this profile, if the numbers of its units don't wrap past 65,535
 abbrev pub MakesIfNumbered : Bool → Profile → CallStatus → Option ControllerState → Type 0
 MakesIfNumbered true profile answer new = MakesNew None profile answer new
 MakesIfNumbered false profile answer new = (answer ≡ BadFirstUnit) × (new ≡ None)
+
+-- the refusal of a new controller of this profile
+abbrev pub refusal_of_profile : Profile → CallStatus
+refusal_of_profile profile = if numbers_fit profile then NoMemory else BadFirstUnit
 
 abbrev pub MakesNumbered : Option ControllerState → Profile → CallStatus → Option ControllerState → Type 0
 MakesNumbered (Some c) profile answer new = (answer ≡ HasController) × (new ≡ Some c)

@@ -1,4 +1,5 @@
--- What a controller of C has beyond a port: C has no call that changes a drive unseen by the guest.
+-- What holds of a controller of C beyond what holds of its port. C has no call that changes a drive unseen by the
+-- guest.
 -- MSCP Basic Disk Functions Manual: unit states, unit numbers, attention messages, write protection.
 use Rattle.std.specs.Prelude.{◌≡◌, ℕ, ◌<◌, nat_le, Bool, true, ◌&&◌, ◌||◌, not, List, Option, Some, None}
 use Rattle.std.specs.Prelude.{slice_get, get_or}

@@ -11,6 +11,8 @@ pub mod ControllerState
 pub mod Controllers
 pub mod Fits
 pub mod Saving
+pub mod TurnUse
 pub mod Snapshot
 pub mod Last
 pub mod Runs
+pub mod Maps

@@ -21,10 +21,10 @@ pub enum CallStatus {
     AlreadyAttached,
     /// The unit has no image.
     NotAttached,
-    /// The length is invalid: an image's is a multiple of 512 and not 0, guest memory's is even, and a saved
-    /// state's is fixed.
+    /// The length is invalid: an image's is a multiple of 512 and not 0, that of guest memory or of a bus is even,
+    /// and a saved state's is fixed.
     BadLength,
-    /// An image or a guest's memory may not have this many bytes.
+    /// An image, a guest's memory or a bus may not have this many bytes.
     TooLarge,
     /// A slot for an image isn't empty.
     NotEmpty,
@@ -40,8 +40,10 @@ pub enum CallStatus {
     BadState,
     /// The units don't have images of the saved sizes and hardware write protections.
     OtherImages,
-    /// The numbers of four units from this one on would go round.
+    /// The numbers of four units from this one on would wrap past 65,535.
     BadFirstUnit,
+    /// The number of bits of an offset in a page of a map, or of its shift, is above 31.
+    BadMap,
 }
 
 impl CallStatus {
@@ -74,6 +76,7 @@ impl CallStatus {
             CallStatus::BadState => 76,
             CallStatus::OtherImages => 77,
             CallStatus::BadFirstUnit => 78,
+            CallStatus::BadMap => 79,
         }
     }
 }

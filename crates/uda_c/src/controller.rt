@@ -1,9 +1,9 @@
 //! The controller of a handle.
-ghost use Rattle.std.specs.Prelude.{◌≡◌, true, ◌≢◌, ◌≤◌, ◌/◌, ◌%◌, ℕ, length, slice_get, IfSome, IfNone, IfOk, IfErr, IsTrue};
+ghost use Rattle.std.specs.Prelude.{◌≡◌, true, ◌≢◌, ◌≤◌, ◌/◌, ◌%◌, ℕ, length, slice_get, IfSome, IfNone, IfOk, IfErr, IsTrue, ◌⊎◌};
 ghost use Rattle.uda_image.specs.Limits.{store_limit};
 ghost use Rattle.uda_mem.specs.Slices.{IsMemory};
-ghost use Rattle.uda_c.specs.declared.call_status.CallStatus.TheVariants.{RanTurn, Done};
-ghost use Rattle.uda_c.specs.Controllers.{controller_at_start, SetsType, Attaches, Detaches, TurnsWhereMemory};
+ghost use Rattle.uda_c.specs.declared.call_status.CallStatus.TheVariants.{RanTurn, Done, NoMemory};
+ghost use Rattle.uda_c.specs.Controllers.{controller_at_start, refusal_of_profile, SetsType, Attaches, Detaches, TurnsWhereMemory};
 ghost use Rattle.uda_c.specs.Controllers.{FailsAt, controller_failing, drive_failing, TakesTurn, memory_refusal, IsSoundPort};
 ghost use Rattle.uda_c.specs.Saving.{Saves, RestoreOutcome, controller_saved, failing_call_of};
 ghost use Rattle.uda_c.specs.Saving.{controller_failing_at};
@@ -14,19 +14,26 @@ ghost use Rattle.uda_c.specs.Controllers.{WritesSa, GivesBack, image_answer, ima
 ghost use Rattle.uda_c.specs.BorrowedImage.{borrowed_state, IsWhole};
 ghost use Rattle.uda_c.specs.Slots.{empty_slot, is_empty};
 ghost use Rattle.uda_exec.specs.Drives.{drive_state};
+ghost use Rattle.uda_port.specs.MemoryUse.{IsPlace};
+ghost use Rattle.uda_c.specs.TurnUse.{GetsDescriptors, GetsBody, TurnsAtWhereMemory, TakesTurnAt, WritesSaAt};
 ghost use Rattle.uda_c.specs.Runs.{TakesTurns, RunsWhereMemory, does_nothing};
+ghost use Rattle.uda_c.specs.Maps.{IsBusOf, map_answer, OverMap, TakesTurnBehind, TakesTurnsBehind, WritesSaOver};
 
 use crate::call_status::CallStatus;
-use crate::fits::fits_controller;
+use crate::fits::{fits_controller, numbers_fit};
 use crate::lent::BorrowedBytes;
 use crate::lent_image::BorrowedImage;
+use crate::map::{MapRegisters, MappedBus};
 use crate::saving::{RestoreRefusal, calls_have_drives};
 use crate::slot::Slot;
+use crate::turn_use::TurnUse;
 use crate::unit_images::UnitImages;
 use std::alloc::Global;
 use std::marker::Model;
+use uda_bus::Window;
 use uda_exec::Exec;
 use uda_image::{Drive, STORE_LIMIT};
+use uda_mem::ByteRange;
 use uda_packet::DriveType;
 use uda_port::{Port, Profile, Trace, Turn};
 use uda_saved::{STATE_LENGTH, SavedState};
@@ -36,6 +43,9 @@ use uda_saved::{STATE_LENGTH, SavedState};
 pub struct Controller {
     pub port: Port<BorrowedImage>,
     pub last: Option<Trace>,
+    // The window of the last call over a map, which the next one uses again.
+    window: Option<Window>,
+    alloc: Global,
 }
 
 impl Model for Controller {
@@ -51,19 +61,28 @@ impl Model for Controller {
 }
 
 impl Controller {
-    /// Returns a controller without drives, whose port is in step 1. Returns None if an allocation fails.
-    pub fn new(alloc: Global, profile: Profile) -> Option<Controller>
-        requires numbers { numbers_fit profile ≡ true }
-        ensures start { IfSome result (λ c. c ≡ controller_at_start profile) }
+    /// Returns a controller without drives, whose port is in step 1. Fails with `BadFirstUnit` if the numbers of its
+    /// units would wrap past 65,535, and with `NoMemory` if an allocation fails.
+    pub fn new(alloc: Global, profile: Profile) -> Result<Controller, CallStatus>
+        ensures start { IfOk result (λ c. (c ≡ controller_at_start profile) × (numbers_fit profile ≡ true)) }
+        ensures refused { IfErr result (λ r. r ≡ refusal_of_profile profile) }
     {
+        if !numbers_fit(profile) {
+            return Err(CallStatus::BadFirstUnit);
+        }
         let exec = Exec::new([None, None, None, None]);
         let port = match profile {
             Profile::Strict => Port::new(alloc, exec),
             Profile::Compatible(identity) => Port::compatible_as(alloc, identity, exec),
         };
         match port {
-            Ok(port) => Some(Controller { port, last: None }),
-            Err(_) => None,
+            Ok(port) => Ok(Controller {
+                port,
+                last: None,
+                window: None,
+                alloc,
+            }),
+            Err(_) => Err(CallStatus::NoMemory),
         }
     }
 
@@ -326,6 +345,198 @@ impl Controller {
         answer
     }
 
+    /// Fills in the descriptors that the next turn reads.
+    pub fn get_descriptors(&self, memory: &[u8], turn: &mut TurnUse) -> CallStatus
+        ensures gets { GetsDescriptors self.now memory.now turn.old result turn.new }
+    {
+        match refusal_of(memory) {
+            Some(refusal) => refusal,
+            None => {
+                let descriptors = self.port.descriptor_ranges(memory);
+                turn.descriptors = descriptors;
+                CallStatus::Done
+            }
+        }
+    }
+
+    /// Fills in the command that the next turn executes, and what the turn uses beside the descriptors.
+    pub fn get_body(&self, memory: &[u8], turn: &mut TurnUse) -> CallStatus
+        ensures gets { GetsBody self.now memory.now turn.old result turn.new }
+    {
+        match refusal_of(memory) {
+            Some(refusal) => refusal,
+            None => {
+                let place = self.port.next_place();
+                turn.place = place as u32;
+                turn.body = self.port.memory_use(memory, place).body;
+                CallStatus::Done
+            }
+        }
+    }
+
+    /// Runs one turn of the port over a window into the guest's memory, and fills in what it wrote.
+    pub fn turn_at(&mut self, memory: &mut [u8], turn: &mut TurnUse) -> CallStatus
+        ensures effect { TurnsAtWhereMemory (self.old, memory.old) turn.old result turn.new
+            (self.new, memory.new) }
+    {
+        match refusal_of(memory) {
+            Some(refusal) => refusal,
+            None => self.take_turn_at(memory, turn),
+        }
+    }
+
+    // Does the same in valid memory, and stores the record of the turn as the last.
+    fn take_turn_at(&mut self, memory: &mut [u8], turn: &mut TurnUse) -> CallStatus
+        requires memory { IsMemory memory.old }
+        ensures { TakesTurnAt (self.old, memory.old) turn.old result turn.new (self.new, memory.new) }
+    {
+        let place = self.place_of(turn);
+        let missing = turn.missing();
+        let trace = self.last.get_or_insert(Trace::Idle);
+        let taken = self.port.turn_traced_at(memory, place, missing, trace);
+        let written = taken.written;
+        turn.written = written;
+        CallStatus::RanTurn(taken.turn)
+    }
+
+    // Returns the index of the command that C asks for, if it is eligible, or else the port's own choice.
+    fn place_of(&self, turn: &TurnUse) -> usize
+        ensures place { IsPlace self.now.port.exec.pending result }
+        ensures asked { IsPlace self.now.port.exec.pending turn.now.place → result ≡ turn.now.place }
+    {
+        let asked = turn.place as usize;
+        if self.port.is_place(asked) {
+            asked
+        } else {
+            self.port.next_place()
+        }
+    }
+
+    /// Writes SA for the guest over a window into its memory, and returns the range that was zeroed.
+    pub fn write_sa_at(&mut self, word: u16, memory: &mut [u8], missing: bool) -> ByteRange
+        ensures effect { WritesSaAt missing (self.old, memory.old) word result (self.new, memory.new) }
+    {
+        self.port.write_sa_at(word, memory, missing)
+    }
+
+    /// Runs one turn of the port over guest memory behind a map.
+    pub fn turn_mapped(&mut self, memory: &mut [u8], map: &MapRegisters<'_>) -> CallStatus
+        ensures effect { OverMap map.now (self.old, memory.old) result (self.new, memory.new)
+            (λ bus. TakesTurnBehind bus (self.old, memory.old) result (self.new, memory.new)) }
+    {
+        match self.ready(map) {
+            Ok(ReadyBus { bus, window }) => {
+                let mut window = window;
+                let turn = self.take_turn_mapped(memory, &bus, &mut window);
+                self.window = Some(window);
+                CallStatus::RanTurn(turn)
+            }
+            Err(status) => status,
+        }
+    }
+
+    /// Runs up to `limit` turns over guest memory behind a map, and stops after the first that does nothing.
+    pub fn run_mapped(
+        &mut self,
+        limit: u32,
+        memory: &mut [u8],
+        map: &MapRegisters<'_>,
+    ) -> CallStatus
+        ensures runs { OverMap map.now (self.old, memory.old) result (self.new, memory.new)
+            (λ bus. TakesTurnsBehind bus limit Done (self.old, memory.old) (result, (self.new, memory.new))) }
+    {
+        match self.ready(map) {
+            Ok(ReadyBus { bus, window }) => {
+                let mut window = window;
+                let answer = self.run_behind(limit, memory, &bus, &mut window);
+                self.window = Some(window);
+                answer
+            }
+            Err(status) => status,
+        }
+    }
+
+    /// Writes SA for the guest over its memory behind a map.
+    pub fn write_sa_mapped(
+        &mut self,
+        word: u16,
+        memory: &mut [u8],
+        map: &MapRegisters<'_>,
+    ) -> CallStatus
+        ensures effect { OverMap map.now (self.old, memory.old) result (self.new, memory.new)
+            (λ bus. WritesSaOver bus (self.old, memory.old) word result (self.new, memory.new)) }
+    {
+        match self.ready(map) {
+            Ok(ReadyBus { bus, window }) => {
+                let mut window = window;
+                bus.map.write_sa(&mut self.port, word, memory, &mut window);
+                self.window = Some(window);
+                CallStatus::Done
+            }
+            Err(status) => status,
+        }
+    }
+
+    // Returns the bus of a map with the controller's window, which has as many bytes as the bus has addresses.
+    fn ready<'a>(&mut self, map: &MapRegisters<'a>) -> Result<ReadyBus<'a>, CallStatus>
+        ensures same { self.new ≡ self.old }
+        ensures ok { IfOk result (λ ready. IsBusOf map.now ready.bus × (length ready.window ≡ ready.bus.size)
+            × (map_answer map.now ≡ Done)) }
+        ensures err { IfErr result (λ r. ((r ≡ NoMemory) × (map_answer map.now ≡ Done))
+            ⊎ ((r ≡ map_answer map.now) × (r ≢ Done))) }
+    {
+        let bus = map.bus()?;
+        let mut window = match self.window.take() {
+            Some(window) => window,
+            None => Window::new(self.alloc),
+        };
+        match window.fit(self.alloc, bus.size) {
+            Ok(()) => Ok(ReadyBus { bus, window }),
+            Err(_) => {
+                self.window = Some(window);
+                Err(CallStatus::NoMemory)
+            }
+        }
+    }
+
+    // Runs up to `limit` turns over a bus.
+    fn run_behind(
+        &mut self,
+        limit: u32,
+        memory: &mut [u8],
+        bus: &MappedBus<'_>,
+        window: &mut Window,
+    ) -> CallStatus
+        requires window { length window.old ≡ bus.now.size }
+        ensures runs { TakesTurnsBehind bus.now limit Done (self.old, memory.old)
+            (result, (self.new, memory.new)) }
+    {
+        let mut answer = CallStatus::Done;
+        for _ in 0..limit {
+            let turn = self.take_turn_mapped(memory, bus, window);
+            answer = CallStatus::RanTurn(turn);
+            if does_nothing(turn) {
+                return answer;
+            }
+        }
+        answer
+    }
+
+    // Runs a turn over a bus, and stores its record as the last.
+    fn take_turn_mapped(
+        &mut self,
+        memory: &mut [u8],
+        bus: &MappedBus<'_>,
+        window: &mut Window,
+    ) -> Turn
+        requires window { length window.old ≡ bus.now.size }
+        ensures turn { TakesTurnBehind bus.now (self.old, memory.old) (RanTurn result) (self.new, memory.new) }
+        ensures window { length window.new ≡ length window.old }
+    {
+        let trace = self.last.get_or_insert(Trace::Idle);
+        bus.map.turn(&mut self.port, memory, window, trace)
+    }
+
     // Runs a turn, and stores its record as the last.
     fn take_turn(&mut self, memory: &mut [u8]) -> Turn
         requires memory { IsMemory memory.old }
@@ -334,6 +545,12 @@ impl Controller {
         let trace = self.last.get_or_insert(Trace::Idle);
         self.port.turn_traced_into(memory, trace)
     }
+}
+
+// A bus behind a map, and a window with as many bytes as it has addresses.
+struct ReadyBus<'a> {
+    bus: MappedBus<'a>,
+    window: Window,
 }
 
 // Takes an image out of a slot. Fails and leaves the slot unchanged if the slot is empty or the image is

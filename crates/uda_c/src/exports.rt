@@ -5,14 +5,16 @@ ghost use Rattle.uda_port.specs.Port.{port_restarted, port_after_ip_read};
 ghost use Rattle.uda_port.specs.Startup.{sa_shown};
 ghost use Rattle.uda_c.specs.CallStatus.{status_code};
 ghost use Rattle.uda_c.specs.Choices.{bus_of};
-ghost use Rattle.uda_c.specs.Fits.{numbers_fit};
 ghost use Rattle.uda_packet.specs.DriveTypes.{type_numbered};
 ghost use Rattle.uda_c.specs.declared.call_status.CallStatus.{CallStatus};
 ghost use Rattle.uda_c.specs.declared.call_status.CallStatus.TheVariants.{Done, NoController};
 ghost use Rattle.uda_c.specs.Controllers.{OnHandle, AreSound, HoldsSound, MakesNew, MakesNumbered, MakesAs, SetsType, refusal_of_new, profile_of, is_read_only, Frees, GivesBack};
 ghost use Rattle.uda_c.specs.Controllers.{Attaches, Detaches, HasImage, HadBytes, WritesSa};
 ghost use Rattle.uda_c.specs.Controllers.{FailsAt, TurnsWhereMemory, TakesInterrupt};
+ghost use Rattle.uda_port.specs.StartupUse.{range_zeroed};
+ghost use Rattle.uda_c.specs.TurnUse.{GetsDescriptors, GetsBody, TurnsAtWhereMemory, WritesSaAt};
 ghost use Rattle.uda_c.specs.Saving.{Saves, Restores};
+ghost use Rattle.uda_c.specs.Maps.{OverMap, TakesTurnBehind, TakesTurnsBehind, WritesSaOver};
 ghost use Rattle.uda_c.specs.Runs.{RunsWhereMemory};
 ghost use Rattle.uda_c.specs.Snapshot.{port_snapshot};
 ghost use Rattle.uda_c.specs.Last.{turn_record, TellsLine};
@@ -20,15 +22,17 @@ ghost use Rattle.uda_c.specs.Last.{turn_record, TellsLine};
 use crate::call_status::CallStatus;
 use crate::choices::bus_of;
 use crate::controller::Controller;
-use crate::fits::numbers_fit;
 use crate::handle::Handle;
 use crate::last::{TurnRecord, put_last_line};
+use crate::map::MapRegisters;
 use crate::saving::restore_status;
 use crate::slot::Slot;
 use crate::snapshot::PortSnapshot;
+use crate::turn_use::TurnUse;
 use crate::unit_images::UnitImages;
 use loose::Loose;
 use std::alloc::Global;
+use uda_mem::ByteRange;
 use uda_packet::{DriveType, Identity};
 use uda_port::{Profile, USUAL_IDENTITY};
 
@@ -67,7 +71,7 @@ pub extern "C" fn uda50_new_as(alloc: Global, handle: &mut Handle, bus: u32, fir
         return refuse_new(bus).code();
     }
     match bus_of(bus) {
-        Some(bus) => make_numbered(
+        Some(bus) => make(
             alloc,
             handle,
             Profile::Compatible(Identity { bus, first_unit }),
@@ -350,6 +354,193 @@ pub extern "C" fn uda50_run(handle: &mut Handle, turns: u32, memory: &mut [u8]) 
     }
 }
 
+/// Fills in the descriptors that the next turn reads in a window into the guest's memory.
+#[unsafe(no_mangle)]
+pub extern "C" fn uda50_get_descriptors(
+    handle: &mut Handle,
+    window: &[u8],
+    turn: &mut TurnUse,
+) -> u32
+    ensures gets { OnHandle handle.old.value handle.new.value
+        ((result ≡ status_code NoController) × (turn.new ≡ turn.old))
+        (λ old new. (answer : CallStatus) × (result ≡ status_code answer) × (new ≡ old)
+        × GetsDescriptors old window.now turn.old answer turn.new) }
+    ensures sound { AreSound handle.old.value handle.new.value }
+{
+    match handle.get() {
+        Some(controller) => {
+            controller.keep();
+            controller.get_descriptors(window, turn).code()
+        }
+        None => CallStatus::NoController.code(),
+    }
+}
+
+/// Fills in the command that the next turn executes, and what the turn uses beside the descriptors.
+#[unsafe(no_mangle)]
+pub extern "C" fn uda50_get_body(handle: &mut Handle, window: &[u8], turn: &mut TurnUse) -> u32
+    ensures gets { OnHandle handle.old.value handle.new.value
+        ((result ≡ status_code NoController) × (turn.new ≡ turn.old))
+        (λ old new. (answer : CallStatus) × (result ≡ status_code answer) × (new ≡ old)
+        × GetsBody old window.now turn.old answer turn.new) }
+    ensures sound { AreSound handle.old.value handle.new.value }
+{
+    match handle.get() {
+        Some(controller) => {
+            controller.keep();
+            controller.get_body(window, turn).code()
+        }
+        None => CallStatus::NoController.code(),
+    }
+}
+
+/// Runs one turn of the port over a window into the guest's memory, and fills in what it wrote.
+#[unsafe(no_mangle)]
+pub extern "C" fn uda50_turn_at(handle: &mut Handle, window: &mut [u8], turn: &mut TurnUse) -> u32
+    ensures effect { OnHandle handle.old.value handle.new.value
+        ((result ≡ status_code NoController) × ((window.new ≡ window.old) × (turn.new ≡ turn.old)))
+        (λ old new. (answer : CallStatus) × (result ≡ status_code answer)
+        × TurnsAtWhereMemory (old, window.old) turn.old answer turn.new (new, window.new)) }
+    ensures sound { AreSound handle.old.value handle.new.value }
+{
+    match handle.get() {
+        Some(controller) => {
+            controller.keep();
+            let answer = controller.turn_at(window, turn).code();
+            controller.keep();
+            answer
+        }
+        None => CallStatus::NoController.code(),
+    }
+}
+
+/// Returns in `area` what a word that is written to SA zeroes.
+#[unsafe(no_mangle)]
+pub extern "C" fn uda50_get_zeroed(
+    handle: &mut Handle,
+    word: u16,
+    window: &[u8],
+    area: &mut ByteRange,
+) -> u32
+    ensures gets { OnHandle handle.old.value handle.new.value
+        ((result ≡ status_code NoController) × (area.new ≡ area.old))
+        (λ old new. (result ≡ status_code Done) × (new ≡ old)
+        × (area.new ≡ range_zeroed old.port.phase old.port window.now word)) }
+    ensures sound { AreSound handle.old.value handle.new.value }
+{
+    match handle.get() {
+        Some(controller) => {
+            controller.keep();
+            *area = controller.port.range_zeroed(word, window);
+            CallStatus::Done.code()
+        }
+        None => CallStatus::NoController.code(),
+    }
+}
+
+/// Writes SA for the guest over a window into its memory, and returns in `area` what was zeroed.
+#[unsafe(no_mangle)]
+pub extern "C" fn uda50_write_sa_at(
+    handle: &mut Handle,
+    word: u16,
+    window: &mut [u8],
+    missing: bool,
+    area: &mut ByteRange,
+) -> u32
+    ensures effect { OnHandle handle.old.value handle.new.value
+        ((result ≡ status_code NoController) × ((window.new ≡ window.old) × (area.new ≡ area.old)))
+        (λ old new. (result ≡ status_code Done)
+        × WritesSaAt missing (old, window.old) word area.new (new, window.new)) }
+    ensures sound { AreSound handle.old.value handle.new.value }
+{
+    match handle.get() {
+        Some(controller) => {
+            controller.keep();
+            *area = controller.write_sa_at(word, window, missing);
+            controller.keep();
+            CallStatus::Done.code()
+        }
+        None => CallStatus::NoController.code(),
+    }
+}
+
+/// Runs one turn of the port over guest memory behind a map.
+#[unsafe(no_mangle)]
+pub extern "C" fn uda50_turn_mapped(
+    handle: &mut Handle,
+    memory: &mut [u8],
+    map: &MapRegisters<'_>,
+) -> u32
+    ensures effect { OnHandle handle.old.value handle.new.value
+        ((result ≡ status_code NoController) × (memory.new ≡ memory.old))
+        (λ old new. (answer : CallStatus) × (result ≡ status_code answer)
+        × OverMap map.now (old, memory.old) answer (new, memory.new)
+        (λ bus. TakesTurnBehind bus (old, memory.old) answer (new, memory.new))) }
+    ensures sound { AreSound handle.old.value handle.new.value }
+{
+    match handle.get() {
+        Some(controller) => {
+            controller.keep();
+            let answer = controller.turn_mapped(memory, map).code();
+            controller.keep();
+            answer
+        }
+        None => CallStatus::NoController.code(),
+    }
+}
+
+/// Runs up to `turns` turns over guest memory behind a map, and stops after the first that does nothing.
+#[unsafe(no_mangle)]
+pub extern "C" fn uda50_run_mapped(
+    handle: &mut Handle,
+    turns: u32,
+    memory: &mut [u8],
+    map: &MapRegisters<'_>,
+) -> u32
+    ensures runs { OnHandle handle.old.value handle.new.value
+        ((result ≡ status_code NoController) × (memory.new ≡ memory.old))
+        (λ old new. (answer : CallStatus) × (result ≡ status_code answer)
+        × OverMap map.now (old, memory.old) answer (new, memory.new)
+        (λ bus. TakesTurnsBehind bus turns Done (old, memory.old) (answer, (new, memory.new)))) }
+    ensures sound { AreSound handle.old.value handle.new.value }
+{
+    match handle.get() {
+        Some(controller) => {
+            controller.keep();
+            let answer = controller.run_mapped(turns, memory, map).code();
+            controller.keep();
+            answer
+        }
+        None => CallStatus::NoController.code(),
+    }
+}
+
+/// Writes SA for the guest over its memory behind a map.
+#[unsafe(no_mangle)]
+pub extern "C" fn uda50_write_sa_mapped(
+    handle: &mut Handle,
+    word: u16,
+    memory: &mut [u8],
+    map: &MapRegisters<'_>,
+) -> u32
+    ensures effect { OnHandle handle.old.value handle.new.value
+        ((result ≡ status_code NoController) × (memory.new ≡ memory.old))
+        (λ old new. (answer : CallStatus) × (result ≡ status_code answer)
+        × OverMap map.now (old, memory.old) answer (new, memory.new)
+        (λ bus. WritesSaOver bus (old, memory.old) word answer (new, memory.new))) }
+    ensures sound { AreSound handle.old.value handle.new.value }
+{
+    match handle.get() {
+        Some(controller) => {
+            controller.keep();
+            let answer = controller.write_sa_mapped(word, memory, map).code();
+            controller.keep();
+            answer
+        }
+        None => CallStatus::NoController.code(),
+    }
+}
+
 /// Copies the state of the port into C's struct.
 #[unsafe(no_mangle)]
 pub extern "C" fn uda50_get_state(handle: &mut Handle, state: &mut PortSnapshot) -> u32
@@ -471,28 +662,15 @@ fn profile_of(compatible: bool) -> Profile
     }
 }
 
-// Puts a new controller into an empty handle, if the numbers of its units don't go round.
-fn make_numbered(alloc: Global, handle: &mut Handle, profile: Profile) -> CallStatus
-    requires { handle.old.value ≡ None }
-    ensures made { MakesNumbered None profile result handle.new.value }
-    ensures sound { HoldsSound handle.new.value }
-{
-    if numbers_fit(profile) {
-        make(alloc, handle, profile)
-    } else {
-        CallStatus::BadFirstUnit
-    }
-}
-
 // Puts a new controller into an empty handle.
 fn make(alloc: Global, handle: &mut Handle, profile: Profile) -> CallStatus
     requires empty { handle.old.value ≡ None }
-    requires numbers { numbers_fit profile ≡ true }
-    ensures made { MakesNew None profile result handle.new.value }
+    ensures made { MakesNumbered None profile result handle.new.value }
     ensures sound { HoldsSound handle.new.value }
 {
-    let Some(controller) = Controller::new(alloc, profile) else {
-        return CallStatus::NoMemory;
+    let controller = match Controller::new(alloc, profile) {
+        Ok(controller) => controller,
+        Err(refusal) => return refusal,
     };
     controller.keep();
     match Box::new(alloc, controller) {

@@ -1,4 +1,5 @@
-//! What a controller of C has beyond a port: C has no call that changes a drive unseen by the guest.
+//! What holds of a controller of C beyond what holds of its port. C has no call that changes a drive unseen by the
+//! guest.
 //!
 //! MSCP Basic Disk Functions Manual: unit states, unit numbers, attention messages, write protection.
 ghost use Rattle.std.specs.Prelude.{◌≡◌, Some};
@@ -13,7 +14,7 @@ use uda_port::{Guest, Phase, Profile, Saved};
 /// The largest number of a first unit: the fourth unit then has the number 65535.
 pub const LAST_FIRST_UNIT: u16 = 65_532;
 
-/// Returns whether the numbers of the four units don't go round.
+/// Returns whether the numbers of the four units don't wrap past 65,535.
 pub fn numbers_fit(profile: Profile) -> bool
     ensures { result ≡ numbers_fit profile }
 {

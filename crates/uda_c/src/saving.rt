@@ -15,8 +15,8 @@ pub enum RestoreRefusal {
     Bytes(BytesError),
     /// A call is to fail of a unit that has no drive.
     CallWithoutDrive,
-    /// A unit of the state doesn't fit its phase, its type or its attention message, or the numbers of the units go
-    /// round.
+    /// A unit of the state doesn't fit its phase, its type or its attention message, or the numbers of the units
+    /// wrap past 65,535.
     UnfitUnits,
     /// The port can't continue from the state.
     Port(RestoreError),

@@ -1,0 +1,66 @@
+/* uda50_bus.c: turns over guest memory that is reached by calls. See uda50_bus.h. */
+#include "uda50_bus.h"
+
+#include <string.h>
+
+enum { RANGES = 4 };
+
+/* What is missing if a descriptor can't be read. One before the next one then counts as one that the host owns. */
+static const uint32_t missing_descriptor[RANGES] = {UDA50_MISSING_COMMAND, 0, UDA50_MISSING_RESPONSE, 0};
+
+/* Reads a range into the window. Returns whether each of its addresses leads somewhere. */
+static bool fetch(const uda50_bus *bus, uda50_range range)
+{
+    return range.bytes == 0 || bus->read(bus->context, range.at, range.bytes, bus->window + range.at);
+}
+
+/* Writes a range from the window. */
+static void store(const uda50_bus *bus, uda50_range range)
+{
+    if (range.bytes != 0)
+        bus->write(bus->context, range.at, range.bytes, bus->window + range.at);
+}
+
+uint32_t uda50_bus_turn(uda50 *handle, const uda50_bus *bus)
+{
+    uda50_turn_use turn;
+    uint32_t status;
+
+    memset(&turn, 0, sizeof turn);
+    status = uda50_get_descriptors(handle, bus->window, bus->length, &turn);
+    if (status != UDA50_OK)
+        return status;
+    for (int i = 0; i < RANGES; i++)
+        if (!fetch(bus, turn.descriptors[i]))
+            turn.missing |= missing_descriptor[i];
+    uda50_get_body(handle, bus->window, bus->length, &turn);
+    if (!fetch(bus, turn.body))
+        turn.missing |= UDA50_MISSING_BODY;
+    status = uda50_turn_at(handle, bus->window, bus->length, &turn);
+    for (int i = 0; i < RANGES; i++)
+        store(bus, turn.written[i]);
+    return status;
+}
+
+uint32_t uda50_bus_run(uda50 *handle, uint32_t turns, const uda50_bus *bus)
+{
+    uint32_t status = uda50_run(handle, 0, bus->window, bus->length); /* or why no turn can be taken */
+
+    for (; turns > 0 && status < UDA50_DEAD; turns--) {
+        status = uda50_bus_turn(handle, bus);
+        if (status == UDA50_IDLE)
+            break;
+    }
+    return status;
+}
+
+void uda50_bus_write_sa(uda50 *handle, uint16_t word, const uda50_bus *bus)
+{
+    uda50_range area = {0, 0};
+    bool missing;
+
+    uda50_get_zeroed(handle, word, bus->window, bus->length, &area);
+    missing = !fetch(bus, area);
+    if (uda50_write_sa_at(handle, word, bus->window, bus->length, missing, &area) == UDA50_OK)
+        store(bus, area);
+}

@@ -1,0 +1,35 @@
+use Rattle.std.proofs.Common.{◌≡◌, sym, subst, Some}
+use Rattle.uda_port.specs.MemoryUse.{IsPlace}
+use Rattle.uda_c.specs.declared.call_status.CallStatus.TheVariants.{RanTurn}
+use Rattle.uda_c.specs.ControllerState.{ControllerState}
+use Rattle.uda_c.specs.TurnUse.{TakesTurnAt}
+use Rattle.uda_c.proofs.FaithfulUnits.{effect_faithful}
+use Rattle.uda_c.proofs.FittingUnits.{effect_fits}
+use Rattle.uda_c.proofs.MapTurns.{takes_at}
+use Rattle.uda_c.proofs.controller.Controller.take_turn_at.Goals as goal
+
+pub invariant_of-self : goal.invariant_of-self
+invariant_of-self c =
+    let old = c.self.inside.port in
+    let taken = c.turn_traced_at-taken in (
+      effect_faithful c.missing-missing.result taken.result.turn old c.args.memory.now taken.new.self taken.new.memory
+          taken.ensures.effect c.self.invariant.0,
+      effect_fits c.missing-missing.result taken.result.turn old c.args.memory.now taken.new.self taken.new.memory
+          taken.ensures.effect c.self.invariant.1,
+    )
+
+pub returns : goal.returns
+returns c =
+    let asked = c.args.turn.now in
+    let memory = c.args.memory.now in
+    let taken = c.turn_traced_at-taken in
+    let asks = subst
+    (λ (s : ControllerState). IsPlace s.port.exec.pending asked.place → c.place_of-place.result ≡ asked.place)
+    (sym c.self.view_is) c.place_of-place.ensures.asked in
+    subst
+    (λ (s : ControllerState). TakesTurnAt (s, memory) asked (RanTurn taken.result.turn)
+    (record asked { written = taken.result.written })
+    (record { port = taken.new.self; last = Some taken.new.trace }, taken.new.memory)) c.self.view_is
+    (takes_at _ memory asked c.missing-missing.result c.place_of-place.result taken.result taken.new.trace
+    taken.new.self taken.new.memory c.missing-missing.ensures asks taken.ensures.effect taken.ensures.local
+    taken.ensures.within taken.ensures.written taken.ensures.turn taken.ensures.accurate)

@@ -1,0 +1,39 @@
+/* uda50_bus.h: turns of a controller whose guest's memory an emulator reaches by calls of its own. If that memory is one
+   array behind map registers, uda50_turn_mapped of uda50.h is simpler. docs/C.md has an example of each. */
+#ifndef UDA50_BUS_H
+#define UDA50_BUS_H
+
+#include "uda50.h"
+
+#ifdef __cplusplus
+extern "C" {
+#endif
+
+/* The guest's bus. The window has as many bytes as the bus has addresses, an even number: 253,952 of a UNIBUS or 4,194,304
+   of a Q-bus. The library uses it only during these calls, and what is in it before a call has no influence. So
+   controllers may share a window. The two functions don't touch it, and make no call of the library with this handle. */
+typedef struct {
+    /* Copies the bytes from this bus address on to `to`, and 0 for each whose address leads nowhere. Returns whether each
+       address leads somewhere. */
+    bool (*read)(void *context, uint32_t address, uint32_t bytes, uint8_t *to);
+    /* Copies the bytes to this bus address on, in rising order, except those whose address leads nowhere. */
+    void (*write)(void *context, uint32_t address, uint32_t bytes, const uint8_t *from);
+    void *context;
+    uint8_t *window;
+    size_t length;
+} uda50_bus;
+
+/* These do what uda50_turn, uda50_run and uda50_write_sa do in memory that is one array. A turn first reads from the bus
+   what it may need: four descriptors, and a packet or a buffer. Then it writes the ranges that it may have changed, in the
+   order of a controller's writes.
+
+   An address that leads nowhere is answered as by the calls over map registers. */
+uint32_t uda50_bus_turn(uda50 *handle, const uda50_bus *bus);
+uint32_t uda50_bus_run(uda50 *handle, uint32_t turns, const uda50_bus *bus);
+void uda50_bus_write_sa(uda50 *handle, uint16_t word, const uda50_bus *bus);
+
+#ifdef __cplusplus
+}
+#endif
+
+#endif

@@ -155,10 +155,10 @@ static void see(machine *it)
 
 /* ---- What a hole does ---- */
 
-/* A guest with an online unit, whose memory is all there. */
-static void begin(machine *it)
+/* Starts the port up with its rings at this address, over memory that is all there and has only zeros. */
+static void start_over(machine *it, uint16_t ring)
 {
-    static const uint16_t words[] = { 0x8080 | 1 << 11 | 2 << 8 | VECTOR / 4, BASE, 0, 1 };
+    const uint16_t words[] = { 0x8080 | 1 << 11 | 2 << 8 | VECTOR / 4, ring, 0, 1 };
 
     memset(memory, 0, SIZE);
     lead_straight(it);
@@ -166,6 +166,12 @@ static void begin(machine *it)
     uda50_write_ip(&it->uda, 0);
     for (int n = 0; n < 4; n++)
         write_sa(it, words[n]);
+}
+
+/* A guest with an online unit. */
+static void begin(machine *it)
+{
+    start_over(it, BASE);
     for (uint32_t n = 0; n < RESPONSES; n++)
         give_response(n);
     post(0, (command){ ONLINE, 0, 1, 0, 0 });
@@ -241,14 +247,8 @@ static void missing_response(machine *it)
 static void missing_response_ring(machine *it)
 {
     enum { RING = 0x11f0, TEXT = 0x1804 };
-    static const uint16_t words[] = { 0x8080 | 1 << 11 | 2 << 8 | VECTOR / 4, RING, 0, 1 };
 
-    memset(memory, 0, SIZE);
-    lead_straight(it);
-    show(it);
-    uda50_write_ip(&it->uda, 0);
-    for (int n = 0; n < 4; n++)
-        write_sa(it, words[n]);
+    start_over(it, RING);
     see(it);
     put16(RING, TEXT);
     put16(RING + 2, 0x8000);
@@ -310,15 +310,9 @@ static void missing_area(machine *it)
 static void missing_before(machine *it)
 {
     enum { RING = 0x11f8, TEXTS = 0x1804 };
-    static const uint16_t words[] = { 0x8080 | 1 << 11 | 2 << 8 | VECTOR / 4, RING, 0, 1 };
     uint16_t vector;
 
-    memset(memory, 0, SIZE);
-    lead_straight(it);
-    show(it);
-    uda50_write_ip(&it->uda, 0);
-    for (int n = 0; n < 4; n++)
-        write_sa(it, words[n]);
+    start_over(it, RING);
     while (uda50_take_interrupt(&it->uda, &vector))
         ;
     for (uint32_t n = 0; n < 3; n++) {

@@ -6,11 +6,11 @@ use Rattle.std.specs.Simd.{first_chunks}
 use Rattle.std.proofs.lemmas.List.{same_lists, take_all, take-take, take-append-le, take-replicate, length-replicate, replicate-append-replicate}
 use Rattle.uda_mem.proofs.PutLaws.{put-nil, put-part, put-put_next, length-part-le}
 use Rattle.uda_packet.specs.declared.end.Kind.TheVariants.{Erase, Read, Write}
-use Rattle.uda_image.specs.AtOnce.{ReadsBlocks, WritesBlocks}
+use Rattle.uda_image.specs.AtOnce.{ReadsBlocks, WritesBlocks, ChecksBlocks}
 use Rattle.uda_image.specs.StoreLaws.{length-first_chunks}
 use Rattle.uda_image.proofs.AtOnceLaws.{take-chunks, get_or-chunks}
 use Rattle.uda_image.proofs.Chunk.{first_chunks-replicate}
-use Rattle.uda_exec.specs.Transfers.{Accessed, Erased}
+use Rattle.uda_exec.specs.Transfers.{Erased}
 use Rattle.uda_exec.proofs.Words.{put, part, Transfer, StoreState, KeepsAttributes, HasWholeBlocks, blocks_for, block_count, in_blocks, bytes_at, ChangesAt, Progress}
 use Rattle.uda_exec.proofs.Calls.{go_none, go_more}
 use Rattle.uda_exec.proofs.Changes.{changes_by_put}
@@ -139,7 +139,7 @@ module _ (t : Transfer) (k count : ℕ) (old : StoreState) (memory : List ℕ) (
 pub record Accessing (count done : ℕ) (old now : StoreState) : Type 0 where
   pub attributes : KeepsAttributes old now
   pub within : done ≤ count
-  pub accessed : is_sound now ≡ true → Accessed old done now
+  pub accessed : is_sound now ≡ true → ChecksBlocks old done now
 
 -- the same of blocks that are erased
 pub record Erasing (n count done : ℕ) (old now : StoreState) : Type 0 where
@@ -153,11 +153,8 @@ erased_none old n = record {
   calls = go_none old.failing_call;
 }
 
-pub accessed_none : (old : StoreState) → Accessed old 0 old
-accessed_none old = record { state_stays = refl; calls = go_none old.failing_call }
-
-pub accessed_more : (old now new : StoreState) (n done piece : ℕ) (to : List ℕ) → Accessed old done now
-    → ReadsBlocks now n piece new to → Accessed old (done + piece) new
+pub accessed_more : (old now new : StoreState) (n done piece : ℕ) (to : List ℕ) → ChecksBlocks old done now
+    → ReadsBlocks now n piece new to → ChecksBlocks old (done + piece) new
 accessed_more old now new n done piece to before r = record {
   state_stays = r.state_stays ∙ ap (λ (s : StoreState). record s { failing_call = new.failing_call })
       before.state_stays;

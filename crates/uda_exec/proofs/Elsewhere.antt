@@ -1,6 +1,6 @@
 -- A command over another memory of the same length, which has the same bytes in the command's buffer: it ends
 -- the same, it changes the same units, and it leaves the same bytes in its buffer.
-use Rattle.std.proofs.Common.{◌≡◌, ℕ, ◌+◌, ◌-◌, ◌*◌, ◌<◌, ◌≤◌, min, true, false, Bool, List, [], length, take, zero-le, Option, Some, None, refl, sym, ap, ap₂, subst, ◌∙◌, arith, length-take}
+use Rattle.std.proofs.Common.{◌≡◌, ℕ, ◌<◌, ◌≤◌, Bool, List, [], length, zero-le, Option, Some, None, refl, sym, ap, ap₂, subst, ◌∙◌, arith, length-take}
 use Rattle.std.specs.Prelude.{slice_get, slice_index, nat_lt, ◌&&◌, IfSome}
 use Rattle.std.specs.Option.{option_map_or}
 use Rattle.std.specs.List.{concat}

@@ -18,3 +18,4 @@ pub mod Comparisons
 pub mod OnlyOne
 pub mod Removals
 pub mod Saving
+pub mod Written

@@ -15,3 +15,4 @@ pub mod GuestExecution
 pub mod BufferUse
 pub mod Laws
 pub mod Saved
+pub mod BlockUse

@@ -94,11 +94,6 @@ abbrev pub MovesOn : Transfer → ℕ → ℕ → StoreState → StoreState → 
 MovesOn t k count now new = (old : StoreState) (memory memory_now : List ℕ)
     → Progress t k old memory now memory_now → Progress t (k + count) old memory new memory_now
 
--- `count` blocks were read, and their contents were dropped
-pub record Accessed (old : StoreState) (count : ℕ) (new : StoreState) : Type 0 where
-  pub state_stays : new ≡ record old { failing_call = new.failing_call }
-  pub calls : CallsSucceed count old.failing_call new.failing_call
-
 -- `count` blocks from block n on are zeros, and nothing else changed
 pub record Erased (old : StoreState) (n count : ℕ) (new : StoreState) : Type 0 where
   pub written : new ≡ record old {

@@ -4,10 +4,11 @@
 ghost use Rattle.std.specs.Prelude.{◌≡◌, ◌+◌, ◌<◌, ◌≤◌, ◌^◌, true, length, IsOk, MatchResult, IfErr};
 ghost use Rattle.std.specs.Prelude.{if◌then◌else◌};
 ghost use Rattle.uda_mem.specs.Put.{part};
+ghost use Rattle.uda_image.specs.AtOnce.{ChecksBlocks};
 ghost use Rattle.uda_image.specs.Store.{KeepsAttributes, Reads, Writes, is_sound};
 ghost use Rattle.uda_exec.specs.Commands.{block_count, transfer_buffer_length, changes_memory};
 ghost use Rattle.uda_exec.specs.Transfers.{ChangesAt, ReadsInto, MovesBlock, FailsAtBlock};
-ghost use Rattle.uda_exec.specs.Transfers.{Accessed, Erased, MovesOn, Progress, StopsAt};
+ghost use Rattle.uda_exec.specs.Transfers.{Erased, MovesOn, Progress, StopsAt};
 ghost use Rattle.uda_disk.specs.Request.{first_block};
 
 use uda_disk::first_block;
@@ -135,18 +136,19 @@ fn move_block<S: BlockStore>(
     }
 }
 
-// Reads blocks from block `n` on into a buffer of its own, a piece at a time. Stops at the first piece that
-// the store declines, and returns the number of blocks that it read.
+// Reads blocks from block `n` on and drops their bytes. The store may check them without their bytes. The
+// others are read into a buffer of its own, a piece at a time. Stops at the first piece that the store
+// declines, and returns the number of blocks that were read.
 #[inline(never)]
 fn access_at_once<S: BlockStore>(store: &mut S, n: u32, count: u32) -> u32
     requires on_unit { n + count ≤ (S.state store.old).size }
     ensures attributes { KeepsAttributes (S.state store.old) (S.state store.new) }
     ensures within { result ≤ count }
     ensures accessed { is_sound (S.state store.new) ≡ true
-        → Accessed (S.state store.old) result (S.state store.new) }
+        → ChecksBlocks (S.state store.old) result (S.state store.new) }
 {
     let mut bytes = [0; PIECE_BYTES];
-    let mut done = 0;
+    let mut done = store.check_blocks(n, count);
     while done < count {
         let piece = PIECE.min(count - done);
         let size = 512 * piece as usize;
@@ -197,8 +199,23 @@ fn move_pieces<S: BlockStore>(t: Transfer, k: u32, store: &mut S) -> u32
     }
 }
 
+// Checks the blocks of an Access without their bytes, as far as the store can do so, and returns how many.
+// Moves none of another transfer.
+fn check_few<S: BlockStore>(t: Transfer, store: &mut S) -> u32
+    requires on_unit { t.lbn + block_count t ≤ (S.state store.old).size }
+    ensures attributes { KeepsAttributes (S.state store.old) (S.state store.new) }
+    ensures within { result ≤ block_count t }
+    ensures moves { (0 < block_count t → is_sound (S.state store.new) ≡ true)
+        → MovesOn t 0 result (S.state store.old) (S.state store.new) }
+{
+    match t.kind {
+        Kind::Access if t.bytes > 0 => store.check_blocks(t.lbn, block_count(t)),
+        Kind::Access | Kind::Erase | Kind::Read | Kind::Write => 0,
+    }
+}
+
 // Moves blocks from the start of a transfer's range in one call, if there are two or more whole ones and the
-// store supports it. Returns the number of moved blocks.
+// store supports it. Of fewer, only those of an Access are checked. Returns the number of moved blocks.
 #[tactic(auto, using(crate::proofs::Changes::changes_nothing))]
 fn move_at_once<S: BlockStore>(t: Transfer, store: &mut S, memory: &mut [u8]) -> u32
     requires on_unit { t.lbn + block_count t ≤ (S.state store.old).size }
@@ -213,7 +230,7 @@ fn move_at_once<S: BlockStore>(t: Transfer, store: &mut S, memory: &mut [u8]) ->
 {
     let count = t.bytes / BLOCK;
     if count < 2 {
-        return 0;
+        return check_few(t, store);
     }
     match t.kind {
         Kind::Access | Kind::Erase => move_pieces(t, 0, store),

@@ -1,13 +1,15 @@
 //! The executor: four units, and the pending commands.
 //!
 //! MSCP Basic Disk Functions Manual: unit states, command ordering.
-ghost use Rattle.std.specs.Prelude.{◌≡◌, ℕ, ◌+◌, ◌-◌, ◌<◌, ◌≤◌, [], ◌∷◌, ◌++◌, length, map, option_map};
+ghost use Rattle.std.specs.Prelude.{◌≡◌, ℕ, ◌+◌, ◌-◌, ◌*◌, ◌<◌, ◌≤◌, [], ◌∷◌, ◌++◌, length, map, option_map};
 ghost use Rattle.std.specs.Prelude.{IsNone, IfNone, IfSome, IsTrue, Some, None, ◌↔◌, remove, set, slice_get, unwrap_or};
+ghost use Rattle.std.specs.Prelude.{if◌then◌else◌};
+ghost use Rattle.uda_mem.specs.Put.{part};
 ghost use Rattle.uda_mem.specs.Slices.{IsMemory};
 ghost use Rattle.uda_disk.specs.Units.{IsWellFormed, AreWellFormed, is_faithful, is_infallible};
 ghost use Rattle.uda_disk.specs.Units.{IsWellFormedIfSound, AreWellFormedIfSound};
 ghost use Rattle.uda_exec.specs.Disks.{PENDING_LIMIT, FIRST_POSITION};
-ghost use Rattle.uda_exec.specs.Commands.{is_controller};
+ghost use Rattle.uda_exec.specs.Commands.{is_controller, transfer_buffer_length};
 ghost use Rattle.uda_exec.specs.Drives.{drive_state, drive_states, drive_in, fresh_unit, fresh_units};
 ghost use Rattle.uda_exec.specs.Drives.{drives_in, returned_drive, reset_unit, with_drive, info_at, ABSENT};
 ghost use Rattle.uda_exec.specs.Drives.{in_mode, with_mode, store_at};
@@ -15,10 +17,12 @@ ghost use Rattle.uda_exec.specs.Execution.{Executes, ExecutesAt};
 ghost use Rattle.uda_exec.specs.Named.{oldest_named, guest_op_named, taken_out, aborted, progress_of};
 ghost use Rattle.uda_exec.specs.GuestOps.{op_at, with_accepted, newest_guest};
 ghost use Rattle.uda_exec.specs.GuestExecution.{ExecutesGuestAt};
-ghost use Rattle.uda_exec.specs.BufferUse.{buffer_use_at};
+ghost use Rattle.uda_exec.specs.BufferUse.{buffer_use_at, guest_at};
+ghost use Rattle.uda_exec.specs.BlockUse.{transfer_used_at, block_use_at, written_at, size_written};
 ghost use Rattle.uda_exec.specs.Order.{IsEligible};
 ghost use Rattle.uda_exec.specs.Saved.{saved_exec, exec_fits, exec_restored, infos_of, units_restored, unit_restored};
 
+use crate::block_use::{BlockUse, fill_written, range_of, size_written, transfer_by, used_by};
 use crate::buffer_use::{BufferUse, buffer_use};
 use crate::drive_unit::{DriveUnit, UnitInfo};
 use crate::guest_commands::execute_as;
@@ -33,7 +37,7 @@ use std::marker::Model;
 use uda_disk::{Mode, Refusal};
 use uda_image::{BlockStore, Drive};
 use uda_mem::HostMemory;
-use uda_packet::{Command, End, GuestCommand, Op, Reply, status};
+use uda_packet::{Command, End, GuestCommand, Op, Reply, Transfer, status};
 
 /// The maximum number of pending commands, which is also the most that a host may have outstanding.
 pub const PENDING: usize = 15;
@@ -256,10 +260,10 @@ impl<S: BlockStore> Exec<S> {
     /// whole and puts its first bytes into the buffer. A Write writes its bytes followed by zeros. An Erase
     /// and an Access use the block whole.
     ///
-    /// An accepted transfer of two or more whole blocks first asks its store for several blocks at once.
-    /// Access and Read call `try_read_blocks`, Erase and Write `try_write_blocks`. An Access and an Erase ask for
-    /// at most 32 blocks a call. If the store declines, the transfer calls `read` or `write` for one block at
-    /// a time, in rising order. An Access and an Erase ask for several blocks again at each 32nd block of the
+    /// An accepted Access of any blocks first calls `check_blocks` of its store. Of the blocks that are left, a
+    /// transfer of two or more whole blocks asks for several at once. Access and Read call `try_read_blocks`,
+    /// Erase and Write `try_write_blocks`. An Access and an Erase ask for at most 32 blocks a call. If the store
+    /// declines, the transfer calls `read` or `write` for one block at a time, in rising order. An Access and an Erase ask for several blocks again at each 32nd block of the
     /// range. A Read and a Write always use a single call for a partial block.
     ///
     /// The first call that fails ends the transfer with status 0x000B, and with the byte count of the blocks
@@ -362,14 +366,75 @@ impl<S: BlockStore> Exec<S> {
         place < self.pending.len() && is_eligible(self.pending.as_slice(), place)
     }
 
+    // Returns the pending command at this index with its additional operation, or None if there is none.
+    fn guest_at(&self, place: usize) -> Option<GuestCommand>
+        ensures command { result ≡ guest_at self.now place }
+    {
+        let command = self.pending.get(place).copied()?;
+        let op = op_at(self.guest_ops.as_slice(), place);
+        Some(GuestCommand { command, op })
+    }
+
     /// Returns the part of host memory that the pending command at this index uses, or None if there is no
     /// such command.
     pub fn buffer_use_at(&self, place: usize) -> Option<BufferUse>
         ensures buffer { result ≡ buffer_use_at self.now place }
     {
-        let command = self.pending.get(place).copied()?;
-        let op = op_at(self.guest_ops.as_slice(), place);
-        Some(buffer_use(GuestCommand { command, op }))
+        let asked = self.guest_at(place)?;
+        Some(buffer_use(asked))
+    }
+
+    // Returns the transfer of the pending command at this index if it moves blocks, in memory of this length.
+    fn transfer_used_at(&self, place: usize, memory: u32) -> Option<Transfer>
+        ensures transfer { result ≡ transfer_used_at self.now place memory }
+    {
+        let asked = self.guest_at(place)?;
+        let t = transfer_by(asked)?;
+        let info = self.unit(usize::from(asked.command.unit))?;
+        used_by(t, memory, info)
+    }
+
+    /// Returns the blocks that the pending command at this index uses, in host memory of this length. Returns
+    /// None if there is no such command, if one of its checks fails, or if it uses no blocks.
+    pub fn block_use_at(&self, place: usize, memory: u32) -> Option<BlockUse>
+        ensures blocks { result ≡ block_use_at self.now place memory }
+    {
+        let asked = self.guest_at(place)?;
+        let t = self.transfer_used_at(place, memory)?;
+        Some(range_of(asked, t))
+    }
+
+    /// Fills `to` with bytes of the blocks that the pending command at this index writes, after the first
+    /// `skip` blocks, and returns true. These are the bytes of a Write's buffer, followed by zeros in a partial
+    /// block, or an Erase's zeros. Returns false and changes nothing if there aren't as many bytes, as for a
+    /// command that writes none or of which a check fails.
+    ///
+    /// MSCP Basic Disk Functions Manual: transfer commands, logical blocks.
+    pub fn copy_written(&self, place: usize, memory: &[u8], skip: u32, to: &mut [u8]) -> bool
+        requires memory { IsMemory memory.now }
+        ensures fits { IsTrue result
+            ↔ (512 * skip + length to.old ≤ length (written_at self.now place memory.now)) }
+        ensures bytes { to.new ≡ (if result then part (written_at self.now place memory.now) (512 * skip) (length to.old)
+            else to.old) }
+    {
+        let used = self.transfer_in(place, memory);
+        if 512 * u64::from(skip) + to.len() as u64 > size_written(used) {
+            return false;
+        }
+        if let Some(t) = used {
+            fill_written(t, memory, skip, to);
+        }
+        true
+    }
+
+    // Returns the transfer of the pending command at this index if it moves blocks in this memory.
+    fn transfer_in(&self, place: usize, memory: &[u8]) -> Option<Transfer>
+        requires memory { IsMemory memory.now }
+        ensures transfer { result ≡ transfer_used_at self.now place (length memory.now) }
+        ensures in_memory { IfSome result (λ t. t.buffer + transfer_buffer_length t ≤ length memory.now) }
+        ensures size { size_written result ≡ length (written_at self.now place memory.now) }
+    {
+        self.transfer_used_at(place, uda_mem::len(memory))
     }
 
     /// Executes the pending command at this index, which is eligible ([`may_execute`](Exec::may_execute)). It is

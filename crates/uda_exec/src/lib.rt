@@ -10,6 +10,7 @@
 #![tactic(auto)]
 
 mod block_transfer;
+mod block_use;
 mod buffer_use;
 mod compare;
 mod drive_unit;
@@ -24,6 +25,7 @@ mod reply;
 mod saved;
 mod scheduler;
 
+pub use block_use::{BlockAccess, BlockUse};
 pub use buffer_use::BufferUse;
 pub use drive_unit::UnitInfo;
 pub use executor::{Exec, PENDING};

@@ -15,7 +15,7 @@ use Rattle.uda_image.specs.StoreLaws.{length-first_chunks}
 use Rattle.uda_image.proofs.Chunk.{slice_get-first_chunks}
 
 -- the blocks joined are the bytes that they were cut from
-concat-chunks : (count : ℕ) (bytes : List ℕ) → concat (first_chunks 512 count bytes)
+pub concat-chunks : (count : ℕ) (bytes : List ℕ) → concat (first_chunks 512 count bytes)
     ≡ take (512 * count) bytes
 concat-chunks zero bytes = refl
 concat-chunks (suc count) bytes =
@@ -39,15 +39,20 @@ drop-chunks (suc n) m (suc k) bytes e =
     drop-chunks n m k (drop 512 bytes) (omega arith) ∙ ap (λ (b : List ℕ). first_chunks 512 m b)
     (drop-drop (512 * n) 512 bytes ∙ ap (λ i. drop i bytes) size)
 
--- count blocks from block n
-pub concat-part_blocks : (bytes : List ℕ) (n count : ℕ) → n + count ≤ block_count_of bytes
-    → concat (part (blocks_of bytes) n count) ≡ part bytes (512 * n) (512 * count)
-unfolding part blocks_of
-concat-part_blocks bytes n count h =
-    let k = block_count_of bytes in
+-- count of the blocks that bytes are cut into, from block n
+pub concat-part_chunks : (k : ℕ) (bytes : List ℕ) (n count : ℕ) → n + count ≤ k
+    → concat (part (first_chunks 512 k bytes) n count) ≡ part bytes (512 * n) (512 * count)
+unfolding part
+concat-part_chunks k bytes n count h =
     ap (λ (bs : List (List ℕ)). concat (take count bs)) (drop-chunks n (k - n) k bytes (omega arith))
     ∙ ap concat (take-chunks count (k - n) (drop (512 * n) bytes) (omega arith))
     ∙ concat-chunks count (drop (512 * n) bytes)
+
+-- count blocks from block n
+pub concat-part_blocks : (bytes : List ℕ) (n count : ℕ) → n + count ≤ block_count_of bytes
+    → concat (part (blocks_of bytes) n count) ≡ part bytes (512 * n) (512 * count)
+unfolding blocks_of
+concat-part_blocks bytes n count h = concat-part_chunks (block_count_of bytes) bytes n count h
 
 pub block_count-put : (bytes : List ℕ) (at : ℕ) (from : List ℕ) → block_count_of (put bytes at from)
     ≡ block_count_of bytes

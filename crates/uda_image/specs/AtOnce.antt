@@ -1,4 +1,4 @@
--- The effect on a store of reading or writing several blocks at once. MSCP Basic Disk Functions Manual:
+-- The effect on a store of reading, checking or writing several blocks at once. MSCP Basic Disk Functions Manual:
 -- logical blocks.
 use Rattle.std.specs.Prelude.{◌≡◌, ℕ, Bool, true, false, List}
 use Rattle.std.specs.List.{concat}
@@ -32,3 +32,8 @@ pub record WritesBlocks (old : StoreState) (n count : ℕ) (new : StoreState) (f
 abbrev pub TriesToWrite : StoreState → ℕ → ℕ → StoreState → List ℕ → Bool → Type 0
 TriesToWrite old n count new from true = WritesBlocks old n count new from
 TriesToWrite old n count new from false = new ≡ old
+
+-- count blocks were read, and their bytes were dropped; the store has not changed, except that count calls were made
+pub record ChecksBlocks (old : StoreState) (count : ℕ) (new : StoreState) : Type 0 where
+  pub state_stays : new ≡ record old { failing_call = new.failing_call }
+  pub calls : CallsSucceed count old.failing_call new.failing_call

@@ -1,7 +1,7 @@
 //! The trait `BlockStore` for a store of a unit's blocks, and a drive that holds one.
 ghost use Rattle.std.specs.Prelude.{length, ◌≡◌, ◌+◌, ◌*◌, ◌<◌, ◌≤◌, true, IfErr, IsOk};
 ghost use Rattle.uda_image.specs.Store.{StoreState, HasWholeBlocks, KeepsAttributes, Reads, Writes, is_sound};
-ghost use Rattle.uda_image.specs.AtOnce.{TriesToRead, TriesToWrite};
+ghost use Rattle.uda_image.specs.AtOnce.{TriesToRead, TriesToWrite, ChecksBlocks};
 ghost use Rattle.uda_image.specs.Limits.{store_limit};
 
 use std::error::Error;
@@ -124,6 +124,23 @@ pub trait BlockStore {
             → TriesToWrite (state self.old) n count (state self.new) from.now result }
     {
         false
+    }
+
+    /// Reads blocks from block `n` on and drops their bytes, at most `count` of them, and returns how many it
+    /// read. None of these reads failed.
+    ///
+    /// It is for a store that can tell that blocks are readable without their bytes. Any other store declines:
+    /// it returns 0. The caller then reads the blocks that are left, which finds the block that fails.
+    fn check_blocks(&mut self, n: u32, count: u32) -> u32
+        requires on_unit { n + count ≤ (state self.old).size }
+        ensures attributes { KeepsAttributes (state self.old) (state self.new) }
+        ensures within { result ≤ count }
+        ensures checks { (state self.old).faithful ≡ true
+            → ChecksBlocks (state self.old) result (state self.new) }
+        ensures checks_if_sound { is_sound (state self.new) ≡ true
+            → ChecksBlocks (state self.old) result (state self.new) }
+    {
+        0
     }
 
     ghost within_limit: { (store : Self) → (state store).size ≤ store_limit };

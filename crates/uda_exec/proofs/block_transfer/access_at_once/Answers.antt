@@ -1,13 +1,13 @@
-use Rattle.std.proofs.Common.{◌∙◌, refl, arith}
-use Rattle.uda_exec.proofs.AtOnce.{accessed_none, accessed_more}
+use Rattle.std.proofs.Common.{◌∙◌, arith}
+use Rattle.uda_exec.proofs.AtOnce.{accessed_more}
 use Rattle.uda_image.proofs.SoundLaws.{sound_before}
 use Rattle.uda_exec.proofs.block_transfer.access_at_once.Goals as goal
 
 pub loop-done-init : goal.loop-done-init
 loop-done-init g c = record {
-  attributes = record { size_stays = refl; faithful_stays = refl; honest_before = λ honest. honest; never_fails_stays = refl };
-  within = omega arith;
-  accessed = λ sound. accessed_none _;
+  attributes = c.check_blocks-done.ensures.attributes;
+  within = c.check_blocks-done.ensures.within;
+  accessed = c.check_blocks-done.ensures.checks_if_sound;
 }
 
 pub loop-done-preserved : goal.loop-done-preserved

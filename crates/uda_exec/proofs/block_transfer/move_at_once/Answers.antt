@@ -7,7 +7,7 @@ use Rattle.uda_image.proofs.SoundLaws.{sound_before}
 use Rattle.uda_exec.proofs.block_transfer.move_at_once.Goals as goal
 
 pub returns-then-count-lt2-clause-moves : goal.returns-then-count-lt2-clause-moves
-returns-then-count-lt2-clause-moves g c called = none_ahead _ _ _ _ _ refl refl
+returns-then-count-lt2-clause-moves g c called = from_start _ _ _ _ _ (c.check_few.ensures.moves called)
 
 pub returns-in-Access-clause-moves : goal.returns-in-Access-clause-moves
 returns-in-Access-clause-moves g c called = from_start _ _ _ _ _

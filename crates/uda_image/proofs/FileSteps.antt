@@ -181,12 +181,12 @@ written_many old new w content n count from is on_unit long = rw is (record {
   calls = record { before = tt; sooner = refl };
 })
 
-block_within : (bytes : List ℕ) (n : ℕ) → n < block_count_of bytes → 512 * n + 512 ≤ length bytes
+pub block_within : (bytes : List ℕ) (n : ℕ) → n < block_count_of bytes → 512 * n + 512 ≤ length bytes
 unfolding block_count_of
 block_within bytes n h = omega arith
 
 -- a block that is put over another is in its place
-put-is-with_block : (bytes : List ℕ) (n : ℕ) (block : List ℕ) → 512 * n + 512 ≤ length bytes
+pub put-is-with_block : (bytes : List ℕ) (n : ℕ) (block : List ℕ) → 512 * n + 512 ≤ length bytes
     → length block ≡ 512 → put bytes (512 * n) block ≡ with_block bytes n block
 unfolding put with_block
 put-is-with_block bytes n block within e =

@@ -1,0 +1,182 @@
+-- The laws of images that a program reads and writes by calls of its own.
+use Rattle.std.proofs.Common.{◌≡◌, ◌+◌, ◌-◌, ◌*◌, ◌/◌, ◌%◌, ◌<◌, ◌≤◌, ℕ, List, [], ◌++◌, length, take, drop, replicate, Some, refl, sym, ap, ap₂, ◌∙◌, arith}
+use Rattle.std.specs.Prelude.{slice_set}
+use Rattle.std.proofs.lemmas.List.{set-get_or, take-take, drop-take, drop-drop, take-replicate, length-replicate}
+use Rattle.std.proofs.lemmas.Option.{get_or_from_slice_get}
+use Rattle.uda_mem.specs.Put.{put, part}
+use Rattle.uda_mem.proofs.PutLaws.{length-put, length-part-le, part-next, part-put_apart, part-put_at}
+use Rattle.uda_image.specs.AtOnce.{ReadsBlocks, WritesBlocks}
+use Rattle.uda_image.specs.File.{fitted}
+use Rattle.uda_image.specs.Image.{block_count_of, block_of, blocks_of}
+use Rattle.uda_image.specs.Limits.{store_limit}
+use Rattle.uda_image.specs.Store.{KeepsAttributes, ReadsBlock, WritesBlock, FailsToWrite}
+use Rattle.uda_image.proofs.AtOnceLaws.{block_count-put, blocks_of-put, concat-part_blocks}
+use Rattle.uda_image.proofs.FileSteps.{block_within, put-is-with_block}
+use Rattle.uda_image.proofs.ImageLaws.{slice_get-blocks_of, blocks_of-with_block, length-block_of}
+use Rattle.uda_called.specs.CalledImage.{CalledBlocks, called_state, IsKept, none_ready, with_lent, with_written, with_failure, zero_image}
+
+-- nothing is ready
+pub kept_begun : (size : ℕ) (lent : List ℕ) (image : CalledBlocks) (first : ℕ) → IsKept size lent image
+    → first ≤ size → IsKept size [] (record image { ready = none_ready first })
+unfolding part
+kept_begun size lent image first is within = record {
+  size_is = is.size_is;
+  whole = is.whole;
+  lent_within = omega (arith, within);
+  checked_within = omega (arith, within);
+  writable_within = omega (arith, within);
+  lent_is = refl;
+}
+
+-- bytes were written, and nothing is lent
+pub kept_written : (size : ℕ) (lent : List ℕ) (image : CalledBlocks) (n : ℕ) (from : List ℕ) → IsKept size lent image
+    → IsKept size [] (record image {
+      bytes = put image.bytes (512 * n) from;
+      ready = record image.ready { lent = 0 };
+    })
+unfolding part
+kept_written size lent image n from is = record {
+  size_is = is.size_is ∙ sym (block_count-put image.bytes (512 * n) from);
+  whole = length-put image.bytes (512 * n) from ∙ is.whole;
+  lent_within = omega (arith, is.lent_within);
+  checked_within = is.checked_within;
+  writable_within = is.writable_within;
+  lent_is = refl;
+}
+
+-- the blocks of these bytes are lent too
+pub kept_lent : (size : ℕ) (lent : List ℕ) (image : CalledBlocks) (from : List ℕ) → IsKept size lent image
+    → length from % 512 ≡ 0 → image.ready.first + image.ready.lent + length from / 512 ≤ size
+    → IsKept size (lent ++ from) (with_lent from image)
+kept_lent size lent image from is whole room =
+    let first = 512 * image.ready.first in
+    let before = 512 * image.ready.lent in
+    let at = 512 * (image.ready.first + image.ready.lent) in
+    let size_is : 512 * (image.ready.lent + length from / 512) ≡ before + length from = omega (arith, whole) in
+    let inside : at + length from ≤ length image.bytes = omega (arith, whole, room, is.whole) in
+    let place : first + before ≡ at = omega arith in
+    let bytes = put image.bytes at from in
+    let front : part bytes first before ≡ lent =
+    part-put_apart image.bytes at from first before (λ meet. omega (arith, meet)) ∙ sym is.lent_is in
+    let back : part bytes (first + before) (length from) ≡ from =
+    ap (λ i. part bytes i (length from)) place ∙ part-put_at image.bytes at (length from) from inside refl in
+    record {
+      size_is = is.size_is ∙ sym (block_count-put image.bytes at from);
+      whole = length-put image.bytes at from ∙ is.whole;
+      lent_within = omega (arith, room);
+      checked_within = is.checked_within;
+      writable_within = is.writable_within;
+      lent_is = sym (ap (part bytes first) size_is ∙ part-next bytes first before (length from)
+          ∙ ap (λ (b : List ℕ). b ++ part bytes (first + before) (length from)) front
+          ∙ ap (λ (b : List ℕ). lent ++ b) back);
+    }
+
+-- a new image: what follows from no calls is zeros
+new_bytes : (blocks : ℕ) → fitted blocks [] ≡ replicate (512 * blocks) 0
+unfolding fitted
+new_bytes blocks = take-replicate (512 * blocks) (512 * blocks) 0 (omega arith)
+
+pub new_image : (blocks : ℕ)
+    → record { bytes = fitted blocks []; failures = 0; ready = none_ready 0 } ≡ zero_image blocks
+new_image blocks = ap (λ (b : List ℕ). record (zero_image blocks) { bytes = b }) (new_bytes blocks)
+
+pub kept_new : (blocks failures : ℕ) → blocks ≤ store_limit
+    → IsKept blocks [] (record { bytes = fitted blocks []; failures = failures; ready = none_ready 0 })
+unfolding part block_count_of
+kept_new blocks failures limit =
+    let size : length (fitted blocks []) ≡ 512 * blocks =
+    ap length (new_bytes blocks) ∙ length-replicate {A = ℕ} (512 * blocks) 0 in
+    record {
+      size_is = omega (arith, size, limit);
+      whole = size;
+      lent_within = omega arith;
+      checked_within = omega arith;
+      writable_within = omega arith;
+      lent_is = refl;
+    }
+
+-- a part of a part
+part-part : (xs : List ℕ) (at n i m : ℕ) → i + m ≤ n → part (part xs at n) i m ≡ part xs (at + i) m
+unfolding part
+part-part xs at n i m within =
+    ap (λ k. take m (drop i (take k (drop at xs)))) (omega arith)
+    ∙ ap (take m) (drop-take i (n - i) (drop at xs))
+    ∙ take-take m (n - i) (drop i (drop at xs)) (omega arith)
+    ∙ ap (take m) (drop-drop i at xs)
+
+pub length_lent : (size : ℕ) (lent : List ℕ) (image : CalledBlocks) → IsKept size lent image
+    → length lent ≡ 512 * image.ready.lent
+length_lent size lent image is =
+    ap length is.lent_is ∙ length-part-le image.bytes (512 * image.ready.first) (512 * image.ready.lent)
+    (omega (arith, is.whole, is.lent_within))
+
+-- lent blocks
+pub lent_part : (size : ℕ) (lent : List ℕ) (image : CalledBlocks) (n count : ℕ) → IsKept size lent image
+    → image.ready.first ≤ n → n + count ≤ image.ready.first + image.ready.lent
+    → part lent (512 * (n - image.ready.first)) (512 * count) ≡ part image.bytes (512 * n) (512 * count)
+lent_part size lent image n count is from to =
+    let at = 512 * (n - image.ready.first) in
+    ap (λ (b : List ℕ). part b at (512 * count)) is.lent_is
+    ∙ part-part image.bytes (512 * image.ready.first) (512 * image.ready.lent) at (512 * count) (omega (arith, to))
+    ∙ ap (λ i. part image.bytes i (512 * count)) (omega (arith, from))
+
+-- ---- calls of the store
+
+module _ (image : CalledBlocks) (n : ℕ) where
+  pub reads_one : n < block_count_of image.bytes → (to : List ℕ) → to ≡ block_of image.bytes n
+      → ReadsBlock (called_state image) n (called_state image) to
+  reads_one there to is = record {
+    value = slice_get-blocks_of image.bytes n there ∙ ap Some (sym is);
+    state_stays = refl;
+    calls = record { before = tt; sooner = refl };
+  }
+
+  pub reads_many : (count : ℕ) → n + count ≤ block_count_of image.bytes → (to : List ℕ)
+      → to ≡ part image.bytes (512 * n) (512 * count) → ReadsBlocks (called_state image) n count (called_state image) to
+  reads_many count there to is = record {
+    value = is ∙ sym (concat-part_blocks image.bytes n count there);
+    state_stays = refl;
+    calls = record { before = tt; sooner = refl };
+  }
+
+  -- a write that fails leaves its block as it was
+  pub fails_to_write : n < block_count_of image.bytes
+      → FailsToWrite (called_state image) n (called_state (with_failure image))
+  fails_to_write there =
+      let block = block_of image.bytes n in
+      let same : slice_set (blocks_of image.bytes) n block ≡ blocks_of image.bytes =
+      ap (slice_set (blocks_of image.bytes) n)
+      (sym (get_or_from_slice_get (blocks_of image.bytes) n block block (slice_get-blocks_of image.bytes n there)))
+      ∙ set-get_or (blocks_of image.bytes) n block in
+      record {
+        left = block;
+        whole = length-block_of image.bytes n there;
+        written = ap (λ (b : List (List ℕ)). record (called_state (with_failure image)) { blocks = b }) (sym same);
+        calls = record { now = tt; over = refl };
+      }
+
+  pub written_keeps : (from : List ℕ) → KeepsAttributes (called_state image) (called_state (with_written n from image))
+  written_keeps from = record {
+    size_stays = block_count-put image.bytes (512 * n) from;
+    faithful_stays = refl;
+    honest_before = λ h. h;
+    never_fails_stays = refl;
+  }
+
+  pub writes_one : n < block_count_of image.bytes → (from : List ℕ) → length from ≡ 512
+      → WritesBlock (called_state image) n (called_state (with_written n from image)) from
+  writes_one there from long = record {
+    written = ap₂ (λ (b : List (List ℕ)) size. record (called_state image) { blocks = b; size = size })
+        (ap blocks_of (put-is-with_block image.bytes n from (block_within image.bytes n there) long)
+        ∙ blocks_of-with_block image.bytes n from there long)
+        (block_count-put image.bytes (512 * n) from);
+    calls = record { before = tt; sooner = refl };
+  }
+
+  pub writes_many : (count : ℕ) → n + count ≤ block_count_of image.bytes → (from : List ℕ) → length from ≡ 512 * count
+      → WritesBlocks (called_state image) n count (called_state (with_written n from image)) from
+  writes_many count there from long = record {
+    written = ap₂ (λ (b : List (List ℕ)) size. record (called_state image) { blocks = b; size = size })
+        (blocks_of-put image.bytes n count from there long) (block_count-put image.bytes (512 * n) from);
+    calls = record { before = tt; sooner = refl };
+  }

@@ -1,0 +1,12 @@
+use Rattle.uda_called.specs.CalledImage.{image_by}
+use Rattle.uda_called.proofs.CalledLaws.{kept_lent}
+use Rattle.uda_called.proofs.image.CalledImage.lend.Goals as goal
+
+pub invariant_of-self-2 : goal.invariant_of-self-2
+invariant_of-self-2 c =
+    let inside = c.self.inside in
+    let image = image_by inside.size inside.ready inside.trace in
+    let appended = c.in_ok-append.ensures.appended in
+    let can = c.can_lend.ensures.within c.if-not-can_lend.false in
+    let room = rw (← c.self.view_is, ← c.self.invariant.size_is) at can.1 in
+    rw (appended, c.note.ensures) (kept_lent inside.size inside.bytes.items image c.args.from.now c.self.invariant can.0 room)

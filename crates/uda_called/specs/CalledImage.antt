@@ -1,0 +1,114 @@
+-- Images that a program reads and writes by calls of its own.
+-- MSCP Basic Disk Functions Manual: a unit is an array of logical blocks of 512 bytes, numbered from 0.
+use Rattle.std.specs.Prelude.{◌≡◌, ◌≤◌, ℕ, ◌+◌, ◌*◌, ◌/◌, ◌%◌, ◌-◌, Bool, true, false, ◌&&◌, nat_eq, nat_le, min, List, length, replicate, None}
+use Rattle.std.specs.Prelude.{if◌then◌else◌}
+use Rattle.uda_mem.specs.Put.{put, part}
+use Rattle.uda_image.specs.Image.{block_count_of, blocks_of}
+use Rattle.uda_image.specs.File.{Holding, holding_after}
+use Rattle.uda_image.specs.Store.{StoreState}
+use Rattle.uda_trace.specs.declared.trace.FileTrace.{FileTrace}
+use Rattle.uda_called.specs.declared.image.Ready.{Ready}
+
+-- such an image: the bytes of its blocks, one after another, how many of its calls have failed, and which blocks are
+-- ready
+pub record CalledBlocks : Type 0 where
+  pub bytes : List ℕ
+  pub failures : ℕ
+  pub ready : Ready
+
+-- The image as a store. It is faithful, and it isn't known which of its calls fails.
+abbrev pub called_state : CalledBlocks → StoreState
+called_state image = record {
+  blocks = blocks_of image.bytes;
+  size = block_count_of image.bytes;
+  faithful = true;
+  honest = true;
+  never_fails = false;
+  failures = image.failures;
+  failing_call = None;
+}
+
+-- no block is ready; the first that will be is this one
+abbrev pub none_ready : ℕ → Ready
+none_ready first = record { first = first; lent = 0; checked = 0; writable = 0 }
+
+-- an image of zeros
+abbrev pub zero_image : ℕ → CalledBlocks
+zero_image blocks = record { bytes = replicate (512 * blocks) 0; failures = 0; ready = none_ready 0 }
+
+-- the blocks that are ready from this one on
+abbrev pub begun_at : ℕ → CalledBlocks → CalledBlocks
+begun_at first image = record image { ready = none_ready first }
+
+-- count blocks follow the first `these` of those that are ready
+abbrev pub has_room : CalledBlocks → ℕ → ℕ → Bool
+has_room image these count = nat_le (image.ready.first + these + count) (block_count_of image.bytes)
+
+-- these bytes are whole blocks, and as many blocks follow the lent ones
+abbrev pub can_lend : CalledBlocks → ℕ → Bool
+can_lend image bytes = nat_eq (bytes % 512) 0 && has_room image image.ready.lent (bytes / 512)
+
+-- the blocks of these bytes are lent too
+abbrev pub with_lent : List ℕ → CalledBlocks → CalledBlocks
+with_lent from image = record image {
+  bytes = put image.bytes (512 * (image.ready.first + image.ready.lent)) from;
+  ready = record image.ready { lent = image.ready.lent + length from / 512 };
+}
+
+-- as many blocks follow those that are checked, or writable
+abbrev pub can_check : CalledBlocks → ℕ → Bool
+can_check image count = has_room image image.ready.checked count
+
+abbrev pub can_allow : CalledBlocks → ℕ → Bool
+can_allow image count = has_room image image.ready.writable count
+
+-- so many more blocks are checked, or writable
+abbrev pub with_checked : ℕ → CalledBlocks → CalledBlocks
+with_checked count image =
+    record image { ready = record image.ready { checked = image.ready.checked + count } }
+
+abbrev pub with_writable : ℕ → CalledBlocks → CalledBlocks
+with_writable count image =
+    record image { ready = record image.ready { writable = image.ready.writable + count } }
+
+-- count blocks from block n are among these ready ones
+abbrev pub are_ready : Ready → ℕ → ℕ → ℕ → Bool
+are_ready ready these n count = nat_le ready.first n && nat_le (n + count) (ready.first + these)
+
+-- the image after a call that failed
+abbrev pub with_failure : CalledBlocks → CalledBlocks
+with_failure image = record image { failures = image.failures + 1 }
+
+-- the image after these bytes were written from block n on: what was lent isn't any more
+abbrev pub with_written : ℕ → List ℕ → CalledBlocks → CalledBlocks
+with_written n from image = record image {
+  bytes = put image.bytes (512 * n) from;
+  ready = record image.ready { lent = 0 };
+}
+
+-- how many of count blocks from block n on are checked
+abbrev pub checked_from : Ready → ℕ → ℕ → ℕ
+checked_from ready n count =
+    if nat_le ready.first n then min count (ready.first + ready.checked - n) else 0
+
+-- ---- how an image is kept
+
+-- what follows from the calls on an image of this many blocks
+abbrev pub holding_by : ℕ → FileTrace → Holding
+holding_by size trace = holding_after size trace.held trace.blocks_left trace.calls
+
+abbrev pub image_by : ℕ → Ready → FileTrace → CalledBlocks
+image_by size ready trace = record {
+  bytes = (holding_by size trace).bytes;
+  failures = (holding_by size trace).failures;
+  ready = ready;
+}
+
+-- the ready blocks are on the unit, and these are the bytes of the lent ones
+pub record IsKept (size : ℕ) (lent : List ℕ) (image : CalledBlocks) : Type 0 where
+  pub size_is : size ≡ block_count_of image.bytes
+  pub whole : length image.bytes ≡ 512 * size
+  pub lent_within : image.ready.first + image.ready.lent ≤ size
+  pub checked_within : image.ready.first + image.ready.checked ≤ size
+  pub writable_within : image.ready.first + image.ready.writable ≤ size
+  pub lent_is : lent ≡ part image.bytes (512 * image.ready.first) (512 * image.ready.lent)

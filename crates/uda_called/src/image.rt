@@ -1,0 +1,325 @@
+//! Images that a program reads and writes by calls of its own.
+ghost use Rattle.std.specs.Prelude.{◌≡◌, ◌+◌, ◌++◌, ◌*◌, ◌/◌, ◌%◌, ◌<◌, ◌≤◌, ◌^◌, ◌↔◌, true, false, length, Ok, Err, IfOk, IfErr};
+ghost use Rattle.std.specs.Prelude.{if◌then◌else◌, is_ok};
+ghost use Rattle.uda_mem.specs.Put.{part};
+ghost use Rattle.uda_image.specs.AtOnce.{TriesToRead, TriesToWrite, ChecksBlocks};
+ghost use Rattle.uda_image.specs.Image.{block_count_of, block_of};
+ghost use Rattle.uda_image.specs.Limits.{store_limit};
+ghost use Rattle.uda_image.specs.Store.{Reads, Writes, KeepsAttributes};
+ghost use Rattle.uda_image.specs.StoreLaws.{block_count-le, HasWholeBlocks-blocks_of};
+ghost use Rattle.uda_called.specs.CalledImage.{called_state, none_ready, zero_image, begun_at, can_lend, with_lent};
+ghost use Rattle.uda_called.specs.CalledImage.{can_check, can_allow, has_room, with_checked, with_writable, are_ready};
+ghost use Rattle.uda_called.specs.CalledImage.{with_failure, with_written, checked_from};
+
+use std::alloc::Global;
+use std::marker::Model;
+use uda_image::{BlockStore, StoreError};
+use uda_trace::{Call, FileTrace, Supposition};
+
+/// Which blocks of an image are ready for the next command, counted from one block on.
+#[derive(Clone, Copy, Debug, PartialEq, Eq)]
+pub struct Ready {
+    /// The first block that is ready.
+    pub first: u32,
+    /// How many were read, with their bytes.
+    pub lent: u32,
+    /// How many are known to be readable.
+    pub checked: u32,
+    /// How many may be written.
+    pub writable: u32,
+}
+
+/// Why blocks can't be lent.
+#[derive(Clone, Copy, Debug, PartialEq, Eq)]
+pub enum Refusal {
+    /// The bytes aren't whole blocks, or there are fewer blocks.
+    Length,
+    /// An allocation failed.
+    NoMemory,
+}
+
+/// An image that a program reads and writes by calls of its own, outside of the proved code.
+///
+/// Before a command the program makes the blocks ready that it will use. It reads them and lends their bytes. Or it
+/// checks that they are readable. Or it writes the bytes that the command will write. A call on a block that isn't
+/// ready in this way fails.
+///
+/// The image is faithful: its blocks are those that were lent or written last, and zeros at first.
+#[derive(Drop)]
+pub struct CalledImage {
+    size: u32,
+    ready: Ready,
+    // The bytes of the lent blocks.
+    bytes: Vec<u8>,
+    trace: FileTrace,
+}
+
+impl Model for CalledImage {
+    ghost use Rattle.uda_called.specs.CalledImage.{CalledBlocks, image_by, IsKept};
+
+    ghost Value = { CalledBlocks };
+
+    ghost view = { λ image. image_by image.size image.ready image.trace };
+
+    ghost invariant = { λ image. IsKept image.size image.bytes.items
+        (image_by image.size image.ready image.trace) };
+}
+
+impl Ready {
+    // Returns whether `count` blocks from block `n` are among the first `these` ready ones.
+    fn has(self, these: u32, n: u32, count: u32) -> bool
+        ensures ready { result ≡ are_ready self these n count }
+        ensures within { result ≡ true → (self.first ≤ n) × (n + count ≤ self.first + these) }
+    {
+        self.first <= n
+            && u64::from(n) + u64::from(count) <= u64::from(self.first) + u64::from(these)
+    }
+}
+
+impl CalledImage {
+    /// Returns an image of `blocks` blocks, at most [`STORE_LIMIT`](uda_image::STORE_LIMIT). None is ready.
+    pub fn new(alloc: Global, blocks: u32) -> CalledImage
+        requires limit { blocks ≤ store_limit }
+        ensures image { result ≡ zero_image blocks }
+    {
+        CalledImage {
+            size: blocks,
+            ready: Ready {
+                first: 0,
+                lent: 0,
+                checked: 0,
+                writable: 0,
+            },
+            bytes: Vec::new(alloc),
+            trace: FileTrace::new(&Supposition::of(&[], &[])),
+        }
+    }
+
+    /// Drops what is ready. The blocks that are made ready next are those from block `first` on, which is at most
+    /// the number of blocks.
+    pub fn begin(&mut self, first: u32)
+        requires on_unit { first ≤ block_count_of self.old.bytes }
+        ensures begun { self.new ≡ begun_at first self.old }
+    {
+        self.bytes.clear();
+        self.ready = Ready {
+            first,
+            lent: 0,
+            checked: 0,
+            writable: 0,
+        };
+    }
+
+    /// Lends the bytes of the blocks that follow those that are lent. Fails and changes nothing, in this order, with:
+    ///
+    /// - `Length` if they aren't whole blocks, or if the image has fewer blocks;
+    /// - `NoMemory` if an allocation fails.
+    pub fn lend(&mut self, from: &[u8]) -> Result<(), Refusal>
+        ensures lent { IfOk result (λ _. self.new ≡ with_lent from.now self.old) }
+        ensures unchanged { IfErr result (λ _. self.new ≡ self.old) }
+        ensures length { (result ≡ Err Refusal.Length) ↔ (can_lend self.old (length from.now) ≡ false) }
+    {
+        if !self.can_lend(from.len()) {
+            return Err(Refusal::Length);
+        }
+        append(&mut self.bytes, from)?;
+        self.trace.note(&Call::Written {
+            block: self.ready.first + self.ready.lent,
+            bytes: from,
+        });
+        self.ready.lent += (from.len() / 512) as u32;
+        Ok(())
+    }
+
+    /// Makes the `count` blocks ready that follow the checked ones: they are readable. Returns false and changes
+    /// nothing if the image has fewer blocks.
+    pub fn check(&mut self, count: u32) -> bool
+        ensures fits { result ≡ can_check self.old count }
+        ensures checked { self.new ≡ (if result then with_checked count self.old else self.old) }
+    {
+        if !self.has_room(self.ready.checked, u64::from(count)) {
+            return false;
+        }
+        self.ready.checked += count;
+        true
+    }
+
+    /// Makes the `count` blocks ready that follow the writable ones: a command may write them. Returns false and
+    /// changes nothing if the image has fewer blocks.
+    pub fn allow(&mut self, count: u32) -> bool
+        ensures fits { result ≡ can_allow self.old count }
+        ensures writable { self.new ≡ (if result then with_writable count self.old else self.old) }
+    {
+        if !self.has_room(self.ready.writable, u64::from(count)) {
+            return false;
+        }
+        self.ready.writable += count;
+        true
+    }
+
+    // Returns whether so many bytes are whole blocks, and as many blocks follow the lent ones.
+    fn can_lend(&self, bytes: usize) -> bool
+        ensures fits { result ≡ can_lend self.now bytes }
+        ensures within { result ≡ true → (bytes % 512 ≡ 0)
+            × (self.now.ready.first + self.now.ready.lent + bytes / 512 ≤ block_count_of self.now.bytes) }
+    {
+        bytes % 512 == 0 && self.has_room(self.ready.lent, (bytes / 512) as u64)
+    }
+
+    // Returns whether `count` blocks follow `these` from the first that is ready.
+    fn has_room(&self, these: u32, count: u64) -> bool
+        requires small { count < 2 ^ 63 }
+        ensures fits { result ≡ has_room self.now these count }
+        ensures within { result ≡ true
+            → self.now.ready.first + these + count ≤ block_count_of self.now.bytes }
+    {
+        u64::from(self.ready.first) + u64::from(these) + count <= u64::from(self.size)
+    }
+
+    // Notes that a call failed.
+    fn fail(&mut self)
+        ensures failed { self.new ≡ with_failure self.old }
+    {
+        self.trace.note(&Call::Failed);
+    }
+
+    // Notes that these blocks were written.
+    fn note_written(&mut self, n: u32, from: &[u8])
+        ensures written { self.new ≡ with_written n from.now self.old }
+    {
+        self.bytes.clear();
+        self.ready.lent = 0;
+        self.trace.note(&Call::Written {
+            block: n,
+            bytes: from,
+        });
+    }
+
+    // Returns the bytes of lent blocks.
+    fn lent(&self, n: u32, count: u32) -> &[u8]
+        requires begins { self.now.ready.first ≤ n }
+        requires ends { n + count ≤ self.now.ready.first + self.now.ready.lent }
+        ensures value { result.now ≡ part self.now.bytes (512 * n) (512 * count) }
+        ensures long { length result.now ≡ 512 * count }
+    {
+        let start = 512 * (n - self.ready.first) as usize;
+        part_of(self.bytes.as_slice(), start, 512 * count as usize)
+    }
+}
+
+// Appends bytes. Changes nothing if an allocation fails.
+fn append(to: &mut Vec<u8>, from: &[u8]) -> Result<(), Refusal>
+    ensures appended { IfOk result (λ _. to.new.items ≡ to.old.items ++ from.now) }
+    ensures unchanged { IfErr result (λ _. to.new.items ≡ to.old.items) }
+    ensures error { IfErr result (λ r. r ≡ Refusal.NoMemory) }
+{
+    match to.extend_from_slice(from) {
+        Ok(()) => Ok(()),
+        Err(_) => Err(Refusal::NoMemory),
+    }
+}
+
+// Returns `count` bytes from byte `at` on.
+#[tactic(auto, unfolding(uda_mem::specs::Put::part))]
+fn part_of(bytes: &[u8], at: usize, count: usize) -> &[u8]
+    requires within { at + count ≤ length bytes.now }
+    ensures value { result.now ≡ part bytes.now at count }
+    ensures long { length result.now ≡ count }
+{
+    &bytes[at..at + count]
+}
+
+impl BlockStore for CalledImage {
+    ghost state = { called_state };
+
+    ghost within_limit = { λ image. block_count-le image.bytes };
+
+    ghost is_image = { λ image _. HasWholeBlocks-blocks_of image.bytes };
+
+    ghost is_image_if_sound = { λ image _. HasWholeBlocks-blocks_of image.bytes };
+
+    fn size(&self) -> u32 {
+        self.size
+    }
+
+    fn read(&mut self, n: u32, to: &mut [u8; 512]) -> Result<(), StoreError>
+        requires { n < block_count_of self.old.bytes }
+        ensures ready { is_ok result ≡ are_ready self.old.ready self.old.ready.lent n 1 }
+        ensures image { self.new ≡ (if is_ok result then self.old else with_failure self.old) }
+        ensures to { to.new ≡ (if is_ok result then block_of self.old.bytes n else to.old) }
+        ensures attributes { KeepsAttributes (called_state self.old) (called_state self.new) }
+        ensures error { IfErr result (λ e. e ≡ StoreError.Read) }
+        ensures reads { Reads (called_state self.old) n (called_state self.new) to.new result }
+        ensures long { length to.new ≡ 512 }
+    {
+        if !self.ready.has(self.ready.lent, n, 1) {
+            self.fail();
+            return Err(StoreError::Read);
+        }
+        to.copy_from_slice(self.lent(n, 1));
+        Ok(())
+    }
+
+    fn write(&mut self, n: u32, from: &[u8; 512]) -> Result<(), StoreError>
+        requires { n < block_count_of self.old.bytes }
+        ensures ready { is_ok result ≡ are_ready self.old.ready self.old.ready.writable n 1 }
+        ensures image { self.new ≡ (if is_ok result then with_written n from.now self.old
+            else with_failure self.old) }
+        ensures attributes { KeepsAttributes (called_state self.old) (called_state self.new) }
+        ensures error { IfErr result (λ e. e ≡ StoreError.Write) }
+        ensures writes { Writes (called_state self.old) n (called_state self.new) from.now result }
+    {
+        if !self.ready.has(self.ready.writable, n, 1) {
+            self.fail();
+            return Err(StoreError::Write);
+        }
+        self.note_written(n, from);
+        Ok(())
+    }
+
+    fn try_read_blocks(&mut self, n: u32, count: u32, to: &mut [u8]) -> bool
+        requires on_unit { n + count ≤ block_count_of self.old.bytes }
+        requires long { length to.old ≡ 512 * count }
+        ensures ready { result ≡ are_ready self.old.ready self.old.ready.lent n count }
+        ensures unchanged { self.new ≡ self.old }
+        ensures long { length to.new ≡ length to.old }
+        ensures attributes { KeepsAttributes (called_state self.old) (called_state self.new) }
+        ensures reads { TriesToRead (called_state self.old) n count (called_state self.new) to.old to.new result }
+    {
+        if !self.ready.has(self.ready.lent, n, count) {
+            return false;
+        }
+        to.copy_from_slice(self.lent(n, count));
+        true
+    }
+
+    fn try_write_blocks(&mut self, n: u32, count: u32, from: &[u8]) -> bool
+        requires on_unit { n + count ≤ block_count_of self.old.bytes }
+        requires long { length from.now ≡ 512 * count }
+        ensures ready { result ≡ are_ready self.old.ready self.old.ready.writable n count }
+        ensures image { self.new ≡ (if result then with_written n from.now self.old else self.old) }
+        ensures attributes { KeepsAttributes (called_state self.old) (called_state self.new) }
+        ensures writes { TriesToWrite (called_state self.old) n count (called_state self.new) from.now result }
+    {
+        if !self.ready.has(self.ready.writable, n, count) {
+            return false;
+        }
+        self.note_written(n, from);
+        true
+    }
+
+    fn check_blocks(&mut self, n: u32, count: u32) -> u32
+        requires on_unit { n + count ≤ block_count_of self.old.bytes }
+        ensures ready { result ≡ checked_from self.old.ready n count }
+        ensures unchanged { self.new ≡ self.old }
+        ensures within { result ≤ count }
+        ensures attributes { KeepsAttributes (called_state self.old) (called_state self.new) }
+        ensures checks { ChecksBlocks (called_state self.old) result (called_state self.new) }
+    {
+        if n < self.ready.first {
+            return 0;
+        }
+        let end = self.ready.first + self.ready.checked;
+        count.min(end.saturating_sub(n))
+    }
+}

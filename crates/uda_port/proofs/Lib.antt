@@ -11,3 +11,4 @@ pub mod PortSteps
 pub mod Saving
 pub mod MemoryUseLaws
 pub mod StartupUseLaws
+pub mod BlockUseLaws

@@ -19,3 +19,4 @@ pub mod Events
 pub mod Display
 pub mod Possible
 pub mod Saved
+pub mod BlockUse

@@ -6,6 +6,7 @@
 mod alloc_error;
 mod area;
 mod at_once;
+mod block_use;
 mod descriptor;
 mod drives;
 mod guest;

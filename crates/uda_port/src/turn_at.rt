@@ -161,7 +161,7 @@ impl<S: BlockStore> Port<S> {
     }
 
     // Returns the fate of a turn that does this.
-    fn fate(&self, missing: Missing, access: Access) -> Fate
+    pub(crate) fn fate(&self, missing: Missing, access: Access) -> Fate
         ensures { result ≡ fate_in self.now.phase missing (may_fetch self.now) access }
     {
         match self.phase {

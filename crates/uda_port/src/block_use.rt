@@ -1,0 +1,94 @@
+//! The blocks that a turn uses, for a caller whose images are behind calls.
+//!
+//! MSCP Basic Disk Functions Manual: transfer commands, Compare Host Data.
+ghost use Rattle.std.specs.Prelude.{◌≡◌, ◌↔◌, ◌+◌, ◌*◌, ◌≤◌, List, ℕ, IsTrue, Option, length, option_map, IfSome, if◌then◌else◌};
+ghost use Rattle.uda_mem.specs.Put.{part};
+ghost use Rattle.uda_mem.specs.Slices.{IsMemory};
+ghost use Rattle.uda_port.specs.BlockUse.{memory_by, memory_executed, memory_for, blocks_of, block_bytes_of};
+
+use crate::memory_use::{Access, Missing};
+use crate::port::Port;
+use crate::turn_at::Fate;
+use uda_exec::BlockUse;
+use uda_image::BlockStore;
+
+impl<S: BlockStore> Port<S> {
+    /// Returns the blocks that the next turn uses, if it executes the pending command at index `place`
+    /// ([`turn_at`](Port::turn_at)). Returns None if it executes none, if a check of the command fails, or if the
+    /// command uses no blocks. Of memory only what the turn reads matters.
+    ///
+    /// A caller whose images are behind calls makes these blocks ready before the turn.
+    pub fn blocks_at(&self, memory: &[u8], place: usize, missing: Missing) -> Option<BlockUse>
+        requires memory { IsMemory memory.now }
+        ensures blocks { result ≡ blocks_of missing self.now memory.now place }
+    {
+        let memory = self.memory_for(memory, place, missing)?;
+        self.exec.block_use_at(place, uda_mem::len(memory))
+    }
+
+    /// Fills `to` with bytes of the blocks that the next turn writes, after the first `skip` blocks, and returns
+    /// true ([`blocks_at`](Port::blocks_at)). Returns false and changes nothing if there aren't as many bytes.
+    pub fn copy_written(
+        &self,
+        memory: &[u8],
+        place: usize,
+        missing: Missing,
+        skip: u32,
+        to: &mut [u8],
+    ) -> bool
+        requires memory { IsMemory memory.now }
+        ensures fits { IsTrue result
+            ↔ (512 * skip + length to.old ≤ length (block_bytes_of missing self.now memory.now place)) }
+        ensures bytes { to.new ≡ (if result
+            then part (block_bytes_of missing self.now memory.now place) (512 * skip) (length to.old)
+            else to.old) }
+    {
+        match self.memory_for(memory, place, missing) {
+            Some(memory) => self.exec.copy_written(place, memory, skip, to),
+            None => asks_none(skip, to),
+        }
+    }
+
+    // Returns the memory in which the next turn executes the pending command at this index, if it executes one.
+    fn memory_for<'m>(&self, memory: &'m [u8], place: usize, missing: Missing) -> Option<&'m [u8]>
+        requires memory { IsMemory memory.now }
+        ensures memory { option_map (λ m. m.now) result ≡ memory_for missing self.now memory.now place }
+        ensures valid { IfSome result (λ m. IsMemory m.now) }
+    {
+        let access = self.memory_use(memory, place).access;
+        let fate = self.fate(missing, access);
+        memory_executed(access, fate, memory)
+    }
+}
+
+// Returns the memory in which a turn that does this, with this fate, executes a command.
+fn memory_executed(access: Access, fate: Fate, memory: &[u8]) -> Option<&[u8]>
+    requires memory { IsMemory memory.now }
+    ensures memory { option_map (λ m. m.now) result ≡ memory_executed access fate memory.now }
+    ensures valid { IfSome result (λ m. IsMemory m.now) }
+{
+    match access {
+        Access::Execute => memory_by(fate, memory),
+        Access::Nothing | Access::Fetch | Access::Wait | Access::Deliver => None,
+    }
+}
+
+// Returns the memory in which a turn with this fate executes a command.
+fn memory_by(fate: Fate, memory: &[u8]) -> Option<&[u8]>
+    requires memory { IsMemory memory.now }
+    ensures memory { option_map (λ m. m.now) result ≡ memory_by fate memory.now }
+    ensures valid { IfSome result (λ m. IsMemory m.now) }
+{
+    match fate {
+        Fate::Usual => Some(memory),
+        Fate::WithoutBuffer => Some(&memory[..0]),
+        Fate::FailsInFetch(_) | Fate::FailsLater(_) => None,
+    }
+}
+
+// Returns whether a part of no bytes is asked for, after no blocks.
+fn asks_none(skip: u32, to: &[u8]) -> bool
+    ensures { IsTrue result ↔ (512 * skip + length to.now ≤ 0) }
+{
+    skip == 0 && to.is_empty()
+}

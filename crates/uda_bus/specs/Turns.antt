@@ -38,8 +38,8 @@ pub record IsMissing (map : BusMap) (size : ℕ) (before : PortState × List ℕ
   pub body : TellsMissing map before.1 (use_of before.0 (bus_memory map size before.1) place).body
       missing.body
 
--- One turn over guest memory behind a map is a turn on what the bus shows. Then what it wrote is stored, in
--- this order, and nothing else changes.
+-- One turn over guest memory behind a map is a turn on what the bus shows. If it executes a command, that is the
+-- pending command at this index. Then what the turn wrote is stored, in this order, and nothing else changes.
 pub record TurnsBehind (map : BusMap) (size : ℕ) (before : PortState × List ℕ) (turn : Turn)
     (after : PortState × List ℕ) : Type 0 where
   pub place : ℕ
@@ -49,7 +49,7 @@ pub record TurnsBehind (map : BusMap) (size : ℕ) (before : PortState × List �
   pub is_place : IsPlace before.0.exec.pending place
   pub is_missing : IsMissing map size before place missing
   pub is_written : written ≡ written_of missing before.0 (bus_memory map size before.1) place
-  pub effect : EffectWithout missing before.0 (bus_memory map size before.1) turn after.0 bus_after
+  pub effect : EffectWithout missing place (before.0, bus_memory map size before.1) turn (after.0, bus_after)
   pub only : bus_after ≡ carried written bus_after (bus_memory map size before.1)
   pub memory_is : after.1 ≡ stored_ranges map written bus_after before.1
 

@@ -142,20 +142,21 @@ turn_faithful turn old memory new after goes =
 
 -- ---- a turn over memory behind a map
 
-pub effect_natures : (fate : Fate) (turn : Turn) (old : PortState) (memory : List ℕ) (new : PortState) (after : List ℕ)
-    → EffectBy fate old memory turn new after → all_attributes new ≡ all_attributes old
-effect_natures Usual turn old memory new after goes = turn_natures old.phase turn old memory new after goes
-effect_natures (FailsInFetch cause) turn old memory new after goes = ap all_attributes goes.0.died
-effect_natures (FailsLater cause) turn old memory new after goes = ap all_attributes goes.0.died
-effect_natures WithoutBuffer turn old memory new after goes =
+pub effect_natures : (fate : Fate) (place : ℕ) (before : PortState × List ℕ) (turn : Turn) (after : PortState × List ℕ)
+    → EffectBy fate place before turn after → all_attributes after.0 ≡ all_attributes before.0
+effect_natures Usual place before turn after goes =
+    turn_natures before.0.phase turn before.0 before.1 after.0 after.1 goes.goes
+effect_natures (FailsInFetch cause) place before turn after goes = ap all_attributes goes.0.died
+effect_natures (FailsLater cause) place before turn after goes = ap all_attributes goes.0.died
+effect_natures WithoutBuffer place before turn after goes =
     let x = goes.0.executes in
-    executed_natures old.profile x.0 old.exec [] x.1.end new.exec [] x.1.executes
+    executed_natures before.0.profile place before.0.exec [] x.end after.0.exec [] x.executes
 
-pub effect_faithful : (missing : Missing) (turn : Turn) (old : PortState) (memory : List ℕ) (new : PortState)
-    (after : List ℕ) → EffectWithout missing old memory turn new after → AllFaithful old.exec.units
-    → AllFaithful new.exec.units
-effect_faithful missing turn old memory new after goes =
-    along old new (effect_natures (fate_of missing old memory) turn old memory new after goes)
+pub effect_faithful : (missing : Missing) (place : ℕ) (before : PortState × List ℕ) (turn : Turn)
+    (after : PortState × List ℕ) → EffectWithout missing place before turn after
+    → AllFaithful before.0.exec.units → AllFaithful after.0.exec.units
+effect_faithful missing place before turn after goes =
+    along before.0 after.0 (effect_natures (fate_of missing before.0 before.1) place before turn after goes)
 
 -- ---- the registers
 

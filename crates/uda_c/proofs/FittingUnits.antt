@@ -378,8 +378,8 @@ fails_running PurgeTest missing polls access fails = absurd (fails refl)
 fails_running PollTest missing polls access fails = absurd (fails refl)
 fails_running Step4 missing polls access fails = absurd (fails refl)
 
-module _ (missing : Missing) (turn : Turn) (old : PortState) (memory : List ℕ) (new : PortState) (after : List ℕ)
-    (same : unit_attributes new.exec.units ≡ unit_attributes old.exec.units) where
+module _ (missing : Missing) (place : ℕ) (turn : Turn) (old : PortState) (memory : List ℕ) (new : PortState)
+    (after : List ℕ) (same : unit_attributes new.exec.units ≡ unit_attributes old.exec.units) where
   abbrev access : Access
   access = (use_of old memory 0).access
 
@@ -395,9 +395,9 @@ module _ (missing : Missing) (turn : Turn) (old : PortState) (memory : List ℕ)
       subst (CanFail old.profile old.phase) is
       (fate_fails old.profile old.phase missing (may_fetch old) access)
 
-  keeps_by : (fate : Fate) → fate_of missing old memory ≡ fate → EffectBy fate old memory turn new after
-      → FitsController old → FitsController new
-  keeps_by Usual is goes fits = turn_fits turn old memory new after goes fits
+  keeps_by : (fate : Fate) → fate_of missing old memory ≡ fate
+      → EffectBy fate place (old, memory) turn (new, after) → FitsController old → FitsController new
+  keeps_by Usual is goes fits = turn_fits turn old memory new after goes.goes fits
   keeps_by (FailsInFetch cause) is goes fits =
       let phase = runs (FailsInFetch cause) is (λ usual. absurd (cc)) in
       let before = port_turn_on old in
@@ -410,15 +410,16 @@ module _ (missing : Missing) (turn : Turn) (old : PortState) (memory : List ℕ)
       fits_by old new keeps.profile (kept_fits before new keeps fits.units) fits
   keeps_by WithoutBuffer is goes fits =
       let phase = runs WithoutBuffer is (λ usual. absurd (cc)) in
-      let x = goes.0.executes in
-      let keeps = executed_keeps x.0 old [] new [] phase x.1 same in
+      let keeps = executed_keeps place old [] new [] phase goes.0.executes same in
       fits_by old new keeps.profile (kept_fits old new keeps fits.units) fits
 
-pub effect_fits : (missing : Missing) (turn : Turn) (old : PortState) (memory : List ℕ) (new : PortState)
-    (after : List ℕ) → EffectWithout missing old memory turn new after → FitsController old → FitsController new
-effect_fits missing turn old memory new after goes =
-    keeps_by missing turn old memory new after
-    (effect_natures (fate_of missing old memory) turn old memory new after goes) (fate_of missing old memory) refl goes
+pub effect_fits : (missing : Missing) (place : ℕ) (before : PortState × List ℕ) (turn : Turn)
+    (after : PortState × List ℕ) → EffectWithout missing place before turn after → FitsController before.0
+    → FitsController after.0
+effect_fits missing place before turn after goes =
+    let fate = fate_of missing before.0 before.1 in
+    keeps_by missing place turn before.0 before.1 after.0 after.1 (effect_natures fate place before turn after goes)
+    fate refl goes
 
 -- ---- the registers
 

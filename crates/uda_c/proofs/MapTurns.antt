@@ -26,7 +26,7 @@ module _ (old : ControllerState) (memory : List ℕ) (asked : TurnUse) (missing 
 
   pub takes_at : missing ≡ missing_of asked.missing
       → (IsPlace old.port.exec.pending asked.place → place ≡ asked.place)
-      → EffectWithout missing old.port memory taken.turn port after
+      → EffectWithout missing place (old.port, memory) taken.turn (port, after)
       → IsLocal missing place (old.port, memory) taken (port, after) → All (LiesIn memory) taken.written
       → ((other : List ℕ) → Agrees old.port place memory other
       → taken.written ≡ written_of missing old.port other place)
@@ -34,8 +34,8 @@ module _ (old : ControllerState) (memory : List ℕ) (asked : TurnUse) (missing 
       → TakesTurnAt (old, memory) asked (RanTurn taken.turn) (record asked { written = taken.written })
       (record { port = port; last = Some trace }, after)
   takes_at is_missing asks goes local within written turn tells =
-      let by_bits : EffectWithout (missing_of asked.missing) old.port memory taken.turn port after =
-      subst (λ (m : Missing). EffectWithout m old.port memory taken.turn port after) is_missing goes in
+      let by_bits : EffectWithout (missing_of asked.missing) place (old.port, memory) taken.turn (port, after) =
+      subst (λ (m : Missing). EffectWithout m place (old.port, memory) taken.turn (port, after)) is_missing goes in
       let local_by_bits : IsLocal (missing_of asked.missing) place (old.port, memory) taken (port, after) =
       subst (λ (m : Missing). IsLocal m place (old.port, memory) taken (port, after)) is_missing local in
       let with_turn : Turn → TurnTaken = λ t. record { turn = t; written = taken.written } in
@@ -48,7 +48,8 @@ module _ (old : ControllerState) (memory : List ℕ) (asked : TurnUse) (missing 
         told_is = refl;
         place_is = asks;
         goes =
-            subst (λ (t : Turn). EffectWithout (missing_of asked.missing) old.port memory t port after) turn
+            subst
+            (λ (t : Turn). EffectWithout (missing_of asked.missing) place (old.port, memory) t (port, after)) turn
             by_bits;
         local =
             subst

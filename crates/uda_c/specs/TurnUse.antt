@@ -42,8 +42,8 @@ GetsBody c memory before answer after =
     (λ filled. IsPlace c.port.exec.pending filled.place
     × (filled ≡ record before { place = filled.place; body = (use_of c.port memory filled.place).body }))
 
--- A turn over a window, with the command at this index. It is the one that the struct names, if that is
--- eligible.
+-- A turn over a window. If it executes a command, that is the pending command at this index. It is the index that
+-- the struct names, if a command there may be executed next, or none is pending.
 pub record TakesTurnAt (before : ControllerState × List ℕ) (asked : TurnUse) (answer : CallStatus)
     (told : TurnUse) (after : ControllerState × List ℕ) : Type 0 where
   pub trace : Trace
@@ -53,7 +53,8 @@ pub record TakesTurnAt (before : ControllerState × List ℕ) (asked : TurnUse) 
   pub tells : Traces trace before.0.port after.0.port
   pub told_is : told ≡ record asked { written = told.written }
   pub place_is : IsPlace before.0.port.exec.pending asked.place → place ≡ asked.place
-  pub goes : EffectWithout (missing_of asked.missing) before.0.port before.1 (turn_of trace) after.0.port after.1
+  pub goes : EffectWithout (missing_of asked.missing) place (before.0.port, before.1) (turn_of trace)
+      (after.0.port, after.1)
   pub local : IsLocal (missing_of asked.missing) place (before.0.port, before.1)
       (record { turn = turn_of trace; written = told.written }) (after.0.port, after.1)
   pub written_is : told.written ≡ written_of (missing_of asked.missing) before.0.port before.1 place

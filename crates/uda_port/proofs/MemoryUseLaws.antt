@@ -53,7 +53,7 @@ use Rattle.uda_port.specs.Delivery.{Puts}
 use Rattle.uda_port.specs.Message.{message_in, flags_kept}
 use Rattle.uda_port.specs.Possible.{has_phase, CanDie}
 use Rattle.uda_port.specs.Startup.{failed_port}
-use Rattle.uda_port.specs.Turn.{ExecutesFor, ExecuteRule, TurnEffect, RunningTurn, FetchRule, DeliverRule, FetchesOne, TakesPacket, NothingToFetch, NothingToDeliver, ExecutesOne, DeliversOne, NotifiesOne, Fails, InFetch, InRest, Dies, Stopped, may_fetch, fetching_of, port_turn_on, port_not_polling, port_with_message}
+use Rattle.uda_port.specs.Turn.{ExecutesFor, TurnEffect, RunningTurn, FetchRule, DeliverRule, FetchesOne, TakesPacket, NothingToFetch, NothingToDeliver, ExecutesOne, DeliversOne, NotifiesOne, Fails, InFetch, InRest, Dies, Stopped, may_fetch, fetching_of, port_turn_on, port_not_polling, port_with_message}
 use Rattle.uda_port.specs.MemoryUse.{descriptor_ranges, packet_range, indicator_range, returned_range, NONE_WRITTEN, no_use, has_text, has_room, written_by_fetch, fetch_use, command_use, written_by_delivery, delivery_use, message_use, later_use, next_size, use_without_fetch, use_found, use_running, use_in, use_of, fate_at, fate_in, fate_of, CanFail, EffectBy, EffectWithout, written_by_fate, written_of, Agrees, AgreesInDescriptors, IsLocal, HasSoundRings}
 use Rattle.uda_port.proofs.PortSteps.{reads_no_ring, reads_no_packet}
 use Rattle.uda_port.proofs.RingLaws.{takes_first}
@@ -1037,57 +1037,82 @@ module _ (old : PortState) (memory : List ℕ) (j : ℕ) (new : PortState) (memo
   use_pending [] some = absurd (some refl)
   use_pending (c ∷ cs) some = refl
 
-  running_local : (turn : Turn) → RunningTurn old memory turn new memory_after
-      → (turn ≡ did.Executed → ExecutesOne j idle_on memory new memory_after)
-      → LocalRunning (λ other after. RunningTurn old other turn new after)
+  -- a turn that executes a command executes the one at index j
+  abbrev Chosen : Turn → List ℕ → List ℕ → Type 0
+  Chosen turn other after = turn ≡ did.Executed → ExecutesOne j idle_on other new after
+
+  abbrev RunningAt : Turn → List ℕ → List ℕ → Type 0
+  RunningAt turn other after = RunningTurn old other turn new after × Chosen turn other after
+
+  running_local : (turn : Turn) → RunningTurn old memory turn new memory_after → Chosen turn memory memory_after
+      → LocalRunning (RunningAt turn)
   running_local did.Fetched goes chosen =
-      to_old (λ other after. RunningTurn old other did.Fetched new after)
-      (fetched_local on memory j new memory_after sound_on goes)
+      to_old (RunningAt did.Fetched)
+      (weaker on (use_running on memory j (may_fetch on)) memory memory_after
+      (λ other after. FetchesOne on other new after) (RunningAt did.Fetched)
+      (λ other after f. (f, λ is. absurd (cc))) (fetched_local on memory j new memory_after sound_on goes))
   running_local did.Executed goes chosen =
       let x = chosen refl in
-      later (λ other after. ExecutesOne j idle_on other new after) _ goes.nothing_to_fetch
+      later (λ other after. ExecutesOne j idle_on other new after) (RunningAt did.Executed) goes.nothing_to_fetch
       (subst
       (λ (w : MemoryUse). Local idle_on w memory memory_after (λ other after. ExecutesOne j idle_on other new after))
       (sym (use_pending old.exec.pending (executes_here x)))
       (executed_local idle_on memory j new memory_after sound.strict x))
-      (λ other after both. record { nothing_to_fetch = both.0; rest = (j, both.1) })
+      (λ other after both. (record { nothing_to_fetch = both.0; rest = (j, both.1) }, λ is. both.1))
   running_local did.Delivered goes chosen =
-      later (λ other after. DeliversOne idle_on other new after) _ goes.nothing_to_fetch
+      later (λ other after. DeliversOne idle_on other new after) (RunningAt did.Delivered) goes.nothing_to_fetch
       (delivered_local idle_on memory j new memory_after goes.rest.0 goes.rest.1)
-      (λ other after both. record { nothing_to_fetch = both.0; rest = (goes.rest.0, both.1) })
+      (λ other after both. (record { nothing_to_fetch = both.0; rest = (goes.rest.0, both.1) }, λ is. absurd (cc)))
   running_local did.Notified goes chosen =
-      later (λ other after. NotifiesOne idle_on other new after) _ goes.nothing_to_fetch
+      later (λ other after. NotifiesOne idle_on other new after) (RunningAt did.Notified) goes.nothing_to_fetch
       (notified_local idle_on memory j new memory_after goes.rest.0 goes.rest.1)
-      (λ other after both. record { nothing_to_fetch = both.0; rest = (goes.rest.0, both.1) })
+      (λ other after both. (record { nothing_to_fetch = both.0; rest = (goes.rest.0, both.1) }, λ is. absurd (cc)))
   running_local did.Idle goes chosen =
-      later (λ other after. DeliverRule idle_on other (Ok false) new after) _ goes.nothing_to_fetch
+      later (λ other after. DeliverRule idle_on other (Ok false) new after) (RunningAt did.Idle) goes.nothing_to_fetch
       (idle_local idle_on memory j new memory_after goes.rest.0 goes.rest.1)
-      (λ other after both. record { nothing_to_fetch = both.0; rest = (goes.rest.0, both.1) })
-  running_local did.Dead goes chosen = fails_local goes.cause goes.before goes.died goes.fails
+      (λ other after both. (record { nothing_to_fetch = both.0; rest = (goes.rest.0, both.1) }, λ is. absurd (cc)))
+  running_local did.Dead goes chosen =
+      weaker old (use_running old memory j (may_fetch old)) memory memory_after
+      (λ other after. Dies old other new after) (RunningAt did.Dead) (λ other after f. (f, λ is. absurd (cc)))
+      (fails_local goes.cause goes.before goes.died goes.fails)
 
   -- a port that doesn't run
-  stopped_local : (wanted turn : Turn) → Stopped old memory wanted turn new memory_after
-      → Local old (no_use Nothing) memory memory_after (λ other after. Stopped old other wanted turn new after)
-  stopped_local wanted turn x =
+  stopped_local : (wanted turn : Turn) → (wanted ≡ did.Executed → ⊥) → Stopped old memory wanted turn new memory_after
+      → Local old (no_use Nothing) memory memory_after
+      (λ other after. Stopped old other wanted turn new after × Chosen turn other after)
+  stopped_local wanted turn never x =
       quiet_local old (no_use Nothing) memory memory_after _ (quiet Nothing refl) x.unchanged.memory_stays
-      (λ other same. record {
-        answer = x.answer;
-        unchanged = record { state = x.unchanged.state; memory_stays = refl };
-      })
+      (λ other same. (
+        record {
+          answer = x.answer;
+          unchanged = record { state = x.unchanged.state; memory_stays = refl };
+        },
+        λ is. absurd (never (sym x.answer ∙ is)),
+      ))
+
+  died_local : (turn : Turn) → Stopped old memory did.Dead turn new memory_after
+      → Local old (no_use Nothing) memory memory_after
+      (λ other after. Stopped old other did.Dead turn new after × Chosen turn other after)
+  died_local turn x = stopped_local did.Dead turn (λ is. absurd (cc)) x
+
+  rests_local : (turn : Turn) → Stopped old memory did.Idle turn new memory_after
+      → Local old (no_use Nothing) memory memory_after
+      (λ other after. Stopped old other did.Idle turn new after × Chosen turn other after)
+  rests_local turn x = stopped_local did.Idle turn (λ is. absurd (cc)) x
 
   turn_local : (phase : Phase) (turn : Turn) → TurnEffect phase old memory turn new memory_after
-      → (turn ≡ did.Executed → ExecutesOne j idle_on memory new memory_after)
+      → Chosen turn memory memory_after
       → Local old (use_in phase old memory j) memory memory_after
-      (λ other after. TurnEffect phase old other turn new after)
+      (λ other after. TurnEffect phase old other turn new after × Chosen turn other after)
   turn_local Running turn goes chosen = running_local turn goes chosen
-  turn_local (DeadPhase cause) turn goes chosen = stopped_local did.Dead turn goes
-  turn_local Step1 turn goes chosen = stopped_local did.Idle turn goes
-  turn_local (Step2 first) turn goes chosen = stopped_local did.Idle turn goes
-  turn_local (Step3 first second) turn goes chosen = stopped_local did.Idle turn goes
-  turn_local (Wrap word) turn goes chosen = stopped_local did.Idle turn goes
-  turn_local PurgeTest turn goes chosen = stopped_local did.Idle turn goes
-  turn_local PollTest turn goes chosen = stopped_local did.Idle turn goes
-  turn_local Step4 turn goes chosen = stopped_local did.Idle turn goes
+  turn_local (DeadPhase cause) turn goes chosen = died_local turn goes
+  turn_local Step1 turn goes chosen = rests_local turn goes
+  turn_local (Step2 first) turn goes chosen = rests_local turn goes
+  turn_local (Step3 first second) turn goes chosen = rests_local turn goes
+  turn_local (Wrap word) turn goes chosen = rests_local turn goes
+  turn_local PurgeTest turn goes chosen = rests_local turn goes
+  turn_local PollTest turn goes chosen = rests_local turn goes
+  turn_local Step4 turn goes chosen = rests_local turn goes
 
 -- ---- which rule fits
 
@@ -1380,40 +1405,40 @@ module _ (missing : Missing) (j : ℕ) (old : PortState) (memory : List ℕ) (tu
   }
 
   there : (fate : Fate) (other after : List ℕ) → fate_of missing old memory ≡ fate → Agrees old j memory other
-      → EffectBy fate old other turn new after → EffectWithout missing old other turn new after
+      → EffectBy fate j (old, other) turn (new, after) → EffectWithout missing j (old, other) turn (new, after)
   there fate other after is s effect =
       let same = same_descriptors old memory other s.same_length s.same_descriptors in
-      subst (λ (f : Fate). EffectBy f old other turn new after)
+      subst (λ (f : Fate). EffectBy f j (old, other) turn (new, after))
       (sym (fate_there missing old memory other same ∙ is)) effect
 
   -- a turn that leaves memory unchanged
   unchanged : (fate : Fate) → fate_of missing old memory ≡ fate → memory_after ≡ memory
-      → ((other : List ℕ) → EffectBy fate old other turn new other)
+      → ((other : List ℕ) → EffectBy fate j (old, other) turn (new, other))
       → IsLocal missing j (old, memory) (record { turn = turn; written = NONE_WRITTEN }) (new, memory_after)
   unchanged fate is stays effect = record {
     only = stays ∙ sym (carried_none memory_after memory);
     elsewhere = λ other s.
-        subst (λ (after : List ℕ). EffectWithout missing old other turn new after)
+        subst (λ (after : List ℕ). EffectWithout missing j (old, other) turn (new, after))
         (sym (carried_none memory_after other)) (there fate other other is s (effect other));
   }
 
   pub is_local : (fate : Fate) → HasSoundRings old → fate_of missing old memory ≡ fate
-      → EffectBy fate old memory turn new memory_after
-      → (fate ≡ Usual → turn ≡ did.Executed
-      → ExecutesOne j (port_not_polling (port_turn_on old)) memory new memory_after)
+      → EffectBy fate j (old, memory) turn (new, memory_after)
       → IsLocal missing j (old, memory)
       (record { turn = turn; written = written_by_fate fate (use_of old memory j).written }) (new, memory_after)
-  is_local Usual sound is effect chosen =
-      let local = turn_local old memory j new memory_after sound old.phase turn effect (chosen refl) in
+  is_local Usual sound is effect =
+      let local = turn_local old memory j new memory_after sound old.phase turn effect.goes effect.executes in
       record {
         only = local.only;
-        elsewhere = λ other s. there Usual other _ is s (local.elsewhere other (same_of other s));
+        elsewhere = λ other s.
+            let both = local.elsewhere other (same_of other s) in
+            there Usual other _ is s (record { goes = both.0; executes = both.1 });
       }
-  is_local (FailsInFetch cause) sound is effect chosen =
+  is_local (FailsInFetch cause) sound is effect =
       unchanged (FailsInFetch cause) is effect.1 (λ other. (effect.0, refl))
-  is_local (FailsLater cause) sound is effect chosen =
+  is_local (FailsLater cause) sound is effect =
       unchanged (FailsLater cause) is effect.1 (λ other. (effect.0, refl))
-  is_local WithoutBuffer sound is effect chosen =
+  is_local WithoutBuffer sound is effect =
       unchanged WithoutBuffer is effect.1 (λ other. (effect.0, refl))
 
 -- ---- a turn that executes
@@ -1483,9 +1508,6 @@ module _ (old : PortState) (memory : List ℕ) (new : PortState) (memory_after :
   abbrev silent : PortState
   silent = port_turn_on (port_not_polling old)
 
-  abbrev Runs : Turn → Type 0
-  Runs turn = (turn ≡ did.Executed) × ExecuteRule (port_not_polling (port_turn_on old)) memory true new memory_after
-
   polls_not : {A : Type 0} → may_fetch silent ≡ true → A
   polls_not looks = absurd (cc)
 
@@ -1506,16 +1528,17 @@ module _ (old : PortState) (memory : List ℕ) (new : PortState) (memory_after :
   no_fatal cause before (InFetch line) = no_fatal_fetch cause before line
   no_fatal cause before (InRest goes) = some_pending goes.rest.0
 
-  runs_pending : (turn : Turn) → RunningTurn (port_not_polling old) memory turn new memory_after → Runs turn
+  runs_pending : (turn : Turn) → RunningTurn (port_not_polling old) memory turn new memory_after
+      → turn ≡ did.Executed
   runs_pending did.Fetched goes = polls_not goes.looks
-  runs_pending did.Executed goes = (refl, goes.rest)
+  runs_pending did.Executed goes = refl
   runs_pending did.Delivered goes = some_pending goes.rest.0
   runs_pending did.Notified goes = some_pending goes.rest.0
   runs_pending did.Idle goes = some_pending goes.rest.0
   runs_pending did.Dead goes = no_fatal goes.cause goes.before goes.fails
 
   pub executes_pending : (turn : Turn) → old.phase ≡ Running
-      → TurnEffect old.phase (port_not_polling old) memory turn new memory_after → Runs turn
+      → TurnEffect old.phase (port_not_polling old) memory turn new memory_after → turn ≡ did.Executed
   executes_pending turn runs goes =
       runs_pending turn
       (subst (λ (p : Phase). TurnEffect p (port_not_polling old) memory turn new memory_after) runs goes)

@@ -32,7 +32,7 @@ use Rattle.uda_port.specs.Packet.{text_address}
 use Rattle.uda_port.specs.Report.{next_text}
 use Rattle.uda_port.specs.Port.{PortState, command_indicator, response_indicator}
 use Rattle.uda_port.specs.Startup.{failed_port}
-use Rattle.uda_port.specs.Turn.{TurnEffect, ExecuteRule, ExecutesOne, may_fetch, port_turn_on, port_not_polling}
+use Rattle.uda_port.specs.Turn.{TurnEffect, ExecutesOne, may_fetch, port_turn_on, port_not_polling}
 
 -- ---- ranges
 
@@ -75,13 +75,16 @@ abbrev pub has_room : Profile → List ℕ → ℕ → ℕ → Bool
 has_room Strict memory at n = has_text memory at 48 && nat_le 48 (word_at memory (at - 4))
 has_room (Compatible identity) memory at n = has_text memory at n
 
--- a fetch reads the packet, and sets the interrupt indicator and the descriptor if it is readable
+-- What a fetch writes, by whether its packet is usable: the interrupt indicator, if one is set, and the second word
+-- of the command descriptor, in this order. With an unusable packet the port fails and writes nothing.
 abbrev pub written_by_fetch : PortState → List ℕ → Bool → List ByteRange
 written_by_fetch port memory false = NONE_WRITTEN
 written_by_fetch port memory true =
     indicator_range (command_indicator port memory) ∷ returned_range port.commands ∷ EMPTY_RANGE
     ∷ EMPTY_RANGE ∷ []
 
+-- The port owns the next command descriptor, and the text of its packet is at this address. The turn fetches the
+-- packet: it reads the 48 bytes of the text and the four below them.
 abbrev pub fetch_use : PortState → List ℕ → ℕ → MemoryUse
 fetch_use port memory at = record {
   access = Fetch;
@@ -173,6 +176,8 @@ abbrev pub fate_in : Phase → Missing → Bool → Access → Fate
 fate_in Running missing polls access = fate_running missing polls access
 fate_in _ missing polls access = Usual
 
+-- How the next turn goes. It follows from what the turn does (`Access`). The index of a command says which one is
+-- executed, and not whether one is. So what the turn does is the same for each index, and is taken for index 0.
 abbrev pub fate_of : Missing → PortState → List ℕ → Fate
 fate_of missing port memory = fate_in port.phase missing (may_fetch port) (use_of port memory 0).access
 
@@ -187,24 +192,32 @@ pub record FailsUnread (cause : Fatal) (before : PortState) (turn : Turn) (new :
   pub answer : turn ≡ Dead
   pub died : new ≡ failed_port before cause
 
--- a command is executed as if memory had no bytes
-pub record ExecutesWithout (before : PortState) (turn : Turn) (new : PortState) : Type 0 where
+-- a usual turn: if it executes a command, that is the pending command at this index
+pub record TurnsAt (place : ℕ) (before : PortState × List ℕ) (turn : Turn) (after : PortState × List ℕ) : Type 0 where
+  pub goes : TurnEffect before.0.phase before.0 before.1 turn after.0 after.1
+  pub executes : turn ≡ Executed
+      → ExecutesOne place (port_not_polling (port_turn_on before.0)) before.1 after.0 after.1
+
+-- the pending command at this index is executed as if memory had no bytes
+pub record ExecutesWithout (place : ℕ) (before : PortState) (turn : Turn) (new : PortState) : Type 0 where
   pub answer : turn ≡ Executed
-  pub executes : ExecuteRule before [] true new []
+  pub executes : ExecutesOne place before [] new []
 
-abbrev pub EffectBy : Fate → PortState → List ℕ → Turn → PortState → List ℕ → Type 0
-EffectBy Usual old memory turn new memory_after = TurnEffect old.phase old memory turn new memory_after
-EffectBy (FailsInFetch cause) old memory turn new memory_after =
-    FailsUnread cause (port_turn_on old) turn new × (memory_after ≡ memory)
-EffectBy (FailsLater cause) old memory turn new memory_after =
-    FailsUnread cause (port_not_polling (port_turn_on old)) turn new × (memory_after ≡ memory)
-EffectBy WithoutBuffer old memory turn new memory_after =
-    ExecutesWithout (port_not_polling (port_turn_on old)) turn new × (memory_after ≡ memory)
+-- a turn that has this fate, and the index of the command that it executes, if it executes one
+abbrev pub EffectBy : Fate → ℕ → PortState × List ℕ → Turn → PortState × List ℕ → Type 0
+EffectBy Usual place before turn after = TurnsAt place before turn after
+EffectBy (FailsInFetch cause) place before turn after =
+    FailsUnread cause (port_turn_on before.0) turn after.0 × (after.1 ≡ before.1)
+EffectBy (FailsLater cause) place before turn after =
+    FailsUnread cause (port_not_polling (port_turn_on before.0)) turn after.0 × (after.1 ≡ before.1)
+EffectBy WithoutBuffer place before turn after =
+    ExecutesWithout place (port_not_polling (port_turn_on before.0)) turn after.0 × (after.1 ≡ before.1)
 
--- a turn of which some addresses lead nowhere: the rule that needs one of them is as at the end of memory
-abbrev pub EffectWithout : Missing → PortState → List ℕ → Turn → PortState → List ℕ → Type 0
-EffectWithout missing old memory turn new memory_after =
-    EffectBy (fate_of missing old memory) old memory turn new memory_after
+-- A turn of which some addresses lead nowhere: the rule that needs one of them is as at the end of memory. If the
+-- turn executes a command, that is the pending command at this index.
+abbrev pub EffectWithout : Missing → ℕ → PortState × List ℕ → Turn → PortState × List ℕ → Type 0
+EffectWithout missing place before turn after =
+    EffectBy (fate_of missing before.0 before.1) place before turn after
 
 abbrev pub written_by_fate : Fate → List ByteRange → List ByteRange
 written_by_fate Usual ranges = ranges
@@ -233,7 +246,7 @@ pub record IsLocal (missing : Missing) (j : ℕ) (before : PortState × List ℕ
     (after : PortState × List ℕ) : Type 0 where
   pub only : after.1 ≡ carried taken.written after.1 before.1
   pub elsewhere : (other : List ℕ) → Agrees before.0 j before.1 other
-      → EffectWithout missing before.0 other taken.turn after.0 (carried taken.written after.1 other)
+      → EffectWithout missing j (before.0, other) taken.turn (after.0, carried taken.written after.1 other)
 
 -- the pending command at index j is eligible, if any is pending
 abbrev pub IsPlace : List Command → ℕ → Type 0
@@ -248,7 +261,9 @@ abbrev pub ExecutesChosen : Option ℕ → Turn → PortState × List ℕ → Po
 ExecutesChosen choice turn before after =
     (j : ℕ) → choice ≡ Some j → turn ≡ Executed → ExecutesOne j before.0 before.1 after.0 after.1
 
--- what is always true of a port's rings, and of the additional operations of a strict port
+-- What the law needs, and each port keeps. The index of the next command descriptor is within its ring. The response
+-- ring is at an even address, and the command ring isn't below it. So the interrupt indicator that a fetch sets is a
+-- word below both rings, and no part of a descriptor. No command of a strict port has an additional operation.
 pub record HasSoundRings (port : PortState) : Type 0 where
   pub place : port.commands.place < port.commands.count
   pub even : port.responses.base % 2 ≡ 0

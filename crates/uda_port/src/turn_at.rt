@@ -8,15 +8,14 @@ ghost use Rattle.uda_disk.specs.Units.{AreWellFormed};
 ghost use Rattle.uda_exec.specs.Order.{IsEligible};
 ghost use Rattle.uda_port.specs.Port.{CreditsAgree};
 ghost use Rattle.uda_port.specs.Trace.{Reports, Traces, turn_of};
-ghost use Rattle.uda_port.specs.Turn.{ExecutesOne, may_fetch, port_turn_on, port_not_polling};
+ghost use Rattle.uda_port.specs.Turn.{may_fetch, port_turn_on, port_not_polling};
 ghost use Rattle.uda_port.specs.MemoryUse.{use_of, fate_at, fate_running, fate_in, FailsUnread, ExecutesWithout};
 ghost use Rattle.uda_port.specs.MemoryUse.{EffectBy, EffectWithout, written_by_fate, IsLocal, IsPlace};
 ghost use Rattle.uda_port.specs.MemoryUse.{HasSoundRings, CanFail, Agrees, written_of};
 ghost use Rattle.uda_port.specs.Possible.{CanDie};
 ghost use Rattle.uda_port.specs.declared.memory_use.Access.TheVariants.{Execute};
 ghost use Rattle.uda_port.specs.declared.phase.Phase.TheVariants.{Running};
-ghost use Rattle.uda_port.specs.declared.turn.Turn.TheVariants.{Executed};
-ghost use Rattle.uda_port.specs.declared.turn_at.Fate.TheVariants.{Usual, WithoutBuffer};
+ghost use Rattle.uda_port.specs.declared.turn_at.Fate.TheVariants.{WithoutBuffer};
 
 use crate::memory_use::{Access, Missing, NONE_WRITTEN};
 use crate::phase::{Fatal, Phase};
@@ -75,7 +74,7 @@ impl<S: BlockStore> Port<S> {
     pub fn turn_at(&mut self, memory: &mut [u8], place: usize, missing: Missing) -> TurnTaken
         requires memory { IsMemory memory.old }
         requires place { IsPlace self.old.exec.pending place }
-        ensures effect { EffectWithout missing self.old memory.old result.turn self.new memory.new }
+        ensures effect { EffectWithout missing place (self.old, memory.old) result.turn (self.new, memory.new) }
         ensures local { IsLocal missing place (self.old, memory.old) result (self.new, memory.new) }
         ensures within { All (LiesIn memory.old) result.written }
         ensures written { (other : List ℕ) → Agrees self.old place memory.old other
@@ -98,7 +97,7 @@ impl<S: BlockStore> Port<S> {
     ) -> TurnTaken
         requires memory { IsMemory memory.old }
         requires place { IsPlace self.old.exec.pending place }
-        ensures effect { EffectWithout missing self.old memory.old result.turn self.new memory.new }
+        ensures effect { EffectWithout missing place (self.old, memory.old) result.turn (self.new, memory.new) }
         ensures local { IsLocal missing place (self.old, memory.old) result (self.new, memory.new) }
         ensures within { All (LiesIn memory.old) result.written }
         ensures written { (other : List ℕ) → Agrees self.old place memory.old other
@@ -130,7 +129,7 @@ impl<S: BlockStore> Port<S> {
     ) -> TurnTaken
         requires memory { IsMemory memory.old }
         requires place { IsPlace self.old.exec.pending place }
-        ensures effect { EffectWithout missing self.old memory.old result.turn self.new memory.new }
+        ensures effect { EffectWithout missing place (self.old, memory.old) result.turn (self.new, memory.new) }
         ensures local { IsLocal missing place (self.old, memory.old) result (self.new, memory.new) }
         ensures within { All (LiesIn memory.old) result.written }
         ensures written { (other : List ℕ) → Agrees self.old place memory.old other
@@ -177,9 +176,7 @@ impl<S: BlockStore> Port<S> {
         requires place { IsPlace self.old.exec.pending plan.place }
         requires buffer { plan.fate ≡ WithoutBuffer → plan.access ≡ Execute }
         requires dies { CanFail self.old.profile self.old.phase plan.fate }
-        ensures effect { EffectBy plan.fate self.old memory.old result self.new memory.new }
-        ensures chosen { plan.fate ≡ Usual → result ≡ Executed
-            → ExecutesOne plan.place (port_not_polling (port_turn_on self.old)) memory.old self.new memory.new }
+        ensures effect { EffectBy plan.fate plan.place (self.old, memory.old) result (self.new, memory.new) }
         ensures reports { Reports result trace.new self.old self.new }
     {
         match plan.fate {
@@ -193,11 +190,11 @@ impl<S: BlockStore> Port<S> {
         }
     }
 
-    // Runs a turn that executes a command as if memory had no bytes.
+    // Runs a turn that executes the command at index `place` as if memory had no bytes.
     fn turn_without_buffer(&mut self, place: usize, trace: &mut Trace) -> Turn
         requires running { self.old.phase ≡ Running }
         requires eligible { IsEligible self.old.exec.pending place }
-        ensures executes { ExecutesWithout (port_not_polling (port_turn_on self.old)) result self.new }
+        ensures executes { ExecutesWithout place (port_not_polling (port_turn_on self.old)) result self.new }
         ensures reports { Reports result trace.new self.old self.new }
     {
         let mut none: [u8; 0] = [];

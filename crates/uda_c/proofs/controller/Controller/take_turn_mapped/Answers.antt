@@ -6,6 +6,8 @@ pub invariant_of-self : goal.invariant_of-self
 invariant_of-self c =
     let old = c.self.inside.port in
     let goes = c.turn.ensures.effect in (
-      effect_faithful goes.missing c.turn.result old _ c.turn.new.port goes.bus_after goes.effect c.self.invariant.0,
-      effect_fits goes.missing c.turn.result old _ c.turn.new.port goes.bus_after goes.effect c.self.invariant.1,
+      effect_faithful goes.missing goes.place (old, _) c.turn.result (c.turn.new.port, goes.bus_after) goes.effect
+          c.self.invariant.0,
+      effect_fits goes.missing goes.place (old, _) c.turn.result (c.turn.new.port, goes.bus_after) goes.effect
+          c.self.invariant.1,
     )

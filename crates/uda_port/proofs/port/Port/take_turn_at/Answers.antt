@@ -17,8 +17,8 @@ returns-clause-effect g c =
     ∙ sym (ap (λ (u : MemoryUse). u.access) uses) in
     let fate = ap (fate_in old.phase c.args.missing (may_fetch old)) access ∙ sym c.fate-fate.ensures in
     subst
-    (λ (f : Fate). EffectBy f old c.args.memory.now c.turn_by-turn.result c.turn_by-turn.new.self c.turn_by-turn.new.memory)
-    (sym fate) c.turn_by-turn.ensures.effect
+    (λ (f : Fate). EffectBy f c.args.place (old, c.args.memory.now) c.turn_by-turn.result
+    (c.turn_by-turn.new.self, c.turn_by-turn.new.memory)) (sym fate) c.turn_by-turn.ensures.effect
 
 pub returns-clause-local : goal.returns-clause-local
 returns-clause-local g c =
@@ -28,8 +28,8 @@ returns-clause-local g c =
     let access = access_any old memory 0 c.args.place ∙ sym (ap (λ (u : MemoryUse). u.access) uses) in
     let fate = ap (fate_in old.phase c.args.missing (may_fetch old)) access ∙ sym c.fate-fate.ensures in
     let local = is_local c.args.missing c.args.place old memory c.turn_by-turn.result c.turn_by-turn.new.self
-    c.turn_by-turn.new.memory c.fate-fate.result c.rings_are_sound.ensures.sound fate c.turn_by-turn.ensures.effect
-    c.turn_by-turn.ensures.chosen in
+    c.turn_by-turn.new.memory c.fate-fate.result c.rings_are_sound.ensures.sound fate
+    c.turn_by-turn.ensures.effect in
     let written = c.written_by_fate.ensures
     ∙ ap (λ (u : MemoryUse). written_by_fate c.fate-fate.result u.written) uses in
     subst

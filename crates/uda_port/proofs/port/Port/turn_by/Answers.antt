@@ -1,4 +1,7 @@
-use Rattle.std.proofs.Common.{rules, refl, sym, ◌∙◌}
+use Rattle.std.proofs.Common.{List, ℕ, rules, refl, sym, subst, ◌∙◌}
+use Rattle.uda_port.specs.declared.turn_at.Fate.{Fate}
+use Rattle.uda_port.specs.Port.{PortState}
+use Rattle.uda_port.specs.MemoryUse.{EffectBy, TurnsAt}
 use Rattle.uda_port.proofs.TraceLaws.{reports_from}
 use Rattle.uda_port.proofs.MemoryUseLaws.{execution}
 use Rattle.uda_port.proofs.PortSteps.{stops_polling}
@@ -9,6 +12,16 @@ turn_without_buffer-requires g c =
     let execute = c.requires.buffer c.in-WithoutBuffer.is in
     let is = execution c.args.self.now c.args.memory.now c.args.plan.place (sym c.requires.access ∙ execute) in
     (search rules, (is.runs, c.requires.place is.pending))
+
+pub returns-in-Usual-clause-effect : goal.returns-in-Usual-clause-effect
+returns-in-Usual-clause-effect g c =
+    let before : PortState × List ℕ = (c.args.self.now, c.args.memory.now) in
+    let after : PortState × List ℕ = (c.take_turn.new.self, c.take_turn.new.memory) in
+    let taken : TurnsAt c.args.plan.place before c.take_turn.result after = record {
+      goes = c.take_turn.ensures.effect;
+      executes = c.take_turn.ensures.chosen c.args.plan.place refl;
+    } in
+    subst (λ (f : Fate). EffectBy f c.args.plan.place before c.take_turn.result after) (sym c.in-Usual.is) taken
 
 pub returns-in-FailsLater-clause-reports : goal.returns-in-FailsLater-clause-reports
 returns-in-FailsLater-clause-reports g c =

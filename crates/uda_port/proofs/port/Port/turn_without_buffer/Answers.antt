@@ -1,6 +1,6 @@
-use Rattle.std.proofs.Common.{List, ℕ, [], true, arith, refl, subst}
+use Rattle.std.proofs.Common.{List, ℕ, [], arith, refl, subst}
 use Rattle.uda_port.specs.Port.{PortState}
-use Rattle.uda_port.specs.Turn.{ExecuteRule, TurnEffect, port_not_polling, port_turn_on}
+use Rattle.uda_port.specs.Turn.{ExecutesOne, TurnEffect, port_not_polling, port_turn_on}
 use Rattle.uda_port.proofs.MemoryUseLaws.{executes_pending, no_bytes}
 use Rattle.uda_port.proofs.PortSteps.{stops_polling}
 use Rattle.uda_port.proofs.TraceLaws.{reports_from}
@@ -19,11 +19,14 @@ returns-clause-executes g c =
     c.take_turn.ensures.effect in
     let stands = c.requires.eligible.stands in
     let ran = executes_pending old [] new after (omega (arith, stands)) c.take_turn.result c.requires.running goes in
+    let chosen = subst
+    (λ (p : PortState). ExecutesOne c.args.place (port_not_polling (port_turn_on (port_not_polling p))) [] new after)
+    c.self.view_is (c.take_turn.ensures.chosen c.args.place refl ran) in
     record {
-      answer = ran.0;
+      answer = ran;
       executes =
-          subst (λ (m : List ℕ). ExecuteRule (port_not_polling (port_turn_on old)) [] true new m)
-          (no_bytes after c.take_turn.auto.memory) ran.1;
+          subst (λ (m : List ℕ). ExecutesOne c.args.place (port_not_polling (port_turn_on old)) [] new m)
+          (no_bytes after c.take_turn.auto.memory) chosen;
     }
 
 pub returns-clause-reports : goal.returns-clause-reports

@@ -47,7 +47,7 @@ kept_written size lent image n from is = record {
 -- the blocks of these bytes are lent too
 pub kept_lent : (size : ℕ) (lent : List ℕ) (image : CalledBlocks) (from : List ℕ) → IsKept size lent image
     → length from % 512 ≡ 0 → image.ready.first + image.ready.lent + length from / 512 ≤ size
-    → IsKept size (lent ++ from) (with_lent from image)
+    → IsKept size (lent ++ from) (with_lent (image.ready.first + image.ready.lent) from image)
 kept_lent size lent image from is whole room =
     let first = 512 * image.ready.first in
     let before = 512 * image.ready.lent in

@@ -36,7 +36,7 @@ none_ready first = record { first = first; lent = 0; checked = 0; writable = 0 }
 abbrev pub zero_image : ℕ → CalledBlocks
 zero_image blocks = record { bytes = replicate (512 * blocks) 0; failures = 0; ready = none_ready 0 }
 
--- the blocks that are ready from this one on
+-- nothing is ready, and what will be is so from this block on
 abbrev pub begun_at : ℕ → CalledBlocks → CalledBlocks
 begun_at first image = record image { ready = none_ready first }
 
@@ -44,14 +44,16 @@ begun_at first image = record image { ready = none_ready first }
 abbrev pub has_room : CalledBlocks → ℕ → ℕ → Bool
 has_room image these count = nat_le (image.ready.first + these + count) (block_count_of image.bytes)
 
--- these bytes are whole blocks, and as many blocks follow the lent ones
-abbrev pub can_lend : CalledBlocks → ℕ → Bool
-can_lend image bytes = nat_eq (bytes % 512) 0 && has_room image image.ready.lent (bytes / 512)
+-- so many bytes from this block on follow the lent ones: they are whole blocks, and the image has as many
+abbrev pub can_lend : CalledBlocks → ℕ → ℕ → Bool
+can_lend image first bytes =
+    nat_eq first (image.ready.first + image.ready.lent) && nat_eq (bytes % 512) 0
+    && has_room image image.ready.lent (bytes / 512)
 
--- the blocks of these bytes are lent too
-abbrev pub with_lent : List ℕ → CalledBlocks → CalledBlocks
-with_lent from image = record image {
-  bytes = put image.bytes (512 * (image.ready.first + image.ready.lent)) from;
+-- the blocks of these bytes are lent too, from this one on
+abbrev pub with_lent : ℕ → List ℕ → CalledBlocks → CalledBlocks
+with_lent first from image = record image {
+  bytes = put image.bytes (512 * first) from;
   ready = record image.ready { lent = image.ready.lent + length from / 512 };
 }
 

@@ -1,6 +1,6 @@
 //! Images that a program reads and writes by calls of its own.
 ghost use Rattle.std.specs.Prelude.{◌≡◌, ◌+◌, ◌++◌, ◌*◌, ◌/◌, ◌%◌, ◌<◌, ◌≤◌, ◌^◌, ◌↔◌, true, false, length, Ok, Err, IfOk, IfErr};
-ghost use Rattle.std.specs.Prelude.{if◌then◌else◌, is_ok};
+ghost use Rattle.std.specs.Prelude.{if◌then◌else◌, is_ok, nat_le};
 ghost use Rattle.uda_mem.specs.Put.{part};
 ghost use Rattle.uda_image.specs.AtOnce.{TriesToRead, TriesToWrite, ChecksBlocks};
 ghost use Rattle.uda_image.specs.Image.{block_count_of, block_of};
@@ -95,9 +95,21 @@ impl CalledImage {
         }
     }
 
-    /// Drops what is ready. The blocks that are made ready next are those from block `first` on, which is at most
-    /// the number of blocks.
-    pub fn begin(&mut self, first: u32)
+    /// Drops what is ready. The blocks that are made ready next are those from block `first` on. Returns false and
+    /// changes nothing if the image has fewer blocks.
+    pub fn begin(&mut self, first: u32) -> bool
+        ensures fits { result ≡ nat_le first (block_count_of self.old.bytes) }
+        ensures begun { self.new ≡ (if result then begun_at first self.old else self.old) }
+    {
+        if first > self.size {
+            return false;
+        }
+        self.start(first);
+        true
+    }
+
+    // Drops what is ready.
+    fn start(&mut self, first: u32)
         requires on_unit { first ≤ block_count_of self.old.bytes }
         ensures begun { self.new ≡ begun_at first self.old }
     {
@@ -110,21 +122,22 @@ impl CalledImage {
         };
     }
 
-    /// Lends the bytes of the blocks that follow those that are lent. Fails and changes nothing, in this order, with:
+    /// Lends the bytes of blocks from block `first` on, which is the one after those that are lent. Fails and changes
+    /// nothing, in this order, with:
     ///
-    /// - `Length` if they aren't whole blocks, or if the image has fewer blocks;
+    /// - `Length` if it is another block, if they aren't whole blocks, or if the image has fewer;
     /// - `NoMemory` if an allocation fails.
-    pub fn lend(&mut self, from: &[u8]) -> Result<(), Refusal>
-        ensures lent { IfOk result (λ _. self.new ≡ with_lent from.now self.old) }
+    pub fn lend(&mut self, first: u32, from: &[u8]) -> Result<(), Refusal>
+        ensures lent { IfOk result (λ _. self.new ≡ with_lent first from.now self.old) }
         ensures unchanged { IfErr result (λ _. self.new ≡ self.old) }
-        ensures length { (result ≡ Err Refusal.Length) ↔ (can_lend self.old (length from.now) ≡ false) }
+        ensures length { (result ≡ Err Refusal.Length) ↔ (can_lend self.old first (length from.now) ≡ false) }
     {
-        if !self.can_lend(from.len()) {
+        if !self.can_lend(first, from.len()) {
             return Err(Refusal::Length);
         }
         append(&mut self.bytes, from)?;
         self.trace.note(&Call::Written {
-            block: self.ready.first + self.ready.lent,
+            block: first,
             bytes: from,
         });
         self.ready.lent += (from.len() / 512) as u32;
@@ -157,13 +170,15 @@ impl CalledImage {
         true
     }
 
-    // Returns whether so many bytes are whole blocks, and as many blocks follow the lent ones.
-    fn can_lend(&self, bytes: usize) -> bool
-        ensures fits { result ≡ can_lend self.now bytes }
-        ensures within { result ≡ true → (bytes % 512 ≡ 0)
+    // Returns whether so many bytes from this block on follow the lent ones.
+    fn can_lend(&self, first: u32, bytes: usize) -> bool
+        ensures fits { result ≡ can_lend self.now first bytes }
+        ensures within { result ≡ true → (first ≡ self.now.ready.first + self.now.ready.lent) × (bytes % 512 ≡ 0)
             × (self.now.ready.first + self.now.ready.lent + bytes / 512 ≤ block_count_of self.now.bytes) }
     {
-        bytes % 512 == 0 && self.has_room(self.ready.lent, (bytes / 512) as u64)
+        u64::from(first) == u64::from(self.ready.first) + u64::from(self.ready.lent)
+            && bytes % 512 == 0
+            && self.has_room(self.ready.lent, (bytes / 512) as u64)
     }
 
     // Returns whether `count` blocks follow `these` from the first that is ready.

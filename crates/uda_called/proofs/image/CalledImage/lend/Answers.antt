@@ -8,5 +8,7 @@ invariant_of-self-2 c =
     let image = image_by inside.size inside.ready inside.trace in
     let appended = c.in_ok-append.ensures.appended in
     let can = c.can_lend.ensures.within c.if-not-can_lend.false in
-    let room = rw (← c.self.view_is, ← c.self.invariant.size_is) at can.1 in
-    rw (appended, c.note.ensures) (kept_lent inside.size inside.bytes.items image c.args.from.now c.self.invariant can.0 room)
+    let next = rw (← c.self.view_is) at can.0 in
+    let room = rw (← c.self.view_is, ← c.self.invariant.size_is) at can.2 in
+    rw (appended, c.note.ensures, next)
+    (kept_lent inside.size inside.bytes.items image c.args.from.now c.self.invariant can.1 room)

@@ -1,7 +1,7 @@
 use Rattle.std.proofs.Common.{List, ℕ, sym, subst}
 use Rattle.uda_called.specs.CalledImage.{IsKept, image_by, none_ready}
 use Rattle.uda_called.proofs.CalledLaws.{kept_begun}
-use Rattle.uda_called.proofs.image.CalledImage.begin.Goals as goal
+use Rattle.uda_called.proofs.image.CalledImage.start.Goals as goal
 
 pub invariant_of-self : goal.invariant_of-self
 invariant_of-self c =

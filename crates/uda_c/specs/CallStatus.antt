@@ -6,7 +6,7 @@ use Rattle.uda_c.specs.declared.call_status.CallStatus.{CallStatus}
 use Rattle.uda_c.specs.declared.call_status.CallStatus.TheVariants.{Done, RanTurn, NoController, NoMemory, NoSuchUnit}
 use Rattle.uda_c.specs.declared.call_status.CallStatus.TheVariants.{AlreadyAttached, NotAttached, BadLength, TooLarge}
 use Rattle.uda_c.specs.declared.call_status.CallStatus.TheVariants.{NotEmpty, HasController, NoSuchBus, NoSuchType}
-use Rattle.uda_c.specs.declared.call_status.CallStatus.TheVariants.{OtherVersion, BadState, OtherImages, BadFirstUnit, BadMap}
+use Rattle.uda_c.specs.declared.call_status.CallStatus.TheVariants.{OtherVersion, BadState, OtherImages, BadFirstUnit, BadMap, OtherKind, Nowhere}
 
 abbrev pub turn_code : Turn → ℕ
 turn_code turn.Idle = 0
@@ -35,3 +35,5 @@ status_code BadState = 76
 status_code OtherImages = 77
 status_code BadFirstUnit = 78
 status_code BadMap = 79
+status_code OtherKind = 80
+status_code Nowhere = 81

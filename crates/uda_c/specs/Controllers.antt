@@ -5,6 +5,7 @@ use Rattle.std.specs.Prelude.{nat_lt, length, is_some, option_map, set, unwrap_o
 use Rattle.std.specs.List.{concat}
 use Rattle.uda_mem.specs.Slices.{IsMemory}
 use Rattle.uda_image.specs.Limits.{store_limit}
+use Rattle.uda_image.specs.Store.{StoreState}
 use Rattle.uda_disk.specs.Units.{UnitState, AllFaithful, AreWellFormed}
 use Rattle.uda_exec.specs.Disks.{basic_exec}
 use Rattle.uda_exec.specs.Drives.{DriveState, info_at}
@@ -20,7 +21,7 @@ use Rattle.uda_port.specs.Turn.{TurnEffect}
 use Rattle.uda_port.specs.Trace.{turn_of, Traces}
 use Rattle.uda_c.specs.declared.call_status.CallStatus.{CallStatus}
 use Rattle.uda_c.specs.declared.call_status.CallStatus.TheVariants.{Done, RanTurn, NoSuchUnit, AlreadyAttached, NotAttached}
-use Rattle.uda_c.specs.declared.call_status.CallStatus.TheVariants.{NoController, HasController, NoMemory, NotEmpty}
+use Rattle.uda_c.specs.declared.call_status.CallStatus.TheVariants.{NoController, HasController, NoMemory, NotEmpty, OtherKind}
 use Rattle.uda_c.specs.declared.call_status.CallStatus.TheVariants.{NoSuchBus, NoSuchType, BadFirstUnit}
 use Rattle.uda_packet.specs.declared.drive_type.DriveType.{DriveType}
 use Rattle.uda_packet.specs.declared.guest_end.Bus.{Bus}
@@ -30,7 +31,7 @@ use Rattle.uda_c.specs.Fits.{FitsController, numbers_fit}
 use Rattle.uda_c.specs.declared.slot.Slot.{Slot}
 use Rattle.uda_c.specs.declared.unit_images.UnitImages.{UnitImages}
 use Rattle.uda_c.specs.Slots.{empty_slot, are_empty}
-use Rattle.uda_c.specs.BorrowedImage.{borrowed_state, with_failing_call}
+use Rattle.uda_c.specs.UnitImage.{lent_state, is_called_in, bytes_of_store, store_failing}
 
 -- The invariant of the port of every controller. It has four units, they return the blocks that were written,
 -- and each has exactly as many blocks as its size. Its credits agree, `uda50_restore` accepts its state, and its units
@@ -94,6 +95,17 @@ unit_answer c unit =
     else if has_image c unit then Done
     else NotAttached
 
+-- whether C reads and writes a unit's image by calls of its own
+abbrev pub is_called_at : ControllerState → ℕ → Bool
+is_called_at c unit = is_called_in (slice_get c.port.exec.units unit)
+
+-- the status of a call that makes a call of a unit's image fail
+abbrev pub failing_answer : ControllerState → ℕ → CallStatus
+failing_answer c unit =
+    if nat_lt 3 unit then NoSuchUnit
+    else if has_image c unit then (if is_called_at c unit then OtherKind else Done)
+    else NotAttached
+
 -- the status of a call that puts the image into a slot with this many bytes
 abbrev pub detach_answer : ControllerState → ℕ → ℕ → CallStatus
 detach_answer c unit bytes =
@@ -106,9 +118,9 @@ pub record Lending : Type 0 where
   pub bytes : List ℕ
   pub hard : Bool
 
--- the image of a unit: the bytes of its blocks in order, and its protection
+-- the image of a unit: the bytes of its blocks in order if C has lent them, and its protection
 abbrev pub image_of : UnitState → Lending
-image_of unit = record { bytes = concat unit.store.blocks; hard = unit.mode.hard }
+image_of unit = record { bytes = unwrap_or (bytes_of_store unit.store) []; hard = unit.mode.hard }
 
 abbrev pub image_in : Option (Option UnitState) → Option Lending
 image_in (Some (Some unit)) = Some (image_of unit)
@@ -118,10 +130,10 @@ image_in _ = None
 abbrev pub image_at : ControllerState → ℕ → Option Lending
 image_at c unit = image_in (slice_get c.port.exec.units unit)
 
--- the image as a unit's drive
+-- bytes that C lends as a unit's drive
 abbrev pub lent_drive : Lending → DriveState
 lent_drive lending =
-    record { store = borrowed_state (record { bytes = lending.bytes; left = None }); hard = lending.hard }
+    record { store = lent_state lending.bytes; hard = lending.hard }
 
 -- the controller with this drive in that unit, or with none
 abbrev pub controller_with : ControllerState → ℕ → Option DriveState → ControllerState
@@ -212,28 +224,32 @@ MakesNew (Some c) profile answer new = (answer ≡ HasController) × (new ≡ So
 MakesNew None profile answer None = answer ≡ NoMemory
 MakesNew None profile answer (Some c) = (answer ≡ Done) × (c ≡ controller_at_start profile)
 
--- a drive whose store fails at a call, counted from now on, or never
-abbrev pub drive_failing : Option ℕ → DriveState → DriveState
-drive_failing call drive = record drive { store = with_failing_call call drive.store }
+-- a unit whose store is so changed, otherwise unchanged
+abbrev pub unit_with : (StoreState → StoreState) → UnitState → UnitState
+unit_with change unit = record unit { store = change unit.store }
 
--- a unit with such a drive, otherwise unchanged
-abbrev pub unit_failing : Option ℕ → UnitState → UnitState
-unit_failing call unit = record unit { store = with_failing_call call unit.store }
-
--- the controller with such a unit u
-abbrev pub controller_failing : ControllerState → ℕ → Option ℕ → ControllerState
-controller_failing c u call = record c {
+-- the controller whose unit has a store that is so changed
+abbrev pub with_store : ControllerState → ℕ → (StoreState → StoreState) → ControllerState
+with_store c u change = record c {
   port = record c.port {
     exec = record c.port.exec {
       units = set c.port.exec.units u
-          (option_map (unit_failing call) (unwrap_or (slice_get c.port.exec.units u) None));
+          (option_map (unit_with change) (unwrap_or (slice_get c.port.exec.units u) None));
     };
   };
 }
 
+-- a unit whose store fails at a call, counted from now on, or never, if its bytes are in memory
+abbrev pub unit_failing : Option ℕ → UnitState → UnitState
+unit_failing call unit = unit_with (store_failing call) unit
+
+-- the controller with such a unit u
+abbrev pub controller_failing : ControllerState → ℕ → Option ℕ → ControllerState
+controller_failing c u call = with_store c u (store_failing call)
+
 pub record FailsAt (old : ControllerState) (unit : ℕ) (call : Option ℕ) (answer : CallStatus)
     (new : ControllerState) : Type 0 where
-  pub answer_is : answer ≡ unit_answer old unit
+  pub answer_is : answer ≡ failing_answer old unit
   pub fails : answer ≡ Done → new ≡ controller_failing old unit call
   pub refused : answer ≢ Done → new ≡ old
 

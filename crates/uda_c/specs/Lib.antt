@@ -16,3 +16,6 @@ pub mod Snapshot
 pub mod Last
 pub mod Runs
 pub mod Maps
+pub mod UnitImage
+pub mod UnitImageLaws
+pub mod BlockRange

@@ -1,15 +1,16 @@
 -- Map registers that C passes, and turns over guest memory behind them.
 -- PDP-11 UNIBUS map, VAX UNIBUS adapter, Q-bus map: map registers.
-use Rattle.std.specs.Prelude.{◌≡◌, ◌≢◌, ℕ, ◌*◌, ◌%◌, ◌^◌, ◌==◌, ◌||◌, zero, suc, length, nat_lt, if◌then◌else◌, ◌⊎◌, Some}
+use Rattle.std.specs.Prelude.{◌≡◌, ◌≢◌, ◌↔◌, ℕ, List, ◌*◌, ◌%◌, ◌^◌, ◌==◌, ◌||◌, zero, suc, length, nat_lt, if◌then◌else◌, ◌⊎◌, Some}
 use Rattle.uda_bus.specs.declared.map.MapForm.{MapForm}
 use Rattle.uda_bus.specs.declared.map.Registers.{Registers}
 use Rattle.uda_bus.specs.declared.map.Registers.TheVariants.{Apart, InMemory}
+use Rattle.uda_bus.specs.Bytes.{shown, stored, AllLead}
 use Rattle.uda_bus.specs.Turns.{TurnsBehind, WritesSaBehind}
 use Rattle.uda_port.specs.declared.trace.Trace.{Trace}
 use Rattle.uda_port.specs.declared.turn.Turn.{Turn}
 use Rattle.uda_port.specs.Trace.{turn_of, Traces}
 use Rattle.uda_c.specs.declared.call_status.CallStatus.{CallStatus}
-use Rattle.uda_c.specs.declared.call_status.CallStatus.TheVariants.{Done, RanTurn, NoMemory, BadLength, TooLarge, BadMap}
+use Rattle.uda_c.specs.declared.call_status.CallStatus.TheVariants.{Done, RanTurn, NoMemory, BadLength, TooLarge, BadMap, Nowhere}
 use Rattle.uda_c.specs.declared.map.MapRegisters.{MapRegisters}
 use Rattle.uda_c.specs.declared.map.MappedBus.{MappedBus}
 use Rattle.uda_c.specs.Runs.{Machine, does_nothing, AfterTurn}
@@ -71,3 +72,23 @@ pub record WritesSaOver (bus : MappedBus) (before : Machine) (word : ℕ) (answe
   pub answer_is : answer ≡ Done
   pub steps : WritesSaBehind bus.map bus.size (before.0.port, before.1) word (after.0.port, after.1)
   pub last_stays : after.0.last ≡ before.0.last
+
+-- bytes that a bus shows from an address on, and whether each address leads to a byte of memory
+pub record ReadsBus (bus : MappedBus) (memory : List ℕ) (address : ℕ) (answer : CallStatus) (copied : List ℕ × List ℕ)
+    : Type 0 where
+  pub shown : copied.1 ≡ shown bus.map memory address (length copied.0)
+  pub whole : (answer ≡ Done) ↔ AllLead bus.map memory address (length copied.0)
+  pub nowhere : answer ≢ Done → answer ≡ Nowhere
+
+pub record ReadsMapped (m : MapRegisters) (memory : List ℕ) (address : ℕ) (answer : CallStatus)
+    (copied : List ℕ × List ℕ) : Type 0 where
+  pub reads : map_answer m ≡ Done
+      → (bus : MappedBus) × IsBusOf m bus × ReadsBus bus memory address answer copied
+  pub refuses : map_answer m ≢ Done → (answer ≡ map_answer m) × (copied.1 ≡ copied.0)
+
+-- bytes that are stored on a bus from an address on
+pub record WritesMapped (m : MapRegisters) (memory : List ℕ × List ℕ) (address : ℕ) (from : List ℕ)
+    (answer : CallStatus) : Type 0 where
+  pub writes : map_answer m ≡ Done → (bus : MappedBus) × IsBusOf m bus
+      × ((answer ≡ Done) × (memory.1 ≡ stored bus.map memory.0 address from))
+  pub refuses : map_answer m ≢ Done → (answer ≡ map_answer m) × (memory.1 ≡ memory.0)

@@ -44,6 +44,10 @@ pub enum CallStatus {
     BadFirstUnit,
     /// The number of bits of an offset in a page of a map, or of its shift, is above 31.
     BadMap,
+    /// The unit's image is in memory where the call needs one that C reads and writes, or the other way round.
+    OtherKind,
+    /// An address leads nowhere.
+    Nowhere,
 }
 
 impl CallStatus {
@@ -77,6 +81,8 @@ impl CallStatus {
             CallStatus::OtherImages => 77,
             CallStatus::BadFirstUnit => 78,
             CallStatus::BadMap => 79,
+            CallStatus::OtherKind => 80,
+            CallStatus::Nowhere => 81,
         }
     }
 }

@@ -1,17 +1,18 @@
 //! The controller of a handle.
-ghost use Rattle.std.specs.Prelude.{◌≡◌, true, ◌≢◌, ◌≤◌, ◌/◌, ◌%◌, ℕ, length, slice_get, IfSome, IfNone, IfOk, IfErr, IsTrue, ◌⊎◌};
+ghost use Rattle.std.specs.Prelude.{◌≡◌, true, ◌≢◌, ◌≤◌, ◌/◌, ◌%◌, ℕ, [], length, slice_get, unwrap_or, IfSome, IfNone, IfOk, IfErr, IsTrue, ◌⊎◌};
 ghost use Rattle.uda_image.specs.Limits.{store_limit};
 ghost use Rattle.uda_mem.specs.Slices.{IsMemory};
 ghost use Rattle.uda_c.specs.declared.call_status.CallStatus.TheVariants.{RanTurn, Done, NoMemory};
 ghost use Rattle.uda_c.specs.Controllers.{controller_at_start, refusal_of_profile, SetsType, Attaches, Detaches, TurnsWhereMemory};
-ghost use Rattle.uda_c.specs.Controllers.{FailsAt, controller_failing, drive_failing, TakesTurn, memory_refusal, IsSoundPort};
+ghost use Rattle.uda_c.specs.Controllers.{FailsAt, controller_failing, is_called_at, TakesTurn, memory_refusal, IsSoundPort};
 ghost use Rattle.uda_c.specs.Saving.{Saves, RestoreOutcome, controller_saved, failing_call_of};
 ghost use Rattle.uda_c.specs.Saving.{controller_failing_at};
 ghost use Rattle.uda_port.specs.Port.{port_restarted, port_after_ip_read};
 ghost use Rattle.uda_port.specs.Interrupt.{vector_of, served, IsVectorAddress};
 ghost use Rattle.uda_c.specs.Fits.{numbers_fit};
 ghost use Rattle.uda_c.specs.Controllers.{WritesSa, GivesBack, image_answer, image_at, image_bytes_at};
-ghost use Rattle.uda_c.specs.BorrowedImage.{borrowed_state, IsWhole};
+ghost use Rattle.uda_c.specs.BorrowedImage.{IsWhole};
+ghost use Rattle.uda_c.specs.UnitImage.{unit_state, store_failing, bytes_of_store};
 ghost use Rattle.uda_c.specs.Slots.{empty_slot, is_empty};
 ghost use Rattle.uda_exec.specs.Drives.{drive_state};
 ghost use Rattle.uda_port.specs.MemoryUse.{IsPlace};
@@ -22,11 +23,11 @@ ghost use Rattle.uda_c.specs.Maps.{IsBusOf, map_answer, OverMap, TakesTurnBehind
 use crate::call_status::CallStatus;
 use crate::fits::{fits_controller, numbers_fit};
 use crate::lent::BorrowedBytes;
-use crate::lent_image::BorrowedImage;
 use crate::map::{MapRegisters, MappedBus};
 use crate::saving::{RestoreRefusal, calls_have_drives};
 use crate::slot::Slot;
 use crate::turn_use::TurnUse;
+use crate::unit_image::UnitImage;
 use crate::unit_images::UnitImages;
 use std::alloc::Global;
 use std::marker::Model;
@@ -41,11 +42,11 @@ use uda_saved::{STATE_LENGTH, SavedState};
 /// A port over the images that C has lent, and the record of its last turn.
 #[derive(Drop)]
 pub struct Controller {
-    pub port: Port<BorrowedImage>,
+    pub port: Port<UnitImage>,
     pub last: Option<Trace>,
     // The window of the last call over a map, which the next one uses again.
     window: Option<Window>,
-    alloc: Global,
+    pub(crate) alloc: Global,
 }
 
 impl Model for Controller {
@@ -139,7 +140,7 @@ impl Controller {
         }
         match take_image(image) {
             Ok(lent) => {
-                let store = BorrowedImage::new(lent);
+                let store = UnitImage::of_bytes(lent);
                 self.port.set_drive(unit, Some(Drive { store, hard }));
                 CallStatus::Done
             }
@@ -164,7 +165,7 @@ impl Controller {
             return CallStatus::NotEmpty;
         }
         if let Some(drive) = self.port.set_drive(unit, None) {
-            image.put(drive.store.into_lent());
+            put_lent(drive.store, image);
         }
         CallStatus::Done
     }
@@ -204,11 +205,24 @@ impl Controller {
         let Some(look) = self.port.unit(unit) else {
             return CallStatus::NotAttached;
         };
+        if self.is_called(unit) {
+            return CallStatus::OtherKind;
+        }
         if let Some(drive) = self.port.exchange_drive(unit, None) {
             self.port.exchange_drive(unit, Some(failing(drive, call)));
             self.port.restore_mode(unit, look.mode);
         }
         CallStatus::Done
+    }
+
+    /// Returns whether C reads and writes a unit's image by calls of its own.
+    pub fn is_called(&self, unit: usize) -> bool
+        ensures called { result ≡ is_called_at self.now unit }
+    {
+        match self.port.store(unit) {
+            Some(image) => image.is_called(),
+            None => false,
+        }
     }
 
     /// Sets the drive type of a unit without an image.
@@ -400,7 +414,7 @@ impl Controller {
     }
 
     // Returns the index of the command that C asks for, if it is eligible, or else the port's own choice.
-    fn place_of(&self, turn: &TurnUse) -> usize
+    pub(crate) fn place_of(&self, turn: &TurnUse) -> usize
         ensures place { IsPlace self.now.port.exec.pending result }
         ensures asked { IsPlace self.now.port.exec.pending turn.now.place → result ≡ turn.now.place }
     {
@@ -597,9 +611,21 @@ fn image_answer(bytes: usize) -> CallStatus
     }
 }
 
-// Returns a drive whose store fails at a call, counted from now on, or never.
-fn failing(drive: Drive<BorrowedImage>, call: Option<u32>) -> Drive<BorrowedImage>
-    ensures store { drive_state borrowed_state result ≡ drive_failing call (drive_state borrowed_state drive) }
+// Puts the bytes of an image into C's empty slot, if C has lent them.
+fn put_lent(image: UnitImage, slot: &mut Slot)
+    requires empty { slot.old.held ≡ [] }
+    ensures bytes { slot.new.held ≡ unwrap_or (bytes_of_store (unit_state image)) [] }
+{
+    if let Some(lent) = image.into_lent() {
+        slot.put(lent);
+    }
+}
+
+// Returns a drive whose store fails at a call, counted from now on, or never, if its bytes are in memory.
+fn failing(drive: Drive<UnitImage>, call: Option<u32>) -> Drive<UnitImage>
+    ensures store { drive_state unit_state result ≡ record (drive_state unit_state drive) {
+      store = store_failing call (unit_state drive.store);
+    } }
 {
     let Drive { store, hard } = drive;
     let mut store = store;
@@ -615,7 +641,7 @@ fn does_nothing(turn: Turn) -> bool
 }
 
 // Returns the status of invalid memory, or None if a port can use the memory.
-fn refusal_of(memory: &[u8]) -> Option<CallStatus>
+pub(crate) fn refusal_of(memory: &[u8]) -> Option<CallStatus>
     ensures works { IfNone result (IsMemory memory.now) }
     ensures refused { IfSome result (λ r. (IsMemory memory.now → ⊥) × (r ≡ memory_refusal memory.now)) }
 {

@@ -14,17 +14,19 @@ ghost use Rattle.uda_c.specs.Controllers.{FailsAt, TurnsWhereMemory, TakesInterr
 ghost use Rattle.uda_port.specs.StartupUse.{range_zeroed};
 ghost use Rattle.uda_c.specs.TurnUse.{GetsDescriptors, GetsBody, TurnsAtWhereMemory, WritesSaAt};
 ghost use Rattle.uda_c.specs.Saving.{Saves, Restores};
-ghost use Rattle.uda_c.specs.Maps.{OverMap, TakesTurnBehind, TakesTurnsBehind, WritesSaOver};
+ghost use Rattle.uda_c.specs.BlockRange.{AttachesCalled, GetsBlocks, GetsWritten, LendsBlocks, AllowsBlocks, answer_numbered};
+ghost use Rattle.uda_c.specs.Maps.{OverMap, ReadsMapped, WritesMapped, TakesTurnBehind, TakesTurnsBehind, WritesSaOver};
 ghost use Rattle.uda_c.specs.Runs.{RunsWhereMemory};
 ghost use Rattle.uda_c.specs.Snapshot.{port_snapshot};
 ghost use Rattle.uda_c.specs.Last.{turn_record, TellsLine};
 
+use crate::block_range::{BlockAnswer, BlockRange};
 use crate::call_status::CallStatus;
 use crate::choices::bus_of;
 use crate::controller::Controller;
 use crate::handle::Handle;
 use crate::last::{TurnRecord, put_last_line};
-use crate::map::MapRegisters;
+use crate::map::{MapRegisters, read_mapped, write_mapped};
 use crate::saving::restore_status;
 use crate::slot::Slot;
 use crate::snapshot::PortSnapshot;
@@ -539,6 +541,149 @@ pub extern "C" fn uda50_write_sa_mapped(
         }
         None => CallStatus::NoController.code(),
     }
+}
+
+/// Attaches an image of `blocks` blocks that C reads and writes by calls of its own.
+#[unsafe(no_mangle)]
+pub extern "C" fn uda50_attach_called(
+    handle: &mut Handle,
+    unit: u32,
+    blocks: u32,
+    write_protected: bool,
+) -> u32
+    ensures attaches { OnHandle handle.old.value handle.new.value (result ≡ status_code NoController)
+        (λ old new. (answer : CallStatus) × (result ≡ status_code answer)
+        × AttachesCalled old (unit, (blocks, write_protected)) answer new) }
+    ensures sound { AreSound handle.old.value handle.new.value }
+{
+    match handle.get() {
+        Some(controller) => {
+            controller.keep();
+            let answer = controller
+                .attach_called(unit, blocks, write_protected)
+                .code();
+            controller.keep();
+            answer
+        }
+        None => CallStatus::NoController.code(),
+    }
+}
+
+/// Fills in the blocks that the next turn uses of an image that C reads and writes. None of them is ready then.
+#[unsafe(no_mangle)]
+pub extern "C" fn uda50_get_blocks(
+    handle: &mut Handle,
+    window: &[u8],
+    turn: &TurnUse,
+    blocks: &mut BlockRange,
+) -> u32
+    ensures gets { OnHandle handle.old.value handle.new.value
+        ((result ≡ status_code NoController) × (blocks.new ≡ blocks.old))
+        (λ old new. (answer : CallStatus) × (result ≡ status_code answer)
+        × GetsBlocks (old, blocks.old) window.now turn.now answer (new, blocks.new)) }
+    ensures sound { AreSound handle.old.value handle.new.value }
+{
+    match handle.get() {
+        Some(controller) => {
+            controller.keep();
+            let answer = controller.get_blocks(window, turn, blocks).code();
+            controller.keep();
+            answer
+        }
+        None => CallStatus::NoController.code(),
+    }
+}
+
+/// Fills `to` with bytes of the blocks that the next turn writes, after the first `skip` of them.
+#[unsafe(no_mangle)]
+pub extern "C" fn uda50_get_written(
+    handle: &mut Handle,
+    window: &[u8],
+    turn: &TurnUse,
+    skip: u32,
+    to: &mut [u8],
+) -> u32
+    ensures gets { OnHandle handle.old.value handle.new.value
+        ((result ≡ status_code NoController) × (to.new ≡ to.old))
+        (λ old new. (answer : CallStatus) × (result ≡ status_code answer) × (new ≡ old)
+        × GetsWritten old window.now (turn.now, skip) answer (to.old, to.new)) }
+    ensures sound { AreSound handle.old.value handle.new.value }
+{
+    match handle.get() {
+        Some(controller) => {
+            controller.keep();
+            controller.get_written(window, turn, skip, to).code()
+        }
+        None => CallStatus::NoController.code(),
+    }
+}
+
+/// Lends the bytes of blocks of a unit's image from block `first` on.
+#[unsafe(no_mangle)]
+pub extern "C" fn uda50_lend_blocks(handle: &mut Handle, unit: u32, first: u32, from: &[u8]) -> u32
+    ensures lends { OnHandle handle.old.value handle.new.value (result ≡ status_code NoController)
+        (λ old new. (answer : CallStatus) × (result ≡ status_code answer)
+        × LendsBlocks old (unit, first) from.now answer new) }
+    ensures sound { AreSound handle.old.value handle.new.value }
+{
+    match handle.get() {
+        Some(controller) => {
+            controller.keep();
+            let answer = controller.lend_blocks(unit, first, from).code();
+            controller.keep();
+            answer
+        }
+        None => CallStatus::NoController.code(),
+    }
+}
+
+/// Makes the next blocks of a unit's image ready, of which C says that they are readable or written.
+#[unsafe(no_mangle)]
+pub extern "C" fn uda50_allow_blocks(handle: &mut Handle, unit: u32, access: u32, count: u32) -> u32
+    ensures allows { OnHandle handle.old.value handle.new.value (result ≡ status_code NoController)
+        (λ old new. (answer : CallStatus) × (result ≡ status_code answer)
+        × AllowsBlocks old unit (answer_numbered access) answer new) }
+    ensures sound { AreSound handle.old.value handle.new.value }
+{
+    match handle.get() {
+        Some(controller) => {
+            controller.keep();
+            let answer = controller
+                .allow_blocks(unit, BlockAnswer::of_number(access), count)
+                .code();
+            controller.keep();
+            answer
+        }
+        None => CallStatus::NoController.code(),
+    }
+}
+
+/// Copies bytes of a bus from an address on. Those whose address leads nowhere are 0.
+#[unsafe(no_mangle)]
+pub extern "C" fn uda50_read_mapped(
+    memory: &[u8],
+    map: &MapRegisters<'_>,
+    address: u32,
+    to: &mut [u8],
+) -> u32
+    ensures reads { (answer : CallStatus) × (result ≡ status_code answer)
+        × ReadsMapped map.now memory.now address answer (to.old, to.new) }
+{
+    read_mapped(memory, map, address, to).code()
+}
+
+/// Copies bytes to a bus from an address on, by rising address, except those whose address leads nowhere.
+#[unsafe(no_mangle)]
+pub extern "C" fn uda50_write_mapped(
+    memory: &mut [u8],
+    map: &MapRegisters<'_>,
+    address: u32,
+    from: &[u8],
+) -> u32
+    ensures writes { (answer : CallStatus) × (result ≡ status_code answer)
+        × WritesMapped map.now (memory.old, memory.new) address from.now answer }
+{
+    write_mapped(memory, map, address, from).code()
 }
 
 /// Copies the state of the port into C's struct.

@@ -1,6 +1,8 @@
 //! The controller as a static library for C: `uda50.h` declares the exports.
 #![tactic(auto)]
 
+mod block_range;
+mod blocks;
 mod call_status;
 mod choices;
 mod controller;
@@ -16,4 +18,5 @@ mod slot;
 mod snapshot;
 mod text;
 mod turn_use;
+mod unit_image;
 mod unit_images;

@@ -2,7 +2,7 @@
 //!
 //! PDP-11 UNIBUS map, VAX UNIBUS adapter, Q-bus map: map registers.
 ghost use Rattle.std.specs.Prelude.{◌≡◌, ◌≢◌, ◌≤◌, ◌*◌, ◌%◌, ◌^◌, IfOk, IfErr};
-ghost use Rattle.uda_c.specs.Maps.{map_answer, register_count, bus_answer, IsBusOf, registers_of, form_of};
+ghost use Rattle.uda_c.specs.Maps.{ReadsMapped, WritesMapped, map_answer, register_count, bus_answer, IsBusOf, registers_of, form_of};
 ghost use Rattle.uda_c.specs.declared.call_status.CallStatus.TheVariants.{Done};
 
 use crate::call_status::CallStatus;
@@ -108,5 +108,39 @@ fn bus_size(count: usize, page: u32) -> Result<u32, CallStatus>
         Err(CallStatus::BadLength)
     } else {
         Ok(size as u32)
+    }
+}
+
+/// Copies bytes of a bus from an address on. Those whose address leads nowhere are 0.
+pub fn read_mapped(memory: &[u8], map: &MapRegisters<'_>, address: u32, to: &mut [u8]) -> CallStatus
+    ensures reads { ReadsMapped map.now memory.now address result (to.old, to.new) }
+{
+    match map.bus() {
+        Ok(bus) => {
+            if bus.map.read(memory, address, to) {
+                CallStatus::Done
+            } else {
+                CallStatus::Nowhere
+            }
+        }
+        Err(status) => status,
+    }
+}
+
+/// Copies bytes to a bus from an address on, by rising address, except those whose address leads nowhere.
+pub fn write_mapped(
+    memory: &mut [u8],
+    map: &MapRegisters<'_>,
+    address: u32,
+    from: &[u8],
+) -> CallStatus
+    ensures writes { WritesMapped map.now (memory.old, memory.new) address from.now result }
+{
+    match map.bus() {
+        Ok(bus) => {
+            bus.map.write(memory, address, from);
+            CallStatus::Done
+        }
+        Err(status) => status,
     }
 }

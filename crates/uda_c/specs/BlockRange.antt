@@ -1,0 +1,125 @@
+-- The blocks that the next turn uses of an image that C reads and writes, and how C makes them ready.
+use Rattle.std.specs.Prelude.{◌≡◌, ◌≢◌, ℕ, ◌+◌, ◌*◌, ◌≤◌, ◌==◌, Bool, true, List, length, Option, Some, None, slice_get, set, unwrap_or}
+use Rattle.std.specs.Prelude.{option_map, nat_lt, if◌then◌else◌}
+use Rattle.uda_mem.specs.Put.{part}
+use Rattle.uda_mem.specs.Slices.{IsMemory}
+use Rattle.uda_image.specs.Limits.{store_limit}
+use Rattle.uda_image.specs.Store.{StoreState}
+use Rattle.uda_disk.specs.Units.{UnitState, Units}
+use Rattle.uda_exec.specs.declared.block_use.BlockAccess.{BlockAccess}
+use Rattle.uda_exec.specs.declared.block_use.BlockAccess.TheVariants.{Reads, Checks, Writes}
+use Rattle.uda_exec.specs.declared.block_use.BlockUse.{BlockUse}
+use Rattle.uda_exec.specs.Drives.{DriveState}
+use Rattle.uda_port.specs.BlockUse.{blocks_of, block_bytes_of}
+use Rattle.uda_port.specs.MemoryUse.{IsPlace}
+use Rattle.uda_c.specs.declared.block_range.BlockAnswer.{BlockAnswer}
+use Rattle.uda_c.specs.declared.block_range.BlockAnswer.TheVariants.{Readable, Written}
+use Rattle.uda_c.specs.declared.block_range.BlockRange.{BlockRange}
+use Rattle.uda_c.specs.declared.call_status.CallStatus.{CallStatus}
+use Rattle.uda_c.specs.declared.call_status.CallStatus.TheVariants.{Done, NoSuchUnit, AlreadyAttached, NotAttached, BadLength, TooLarge, OtherKind}
+use Rattle.uda_c.specs.declared.turn_use.TurnUse.{TurnUse}
+use Rattle.uda_c.specs.ControllerState.{ControllerState}
+use Rattle.uda_c.specs.Controllers.{controller_with, has_image, unit_answer, is_called_at, with_store, memory_refusal}
+use Rattle.uda_c.specs.TurnUse.{missing_of}
+use Rattle.uda_c.specs.UnitImage.{store_lent, zero_state, LentAnswer}
+
+-- the number of a use in C
+abbrev pub access_code : BlockAccess → ℕ
+access_code Reads = 1
+access_code Checks = 2
+access_code Writes = 3
+
+abbrev pub range_of : BlockUse → BlockRange
+range_of used =
+    record { access = access_code used.access; unit = used.unit; first = used.first; count = used.count }
+
+abbrev pub NO_BLOCKS : BlockRange
+NO_BLOCKS = record { access = 0; unit = 0; first = 0; count = 0 }
+
+-- what C says of blocks that it doesn't lend, by its number
+abbrev pub answer_numbered : ℕ → Option BlockAnswer
+answer_numbered number =
+    if number == 2 then Some Readable else if number == 3 then Some Written else None
+
+-- ---- an image that C reads and writes
+
+-- the status of an image of so many blocks
+abbrev pub size_answer : ℕ → CallStatus
+size_answer blocks = if blocks == 0 then BadLength else if nat_lt store_limit blocks then TooLarge else Done
+
+-- the status of such an image for a unit
+abbrev pub called_answer : ControllerState → ℕ → ℕ → CallStatus
+called_answer c unit blocks =
+    if nat_lt 3 unit then NoSuchUnit else if has_image c unit then AlreadyAttached else size_answer blocks
+
+abbrev pub called_drive : ℕ → Bool → DriveState
+called_drive blocks hard = record { store = zero_state blocks; hard = hard }
+
+-- an image of so many blocks, with this protection, becomes a unit's; or nothing changes
+pub record AttachesCalled (old : ControllerState) (image : ℕ × (ℕ × Bool)) (answer : CallStatus) (new : ControllerState)
+    : Type 0 where
+  pub answer_is : answer ≡ called_answer old image.0 image.1.0
+  pub attached : answer ≡ Done → new ≡ controller_with old image.0 (Some (called_drive image.1.0 image.1.1))
+  pub refused : answer ≢ Done → new ≡ old
+
+-- ---- the blocks that the next turn uses
+
+-- those of an image that C reads and writes
+abbrev pub range_told : ControllerState → Option BlockUse → BlockRange
+range_told c None = NO_BLOCKS
+range_told c (Some used) = if is_called_at c used.unit then range_of used else NO_BLOCKS
+
+-- the index of a command: the one that the struct names, if that is eligible
+pub record IsPlaceOf (c : ControllerState) (asked : TurnUse) (place : ℕ) : Type 0 where
+  pub is_place : IsPlace c.port.exec.pending place
+  pub asked_is : IsPlace c.port.exec.pending asked.place → place ≡ asked.place
+
+-- the blocks that the turn with this command uses are told; none of them is ready
+pub record TellsBlocks (c : ControllerState) (memory : List ℕ) (asked : TurnUse) (told : BlockRange) : Type 0 where
+  pub place : ℕ
+  pub place_is : IsPlaceOf c asked place
+  pub told_is : told ≡ range_told c (blocks_of (missing_of asked.missing) c.port memory place)
+
+-- in invalid memory nothing changes
+pub record GetsBlocks (before : ControllerState × BlockRange) (memory : List ℕ) (asked : TurnUse) (answer : CallStatus)
+    (after : ControllerState × BlockRange) : Type 0 where
+  pub same : after.0 ≡ before.0
+  pub tells : IsMemory memory → (answer ≡ Done) × TellsBlocks before.0 memory asked after.1
+  pub refuses : (IsMemory memory → ⊥) → (answer ≡ memory_refusal memory) × (after.1 ≡ before.1)
+
+-- the bytes that the turn with this command writes to blocks, after the first of them, if there are as many
+pub record CopiesWritten (c : ControllerState) (memory : List ℕ) (asked : TurnUse × ℕ) (answer : CallStatus)
+    (copied : List ℕ × List ℕ) : Type 0 where
+  pub place : ℕ
+  pub place_is : IsPlaceOf c asked.0 place
+  pub done : 512 * asked.1 + length copied.0 ≤ length (block_bytes_of (missing_of asked.0.missing) c.port memory place)
+      → (answer ≡ Done) × (copied.1 ≡ part (block_bytes_of (missing_of asked.0.missing) c.port memory place)
+      (512 * asked.1) (length copied.0))
+  pub refused : answer ≢ Done → (answer ≡ BadLength) × (copied.1 ≡ copied.0)
+
+pub record GetsWritten (c : ControllerState) (memory : List ℕ) (asked : TurnUse × ℕ) (answer : CallStatus)
+    (copied : List ℕ × List ℕ) : Type 0 where
+  pub copies : IsMemory memory → CopiesWritten c memory asked answer copied
+  pub refuses : (IsMemory memory → ⊥) → (answer ≡ memory_refusal memory) × (copied.1 ≡ copied.0)
+
+-- ---- blocks that C makes ready
+
+-- blocks of a unit's image are lent from one on; or nothing changes
+pub record LendsBlocks (old : ControllerState) (place : ℕ × ℕ) (from : List ℕ) (answer : CallStatus)
+    (new : ControllerState) : Type 0 where
+  pub no_image : unit_answer old place.0 ≢ Done → answer ≡ unit_answer old place.0
+  pub answers : unit_answer old place.0 ≡ Done → LentAnswer (is_called_at old place.0) answer
+  pub lent : answer ≡ Done → new ≡ with_store old place.0 (store_lent Done place.1 from)
+  pub refused : answer ≢ Done → new ≡ old
+
+-- the status of what C says of blocks that it doesn't lend
+abbrev pub AllowAnswer : Option BlockAnswer → Bool → CallStatus → Type 0
+AllowAnswer None called answer = answer ≡ OtherKind
+AllowAnswer (Some access) called answer = LentAnswer called answer
+
+-- C says that the next blocks of a unit are ready. Which blocks are ready isn't in the controller's state.
+pub record AllowsBlocks (old : ControllerState) (unit : ℕ) (access : Option BlockAnswer) (answer : CallStatus)
+    (new : ControllerState) : Type 0 where
+  pub no_image : unit_answer old unit ≢ Done → answer ≡ unit_answer old unit
+  pub answers : unit_answer old unit ≡ Done → AllowAnswer access (is_called_at old unit) answer
+  pub same : new ≡ old

@@ -1,0 +1,181 @@
+//! The image of a unit: bytes that C has lent, or blocks that C reads and writes by calls of its own.
+ghost use Rattle.std.specs.Prelude.{◌≡◌, ◌≢◌, ◌+◌, ◌*◌, ◌<◌, ◌≤◌, true, false, [], length, option_map, Some, None};
+ghost use Rattle.std.specs.Prelude.{IfErr, IsOk};
+ghost use Rattle.std.specs.List.{concat};
+ghost use Rattle.uda_image.specs.AtOnce.{TriesToRead, TriesToWrite, ChecksBlocks};
+ghost use Rattle.uda_image.specs.Store.{Reads, Writes, KeepsAttributes, is_sound};
+ghost use Rattle.uda_called.specs.CalledImage.{zero_image};
+ghost use Rattle.uda_c.specs.BorrowedImage.{IsWhole};
+ghost use Rattle.uda_c.specs.UnitImage.{unit_state, is_called, bytes_of_store, store_failing, store_lent, LentAnswer};
+ghost use Rattle.uda_c.specs.UnitImage.{zero_state, lent_state};
+ghost use Rattle.uda_c.specs.UnitImageLaws.{within_limit_of, whole_blocks_of};
+ghost use Rattle.uda_image.specs.Limits.{store_limit};
+ghost use Rattle.uda_c.specs.declared.call_status.CallStatus.TheVariants.{Done, OtherKind};
+
+use crate::block_range::BlockAnswer;
+use crate::call_status::CallStatus;
+use crate::lent::BorrowedBytes;
+use crate::lent_image::BorrowedImage;
+use std::alloc::Global;
+use uda_called::{CalledImage, Refusal};
+use uda_image::{BlockStore, StoreError};
+
+/// The image of a unit.
+#[derive(Drop)]
+pub enum UnitImage {
+    /// Bytes in memory that C has lent.
+    Lent(BorrowedImage),
+    /// Blocks that C reads and writes by calls of its own.
+    Called(CalledImage),
+}
+
+impl UnitImage {
+    /// Returns an image of the lent bytes, of which no call fails.
+    pub fn of_bytes(lent: BorrowedBytes) -> UnitImage
+        requires whole { IsWhole lent.held }
+        ensures state { unit_state result ≡ lent_state lent.held }
+    {
+        UnitImage::Lent(BorrowedImage::new(lent))
+    }
+
+    /// Returns an image of so many blocks that C reads and writes by calls of its own.
+    pub fn of_calls(alloc: Global, blocks: u32) -> UnitImage
+        requires limit { blocks ≤ store_limit }
+        ensures state { unit_state result ≡ zero_state blocks }
+    {
+        UnitImage::Called(CalledImage::new(alloc, blocks))
+    }
+
+    /// Returns the lent bytes, or None if C has the blocks.
+    pub fn into_lent(self) -> Option<BorrowedBytes>
+        ensures bytes { option_map (λ lent. lent.held) result ≡ bytes_of_store (unit_state self) }
+    {
+        match self {
+            UnitImage::Lent(image) => Some(image.into_lent()),
+            UnitImage::Called(_) => None,
+        }
+    }
+
+    /// Returns whether C reads and writes the blocks.
+    pub fn is_called(&self) -> bool
+        ensures called { result ≡ is_called (unit_state self.now) }
+    {
+        matches!(self, UnitImage::Called(_))
+    }
+
+    /// Returns the number of the call that is to fail, counted from now on and from 1; 0 if that call is over.
+    /// Returns None if no call was set to fail, or if C has the blocks.
+    pub fn failing_call(&self) -> Option<u32>
+        ensures call { result ≡ (unit_state self.now).failing_call }
+    {
+        match self {
+            UnitImage::Lent(image) => image.failing_call(),
+            UnitImage::Called(_) => None,
+        }
+    }
+
+    /// Makes the image's call of this number from now on fail, and no other, if its bytes are in memory.
+    pub fn set_failing_call(&mut self, call: Option<u32>)
+        ensures state { unit_state self.new ≡ store_failing call (unit_state self.old) }
+    {
+        if let UnitImage::Lent(image) = self {
+            image.set_failing_call(call);
+        }
+    }
+
+    /// Drops what is ready of blocks that C reads and writes. Those that are made ready next are those from this one
+    /// on.
+    pub fn begin(&mut self, first: u32)
+        ensures state { unit_state self.new ≡ unit_state self.old }
+    {
+        if let UnitImage::Called(image) = self {
+            image.begin(first);
+        }
+    }
+
+    /// Lends the bytes of blocks from this one on.
+    pub fn lend(&mut self, first: u32, from: &[u8]) -> CallStatus
+        ensures state { unit_state self.new ≡ store_lent result first from.now (unit_state self.old) }
+        ensures answer { LentAnswer (is_called (unit_state self.old)) result }
+    {
+        match self {
+            UnitImage::Lent(_) => CallStatus::OtherKind,
+            UnitImage::Called(image) => match image.lend(first, from) {
+                Ok(()) => CallStatus::Done,
+                Err(Refusal::Length) => CallStatus::BadLength,
+                Err(Refusal::NoMemory) => CallStatus::NoMemory,
+            },
+        }
+    }
+
+    /// Makes the next blocks ready: they are readable, or a command may write them.
+    pub fn allow(&mut self, access: BlockAnswer, count: u32) -> CallStatus
+        ensures state { unit_state self.new ≡ unit_state self.old }
+        ensures answer { LentAnswer (is_called (unit_state self.old)) result }
+    {
+        let UnitImage::Called(image) = self else {
+            return CallStatus::OtherKind;
+        };
+        let has_room = match access {
+            BlockAnswer::Readable => image.check(count),
+            BlockAnswer::Written => image.allow(count),
+        };
+        if has_room {
+            CallStatus::Done
+        } else {
+            CallStatus::BadLength
+        }
+    }
+}
+
+impl BlockStore for UnitImage {
+    ghost state = { unit_state };
+
+    ghost within_limit = { within_limit_of };
+
+    ghost is_image = { λ image _. whole_blocks_of image };
+
+    ghost is_image_if_sound = { λ image _. whole_blocks_of image };
+
+    fn size(&self) -> u32 {
+        match self {
+            UnitImage::Lent(image) => image.size(),
+            UnitImage::Called(image) => image.size(),
+        }
+    }
+
+    fn read(&mut self, n: u32, to: &mut [u8; 512]) -> Result<(), StoreError> {
+        match self {
+            UnitImage::Lent(image) => image.read(n, to),
+            UnitImage::Called(image) => image.read(n, to),
+        }
+    }
+
+    fn write(&mut self, n: u32, from: &[u8; 512]) -> Result<(), StoreError> {
+        match self {
+            UnitImage::Lent(image) => image.write(n, from),
+            UnitImage::Called(image) => image.write(n, from),
+        }
+    }
+
+    fn try_read_blocks(&mut self, n: u32, count: u32, to: &mut [u8]) -> bool {
+        match self {
+            UnitImage::Lent(image) => image.try_read_blocks(n, count, to),
+            UnitImage::Called(image) => image.try_read_blocks(n, count, to),
+        }
+    }
+
+    fn try_write_blocks(&mut self, n: u32, count: u32, from: &[u8]) -> bool {
+        match self {
+            UnitImage::Lent(image) => image.try_write_blocks(n, count, from),
+            UnitImage::Called(image) => image.try_write_blocks(n, count, from),
+        }
+    }
+
+    fn check_blocks(&mut self, n: u32, count: u32) -> u32 {
+        match self {
+            UnitImage::Lent(_) => 0,
+            UnitImage::Called(image) => image.check_blocks(n, count),
+        }
+    }
+}

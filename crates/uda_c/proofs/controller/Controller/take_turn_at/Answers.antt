@@ -12,9 +12,9 @@ pub invariant_of-self : goal.invariant_of-self
 invariant_of-self c =
     let old = c.self.inside.port in
     let taken = c.turn_traced_at-taken in (
-      effect_faithful c.missing-missing.result c.place_of-place.result (old, c.args.memory.now) taken.result.turn
+      effect_faithful c.missing-missing.result _ (old, c.args.memory.now) taken.result.turn
           (taken.new.self, taken.new.memory) taken.ensures.effect c.self.invariant.0,
-      effect_fits c.missing-missing.result c.place_of-place.result (old, c.args.memory.now) taken.result.turn
+      effect_fits c.missing-missing.result _ (old, c.args.memory.now) taken.result.turn
           (taken.new.self, taken.new.memory) taken.ensures.effect c.self.invariant.1,
     )
 

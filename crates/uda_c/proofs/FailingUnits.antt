@@ -1,19 +1,23 @@
--- A unit whose image gets a failing call: its drive is removed, changed and put back, and all else is
--- unchanged.
-use Rattle.std.proofs.Common.{◌≡◌, ℕ, false, List, set, Option, Some, None, refl, sym, ap, ap₂, ◌∙◌}
+-- A unit whose image is changed: its drive is removed, changed and put back, and all else is unchanged.
+use Rattle.std.specs.Prelude.{Result, Ok, Err, is_ok, IfErr}
+use Rattle.std.proofs.Common.{◌≡◌, ◌≢◌, ℕ, Bool, true, false, List, subst, set, Option, Some, None, refl, sym, ap, ap₂, ◌∙◌}
 use Rattle.std.specs.Prelude.{option_map, slice_get, unwrap_or, nat_lt, is_some, if◌then◌else◌}
-use Rattle.std.proofs.lemmas.List.{set-set}
-use Rattle.std.proofs.lemmas.Option.{slice_get_within, slice_get-map}
+use Rattle.std.proofs.lemmas.List.{set-set, set-get_or}
+use Rattle.std.proofs.lemmas.Option.{slice_get_within, slice_get-map, unwrap_or-slice_get}
 use Rattle.uda_disk.proofs.Slots.{slice_get-set_same}
 use Rattle.uda_disk.specs.declared.mode.Mode.{Mode}
 use Rattle.uda_disk.specs.Units.{UnitState}
 use Rattle.uda_exec.specs.declared.drive_unit.UnitInfo.{UnitInfo}
-use Rattle.uda_exec.specs.Drives.{DriveState, drive_in, fresh_unit, returned_drive, info_of, info_at, in_mode, with_drive, with_mode}
+use Rattle.uda_exec.specs.Drives.{DriveState, drive_in, fresh_unit, returned_drive, info_of, info_at, in_mode, with_drive}
 use Rattle.uda_port.specs.Port.{PortState}
-use Rattle.uda_c.specs.declared.call_status.CallStatus.TheVariants.{Done, NoSuchUnit, NotAttached}
+use Rattle.uda_c.specs.declared.call_status.CallStatus.TheVariants.{Done, NoSuchUnit, NotAttached, OtherKind}
 use Rattle.uda_c.specs.ControllerState.{ControllerState}
-use Rattle.uda_c.specs.BorrowedImage.{with_failing_call}
-use Rattle.uda_c.specs.Controllers.{FailsAt, drive_failing, unit_failing}
+use Rattle.uda_image.specs.Store.{StoreState}
+use Rattle.uda_c.specs.declared.block_range.BlockAnswer.{BlockAnswer}
+use Rattle.uda_c.specs.declared.call_status.CallStatus.{CallStatus}
+use Rattle.uda_c.specs.BlockRange.{LendsBlocks, AllowsBlocks}
+use Rattle.uda_c.specs.UnitImage.{store_failing, store_lent, is_called, is_called_in, LentAnswer, status_of}
+use Rattle.uda_c.specs.Controllers.{FailsAt, unit_with, with_store, port_put_back, has_image, unit_answer, failing_answer, is_called_at}
 
 -- a unit with a mode and a size has a drive
 pub record Seen (slot : Option (Option UnitState)) (look : UnitInfo) : Type 0 where
@@ -49,48 +53,143 @@ put_back units u drive m =
     let back : List (Option UnitState) = set (set units u None) u (Some (fresh_unit drive)) in
     set back u (in_mode m (unwrap_or (slice_get back u) None))
 
-unit_fails : (units : List (Option UnitState)) (u : ℕ) (call : Option ℕ) (look : UnitInfo) (drive failing : DriveState)
+unit_changes : (units : List (Option UnitState)) (u : ℕ) (change : StoreState → StoreState) (look : UnitInfo)
+    (drive changed : DriveState)
     → info_at (slice_get units u) ≡ Some look → Some drive ≡ returned_drive units u None
-    → failing ≡ drive_failing call drive
-    → put_back units u failing look.mode ≡ set units u
-    (option_map (unit_failing call) (unwrap_or (slice_get units u) None))
-unit_fails units u call look drive failing e back fails =
+    → changed ≡ record drive { store = change drive.store }
+    → put_back units u changed look.mode ≡ set units u
+    (option_map (unit_with change) (unwrap_or (slice_get units u) None))
+unit_changes units u change look drive changed e back changes =
     let s = seen (slice_get units u) look e in
     let drive_is : drive ≡ drive_in s.unit =
     ap (λ (o : Option DriveState). unwrap_or o drive) (back ∙ handed units u s.unit s.here) in
-    let b : Option UnitState = Some (fresh_unit failing) in
+    let b : Option UnitState = Some (fresh_unit changed) in
     let got : slice_get (set units u b) u ≡ Some b =
     slice_get-set_same units u b (slice_get_within units u (Some s.unit) s.here) in
-    let store = ap (λ (d : DriveState). d.store) fails
-    ∙ ap (λ (d : DriveState). with_failing_call call d.store) drive_is in
+    let store = ap (λ (d : DriveState). d.store) changes
+    ∙ ap (λ (d : DriveState). change d.store) drive_is in
     let mode = ap (λ (l : UnitInfo). l.mode) s.look_is in
     ap (λ (xs : List (Option UnitState)). set xs u (in_mode look.mode (unwrap_or (slice_get xs u) None)))
     (set-set units u None b)
     ∙ ap (λ (o : Option (Option UnitState)). set (set units u b) u (in_mode look.mode (unwrap_or o None))) got
     ∙ set-set units u b (in_mode look.mode b)
     ∙ ap (set units u) (ap₂ (λ x y. Some (record { store = x; mode = y })) store mode)
-    ∙ ap (λ (o : Option (Option UnitState)). set units u (option_map (unit_failing call) (unwrap_or o None)))
+    ∙ ap (λ (o : Option (Option UnitState)). set units u (option_map (unit_with change) (unwrap_or o None)))
     (sym s.here)
 
--- the three calls that do so
+-- a drive that was removed, changed and put back
+pub store_changes : (old : ControllerState) (u : ℕ) (change : StoreState → StoreState) (look : UnitInfo)
+    (drive changed : DriveState) (out new : PortState)
+    → info_at (slice_get old.port.exec.units u) ≡ Some look
+    → Some drive ≡ returned_drive old.port.exec.units u None → changed ≡ record drive { store = change drive.store }
+    → out ≡ record old.port { exec = with_drive old.port.exec u None } → new ≡ port_put_back out u changed look.mode
+    → record old { port = new } ≡ with_store old u change
+store_changes old u change look drive changed out new e given changes out_is new_is =
+    ap (λ (p : PortState). record old { port = p }) (new_is
+    ∙ ap (λ (p : PortState). port_put_back p u changed look.mode) out_is)
+    ∙ ap (λ (units : List (Option UnitState)).
+    record old { port = record old.port { exec = record old.port.exec { units = units } } })
+    (unit_changes old.port.exec.units u change look drive changed e given changes)
+
+-- a store that isn't changed
+same_unit : (o : Option UnitState) → option_map (unit_with (λ (s : StoreState). s)) o ≡ o
+same_unit None = refl
+same_unit (Some unit) = refl
+
+pub nothing_changes : (old : ControllerState) (u : ℕ) → with_store old u (λ (s : StoreState). s) ≡ old
+nothing_changes old u =
+    let units = old.port.exec.units in
+    ap (λ (us : List (Option UnitState)).
+    record old { port = record old.port { exec = record old.port.exec { units = us } } })
+    (ap (set units u) (same_unit (unwrap_or (slice_get units u) None)
+    ∙ unwrap_or-slice_get units u None) ∙ set-get_or units u None)
+
+-- a unit with an image
+pub has_status : (old : ControllerState) (u : ℕ) (look : UnitInfo) → nat_lt 3 u ≡ false
+    → info_at (slice_get old.port.exec.units u) ≡ Some look → unit_answer old u ≡ Done
+has_status old u look there e =
+    ap (λ b. if b then NoSuchUnit else if has_image old u then Done else NotAttached) there
+    ∙ ap (λ (o : Option UnitInfo). if is_some o then Done else NotAttached) e
+
+failing_status : (old : ControllerState) (u : ℕ) (look : UnitInfo) → nat_lt 3 u ≡ false
+    → info_at (slice_get old.port.exec.units u) ≡ Some look
+    → failing_answer old u ≡ (if is_called_at old u then OtherKind else Done)
+failing_status old u look there e =
+    ap (λ b. if b then NoSuchUnit else if has_image old u then (if is_called_at old u then OtherKind else Done)
+    else NotAttached) there
+    ∙ ap (λ (o : Option UnitInfo). if is_some o then (if is_called_at old u then OtherKind else Done) else NotAttached) e
+
+-- the calls that make a call of an image fail, or don't
 pub fails_at : (old : ControllerState) (u : ℕ) (call : Option ℕ) (look : UnitInfo) (drive failing : DriveState)
-    (out back new : PortState)
-    → nat_lt 3 u ≡ false → info_at (slice_get old.port.exec.units u) ≡ Some look
-    → Some drive ≡ returned_drive old.port.exec.units u None → failing ≡ drive_failing call drive
-    → out ≡ record old.port { exec = with_drive old.port.exec u None }
-    → back ≡ record out { exec = with_drive out.exec u (Some failing) }
-    → new ≡ record back { exec = with_mode back.exec u look.mode }
+    (out new : PortState)
+    → nat_lt 3 u ≡ false → info_at (slice_get old.port.exec.units u) ≡ Some look → is_called_at old u ≡ false
+    → Some drive ≡ returned_drive old.port.exec.units u None
+    → failing ≡ record drive { store = store_failing call drive.store }
+    → out ≡ record old.port { exec = with_drive old.port.exec u None } → new ≡ port_put_back out u failing look.mode
     → FailsAt old u call Done (record old { port = new })
-fails_at old u call look drive failing out back new there e given fails out_is back_is new_is = record {
-  answer_is =
-      sym (ap (λ b. if b then NoSuchUnit else if is_some (info_at (slice_get old.port.exec.units u)) then Done
-      else NotAttached) there
-      ∙ ap (λ (o : Option UnitInfo). if is_some o then Done else NotAttached) e);
-  fails = λ _. ap (λ (p : PortState). record old { port = p }) (new_is
-      ∙ ap (λ (p : PortState). record p { exec = with_mode p.exec u look.mode }) (back_is
-      ∙ ap (λ (p : PortState). record p { exec = with_drive p.exec u (Some failing) }) out_is)
-      ∙ ap (λ (units : List (Option UnitState)).
-      record old.port { exec = record old.port.exec { units = units } })
-      (unit_fails old.port.exec.units u call look drive failing e given fails));
+fails_at old u call look drive failing out new there e lent given fails out_is new_is = record {
+  answer_is = sym (failing_status old u look there e ∙ ap (λ b. if b then OtherKind else Done) lent);
+  fails = λ _. store_changes old u (store_failing call) look drive failing out new e given fails out_is new_is;
   refused = λ no. absurd (no refl);
+}
+
+pub fails_not : (old : ControllerState) (u : ℕ) (call : Option ℕ) (look : UnitInfo) → nat_lt 3 u ≡ false
+    → info_at (slice_get old.port.exec.units u) ≡ Some look → is_called_at old u ≡ true
+    → FailsAt old u call OtherKind old
+fails_not old u call look there e called = record {
+  answer_is = sym (failing_status old u look there e ∙ ap (λ b. if b then OtherKind else Done) called);
+  fails = λ no. absurd (cc);
+  refused = λ _. refl;
+}
+
+-- a drive that is removed is one that C reads and writes, as its unit's
+pub called_drive_is : (old : ControllerState) (u : ℕ) (look : UnitInfo) (drive : DriveState)
+    → info_at (slice_get old.port.exec.units u) ≡ Some look → Some drive ≡ returned_drive old.port.exec.units u None
+    → is_called_at old u ≡ is_called drive.store
+called_drive_is old u look drive e back =
+    let units = old.port.exec.units in
+    let s = seen (slice_get units u) look e in
+    let drive_is : drive ≡ drive_in s.unit =
+    ap (λ (o : Option DriveState). unwrap_or o drive) (back ∙ handed units u s.unit s.here) in
+    ap is_called_in s.here ∙ sym (ap (λ (d : DriveState). is_called d.store) drive_is)
+
+-- ---- blocks that are made ready
+
+pub lent_size : (done : Bool) (first : ℕ) (from : List ℕ) (store : StoreState)
+    → (store_lent done first from store).size ≡ store.size
+lent_size true first from store = refl
+lent_size false first from store = refl
+
+pub lent_faithful : (done : Bool) (first : ℕ) (from : List ℕ) (store : StoreState)
+    → (store_lent done first from store).faithful ≡ store.faithful
+lent_faithful true first from store = refl
+lent_faithful false first from store = refl
+
+-- the calls that lend blocks, or don't
+pub lends : (old : ControllerState) (u first : ℕ) (from : List ℕ) (look : UnitInfo) (made : Result Unit CallStatus)
+    (answer : CallStatus) (new : ControllerState)
+    → unit_answer old u ≡ Done → LentAnswer (is_called_at old u) (status_of made)
+    → IfErr made (λ status. status ≢ Done) → answer ≡ status_of made
+    → new ≡ with_store old u (store_lent (is_ok made) first from) → LendsBlocks old (u, first) from answer new
+lends old u first from look (Ok done) answer new there kind fails is goes = record {
+  no_image = λ no. absurd (no there);
+  answers = λ _. subst (LentAnswer (is_called_at old u)) (sym is) kind;
+  lent = λ _. goes;
+  refused = λ no. absurd (no is);
+}
+lends old u first from look (Err status) answer new there kind fails is goes = record {
+  no_image = λ no. absurd (no there);
+  answers = λ _. subst (LentAnswer (is_called_at old u)) (sym is) kind;
+  lent = λ done. absurd (fails (sym is ∙ done));
+  refused = λ _. goes ∙ nothing_changes old u;
+}
+
+-- what C says of blocks that it doesn't lend changes nothing that a controller shows
+pub allows : (old : ControllerState) (u : ℕ) (access : BlockAnswer) (answer : CallStatus) (new : ControllerState)
+    → unit_answer old u ≡ Done → LentAnswer (is_called_at old u) answer → new ≡ old
+    → AllowsBlocks old u (Some access) answer new
+allows old u access answer new there kind same = record {
+  no_image = λ no. absurd (no there);
+  answers = λ _. kind;
+  same = same;
 }

@@ -1,4 +1,7 @@
 -- The units of a controller are faithful, and remain so after each call of its port.
+use Rattle.uda_c.specs.ControllerState.{ControllerState}
+use Rattle.uda_c.specs.Controllers.{unit_with, with_store}
+use Rattle.uda_image.specs.Store.{StoreState}
 use Rattle.std.proofs.Common.{◌≡◌, ℕ, zero, suc, Bool, true, false, List, [], ◌∷◌, set, Option, Some, None, Result, Ok, Err, refl, sym, ap, ◌∙◌}
 use Rattle.std.specs.Prelude.{option_map, slice_get, unwrap_or, if◌then◌else◌}
 use Rattle.std.proofs.lemmas.Option.{slice_get-map}
@@ -282,6 +285,21 @@ pub mode_faithful : (old new : PortState) (u : ℕ) (m : Mode)
 mode_faithful old new u m is all k =
     ap (λ (p : PortState). is_faithful (slice_get p.exec.units k)) is
     ∙ set_faithful old.exec.units u _ (moded m (slice_get old.exec.units u) (all u)) all k
+
+changed : (change : StoreState → StoreState) (o : Option (Option UnitState))
+    → ((store : StoreState) → (change store).faithful ≡ store.faithful) → is_faithful o ≡ true
+    → is_faithful (Some (option_map (unit_with change) (unwrap_or o None))) ≡ true
+changed change (Some (Some unit)) keeps h = keeps unit.store ∙ h
+changed change (Some None) keeps h = refl
+changed change None keeps h = refl
+
+-- a store that is changed
+pub changed_faithful : (old new : ControllerState) (u : ℕ) (change : StoreState → StoreState)
+    → new ≡ with_store old u change → ((store : StoreState) → (change store).faithful ≡ store.faithful)
+    → AllFaithful old.port.exec.units → AllFaithful new.port.exec.units
+changed_faithful old new u change is keeps all k =
+    ap (λ (c : ControllerState). is_faithful (slice_get c.port.exec.units k)) is
+    ∙ set_faithful old.port.exec.units u _ (changed change (slice_get old.port.exec.units u) keeps (all u)) all k
 
 pub none_faithful : (u : ℕ) → is_faithful (slice_get (None ∷ None ∷ None ∷ None ∷ []) u) ≡ true
 none_faithful zero = refl

@@ -42,7 +42,8 @@ use Rattle.uda_port.specs.MemoryUse.{use_of, fate_in, fate_of, CanFail, EffectBy
 use Rattle.uda_port.specs.StartupUse.{WordEffect}
 use Rattle.uda_port.proofs.MemoryUseLaws.{fate_fails}
 use Rattle.uda_c.specs.ControllerState.{ControllerState}
-use Rattle.uda_c.specs.Controllers.{controller_failing, controller_at_start, unit_failing}
+use Rattle.uda_c.specs.Controllers.{controller_at_start, unit_with, with_store}
+use Rattle.uda_image.specs.Store.{StoreState}
 use Rattle.uda_c.specs.Fits.{UnitNotice, unit_fits, notice_of, fits_at, is_as_attached, FitsController, numbers_fit, fits_in, fits_controller}
 use Rattle.uda_c.proofs.FaithfulUnits.{turn_natures, effect_natures}
 
@@ -644,30 +645,27 @@ pub typed_exec : (set_it : Bool) (old new : PortState) (u : ℕ) (kind : DriveTy
 typed_exec true old new u kind is = ap (λ (p : PortState). p.exec) is
 typed_exec false old new u kind is = ap (λ (p : PortState). p.exec) is
 
--- ---- failing calls
-
-failing_slot : (call : Option ℕ) (slot : Option (Option UnitState))
-    → info_at (Some (option_map (unit_failing call) (unwrap_or slot None))) ≡ info_at (Some (unwrap_or slot None))
-failing_slot call (Some (Some unit)) = refl
-failing_slot call (Some None) = refl
-failing_slot call None = refl
+-- ---- changed stores
 
 -- no unit's mode or size changes
-failing_infos : (units : Units) (u : ℕ) (call : Option ℕ) (k : ℕ)
-    → info_at (slice_get (set units u (option_map (unit_failing call) (unwrap_or (slice_get units u) None))) k)
+changed_infos : (units : Units) (u : ℕ) (change : StoreState → StoreState) (k : ℕ)
+    → ((store : StoreState) → (change store).size ≡ store.size)
+    → info_at (slice_get (set units u (option_map (unit_with change) (unwrap_or (slice_get units u) None))) k)
     ≡ info_at (slice_get units k)
-failing_infos [] u call k = refl
-failing_infos (None ∷ units) zero call zero = refl
-failing_infos (Some unit ∷ units) zero call zero = refl
-failing_infos (x ∷ units) zero call (suc k) = refl
-failing_infos (x ∷ units) (suc u) call zero = refl
-failing_infos (x ∷ units) (suc u) call (suc k) = failing_infos units u call k
+changed_infos [] u change k keeps = refl
+changed_infos (None ∷ units) zero change zero keeps = refl
+changed_infos (Some unit ∷ units) zero change zero keeps =
+    ap (λ (size : ℕ). Some (record { mode = unit.mode; size = size })) (keeps unit.store)
+changed_infos (x ∷ units) zero change (suc k) keeps = refl
+changed_infos (x ∷ units) (suc u) change zero keeps = refl
+changed_infos (x ∷ units) (suc u) change (suc k) keeps = changed_infos units u change k keeps
 
-pub failing_fits : (old new : ControllerState) (u : ℕ) (call : Option ℕ) → new ≡ controller_failing old u call
+pub changed_fits : (old new : ControllerState) (u : ℕ) (change : StoreState → StoreState)
+    → new ≡ with_store old u change → ((store : StoreState) → (change store).size ≡ store.size)
     → FitsController old.port → FitsController new.port
-failing_fits old new u call is fits = subst (λ (c : ControllerState). FitsController c.port) (sym is) (record {
+changed_fits old new u change is keeps fits = subst (λ (c : ControllerState). FitsController c.port) (sym is) (record {
   numbers = fits.numbers;
-  units = λ k less. rw (failing_infos old.port.exec.units u call k) (fits.units k less);
+  units = λ k less. rw (changed_infos old.port.exec.units u change k keeps) (fits.units k less);
 })
 
 -- ---- a new controller

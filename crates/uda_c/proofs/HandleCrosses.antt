@@ -14,7 +14,7 @@ use Rattle.std.specs.contracts.alloc.Global.{the_row as Z}
 use Rattle.std.specs.contracts.impls.GlobalAllocator.TheImpl.{ghosts}
 use Rattle.circular_buffer.proofs.Crosses.{Cells-send, Deed-send}
 use Rattle.circular_buffer.specs.contracts.cells.Deed as Deed
-use Rattle.uda_c.proofs.Crosses.{lent_send}
+use Rattle.uda_c.proofs.Crosses.{lent_send, file_trace_send}
 use Rattle.uda_c.specs.Held.{heap, held}
 use Rattle.uda_c.specs.ControllerState.{ControllerState}
 use Rattle.uda_port.specs.contracts.guest.Guest.{the_row as G}
@@ -23,8 +23,9 @@ use Rattle.uda_packet.specs.contracts.reply.Reply.{the_row as E}
 use Rattle.uda_port.specs.contracts.trace.Trace.{the_row as T}
 use Rattle.uda_exec.specs.contracts.executor.Exec as Exec
 use Rattle.uda_port.specs.contracts.port.Port as Port
-use Rattle.uda_c.specs.contracts.lent_image.BorrowedImage.{the_row as I}
-use Rattle.uda_c.specs.contracts.lent_image.BorrowedImageBlockStore.TheImpl.{ghosts as image_ghosts}
+use Rattle.uda_called.specs.contracts.image.CalledImage.{the_row as B}
+use Rattle.uda_c.specs.contracts.unit_image.UnitImage.{the_row as I}
+use Rattle.uda_c.specs.contracts.unit_image.UnitImageBlockStore.TheImpl.{ghosts as image_ghosts}
 use Rattle.uda_c.specs.contracts.controller.Controller.{the_row as X}
 use Rattle.uda_c.specs.contracts.handle.Handle.{the_row, the_type}
 
@@ -43,8 +44,14 @@ reply_send = search sendable depth 60 fits 30000
 trace_send : IsSend T
 trace_send = search (sendable, command_send, reply_send) depth 60 fits 30000
 
+called_send : IsSend B
+called_send = search (sendable, crosses, file_trace_send) depth 80 fits 30000
+
+image_send : IsSend I
+image_send = search (sendable, crosses, lent_send, called_send) depth 80 fits 30000
+
 exec_send : IsSend (Exec.the_row I image_ghosts)
-exec_send = search (sendable, crosses, command_send, lent_send) depth 80 fits 30000
+exec_send = search (sendable, crosses, command_send, image_send) depth 80 fits 30000
 
 port_send : IsSend (Port.the_row I image_ghosts)
 port_send =

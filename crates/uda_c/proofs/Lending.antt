@@ -2,7 +2,6 @@
 use Rattle.std.proofs.Common.{◌≡◌, ◌≢◌, ℕ, ◌<◌, ◌≤◌, Bool, true, false, List, [], length, length-set, set, Option, Some, None, refl, sym, ap, subst, ◌∙◌, arith}
 use Rattle.uda_port.specs.declared.profile.Profile.{Profile}
 use Rattle.std.specs.Prelude.{◌==◌, ◌||◌, option_map, slice_get, unwrap_or, is_some, if◌then◌else◌}
-use Rattle.std.specs.List.{concat}
 use Rattle.std.proofs.lemmas.Bool.{le-ltb, ne_eqb}
 use Rattle.uda_disk.proofs.Slots.{slice_get-set_same}
 use Rattle.uda_disk.specs.Units.{UnitState}
@@ -18,7 +17,10 @@ use Rattle.uda_c.specs.CallStatus.{status_code}
 use Rattle.uda_c.specs.declared.unit_images.UnitImages.{UnitImages}
 use Rattle.uda_c.specs.declared.slot.Slot.{Slot}
 use Rattle.uda_c.specs.declared.lent.BorrowedBytes.{BorrowedBytes}
-use Rattle.uda_c.specs.BorrowedImage.{BorrowedBlocks, IsWhole, borrowed_state}
+use Rattle.uda_image.specs.Store.{StoreState}
+use Rattle.uda_c.specs.BorrowedImage.{IsWhole}
+use Rattle.uda_c.specs.UnitImage.{lent_state, zero_state, bytes_of_store}
+use Rattle.uda_c.specs.BlockRange.{AttachesCalled, size_answer}
 use Rattle.uda_c.specs.Slots.{empty_slot, lent_in, slot_of, is_empty, are_empty}
 use Rattle.uda_c.specs.Controllers.{Lending, Attaches, Detaches, MakesNew, OnHandle, GivesBack, Frees, image_answer, image_in, has_image, lent_drive}
 
@@ -32,19 +34,18 @@ attached units u lending there whole =
     lending.bytes whole.0 whole.1)
 
 -- the calls that do it
-pub attaches : (old : ControllerState) (u : ℕ) (slot after : Slot) (hard : Bool) (bytes : List ℕ) (store :
-    BorrowedBlocks) (new : PortState)
+pub attaches : (old : ControllerState) (u : ℕ) (slot after : Slot) (hard : Bool) (bytes : List ℕ)
+    (store : StoreState) (new : PortState)
     → u ≤ 3 → has_image old u ≡ false → bytes ≡ slot.held → IsWhole bytes → after ≡ empty_slot
-    → image_answer (length slot.held) ≡ Done → store ≡ record { bytes = bytes; left = None }
-    → new ≡ port_with_drive old.port u (Some (record { store = borrowed_state store; hard = hard }))
+    → image_answer (length slot.held) ≡ Done → store ≡ lent_state bytes
+    → new ≡ port_with_drive old.port u (Some (record { store = store; hard = hard }))
     → length new.exec.units ≡ 4 → Attaches (old, slot) u hard Done (record old { port = new }, after)
 attaches old u slot after hard bytes store new low free are whole gone fits store_is new_is four_units =
     let units : List (Option UnitState) = old.port.exec.units in
     let lending : Lending = record { bytes = slot.held; hard = hard } in
     let kept : Lending = record { bytes = slot.held; hard = read_only_at old.port u || hard } in
-    let drive_is : record { store = borrowed_state store; hard = hard } ≡ lent_drive lending =
-    ap (λ (s : BorrowedBlocks). record { store = borrowed_state s; hard = hard }) (store_is
-    ∙ ap (λ (b : List ℕ). record { bytes = b; left = None }) are) in
+    let drive_is : record { store = store; hard = hard } ≡ lent_drive lending =
+    ap (λ (s : StoreState). record { store = s; hard = hard }) (store_is ∙ ap lent_state are) in
     let is : new ≡ port_with_drive old.port u (Some (lent_drive lending)) =
     new_is ∙ ap (λ (d : DriveState). port_with_drive old.port u (Some d)) drive_is in
     let long : length units ≡ 4 =
@@ -91,14 +92,14 @@ not_put old u look slot after lent low e some were put = record {
 pub given_back : (units : List (Option UnitState)) (u : ℕ) (look : UnitInfo) (drive : DriveState) (bytes :
     List ℕ)
     → info_at (slice_get units u) ≡ Some look → Some drive ≡ returned_drive units u None
-    → bytes ≡ concat drive.store.blocks
+    → bytes ≡ unwrap_or (bytes_of_store drive.store) []
     → option_map (λ (image : Lending). image.bytes) (image_in (slice_get units u)) ≡ Some bytes
 given_back units u look drive bytes e back are =
     let s = seen (slice_get units u) look e in
     let drive_is : drive ≡ drive_in s.unit =
     ap (λ (o : Option DriveState). unwrap_or o drive) (back ∙ handed units u s.unit s.here) in
     ap (λ (o : Option (Option UnitState)). option_map (λ (image : Lending). image.bytes) (image_in o)) s.here
-    ∙ ap Some (sym (are ∙ ap (λ (d : DriveState). concat d.store.blocks) drive_is))
+    ∙ ap Some (sym (are ∙ ap (λ (d : DriveState). unwrap_or (bytes_of_store d.store) []) drive_is))
 
 -- a handle that has a controller keeps it
 pub controller_stays : (old new : Option ControllerState) {b : Bool} (profile : Profile) → b ≡ is_some old
@@ -108,13 +109,13 @@ controller_stays (Some c) new profile is has stays = (refl, stays)
 controller_stays None new profile is has stays = let no : false ≡ true = sym is ∙ has in absurd (cc)
 
 -- the calls that return a unit's image
-pub detaches : (old : ControllerState) (u : ℕ) (look : UnitInfo) (slot after : Slot) (lent : BorrowedBytes)
+pub detaches : (old : ControllerState) (u : ℕ) (look : UnitInfo) (slot after : Slot)
     (drive : DriveState) (new : PortState)
     → u ≤ 3 → info_at (slice_get old.port.exec.units u) ≡ Some look → slot.held ≡ []
-    → Some drive ≡ returned_drive old.port.exec.units u None → lent.held ≡ concat drive.store.blocks
-    → after ≡ slot_of lent → new ≡ port_with_drive old.port u None
+    → Some drive ≡ returned_drive old.port.exec.units u None
+    → after.held ≡ unwrap_or (bytes_of_store drive.store) [] → new ≡ port_with_drive old.port u None
     → Detaches (old, slot) u Done (record old { port = new }, after)
-detaches old u look slot after lent drive new low e empty back are put is =
+detaches old u look slot after drive new low e empty back are is =
     let units = old.port.exec.units in record {
       answer_is = sym (ap (λ b. if b then NoSuchUnit else if has_image old u then
           (if length slot.held == 0 then Done else NotEmpty) else NotAttached) (le-ltb 3 u low)
@@ -122,8 +123,7 @@ detaches old u look slot after lent drive new low e empty back are put is =
           if is_some o then (if length slot.held == 0 then Done else NotEmpty) else NotAttached) e
           ∙ ap (λ (bytes : List ℕ). if length bytes == 0 then Done else NotEmpty) empty);
       detached = λ _. ap (λ (p : PortState). record old { port = p }) is;
-      given_back = λ _. given_back units u look drive after.held e back
-          (ap (λ (s : Slot). s.held) put ∙ are);
+      given_back = λ _. given_back units u look drive after.held e back are;
       refused = λ no. absurd (no refl);
     }
 
@@ -172,3 +172,17 @@ stays_whole (Some a) images answer (Some b) after gives refused =
     }
 stays_whole None images answer (Some b) after gives refused = absurd gives
 stays_whole (Some a) images answer None after gives refused = absurd gives
+
+-- the calls that attach an image that C reads and writes, or don't
+pub attaches_called : (old : ControllerState) (u blocks : ℕ) (hard : Bool) (store : StoreState) (new : PortState)
+    → u ≤ 3 → has_image old u ≡ false → size_answer blocks ≡ Done → store ≡ zero_state blocks
+    → new ≡ port_with_drive old.port u (Some (record { store = store; hard = hard }))
+    → AttachesCalled old (u, (blocks, hard)) Done (record old { port = new })
+attaches_called old u blocks hard store new low free fits store_is new_is = record {
+  answer_is = sym (ap (λ b. if b then NoSuchUnit else if has_image old u then AlreadyAttached else size_answer blocks)
+      (le-ltb 3 u low)
+      ∙ ap (λ b. if b then AlreadyAttached else size_answer blocks) free ∙ fits);
+  attached = λ _. ap (λ (p : PortState). record old { port = p }) (new_is
+      ∙ ap (λ (s : StoreState). port_with_drive old.port u (Some (record { store = s; hard = hard }))) store_is);
+  refused = λ no. absurd (no refl);
+}

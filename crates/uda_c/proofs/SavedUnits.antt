@@ -1,5 +1,5 @@
 -- The units of a controller that is saved and restored.
-use Rattle.std.proofs.Common.{◌≡◌, ◌≢◌, ℕ, zero, suc, false, true, List, [], ◌∷◌, length, map, get_or, set, Option, Some, None, Result, Ok, Err}
+use Rattle.std.proofs.Common.{◌≡◌, ◌≢◌, ℕ, zero, suc, Bool, false, true, List, [], ◌∷◌, length, map, get_or, set, Option, Some, None, Result, Ok, Err}
 use Rattle.std.proofs.Common.{refl, sym, ap, ap₂, ◌∙◌, subst, ◌&&◌, arith}
 use Rattle.std.specs.Prelude.{option_map, slice_get, unwrap_or, nat_lt}
 use Rattle.std.proofs.lemmas.List.{set-get_or}
@@ -15,10 +15,11 @@ use Rattle.uda_port.specs.Port.{PortState}
 use Rattle.uda_port.specs.Saved.{saved_port, port_restored, RestoreEffect, SameButCounts}
 use Rattle.uda_port.proofs.Saving.{restored_is_saved}
 use Rattle.uda_c.specs.declared.call_status.CallStatus.{CallStatus}
-use Rattle.uda_c.specs.declared.call_status.CallStatus.TheVariants.{Done, NotAttached}
+use Rattle.uda_c.specs.declared.call_status.CallStatus.TheVariants.{Done, NotAttached, OtherKind}
 use Rattle.uda_c.proofs.FittingUnits.{saved_fits}
 use Rattle.uda_c.specs.ControllerState.{ControllerState}
-use Rattle.uda_c.specs.Controllers.{FailsAt, unit_answer, unit_failing, controller_failing}
+use Rattle.uda_c.specs.Controllers.{FailsAt, failing_answer, unit_failing, controller_failing}
+use Rattle.uda_c.specs.UnitImage.{is_called}
 use Rattle.uda_c.specs.Saving.{failing_call_of, call_of, controller_failing_at, units_failing, calls_have_drives}
 use Rattle.uda_c.specs.Saving.{ControllerIsSaved}
 
@@ -67,12 +68,36 @@ no_drive units u call none =
     ap (λ (o : Option UnitState). set units u (option_map (unit_failing call) o)) none
     ∙ ap (set units u) (sym none ∙ unwrap_or-slice_get units u None) ∙ set-get_or units u None
 
+-- an image that C reads and writes stays as it is
+called_stays : (units : List (Option UnitState)) (u : ℕ) (call : Option ℕ) (unit : UnitState)
+    → slice_get units u ≡ Some (Some unit) → is_called unit.store ≡ true
+    → set units u (option_map (unit_failing call) (unwrap_or (slice_get units u) None)) ≡ units
+called_stays units u call unit here called =
+    let same : unit_failing call unit ≡ unit = rw called refl in
+    ap (λ (o : Option (Option UnitState)). set units u (option_map (unit_failing call) (unwrap_or o None))) here
+    ∙ ap (λ (x : UnitState). set units u (Some x)) same
+    ∙ sym (ap (λ (o : Option (Option UnitState)). set units u (unwrap_or o None)) here)
+    ∙ ap (set units u) (unwrap_or-slice_get units u None) ∙ set-get_or units u None
+
+fails_by_kind : (old : ControllerState) (u : ℕ) (call : Option ℕ) (answer : CallStatus) (new : ControllerState)
+    (unit : UnitState) (called : Bool)
+    → FailsAt old u call answer new → nat_lt 3 u ≡ false → slice_get old.port.exec.units u ≡ Some (Some unit)
+    → is_called unit.store ≡ called → new ≡ controller_failing old u call
+fails_by_kind old u call answer new unit false goes low here kind =
+    goes.fails (goes.answer_is ∙ rw (low, here, kind) refl)
+fails_by_kind old u call answer new unit true goes low here kind =
+    let other : answer ≡ OtherKind = goes.answer_is ∙ rw (low, here, kind) refl in
+    goes.refused (λ done. let both : OtherKind ≡ Done = sym other ∙ done in absurd (cc))
+    ∙ ap (λ (units : List (Option UnitState)).
+    record old { port = record old.port { exec = record old.port.exec { units = units } } })
+    (sym (called_stays old.port.exec.units u call unit here kind))
+
 pub unit_fails : (old : ControllerState) (u : ℕ) (call : Option ℕ) (answer : CallStatus)
     (new : ControllerState)
     → FailsAt old u call answer new → nat_lt 3 u ≡ false → new ≡ controller_failing old u call
 unit_fails old u call answer new goes low = by (slice_get old.port.exec.units u) refl
   where
-    stays : (unit_answer old u ≡ NotAttached) → unwrap_or (slice_get old.port.exec.units u) None ≡ None
+    stays : (failing_answer old u ≡ NotAttached) → unwrap_or (slice_get old.port.exec.units u) None ≡ None
         → new ≡ controller_failing old u call
     stays not none =
         let refused : answer ≢ Done = λ e. let both : NotAttached ≡ Done = sym not ∙ sym goes.answer_is
@@ -84,7 +109,8 @@ unit_fails old u call answer new goes low = by (slice_get old.port.exec.units u)
 
     by : (slot : Option (Option UnitState)) → slice_get old.port.exec.units u ≡ slot → new
         ≡ controller_failing old u call
-    by (Some (Some unit)) here = goes.fails (goes.answer_is ∙ rw (low, here) refl)
+    by (Some (Some unit)) here =
+        fails_by_kind old u call answer new unit (is_called unit.store) goes low here refl
     by (Some None) here = stays (rw (low, here) refl) (rw here refl)
     by None here = stays (rw (low, here) refl) (rw here refl)
 

@@ -1,11 +1,9 @@
 -- The blocks that the next turn uses of an image that C reads and writes, and how C makes them ready.
-use Rattle.std.specs.Prelude.{◌≡◌, ◌≢◌, ℕ, ◌+◌, ◌*◌, ◌≤◌, ◌==◌, Bool, true, List, length, Option, Some, None, slice_get, set, unwrap_or}
-use Rattle.std.specs.Prelude.{option_map, nat_lt, if◌then◌else◌}
+use Rattle.std.specs.Prelude.{◌≡◌, ◌≢◌, ℕ, ◌+◌, ◌*◌, ◌≤◌, ◌==◌, Bool, true, List, length, Option, Some, None}
+use Rattle.std.specs.Prelude.{nat_lt, if◌then◌else◌}
 use Rattle.uda_mem.specs.Put.{part}
 use Rattle.uda_mem.specs.Slices.{IsMemory}
 use Rattle.uda_image.specs.Limits.{store_limit}
-use Rattle.uda_image.specs.Store.{StoreState}
-use Rattle.uda_disk.specs.Units.{UnitState, Units}
 use Rattle.uda_exec.specs.declared.block_use.BlockAccess.{BlockAccess}
 use Rattle.uda_exec.specs.declared.block_use.BlockAccess.TheVariants.{Reads, Checks, Writes}
 use Rattle.uda_exec.specs.declared.block_use.BlockUse.{BlockUse}
@@ -16,7 +14,7 @@ use Rattle.uda_c.specs.declared.block_range.BlockAnswer.{BlockAnswer}
 use Rattle.uda_c.specs.declared.block_range.BlockAnswer.TheVariants.{Readable, Written}
 use Rattle.uda_c.specs.declared.block_range.BlockRange.{BlockRange}
 use Rattle.uda_c.specs.declared.call_status.CallStatus.{CallStatus}
-use Rattle.uda_c.specs.declared.call_status.CallStatus.TheVariants.{Done, NoSuchUnit, AlreadyAttached, NotAttached, BadLength, TooLarge, OtherKind}
+use Rattle.uda_c.specs.declared.call_status.CallStatus.TheVariants.{Done, NoSuchUnit, AlreadyAttached, BadLength, TooLarge, OtherKind}
 use Rattle.uda_c.specs.declared.turn_use.TurnUse.{TurnUse}
 use Rattle.uda_c.specs.ControllerState.{ControllerState}
 use Rattle.uda_c.specs.Controllers.{controller_with, has_image, unit_answer, is_called_at, with_store, memory_refusal}
@@ -109,7 +107,7 @@ pub record LendsBlocks (old : ControllerState) (place : ℕ × ℕ) (from : List
     (new : ControllerState) : Type 0 where
   pub no_image : unit_answer old place.0 ≢ Done → answer ≡ unit_answer old place.0
   pub answers : unit_answer old place.0 ≡ Done → LentAnswer (is_called_at old place.0) answer
-  pub lent : answer ≡ Done → new ≡ with_store old place.0 (store_lent Done place.1 from)
+  pub lent : answer ≡ Done → new ≡ with_store old place.0 (store_lent true place.1 from)
   pub refused : answer ≢ Done → new ≡ old
 
 -- the status of what C says of blocks that it doesn't lend

@@ -2,13 +2,13 @@
 use Rattle.std.specs.Prelude.{◌≡◌, ◌≢◌, ℕ, ◌/◌, ◌%◌, ◌==◌, ◌||◌, Bool, true}
 use Rattle.std.specs.Prelude.{false, List, [], ◌∷◌, Option, Some, None, slice_get}
 use Rattle.std.specs.Prelude.{nat_lt, length, is_some, option_map, set, unwrap_or, if◌then◌else◌}
-use Rattle.std.specs.List.{concat}
 use Rattle.uda_mem.specs.Slices.{IsMemory}
 use Rattle.uda_image.specs.Limits.{store_limit}
 use Rattle.uda_image.specs.Store.{StoreState}
 use Rattle.uda_disk.specs.Units.{UnitState, AllFaithful, AreWellFormed}
 use Rattle.uda_exec.specs.Disks.{basic_exec}
-use Rattle.uda_exec.specs.Drives.{DriveState, info_at}
+use Rattle.uda_disk.specs.declared.mode.Mode.{Mode}
+use Rattle.uda_exec.specs.Drives.{DriveState, info_at, with_drive, with_mode}
 use Rattle.uda_port.specs.declared.profile.Profile.{Profile}
 use Rattle.uda_port.specs.declared.profile.Profile.TheVariants.{Strict, Compatible}
 use Rattle.uda_port.specs.declared.trace.Trace.{Trace}
@@ -223,6 +223,11 @@ abbrev pub MakesNew : Option ControllerState → Profile → CallStatus → Opti
 MakesNew (Some c) profile answer new = (answer ≡ HasController) × (new ≡ Some c)
 MakesNew None profile answer None = answer ≡ NoMemory
 MakesNew None profile answer (Some c) = (answer ≡ Done) × (c ≡ controller_at_start profile)
+
+-- the port after a drive was put back, and its unit into its former mode
+abbrev pub port_put_back : PortState → ℕ → DriveState → Mode → PortState
+port_put_back port u drive mode =
+    record port { exec = with_mode (with_drive port.exec u (Some drive)) u mode }
 
 -- a unit whose store is so changed, otherwise unchanged
 abbrev pub unit_with : (StoreState → StoreState) → UnitState → UnitState

@@ -1,17 +1,17 @@
 -- The image of a unit as a store: bytes that C has lent, or blocks that C reads and writes by calls of its own.
-use Rattle.std.specs.Prelude.{◌≡◌, ◌⊎◌, ℕ, ◌/◌, ◌&&◌, not, Bool, true, false, List, length, Option, Some, None, is_none}
+use Rattle.std.specs.Prelude.{◌≡◌, ◌⊎◌, ℕ, ◌&&◌, not, Bool, true, false, List, Option, Some, None, is_none, Result, Ok, Err}
 use Rattle.std.specs.Prelude.{if◌then◌else◌}
 use Rattle.std.specs.List.{concat}
-use Rattle.std.specs.Simd.{first_chunks}
-use Rattle.uda_mem.specs.Put.{put}
 use Rattle.uda_image.specs.Store.{StoreState}
 use Rattle.uda_disk.specs.Units.{UnitState}
-use Rattle.uda_called.specs.CalledImage.{called_state, zero_image}
+use Rattle.uda_called.specs.CalledImage.{called_state, zero_image, with_blocks_lent}
+use Rattle.uda_called.specs.declared.image.Refusal.{Refusal}
+use Rattle.uda_called.specs.declared.image.Refusal.TheVariants.{Length, NoMemory as Refused}
 use Rattle.uda_c.specs.declared.call_status.CallStatus.{CallStatus}
 use Rattle.uda_c.specs.declared.call_status.CallStatus.TheVariants.{Done, NoMemory, BadLength, OtherKind}
 use Rattle.uda_c.specs.declared.unit_image.UnitImage.{UnitImage}
 use Rattle.uda_c.specs.declared.unit_image.UnitImage.TheVariants.{Lent, Called}
-use Rattle.uda_c.specs.BorrowedImage.{borrowed_state, with_failing_call}
+use Rattle.uda_c.specs.BorrowedImage.{borrowed_state, failures_of}
 
 abbrev pub unit_state : UnitImage → StoreState
 unit_state (Lent image) = borrowed_state image
@@ -37,15 +37,27 @@ is_called_in _ = false
 abbrev pub bytes_of_store : StoreState → Option (List ℕ)
 bytes_of_store store = if is_called store then None else Some (concat store.blocks)
 
--- the store whose call of this number from now on fails, and no other, if its bytes are in memory
+-- the store whose call of this number from now on fails, and no other; one that C reads and writes stays as it is
 abbrev pub store_failing : Option ℕ → StoreState → StoreState
-store_failing call store = if is_called store then store else with_failing_call call store
+store_failing call store = record store {
+  never_fails = if is_called store then store.never_fails else is_none call;
+  failures = if is_called store then store.failures else failures_of call;
+  failing_call = if is_called store then store.failing_call else call;
+}
 
 -- the store after these bytes were lent from this block on, if that was done
-abbrev pub store_lent : CallStatus → ℕ → List ℕ → StoreState → StoreState
-store_lent Done first from store =
-    record store { blocks = put store.blocks first (first_chunks 512 (length from / 512) from) }
-store_lent _ first from store = store
+abbrev pub store_lent : Bool → ℕ → List ℕ → StoreState → StoreState
+store_lent true first from store = with_blocks_lent first from store
+store_lent false first from store = store
+
+-- the status of blocks that can't be lent
+abbrev pub status_of_refusal : Refusal → CallStatus
+status_of_refusal Length = BadLength
+status_of_refusal Refused = NoMemory
+
+abbrev pub status_of : Result Unit CallStatus → CallStatus
+status_of (Ok done) = Done
+status_of (Err status) = status
 
 -- the status of a call that makes blocks ready
 abbrev pub LentAnswer : Bool → CallStatus → Type 0

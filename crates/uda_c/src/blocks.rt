@@ -6,13 +6,14 @@ ghost use Rattle.uda_c.specs.declared.call_status.CallStatus.TheVariants.{Done};
 ghost use Rattle.uda_c.specs.BlockRange.{size_answer, AttachesCalled, GetsBlocks, TellsBlocks, GetsWritten};
 ghost use Rattle.uda_c.specs.BlockRange.{CopiesWritten, LendsBlocks, AllowsBlocks};
 ghost use Rattle.uda_c.specs.Controllers.{is_called_at};
+ghost use Rattle.uda_c.specs.UnitImage.{status_of};
 
 use crate::block_range::{BlockAnswer, BlockRange};
 use crate::call_status::CallStatus;
-use crate::controller::{Controller, refusal_of};
+use crate::controller::{Controller, put_back, refusal_of};
 use crate::turn_use::TurnUse;
 use crate::unit_image::UnitImage;
-use uda_exec::{BlockUse, UnitInfo};
+use uda_exec::BlockUse;
 use uda_image::{Drive, STORE_LIMIT};
 
 impl Controller {
@@ -83,15 +84,9 @@ impl Controller {
         if let Some(Drive { store, hard }) = self.port.exchange_drive(unit, None) {
             let mut store = store;
             store.begin(used.first);
-            self.put_back(unit, Drive { store, hard }, look);
+            put_back(&mut self.port, unit, Drive { store, hard }, look.mode);
         }
         true
-    }
-
-    // Puts a drive back that was removed, as the drive of a unit in its former mode.
-    fn put_back(&mut self, unit: usize, drive: Drive<UnitImage>, look: UnitInfo) {
-        self.port.exchange_drive(unit, Some(drive));
-        self.port.restore_mode(unit, look.mode);
     }
 
     /// Fills `to` with bytes of the blocks that the next turn writes, after the first `skip` of them.
@@ -134,9 +129,9 @@ impl Controller {
         match self.port.exchange_drive(unit, None) {
             Some(Drive { store, hard }) => {
                 let mut store = store;
-                let answer = store.lend(first, from);
-                self.put_back(unit, Drive { store, hard }, look);
-                answer
+                let lent = store.lend(first, from);
+                put_back(&mut self.port, unit, Drive { store, hard }, look.mode);
+                status_of(lent)
             }
             None => CallStatus::NotAttached,
         }
@@ -160,11 +155,21 @@ impl Controller {
             Some(Drive { store, hard }) => {
                 let mut store = store;
                 let answer = store.allow(access, count);
-                self.put_back(unit, Drive { store, hard }, look);
+                put_back(&mut self.port, unit, Drive { store, hard }, look.mode);
                 answer
             }
             None => CallStatus::NotAttached,
         }
+    }
+}
+
+// Returns the status of a call with this result.
+fn status_of(made: Result<(), CallStatus>) -> CallStatus
+    ensures { result ≡ status_of made }
+{
+    match made {
+        Ok(()) => CallStatus::Done,
+        Err(status) => status,
     }
 }
 

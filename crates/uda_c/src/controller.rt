@@ -4,7 +4,7 @@ ghost use Rattle.uda_image.specs.Limits.{store_limit};
 ghost use Rattle.uda_mem.specs.Slices.{IsMemory};
 ghost use Rattle.uda_c.specs.declared.call_status.CallStatus.TheVariants.{RanTurn, Done, NoMemory};
 ghost use Rattle.uda_c.specs.Controllers.{controller_at_start, refusal_of_profile, SetsType, Attaches, Detaches, TurnsWhereMemory};
-ghost use Rattle.uda_c.specs.Controllers.{FailsAt, controller_failing, is_called_at, TakesTurn, memory_refusal, IsSoundPort};
+ghost use Rattle.uda_c.specs.Controllers.{FailsAt, controller_failing, is_called_at, port_put_back, TakesTurn, memory_refusal, IsSoundPort};
 ghost use Rattle.uda_c.specs.Saving.{Saves, RestoreOutcome, controller_saved, failing_call_of};
 ghost use Rattle.uda_c.specs.Saving.{controller_failing_at};
 ghost use Rattle.uda_port.specs.Port.{port_restarted, port_after_ip_read};
@@ -32,6 +32,7 @@ use crate::unit_images::UnitImages;
 use std::alloc::Global;
 use std::marker::Model;
 use uda_bus::Window;
+use uda_disk::Mode;
 use uda_exec::Exec;
 use uda_image::{Drive, STORE_LIMIT};
 use uda_mem::ByteRange;
@@ -209,8 +210,7 @@ impl Controller {
             return CallStatus::OtherKind;
         }
         if let Some(drive) = self.port.exchange_drive(unit, None) {
-            self.port.exchange_drive(unit, Some(failing(drive, call)));
-            self.port.restore_mode(unit, look.mode);
+            put_back(&mut self.port, unit, failing(drive, call), look.mode);
         }
         CallStatus::Done
     }
@@ -619,6 +619,14 @@ fn put_lent(image: UnitImage, slot: &mut Slot)
     if let Some(lent) = image.into_lent() {
         slot.put(lent);
     }
+}
+
+// Puts a drive back that was removed, and its unit into its former mode.
+pub(crate) fn put_back(port: &mut Port<UnitImage>, unit: usize, drive: Drive<UnitImage>, mode: Mode)
+    ensures back { port.new ≡ port_put_back port.old unit (drive_state unit_state drive) mode }
+{
+    port.exchange_drive(unit, Some(drive));
+    port.restore_mode(unit, mode);
 }
 
 // Returns a drive whose store fails at a call, counted from now on, or never, if its bytes are in memory.

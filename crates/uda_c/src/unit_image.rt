@@ -1,12 +1,12 @@
 //! The image of a unit: bytes that C has lent, or blocks that C reads and writes by calls of its own.
 ghost use Rattle.std.specs.Prelude.{◌≡◌, ◌≢◌, ◌+◌, ◌*◌, ◌<◌, ◌≤◌, true, false, [], length, option_map, Some, None};
-ghost use Rattle.std.specs.Prelude.{IfErr, IsOk};
+ghost use Rattle.std.specs.Prelude.{IfErr, IsOk, is_ok};
 ghost use Rattle.std.specs.List.{concat};
 ghost use Rattle.uda_image.specs.AtOnce.{TriesToRead, TriesToWrite, ChecksBlocks};
 ghost use Rattle.uda_image.specs.Store.{Reads, Writes, KeepsAttributes, is_sound};
 ghost use Rattle.uda_called.specs.CalledImage.{zero_image};
 ghost use Rattle.uda_c.specs.BorrowedImage.{IsWhole};
-ghost use Rattle.uda_c.specs.UnitImage.{unit_state, is_called, bytes_of_store, store_failing, store_lent, LentAnswer};
+ghost use Rattle.uda_c.specs.UnitImage.{unit_state, is_called, bytes_of_store, store_failing, store_lent, LentAnswer, status_of, status_of_refusal};
 ghost use Rattle.uda_c.specs.UnitImage.{zero_state, lent_state};
 ghost use Rattle.uda_c.specs.UnitImageLaws.{within_limit_of, whole_blocks_of};
 ghost use Rattle.uda_image.specs.Limits.{store_limit};
@@ -52,7 +52,7 @@ impl UnitImage {
     {
         match self {
             UnitImage::Lent(image) => Some(image.into_lent()),
-            UnitImage::Called(_) => None,
+            UnitImage::Called(_image) => None,
         }
     }
 
@@ -94,16 +94,16 @@ impl UnitImage {
     }
 
     /// Lends the bytes of blocks from this one on.
-    pub fn lend(&mut self, first: u32, from: &[u8]) -> CallStatus
-        ensures state { unit_state self.new ≡ store_lent result first from.now (unit_state self.old) }
-        ensures answer { LentAnswer (is_called (unit_state self.old)) result }
+    pub fn lend(&mut self, first: u32, from: &[u8]) -> Result<(), CallStatus>
+        ensures state { unit_state self.new ≡ store_lent (is_ok result) first from.now (unit_state self.old) }
+        ensures answer { LentAnswer (is_called (unit_state self.old)) (status_of result) }
+        ensures refused { IfErr result (λ status. status ≢ Done) }
     {
         match self {
-            UnitImage::Lent(_) => CallStatus::OtherKind,
+            UnitImage::Lent(_) => Err(CallStatus::OtherKind),
             UnitImage::Called(image) => match image.lend(first, from) {
-                Ok(()) => CallStatus::Done,
-                Err(Refusal::Length) => CallStatus::BadLength,
-                Err(Refusal::NoMemory) => CallStatus::NoMemory,
+                Ok(()) => Ok(()),
+                Err(refusal) => Err(status_of_refusal(refusal)),
             },
         }
     }
@@ -125,6 +125,16 @@ impl UnitImage {
         } else {
             CallStatus::BadLength
         }
+    }
+}
+
+// Returns the status of blocks that can't be lent.
+fn status_of_refusal(refusal: Refusal) -> CallStatus
+    ensures { result ≡ status_of_refusal refusal }
+{
+    match refusal {
+        Refusal::Length => CallStatus::BadLength,
+        Refusal::NoMemory => CallStatus::NoMemory,
     }
 }
 

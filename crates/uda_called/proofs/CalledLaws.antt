@@ -13,7 +13,7 @@ use Rattle.uda_image.specs.Store.{KeepsAttributes, ReadsBlock, WritesBlock, Fail
 use Rattle.uda_image.proofs.AtOnceLaws.{block_count-put, blocks_of-put, concat-part_blocks}
 use Rattle.uda_image.proofs.FileSteps.{block_within, put-is-with_block}
 use Rattle.uda_image.proofs.ImageLaws.{slice_get-blocks_of, blocks_of-with_block, length-block_of}
-use Rattle.uda_called.specs.CalledImage.{CalledBlocks, called_state, IsKept, none_ready, with_lent, with_written, with_failure, zero_image}
+use Rattle.uda_called.specs.CalledImage.{CalledBlocks, called_state, IsKept, none_ready, with_lent, with_blocks_lent, with_written, with_failure, zero_image}
 
 -- nothing is ready
 pub kept_begun : (size : ℕ) (lent : List ℕ) (image : CalledBlocks) (first : ℕ) → IsKept size lent image
@@ -180,3 +180,12 @@ module _ (image : CalledBlocks) (n : ℕ) where
         (blocks_of-put image.bytes n count from there long) (block_count-put image.bytes (512 * n) from);
     calls = record { before = tt; sooner = refl };
   }
+
+-- the store after blocks were lent
+pub lent_blocks : (image : CalledBlocks) (first : ℕ) (from : List ℕ) → length from % 512 ≡ 0
+    → first + length from / 512 ≤ block_count_of image.bytes
+    → called_state (with_lent first from image) ≡ with_blocks_lent first from (called_state image)
+lent_blocks image first from whole room =
+    ap₂ (λ (b : List (List ℕ)) size. record (called_state image) { blocks = b; size = size })
+    (blocks_of-put image.bytes first (length from / 512) from room (omega (arith, whole)))
+    (block_count-put image.bytes (512 * first) from)

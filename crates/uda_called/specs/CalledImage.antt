@@ -2,6 +2,7 @@
 -- MSCP Basic Disk Functions Manual: a unit is an array of logical blocks of 512 bytes, numbered from 0.
 use Rattle.std.specs.Prelude.{◌≡◌, ◌≤◌, ℕ, ◌+◌, ◌*◌, ◌/◌, ◌%◌, ◌-◌, Bool, true, false, ◌&&◌, nat_eq, nat_le, min, List, length, replicate, None}
 use Rattle.std.specs.Prelude.{if◌then◌else◌}
+use Rattle.std.specs.Simd.{first_chunks}
 use Rattle.uda_mem.specs.Put.{put, part}
 use Rattle.uda_image.specs.Image.{block_count_of, blocks_of}
 use Rattle.uda_image.specs.File.{Holding, holding_after}
@@ -56,6 +57,11 @@ with_lent first from image = record image {
   bytes = put image.bytes (512 * first) from;
   ready = record image.ready { lent = image.ready.lent + length from / 512 };
 }
+
+-- the store after that
+abbrev pub with_blocks_lent : ℕ → List ℕ → StoreState → StoreState
+with_blocks_lent first from store =
+    record store { blocks = put store.blocks first (first_chunks 512 (length from / 512) from) }
 
 -- as many blocks follow those that are checked, or writable
 abbrev pub can_check : CalledBlocks → ℕ → Bool

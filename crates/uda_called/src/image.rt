@@ -7,7 +7,7 @@ ghost use Rattle.uda_image.specs.Image.{block_count_of, block_of};
 ghost use Rattle.uda_image.specs.Limits.{store_limit};
 ghost use Rattle.uda_image.specs.Store.{Reads, Writes, KeepsAttributes};
 ghost use Rattle.uda_image.specs.StoreLaws.{block_count-le, HasWholeBlocks-blocks_of};
-ghost use Rattle.uda_called.specs.CalledImage.{called_state, none_ready, zero_image, begun_at, can_lend, with_lent};
+ghost use Rattle.uda_called.specs.CalledImage.{called_state, none_ready, zero_image, begun_at, can_lend, with_lent, with_blocks_lent};
 ghost use Rattle.uda_called.specs.CalledImage.{can_check, can_allow, has_room, with_checked, with_writable, are_ready};
 ghost use Rattle.uda_called.specs.CalledImage.{with_failure, with_written, checked_from};
 
@@ -129,6 +129,8 @@ impl CalledImage {
     /// - `NoMemory` if an allocation fails.
     pub fn lend(&mut self, first: u32, from: &[u8]) -> Result<(), Refusal>
         ensures lent { IfOk result (λ _. self.new ≡ with_lent first from.now self.old) }
+        ensures blocks { IfOk result (λ _. called_state self.new
+            ≡ with_blocks_lent first from.now (called_state self.old)) }
         ensures unchanged { IfErr result (λ _. self.new ≡ self.old) }
         ensures length { (result ≡ Err Refusal.Length) ↔ (can_lend self.old first (length from.now) ≡ false) }
     {

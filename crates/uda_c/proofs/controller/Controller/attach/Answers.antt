@@ -1,7 +1,8 @@
-use Rattle.std.proofs.Common.{refl, sym, ap, subst, ◌∙◌, Some}
+use Rattle.std.proofs.Common.{sym, ap, subst, ◌∙◌, Some}
 use Rattle.std.specs.Prelude.{is_some}
 use Rattle.uda_exec.specs.Drives.{DriveState}
-use Rattle.uda_c.specs.BorrowedImage.{borrowed_state}
+use Rattle.uda_c.specs.UnitImage.{unit_state}
+use Rattle.uda_c.specs.UnitImageLaws.{faithful_of}
 use Rattle.uda_c.specs.declared.call_status.CallStatus.TheVariants.{Done}
 use Rattle.uda_c.specs.ControllerState.{ControllerState}
 use Rattle.uda_c.specs.Controllers.{Attaches}
@@ -20,15 +21,16 @@ returns-in-Ok c =
           Attaches (old, c.args.image.now) c.args.unit c.args.hard Done (new, c.take_image.new.slot))
           c.self.view_is
           (attaches was c.args.unit c.args.image.now c.take_image.new.slot c.args.hard
-          c.in-Ok.lent.held c.new-store.result c.set_drive.new.self c.if-unit-gt3.false
+          c.in-Ok.lent.held (unit_state c.of_bytes-store.result) c.set_drive.new.self c.if-unit-gt3.false
           (ap is_some (sym c.unit.ensures.info) ∙ sym c.is_some.ensures ∙ c.if-is_some.false)
-          ok.0 ok.1 ok.2 ok.3 c.new-store.ensures.image c.set_drive.ensures.set c.set_drive.ensures.four_units);
+          ok.0 ok.1 ok.2 ok.3 c.of_bytes-store.ensures.state c.set_drive.ensures.set c.set_drive.ensures.four_units);
     }
 
 pub invariant_of-self : goal.invariant_of-self
 invariant_of-self c =
-    let drive : DriveState = record { store = borrowed_state c.new-store.result; hard = c.args.hard } in (
-      put_faithful c.self.inside.port c.set_drive.new.self c.args.unit (Some drive) refl c.set_drive.ensures.set
+    let drive : DriveState = record { store = unit_state c.of_bytes-store.result; hard = c.args.hard } in (
+      put_faithful c.self.inside.port c.set_drive.new.self c.args.unit (Some drive)
+          (faithful_of c.of_bytes-store.result) c.set_drive.ensures.set
           c.self.invariant.0,
       put_among_four c.self.inside.port c.set_drive.new.self c.args.unit (Some drive)
           c.set_drive.ensures.four_units c.if-unit-gt3.false c.set_drive.ensures.set c.self.invariant.1,

@@ -1,9 +1,10 @@
-use Rattle.std.proofs.Common.{refl, sym, subst, ◌∙◌, None}
+use Rattle.uda_c.specs.declared.slot.Slot.{Slot}
+use Rattle.std.proofs.Common.{ap, refl, sym, subst, ◌∙◌, None}
 use Rattle.uda_exec.specs.Drives.{drive_state}
 use Rattle.uda_c.specs.declared.call_status.CallStatus.TheVariants.{Done, NotEmpty}
 use Rattle.uda_c.specs.ControllerState.{ControllerState}
 use Rattle.uda_c.specs.Controllers.{Detaches}
-use Rattle.uda_c.specs.BorrowedImage.{borrowed_state}
+use Rattle.uda_c.specs.UnitImage.{unit_state}
 use Rattle.uda_c.proofs.FaithfulUnits.{put_faithful}
 use Rattle.uda_c.proofs.FittingUnits.{put_among_four}
 use Rattle.uda_c.proofs.FailingUnits.{is_handed}
@@ -41,11 +42,10 @@ returns c =
       | in-Some-set_drive w ↦ record {
         detaches = subst (λ (old : ControllerState).
             Detaches (old, c.args.image.now) c.args.unit Done (new, after)) c.self.view_is
-            (detaches was c.args.unit c.in-Some._look c.args.image.now after w.into_lent.result
-            (drive_state borrowed_state w.in-Some-set_drive.drive) new.port c.if-unit-gt3.false look
+            (detaches was c.args.unit c.in-Some._look c.args.image.now after
+            (drive_state unit_state w.in-Some-set_drive.drive) new.port c.if-unit-gt3.false look
             c.in_default-take.ensures.took.0 w.in-Some-set_drive.ensures.returned_drive
-            w.into_lent.ensures.blocks (w.image-is ∙ w.put-in-Some-set_drive.ensures.value)
-            c.set_drive.ensures.set);
+            (ap (λ (s : Slot). s.held) w.image-is ∙ w.put_lent.ensures.bytes) c.set_drive.ensures.set);
       }
       | in_default-set_drive w ↦ absurd (is_handed was.port.exec.units c.args.unit c.in-Some._look look
           w.in_default-set_drive.ensures.returned_drive)

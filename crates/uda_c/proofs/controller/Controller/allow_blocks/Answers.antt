@@ -1,0 +1,60 @@
+use Rattle.std.proofs.Common.{◌≡◌, refl, sym, ap, subst, ◌∙◌}
+use Rattle.std.proofs.lemmas.Bool.{le-ltb}
+use Rattle.uda_image.specs.Store.{StoreState}
+use Rattle.uda_exec.specs.Drives.{DriveState, drive_state}
+use Rattle.uda_c.specs.ControllerState.{ControllerState}
+use Rattle.uda_c.specs.UnitImage.{unit_state, LentAnswer}
+use Rattle.uda_c.specs.Controllers.{with_store}
+use Rattle.uda_c.specs.BlockRange.{AllowsBlocks}
+use Rattle.uda_c.proofs.FailingUnits.{store_changes, nothing_changes, is_handed, has_status, called_drive_is, allows}
+use Rattle.uda_c.proofs.FaithfulUnits.{changed_faithful}
+use Rattle.uda_c.proofs.FittingUnits.{changed_fits}
+use Rattle.uda_c.proofs.controller.Controller.allow_blocks.Goals as goal
+
+pub invariant_of-self : goal.invariant_of-self
+invariant_of-self c =
+    let was : ControllerState = record { port = c.self.inside.port; last = c.self.inside.last } in
+    let new : ControllerState = record { port = c.put_back.new.port; last = c.self.inside.last } in
+    let look = sym c.in-Some.ensures.info in
+    let drive = drive_state unit_state c.in-Some-exchange_drive.field-0 in
+    let hard = c.in-Some-exchange_drive.field-0.hard in
+    let changed : DriveState = record { store = unit_state c.allow-answer.new.self; hard = hard } in
+    let is : new ≡ with_store was c.args.unit (λ (s : StoreState). s) =
+    store_changes was c.args.unit (λ (s : StoreState). s) c.in-Some.look drive changed c.exchange_drive.new.self new.port look
+    c.in-Some-exchange_drive.ensures.returned_drive (ap (λ (s : StoreState). record { store = s; hard = hard }) c.allow-answer.ensures.state)
+    c.exchange_drive.ensures.set c.put_back.ensures.back in (
+      changed_faithful was new c.args.unit (λ (s : StoreState). s) is (λ s. refl) c.self.invariant.0,
+      changed_fits was new c.args.unit (λ (s : StoreState). s) is (λ s. refl) c.self.invariant.1,
+    )
+
+pub invariant_of-self-in-None : goal.invariant_of-self-in-None
+invariant_of-self-in-None c =
+    absurd (is_handed c.self.inside.port.exec.units c.args.unit c.in-Some.look (sym c.in-Some.ensures.info)
+    c.in-None.ensures.returned_drive)
+
+pub returns-in-Some-exchange_drive : goal.returns-in-Some-exchange_drive
+returns-in-Some-exchange_drive c =
+    let was : ControllerState = record { port = c.self.inside.port; last = c.self.inside.last } in
+    let new : ControllerState = record { port = c.put_back.new.port; last = c.self.inside.last } in
+    let look = sym c.in-Some.ensures.info in
+    let drive = drive_state unit_state c.in-Some-exchange_drive.field-0 in
+    let hard = c.in-Some-exchange_drive.field-0.hard in
+    let changed : DriveState = record { store = unit_state c.allow-answer.new.self; hard = hard } in
+    let is : new ≡ with_store was c.args.unit (λ (s : StoreState). s) =
+    store_changes was c.args.unit (λ (s : StoreState). s) c.in-Some.look drive changed c.exchange_drive.new.self new.port look
+    c.in-Some-exchange_drive.ensures.returned_drive (ap (λ (s : StoreState). record { store = s; hard = hard }) c.allow-answer.ensures.state)
+    c.exchange_drive.ensures.set c.put_back.ensures.back in
+    let kind = sym (called_drive_is was c.args.unit c.in-Some.look drive look c.in-Some-exchange_drive.ensures.returned_drive) in
+    let there = has_status was c.args.unit c.in-Some.look (le-ltb 3 c.args.unit c.if-unit-gt3.false) look in
+    record {
+      allows = subst (λ (old : ControllerState). AllowsBlocks old c.args.unit c.args.access c.allow-answer.result new)
+          c.self.view_is
+          (rw c.in-Some-access.is (allows was c.args.unit c.in-Some-access.access c.allow-answer.result new there
+          (subst (λ b. LentAnswer b c.allow-answer.result) kind c.allow-answer.ensures.answer)
+          (is ∙ nothing_changes was c.args.unit)));
+    }
+
+pub returns-in-None : goal.returns-in-None
+returns-in-None c =
+    absurd (is_handed c.self.inside.port.exec.units c.args.unit c.in-Some.look (sym c.in-Some.ensures.info)
+    c.in-None.ensures.returned_drive)

@@ -219,6 +219,7 @@ CRATES = {
     "uda_c": (3, 6.6, "library for C"),
     "uda_saved": (2, 5.5, "saved state as bytes"),
     "uda_bus": (2, 6.2, "memory behind a map"),
+    "uda_called": (2, 1.6, "images behind calls"),
     "loose": (3, 4.5, "box as its pointer"),
     "uda_probe": (2, 7, "one Get Unit Status"),
     "uda_posting": (2, 4.4, "requests by commands"),

@@ -219,7 +219,7 @@ CRATES = {
     "uda_c": (3, 6.6, "library for C"),
     "uda_saved": (2, 5.5, "saved state as bytes"),
     "uda_bus": (2, 6.2, "memory behind a map"),
-    "uda_called": (2, 1.6, "images behind calls"),
+    "uda_called": (3, 1, "images behind calls"),
     "loose": (3, 4.5, "box as its pointer"),
     "uda_probe": (2, 7, "one Get Unit Status"),
     "uda_posting": (2, 4.4, "requests by commands"),
@@ -256,7 +256,7 @@ CRATES = {
 # the arrows that leave by the right side and go down between two columns, each with its x
 LANES = {("uda_driver", "uda_posting"): 500, ("uda_script_run", "uda_grammar"): 740,
          ("uda50_verbs", "uda50_arguments"): 948, ("uda50_decode", "uda50_show"): 1158,
-         ("uda50_verbs", "uda50_script_text"): 960}
+         ("uda50_verbs", "uda50_script_text"): 960, ("uda_c", "uda_called"): 951}
 # the arrows that go over the top and down at the right, each with the x where it goes up, its y, and the x where it goes down
 OVER = {("workloads", "uda50_show"): (270, 85, 1169)}
 PROGRAMS = {"uda", "uda50", "uda_c"}

@@ -13,7 +13,7 @@ use Rattle.uda_image.specs.Store.{KeepsAttributes, ReadsBlock, WritesBlock, Fail
 use Rattle.uda_image.proofs.AtOnceLaws.{block_count-put, blocks_of-put, concat-part_blocks}
 use Rattle.uda_image.proofs.FileSteps.{block_within, put-is-with_block}
 use Rattle.uda_image.proofs.ImageLaws.{slice_get-blocks_of, blocks_of-with_block, length-block_of}
-use Rattle.uda_called.specs.CalledImage.{CalledBlocks, called_state, IsKept, none_ready, with_lent, with_blocks_lent, with_written, with_failure, zero_image}
+use Rattle.uda_called.specs.CalledImage.{CalledBlocks, called_state, IsKept, none_ready, with_lent, with_blocks_lent, with_used, with_written, with_failure, zero_image}
 
 -- nothing is ready
 pub kept_begun : (size : ℕ) (lent : List ℕ) (image : CalledBlocks) (first : ℕ) → IsKept size lent image
@@ -22,22 +22,34 @@ unfolding part
 kept_begun size lent image first is within = record {
   size_is = is.size_is;
   whole = is.whole;
+  ordered = omega arith;
   lent_within = omega (arith, within);
   checked_within = omega (arith, within);
   writable_within = omega (arith, within);
   lent_is = refl;
 }
 
+-- blocks were used
+pub kept_used : (size : ℕ) (lent : List ℕ) (image : CalledBlocks) (n : ℕ) → IsKept size lent image
+    → image.ready.first ≤ n → IsKept size lent (with_used n image)
+kept_used size lent image n is there = record {
+  size_is = is.size_is;
+  whole = is.whole;
+  ordered = there;
+  lent_within = is.lent_within;
+  checked_within = is.checked_within;
+  writable_within = is.writable_within;
+  lent_is = is.lent_is;
+}
+
 -- bytes were written, and nothing is lent
-pub kept_written : (size : ℕ) (lent : List ℕ) (image : CalledBlocks) (n : ℕ) (from : List ℕ) → IsKept size lent image
-    → IsKept size [] (record image {
-      bytes = put image.bytes (512 * n) from;
-      ready = record image.ready { lent = 0 };
-    })
+pub kept_written : (size : ℕ) (lent : List ℕ) (image : CalledBlocks) (n count : ℕ) (from : List ℕ)
+    → IsKept size lent image → image.ready.next ≤ n → IsKept size [] (with_written n count from image)
 unfolding part
-kept_written size lent image n from is = record {
+kept_written size lent image n count from is there = record {
   size_is = is.size_is ∙ sym (block_count-put image.bytes (512 * n) from);
   whole = length-put image.bytes (512 * n) from ∙ is.whole;
+  ordered = omega (arith, is.ordered, there);
   lent_within = omega (arith, is.lent_within);
   checked_within = is.checked_within;
   writable_within = is.writable_within;
@@ -63,6 +75,7 @@ kept_lent size lent image from is whole room =
     record {
       size_is = is.size_is ∙ sym (block_count-put image.bytes at from);
       whole = length-put image.bytes at from ∙ is.whole;
+      ordered = is.ordered;
       lent_within = omega (arith, room);
       checked_within = is.checked_within;
       writable_within = is.writable_within;
@@ -89,6 +102,7 @@ kept_new blocks failures limit =
     record {
       size_is = omega (arith, size, limit);
       whole = size;
+      ordered = omega arith;
       lent_within = omega arith;
       checked_within = omega arith;
       writable_within = omega arith;
@@ -155,8 +169,9 @@ module _ (image : CalledBlocks) (n : ℕ) where
         calls = record { now = tt; over = refl };
       }
 
-  pub written_keeps : (from : List ℕ) → KeepsAttributes (called_state image) (called_state (with_written n from image))
-  written_keeps from = record {
+  pub written_keeps : (count : ℕ) (from : List ℕ)
+      → KeepsAttributes (called_state image) (called_state (with_written n count from image))
+  written_keeps count from = record {
     size_stays = block_count-put image.bytes (512 * n) from;
     faithful_stays = refl;
     honest_before = λ h. h;
@@ -164,7 +179,7 @@ module _ (image : CalledBlocks) (n : ℕ) where
   }
 
   pub writes_one : n < block_count_of image.bytes → (from : List ℕ) → length from ≡ 512
-      → WritesBlock (called_state image) n (called_state (with_written n from image)) from
+      → WritesBlock (called_state image) n (called_state (with_written n 1 from image)) from
   writes_one there from long = record {
     written = ap₂ (λ (b : List (List ℕ)) size. record (called_state image) { blocks = b; size = size })
         (ap blocks_of (put-is-with_block image.bytes n from (block_within image.bytes n there) long)
@@ -174,7 +189,7 @@ module _ (image : CalledBlocks) (n : ℕ) where
   }
 
   pub writes_many : (count : ℕ) → n + count ≤ block_count_of image.bytes → (from : List ℕ) → length from ≡ 512 * count
-      → WritesBlocks (called_state image) n count (called_state (with_written n from image)) from
+      → WritesBlocks (called_state image) n count (called_state (with_written n count from image)) from
   writes_many count there from long = record {
     written = ap₂ (λ (b : List (List ℕ)) size. record (called_state image) { blocks = b; size = size })
         (blocks_of-put image.bytes n count from there long) (block_count-put image.bytes (512 * n) from);

@@ -31,7 +31,7 @@ called_state image = record {
 
 -- no block is ready; the first that will be is this one
 abbrev pub none_ready : ℕ → Ready
-none_ready first = record { first = first; lent = 0; checked = 0; writable = 0 }
+none_ready first = record { first = first; next = first; lent = 0; checked = 0; writable = 0 }
 
 -- an image of zeros
 abbrev pub zero_image : ℕ → CalledBlocks
@@ -79,25 +79,29 @@ abbrev pub with_writable : ℕ → CalledBlocks → CalledBlocks
 with_writable count image =
     record image { ready = record image.ready { writable = image.ready.writable + count } }
 
--- count blocks from block n are among these ready ones
+-- count blocks from block n are among these ready ones, and none of them was used yet
 abbrev pub are_ready : Ready → ℕ → ℕ → ℕ → Bool
-are_ready ready these n count = nat_le ready.first n && nat_le (n + count) (ready.first + these)
+are_ready ready these n count = nat_le ready.next n && nat_le (n + count) (ready.first + these)
+
+-- the image after blocks were used: those before block n aren't ready any more
+abbrev pub with_used : ℕ → CalledBlocks → CalledBlocks
+with_used n image = record image { ready = record image.ready { next = n } }
 
 -- the image after a call that failed
 abbrev pub with_failure : CalledBlocks → CalledBlocks
 with_failure image = record image { failures = image.failures + 1 }
 
--- the image after these bytes were written from block n on: what was lent isn't any more
-abbrev pub with_written : ℕ → List ℕ → CalledBlocks → CalledBlocks
-with_written n from image = record image {
+-- the image after count blocks from block n were written with these bytes: what was lent isn't any more
+abbrev pub with_written : ℕ → ℕ → List ℕ → CalledBlocks → CalledBlocks
+with_written n count from image = record image {
   bytes = put image.bytes (512 * n) from;
-  ready = record image.ready { lent = 0 };
+  ready = record image.ready { next = n + count; lent = 0 };
 }
 
--- how many of count blocks from block n on are checked
+-- how many of count blocks from block n on are checked and weren't used yet
 abbrev pub checked_from : Ready → ℕ → ℕ → ℕ
 checked_from ready n count =
-    if nat_le ready.first n then min count (ready.first + ready.checked - n) else 0
+    if nat_le ready.next n then min count (ready.first + ready.checked - n) else 0
 
 -- ---- how an image is kept
 
@@ -116,6 +120,7 @@ image_by size ready trace = record {
 pub record IsKept (size : ℕ) (lent : List ℕ) (image : CalledBlocks) : Type 0 where
   pub size_is : size ≡ block_count_of image.bytes
   pub whole : length image.bytes ≡ 512 * size
+  pub ordered : image.ready.first ≤ image.ready.next
   pub lent_within : image.ready.first + image.ready.lent ≤ size
   pub checked_within : image.ready.first + image.ready.checked ≤ size
   pub writable_within : image.ready.first + image.ready.writable ≤ size

@@ -9,7 +9,7 @@ ghost use Rattle.uda_image.specs.Store.{Reads, Writes, KeepsAttributes};
 ghost use Rattle.uda_image.specs.StoreLaws.{block_count-le, HasWholeBlocks-blocks_of};
 ghost use Rattle.uda_called.specs.CalledImage.{called_state, none_ready, zero_image, begun_at, can_lend, with_lent, with_blocks_lent};
 ghost use Rattle.uda_called.specs.CalledImage.{can_check, can_allow, has_room, with_checked, with_writable, are_ready};
-ghost use Rattle.uda_called.specs.CalledImage.{with_failure, with_written, checked_from};
+ghost use Rattle.uda_called.specs.CalledImage.{with_failure, with_used, with_written, checked_from};
 
 use std::alloc::Global;
 use std::marker::Model;
@@ -19,8 +19,10 @@ use uda_trace::{Call, FileTrace, Supposition};
 /// Which blocks of an image are ready for the next command, counted from one block on.
 #[derive(Clone, Copy, Debug, PartialEq, Eq)]
 pub struct Ready {
-    /// The first block that is ready.
+    /// The first block that was made ready.
     pub first: u32,
+    /// The first block that wasn't used yet. Those before it aren't ready any more.
+    pub next: u32,
     /// How many were read, with their bytes.
     pub lent: u32,
     /// How many are known to be readable.
@@ -42,7 +44,7 @@ pub enum Refusal {
 ///
 /// Before a command the program makes the blocks ready that it will use. It reads them and lends their bytes. Or it
 /// checks that they are readable. Or it writes the bytes that the command will write. A call on a block that isn't
-/// ready in this way fails.
+/// ready in this way fails. Each block is ready for one call: a call uses up its blocks, and those before them.
 ///
 /// The image is faithful: its blocks are those that were lent or written last, and zeros at first.
 #[derive(Drop)]
@@ -69,9 +71,9 @@ impl Ready {
     // Returns whether `count` blocks from block `n` are among the first `these` ready ones.
     fn has(self, these: u32, n: u32, count: u32) -> bool
         ensures ready { result ≡ are_ready self these n count }
-        ensures within { result ≡ true → (self.first ≤ n) × (n + count ≤ self.first + these) }
+        ensures within { result ≡ true → (self.next ≤ n) × (n + count ≤ self.first + these) }
     {
-        self.first <= n
+        self.next <= n
             && u64::from(n) + u64::from(count) <= u64::from(self.first) + u64::from(these)
     }
 }
@@ -86,6 +88,7 @@ impl CalledImage {
             size: blocks,
             ready: Ready {
                 first: 0,
+                next: 0,
                 lent: 0,
                 checked: 0,
                 writable: 0,
@@ -116,6 +119,7 @@ impl CalledImage {
         self.bytes.clear();
         self.ready = Ready {
             first,
+            next: first,
             lent: 0,
             checked: 0,
             writable: 0,
@@ -200,12 +204,23 @@ impl CalledImage {
         self.trace.note(&Call::Failed);
     }
 
+    // Uses blocks up: those before block `n` aren't ready any more.
+    fn use_up(&mut self, n: u32)
+        requires ordered { self.old.ready.first ≤ n }
+        ensures used { self.new ≡ with_used n self.old }
+    {
+        self.ready.next = n;
+    }
+
     // Notes that these blocks were written.
-    fn note_written(&mut self, n: u32, from: &[u8])
-        ensures written { self.new ≡ with_written n from.now self.old }
+    fn note_written(&mut self, n: u32, count: u32, from: &[u8])
+        requires on_unit { n + count ≤ block_count_of self.old.bytes }
+        requires ready { self.old.ready.next ≤ n }
+        ensures written { self.new ≡ with_written n count from.now self.old }
     {
         self.bytes.clear();
         self.ready.lent = 0;
+        self.ready.next = n + count;
         self.trace.note(&Call::Written {
             block: n,
             bytes: from,
@@ -214,7 +229,7 @@ impl CalledImage {
 
     // Returns the bytes of lent blocks.
     fn lent(&self, n: u32, count: u32) -> &[u8]
-        requires begins { self.now.ready.first ≤ n }
+        requires begins { self.now.ready.next ≤ n }
         requires ends { n + count ≤ self.now.ready.first + self.now.ready.lent }
         ensures value { result.now ≡ part self.now.bytes (512 * n) (512 * count) }
         ensures long { length result.now ≡ 512 * count }
@@ -262,7 +277,8 @@ impl BlockStore for CalledImage {
     fn read(&mut self, n: u32, to: &mut [u8; 512]) -> Result<(), StoreError>
         requires { n < block_count_of self.old.bytes }
         ensures ready { is_ok result ≡ are_ready self.old.ready self.old.ready.lent n 1 }
-        ensures image { self.new ≡ (if is_ok result then self.old else with_failure self.old) }
+        ensures image { self.new ≡ (if is_ok result then with_used (n + 1) self.old
+            else with_failure self.old) }
         ensures to { to.new ≡ (if is_ok result then block_of self.old.bytes n else to.old) }
         ensures attributes { KeepsAttributes (called_state self.old) (called_state self.new) }
         ensures error { IfErr result (λ e. e ≡ StoreError.Read) }
@@ -274,13 +290,14 @@ impl BlockStore for CalledImage {
             return Err(StoreError::Read);
         }
         to.copy_from_slice(self.lent(n, 1));
+        self.use_up(n + 1);
         Ok(())
     }
 
     fn write(&mut self, n: u32, from: &[u8; 512]) -> Result<(), StoreError>
         requires { n < block_count_of self.old.bytes }
         ensures ready { is_ok result ≡ are_ready self.old.ready self.old.ready.writable n 1 }
-        ensures image { self.new ≡ (if is_ok result then with_written n from.now self.old
+        ensures image { self.new ≡ (if is_ok result then with_written n 1 from.now self.old
             else with_failure self.old) }
         ensures attributes { KeepsAttributes (called_state self.old) (called_state self.new) }
         ensures error { IfErr result (λ e. e ≡ StoreError.Write) }
@@ -290,7 +307,7 @@ impl BlockStore for CalledImage {
             self.fail();
             return Err(StoreError::Write);
         }
-        self.note_written(n, from);
+        self.note_written(n, 1, from);
         Ok(())
     }
 
@@ -298,7 +315,7 @@ impl BlockStore for CalledImage {
         requires on_unit { n + count ≤ block_count_of self.old.bytes }
         requires long { length to.old ≡ 512 * count }
         ensures ready { result ≡ are_ready self.old.ready self.old.ready.lent n count }
-        ensures unchanged { self.new ≡ self.old }
+        ensures image { self.new ≡ (if result then with_used (n + count) self.old else self.old) }
         ensures long { length to.new ≡ length to.old }
         ensures attributes { KeepsAttributes (called_state self.old) (called_state self.new) }
         ensures reads { TriesToRead (called_state self.old) n count (called_state self.new) to.old to.new result }
@@ -307,6 +324,7 @@ impl BlockStore for CalledImage {
             return false;
         }
         to.copy_from_slice(self.lent(n, count));
+        self.use_up(n + count);
         true
     }
 
@@ -314,29 +332,32 @@ impl BlockStore for CalledImage {
         requires on_unit { n + count ≤ block_count_of self.old.bytes }
         requires long { length from.now ≡ 512 * count }
         ensures ready { result ≡ are_ready self.old.ready self.old.ready.writable n count }
-        ensures image { self.new ≡ (if result then with_written n from.now self.old else self.old) }
+        ensures image { self.new ≡ (if result then with_written n count from.now self.old else self.old) }
         ensures attributes { KeepsAttributes (called_state self.old) (called_state self.new) }
         ensures writes { TriesToWrite (called_state self.old) n count (called_state self.new) from.now result }
     {
         if !self.ready.has(self.ready.writable, n, count) {
             return false;
         }
-        self.note_written(n, from);
+        self.note_written(n, count, from);
         true
     }
 
     fn check_blocks(&mut self, n: u32, count: u32) -> u32
         requires on_unit { n + count ≤ block_count_of self.old.bytes }
         ensures ready { result ≡ checked_from self.old.ready n count }
-        ensures unchanged { self.new ≡ self.old }
+        ensures image { self.new ≡ (if nat_le self.old.ready.next n then with_used (n + result) self.old
+            else self.old) }
         ensures within { result ≤ count }
         ensures attributes { KeepsAttributes (called_state self.old) (called_state self.new) }
         ensures checks { ChecksBlocks (called_state self.old) result (called_state self.new) }
     {
-        if n < self.ready.first {
+        if n < self.ready.next {
             return 0;
         }
         let end = self.ready.first + self.ready.checked;
-        count.min(end.saturating_sub(n))
+        let checked = count.min(end.saturating_sub(n));
+        self.use_up(n + checked);
+        checked
     }
 }

@@ -7,4 +7,5 @@ invariant_of-self c =
     let inside = c.self.inside in
     let image = image_by inside.size inside.ready inside.trace in
     rw (c.clear.ensures.items, c.note.ensures)
-    (kept_written inside.size inside.bytes.items image c.args.n c.args.from.now c.self.invariant)
+    (kept_written inside.size inside.bytes.items image c.args.n c.args.count c.args.from.now c.self.invariant
+    (rw (← c.self.view_is) at c.requires.ready))

@@ -11,4 +11,5 @@ returns-clause-to c = c.copy_from_slice.ensures.after ∙ c.lent.ensures.value
 pub returns-clause-reads : goal.returns-clause-reads
 unfolding part block_of
 returns-clause-reads c =
-    reads_one c.args.self.now c.args.n c.requires c.copy_from_slice.new.self (c.copy_from_slice.ensures.after ∙ c.lent.ensures.value)
+    rw (c.use_up.ensures.used) (reads_one c.args.self.now c.args.n c.requires c.copy_from_slice.new.self
+    (c.copy_from_slice.ensures.after ∙ c.lent.ensures.value))

@@ -4,5 +4,5 @@ use Rattle.uda_called.proofs.image.CalledImageBlockStore.try_read_blocks.Goals a
 
 pub returns-clause-reads : goal.returns-clause-reads
 returns-clause-reads c =
-    reads_many c.args.self.now c.args.n c.args.count c.requires.on_unit c.copy_from_slice.new.self
-    (c.copy_from_slice.ensures.after ∙ c.lent.ensures.value)
+    rw (c.use_up.ensures.used) (reads_many c.args.self.now c.args.n c.args.count c.requires.on_unit
+    c.copy_from_slice.new.self (c.copy_from_slice.ensures.after ∙ c.lent.ensures.value))

@@ -5,7 +5,7 @@ pub returns-then-not-has-clause-writes : goal.returns-then-not-has-clause-writes
 returns-then-not-has-clause-writes c = rw (c.fail.ensures.failed) (fails_to_write c.args.self.now c.args.n c.requires)
 
 pub returns-clause-attributes : goal.returns-clause-attributes
-returns-clause-attributes c = rw (c.note_written.ensures.written) (written_keeps c.args.self.now c.args.n c.args.from.now)
+returns-clause-attributes c = rw (c.note_written.ensures.written) (written_keeps c.args.self.now c.args.n 1 c.args.from.now)
 
 pub returns-clause-writes : goal.returns-clause-writes
 returns-clause-writes c =

@@ -66,7 +66,8 @@ enum {
     UDA50_ALREADY_ATTACHED = 67, /* the unit has an image */
     UDA50_NOT_ATTACHED = 68,     /* the unit has no image */
     UDA50_BAD_LENGTH = 69,       /* an image isn't one or more whole blocks, guest memory or a bus has an odd length, a
-                                    saved state hasn't UDA50_STATE_LENGTH bytes, or blocks aren't where they should be */
+                                    saved state hasn't UDA50_STATE_LENGTH bytes, or bytes aren't those of whole blocks,
+                                    or go past their end */
     UDA50_TOO_LARGE = 70,        /* an image has more than UDA50_MAX_BLOCKS blocks, or guest memory that is one array, or
                                     a bus, more than 4,194,304 bytes */
     UDA50_NOT_EMPTY = 71,        /* a struct that an image is to be put into isn't empty */
@@ -80,7 +81,7 @@ enum {
     UDA50_BAD_MAP = 79,          /* `page` or `scale` of a map is above 31 */
     UDA50_OTHER_KIND = 80,       /* the unit's image is in memory and the call needs one behind calls, or the reverse; or
                                     a use of blocks is another one */
-    UDA50_NOWHERE = 81           /* an address leads nowhere */
+    UDA50_NOWHERE = 81           /* an address leads nowhere; all others were copied */
 };
 
 /* What a turn did. Each call that takes turns returns it. */
@@ -339,8 +340,8 @@ uint32_t uda50_write_sa_at(uda50 *handle, uint16_t word, uint8_t *window, size_t
      1. it does the steps 1 to 3 of memory behind calls. Memory that is one array is its own window: then only the two
         calls and `missing` = 0 are left of them;
      2. it calls uda50_get_blocks. If `count` isn't 0, it goes through these blocks in rising order, in pieces of any size:
-          UDA50_READS    it reads them, and calls uda50_lend_blocks with their bytes;
-          UDA50_CHECKS   it reads them and drops the bytes, and calls uda50_allow_blocks;
+          UDA50_READS    it reads them and lends their bytes by uda50_lend_blocks;
+          UDA50_CHECKS   it reads them, drops their bytes and calls uda50_allow_blocks;
           UDA50_WRITES   it gets the bytes by uda50_get_written, writes them, and calls uda50_allow_blocks.
         It ends at the first block that it can't read or write;
      3. it calls uda50_turn_at, and copies out what that wrote.

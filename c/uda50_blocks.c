@@ -19,14 +19,15 @@ static uint32_t least(uint32_t one, uint32_t other)
 /* Reads a piece of *count blocks, after the first `skip`. Stores in *count how many could be read, and says so. */
 static uint32_t read_piece(const prepared *it, const uda50_called *image, uint32_t skip, uint32_t *count)
 {
+    uint32_t first = it->blocks.first + skip;
     uint8_t bytes[PIECE * BLOCK];
 
-    *count = least(image->read(image->context, it->blocks.first + skip, *count, bytes), *count);
+    *count = least(image->read(image->context, first, *count, bytes), *count);
     if (*count == 0)
         return UDA50_OK;
     if (it->blocks.use == UDA50_CHECKS)
         return uda50_allow_blocks(it->handle, it->blocks.unit, UDA50_CHECKS, *count);
-    return uda50_lend_blocks(it->handle, it->blocks.unit, bytes, *count * BLOCK);
+    return uda50_lend_blocks(it->handle, it->blocks.unit, first, bytes, *count * BLOCK);
 }
 
 /* Writes a piece of *count blocks, after the first `skip`. Stores in *count how many are written, and says so. */

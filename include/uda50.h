@@ -386,11 +386,11 @@ uint32_t uda50_get_blocks(uda50 *handle, const uint8_t *window, size_t length, c
 uint32_t uda50_get_written(uda50 *handle, const uint8_t *window, size_t length, const uda50_turn_use *turn,
                            uint32_t skip, uint8_t *to, size_t bytes);
 
-/* Lends the bytes of the next blocks: those after what was lent or allowed since uda50_get_blocks. The library copies
-   them. Returns UDA50_OK, or the first that holds of UDA50_NO_CONTROLLER, UDA50_NO_SUCH_UNIT, UDA50_NOT_ATTACHED,
-   UDA50_OTHER_KIND, UDA50_BAD_LENGTH and UDA50_NO_MEMORY. UDA50_BAD_LENGTH is a length that isn't whole blocks, or goes
-   past the end of the image. */
-uint32_t uda50_lend_blocks(uda50 *handle, uint32_t unit, const uint8_t *from, size_t length);
+/* Lends the bytes of blocks from block `first` on, which is the one after those that were lent since uda50_get_blocks, or
+   the first of its range. The library copies them. Returns UDA50_OK, or the first that holds of UDA50_NO_CONTROLLER,
+   UDA50_NO_SUCH_UNIT, UDA50_NOT_ATTACHED, UDA50_OTHER_KIND, UDA50_BAD_LENGTH and UDA50_NO_MEMORY. UDA50_BAD_LENGTH is
+   another first block, or a length that isn't whole blocks or goes past the end of the image. */
+uint32_t uda50_lend_blocks(uda50 *handle, uint32_t unit, uint32_t first, const uint8_t *from, size_t length);
 
 /* Says that the next `count` blocks can be read, if `use` is UDA50_CHECKS, or are written, if it is UDA50_WRITES. Returns
    UDA50_OK, or the first that holds of UDA50_NO_CONTROLLER, UDA50_NO_SUCH_UNIT, UDA50_NOT_ATTACHED, UDA50_OTHER_KIND,

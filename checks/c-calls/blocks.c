@@ -292,12 +292,15 @@ static uint32_t called_turn(void)
     return result;
 }
 
+/* Of the states all but whether a failure was ever injected, the byte 88 of unit 0. */
 static bool same(void)
 {
     static uint8_t one[UDA50_STATE_LENGTH], two[UDA50_STATE_LENGTH];
 
     EXPECT(uda50_save(&called.uda, one, sizeof one), UDA50_OK);
     EXPECT(uda50_save(&held.uda, two, sizeof two), UDA50_OK);
+    for (uint32_t unit = 0; unit < UDA50_UNITS; unit++)
+        two[88 + 8 * unit] = 0;
     return memcmp(one, two, sizeof one) == 0 && memcmp(called.physical, held.physical, PHYSICAL) == 0
            && memcmp(called.disks, held.disks, sizeof called.disks) == 0;
 }
@@ -583,17 +586,17 @@ static void lent_in_pieces(void)
         bytes[n] = (uint8_t)any(256);
     make_pending(READ, 8 * BLOCK);
     EXPECT(are(ask(&use), UDA50_READS, 8), true);
-    EXPECT(uda50_lend_blocks(&called.uda, 0, bytes + BLOCK, 2 * BLOCK), UDA50_OK);
+    EXPECT(uda50_lend_blocks(&called.uda, 0, 5, bytes + BLOCK, 2 * BLOCK), UDA50_OK);
     EXPECT(are(ask(&use), UDA50_READS, 8), true);
-    EXPECT(uda50_lend_blocks(&called.uda, 0, bytes, 3 * BLOCK), UDA50_OK);
-    EXPECT(uda50_lend_blocks(&called.uda, 0, bytes + 3 * BLOCK, BLOCK), UDA50_OK);
-    EXPECT(uda50_lend_blocks(&called.uda, 0, bytes + 4 * BLOCK, 2 * BLOCK), UDA50_OK);
+    EXPECT(uda50_lend_blocks(&called.uda, 0, 5, bytes, 3 * BLOCK), UDA50_OK);
+    EXPECT(uda50_lend_blocks(&called.uda, 0, 8, bytes + 3 * BLOCK, BLOCK), UDA50_OK);
+    EXPECT(uda50_lend_blocks(&called.uda, 0, 9, bytes + 4 * BLOCK, 2 * BLOCK), UDA50_OK);
     EXPECT(bytes_after(DRIVE_ERROR), 6 * BLOCK);
     EXPECT(memcmp(memory + BUFFER, bytes, 6 * BLOCK), 0);
     EXPECT(memcmp(memory + BUFFER + 6 * BLOCK, bytes + 6 * BLOCK, BLOCK) != 0, true);
     make_pending(READ, BLOCK); /* lent and then forgotten by the emulator: uda50_blocks_turn begins again */
     EXPECT(are(ask(&use), UDA50_READS, 1), true);
-    EXPECT(uda50_lend_blocks(&called.uda, 0, bytes, BLOCK), UDA50_OK);
+    EXPECT(uda50_lend_blocks(&called.uda, 0, 5, bytes, BLOCK), UDA50_OK);
     EXPECT(called_turn(), UDA50_EXECUTED);
     see();
     EXPECT(memcmp(memory + BUFFER, called.disks[0] + 5 * BLOCK, BLOCK), 0);
@@ -651,13 +654,13 @@ static void statuses_of_images(void)
     EXPECT(uda50_detach(uda, 1, &empty), UDA50_OK);
     EXPECT(uda50_attach_called(uda, 1, 0, false), UDA50_BAD_LENGTH);
     EXPECT(uda50_attach_called(uda, 1, (uint32_t)UDA50_MAX_BLOCKS + 1, false), UDA50_TOO_LARGE);
-    EXPECT(uda50_lend_blocks(uda, 1, block, BLOCK), UDA50_NOT_ATTACHED);
+    EXPECT(uda50_lend_blocks(uda, 1, 0, block, BLOCK), UDA50_NOT_ATTACHED);
     EXPECT(uda50_allow_blocks(uda, 1, UDA50_CHECKS, 1), UDA50_NOT_ATTACHED);
     EXPECT(uda50_attach_called(uda, 1, sizes[1], false), UDA50_OK);
-    EXPECT(uda50_lend_blocks(&none, 4, block, 1), UDA50_NO_CONTROLLER);
-    EXPECT(uda50_lend_blocks(uda, 4, block, 1), UDA50_NO_SUCH_UNIT);
-    EXPECT(uda50_lend_blocks(uda, 3, block, 1), UDA50_OTHER_KIND);
-    EXPECT(uda50_lend_blocks(uda, 0, block, BLOCK - 1), UDA50_BAD_LENGTH);
+    EXPECT(uda50_lend_blocks(&none, 4, 0, block, 1), UDA50_NO_CONTROLLER);
+    EXPECT(uda50_lend_blocks(uda, 4, 0, block, 1), UDA50_NO_SUCH_UNIT);
+    EXPECT(uda50_lend_blocks(uda, 3, 0, block, 1), UDA50_OTHER_KIND);
+    EXPECT(uda50_lend_blocks(uda, 0, 0, block, BLOCK - 1), UDA50_BAD_LENGTH);
     EXPECT(uda50_allow_blocks(&none, 4, 9, 1), UDA50_NO_CONTROLLER);
     EXPECT(uda50_allow_blocks(uda, 4, 9, 1), UDA50_NO_SUCH_UNIT);
     EXPECT(uda50_allow_blocks(uda, 3, UDA50_CHECKS, 1), UDA50_OTHER_KIND);
@@ -699,11 +702,13 @@ static void statuses_of_turns(void)
 
 /* ---- Memory ---- */
 
-/* What the library allocates while a command is executed. */
+/* A Read takes its turn when there is memory for its blocks, and until then nothing changes. */
 static void missing_memory(void)
 {
     static uint8_t before[UDA50_STATE_LENGTH], after[UDA50_STATE_LENGTH], bytes[MEMORY];
 
+    detach(&called, 0); /* with the memory that it had */
+    attach(&called, 0);
     begin(CALLS);
     fill();
     make_pending(READ, 70 * BLOCK);
@@ -747,27 +752,27 @@ static uint32_t write_nothing(void *context, uint32_t lbn, uint32_t count, const
 static void large_commands(void)
 {
     static const uda50_called nothing[UDA50_UNITS] = { { NULL, NULL, NULL }, { read_nothing, write_nothing, NULL } };
-    static const uint8_t opcodes[] = { ACCESS, ERASE };
-    uda50_turn_record told;
+    static const uint8_t opcodes[] = { ONLINE, ACCESS, ERASE };
 
     detach(&called, 1);
     EXPECT(uda50_attach_called(&called.uda, 1, UDA50_MAX_BLOCKS, false), UDA50_OK);
     start_machine(&called, ARRAY);
     see();
     posted = 0;
-    for (uint32_t n = 0; n < 3; n++) {
-        post(posted % COMMANDS, (command){ n == 0 ? ONLINE : opcodes[n - 1], 1, n, n == 0 ? 0 : 0xfffffffe, 0 });
+    for (uint32_t n = 0; n < sizeof opcodes; n++) {
+        uint32_t bytes = n == 0 ? 0 : 0xfffffffe;
+
+        post(posted % COMMANDS, (command){ opcodes[n], 1, n, bytes, 0 });
         give_response(posted++);
         show();
         uda50_read_ip(&called.uda);
         allocations = blocks_moved = 0;
-        EXPECT(uda50_blocks_run(&called.uda, 2, &called.bus, nothing), UDA50_EXECUTED);
-        EXPECT(uda50_get_last_turn(&called.uda, &told), UDA50_OK);
-        EXPECT(told.status, 0);
-        EXPECT(told.bytes, n == 0 ? 0 : 0xfffffffe);
+        EXPECT(uda50_blocks_run(&called.uda, TURNS, &called.bus, nothing), UDA50_IDLE);
+        see();
+        EXPECT(get16(response_at(n) + 10), 0);
+        EXPECT(bytes_told(), n == 0 ? bytes_told() : bytes);
         EXPECT(blocks_moved, n == 0 ? 0 : 8388608);
         EXPECT(allocations, 0);
-        EXPECT(uda50_blocks_run(&called.uda, 2, &called.bus, nothing), UDA50_IDLE);
     }
     EXPECT(uda50_detach(&called.uda, 1, &(uda50_image){ NULL, 0 }), UDA50_OK);
     attach(&called, 1);
@@ -908,7 +913,7 @@ static void do_something_rare(void)
         attach(&called, unit);
         attach(&held, unit);
     } else {
-        EXPECT(uda50_save(&held.uda, state, sizeof state), UDA50_OK);
+        EXPECT(uda50_save(&called.uda, state, sizeof state), UDA50_OK);
         EXPECT(uda50_restore(&called.uda, state, sizeof state), UDA50_OK);
         EXPECT(uda50_restore(&held.uda, state, sizeof state), UDA50_OK);
     }

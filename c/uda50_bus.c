@@ -21,21 +21,26 @@ static void store(const uda50_bus *bus, uda50_range range)
         bus->write(bus->context, range.at, range.bytes, bus->window + range.at);
 }
 
+/* Reads the descriptors into the window, if it isn't the guest's memory. */
+static void fetch_descriptors(uda50 *handle, const uda50_bus *bus, uda50_turn_use *turn)
+{
+    if (bus->read == NULL || uda50_get_descriptors(handle, bus->window, bus->length, turn) != UDA50_OK)
+        return;
+    for (int i = 0; i < RANGES; i++)
+        if (!fetch(bus, turn->descriptors[i]))
+            turn->missing |= missing_descriptor[i];
+}
+
 uint32_t uda50_bus_begin_turn(uda50 *handle, const uda50_bus *bus, uda50_turn_use *turn)
 {
     uint32_t status;
 
     memset(turn, 0, sizeof *turn);
-    status = uda50_get_descriptors(handle, bus->window, bus->length, turn);
-    if (status != UDA50_OK)
-        return status;
-    for (int i = 0; i < RANGES; i++)
-        if (!fetch(bus, turn->descriptors[i]))
-            turn->missing |= missing_descriptor[i];
-    uda50_get_body(handle, bus->window, bus->length, turn);
-    if (!fetch(bus, turn->body))
+    fetch_descriptors(handle, bus, turn);
+    status = uda50_get_body(handle, bus->window, bus->length, turn);
+    if (status == UDA50_OK && !fetch(bus, turn->body))
         turn->missing |= UDA50_MISSING_BODY;
-    return UDA50_OK;
+    return status;
 }
 
 uint32_t uda50_bus_end_turn(uda50 *handle, const uda50_bus *bus, uda50_turn_use *turn)

@@ -348,9 +348,9 @@ uint32_t uda50_write_sa_at(uda50 *handle, uint16_t word, uint8_t *window, size_t
    The blocks that were lent or allowed are ready. At the first that isn't, the command fails: it ends with status 0x000B,
    a drive error, and the byte count of the blocks before.
 
-   A Write is written before the turn that executes it, so its end message tells which blocks were written. The count of
-   an Access or an Erase may be that of the whole disk. Without step 2 no block is ready, as in uda50_turn and uda50_run:
-   a command that uses blocks of such an image then ends with a drive error. */
+   A Write is written before the turn that executes it, so its end message tells which blocks were written. An Access or
+   an Erase may have up to 8,388,608 blocks, and lends none. Blocks stay ready until uda50_get_blocks tells others of the
+   unit. So take each turn of such a controller in these steps: uda50_turn and uda50_run make no blocks ready. */
 
 /* How a turn uses blocks. */
 enum {
@@ -375,7 +375,7 @@ typedef struct {
 uint32_t uda50_attach_called(uda50 *handle, uint32_t unit, uint32_t blocks, bool write_protected);
 
 /* Fills *blocks with what the next turn uses of an image behind calls, if it executes the command at `place` of *turn
-   with these bits of `missing`. From then on none of them is ready. Returns UDA50_OK, or the first that holds of
+   with these bits of `missing`. From then on no block of that unit is ready. Returns UDA50_OK, or the first that holds of
    UDA50_NO_CONTROLLER, UDA50_BAD_LENGTH and UDA50_TOO_LARGE. */
 uint32_t uda50_get_blocks(uda50 *handle, const uint8_t *window, size_t length, const uda50_turn_use *turn,
                           uda50_blocks *blocks);

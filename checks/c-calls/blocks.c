@@ -145,8 +145,11 @@ static bool copy(machine *it, uda50_range range, uint8_t *to, const uint8_t *fro
     return whole;
 }
 
+static uint32_t reads; /* calls of read_bytes */
+
 static bool read_bytes(void *context, uint32_t address, uint32_t bytes, uint8_t *to)
 {
+    reads++;
     return copy(context, (uda50_range){ address, bytes }, to, NULL);
 }
 
@@ -455,7 +458,7 @@ static void difference_before_a_failure(void)
 
 /* ---- What moves nothing ---- */
 
-static uint32_t moves; /* calls since the last of nothing_moved */
+static uint32_t moves; /* calls of the images for the last commands */
 
 /* Executes commands one turn after the other, and counts the calls of the images. */
 static uint32_t counted(uint32_t count)
@@ -480,10 +483,8 @@ static void expect_no_moves(command c, uint32_t status)
     EXPECT(moves, 0);
 }
 
-static void nothing_moved(void)
+static void missing_buffer(void)
 {
-    uint32_t n;
-
     begin(MAPPED);
     fill();
     called.registers[BUFFER / BLOCK + 1] &= ~VALID;
@@ -491,6 +492,13 @@ static void nothing_moved(void)
     expect_no_moves((command){ WRITE, 0, 1, 2 * BLOCK, 0 }, NO_BUFFER);
     expect_no_moves((command){ READ, 0, 2, 2 * BLOCK, 0 }, NO_BUFFER);
     expect_no_moves((command){ COMPARE, 0, 3, 2 * BLOCK, 0 }, NO_BUFFER);
+}
+
+/* A unit that is protected or available, a range or a byte count that isn't right, no bytes, and an image in memory. */
+static void rejected_moves(void)
+{
+    uint32_t n;
+
     begin(ARRAY);
     expect_no_moves((command){ WRITE, 2, 4, BLOCK, 0 }, PROTECTED);
     expect_no_moves((command){ ERASE, 2, 5, BLOCK, 0 }, PROTECTED);
@@ -507,7 +515,15 @@ static void nothing_moved(void)
     put16(command_at(n) + 14, 0x1000);
     EXPECT(executed(1), 0);
     expect_no_moves((command){ WRITE, 1, 14, BLOCK, 0 }, SOFT_PROTECTED);
-    n = posted % COMMANDS; /* an Abort that comes with the Write */
+}
+
+/* An Abort that comes with the Write. */
+static void aborted_write(void)
+{
+    uint32_t n;
+
+    begin(ARRAY);
+    n = posted % COMMANDS;
     post(n, (command){ WRITE, 0, 15, BLOCK, 0 });
     post(1 - n, (command){ ABORT, 0, 16, 15, 0 });
     EXPECT(counted(2), 0);
@@ -634,6 +650,22 @@ static void told_bytes(void)
     EXPECT(uda50_allow_blocks(&called.uda, 0, UDA50_CHECKS, 1), UDA50_OK);
     EXPECT(uda50_allow_blocks(&called.uda, 0, UDA50_CHECKS, 2), UDA50_OK);
     EXPECT(bytes_after(0), 3 * BLOCK);
+}
+
+/* A run ends after the first turn that does nothing, and after as many turns as it gets. */
+static void ended_runs(void)
+{
+    begin(CALLS);
+    reads = 0;
+    EXPECT(uda50_blocks_run(&called.uda, 1000, &called.bus, images), UDA50_IDLE);
+    EXPECT(reads <= 5, true);
+    post(posted % COMMANDS, (command){ GET_UNIT_STATUS, 0, 1, 0, 0 });
+    give_response(posted++ % RESPONSES);
+    show();
+    uda50_read_ip(&called.uda);
+    EXPECT(uda50_blocks_run(&called.uda, 1, &called.bus, images), UDA50_FETCHED);
+    EXPECT(uda50_blocks_run(&called.uda, 2, &called.bus, images), UDA50_DELIVERED);
+    EXPECT(uda50_blocks_run(&called.uda, 2, &called.bus, images), UDA50_IDLE);
 }
 
 static void statuses_of_images(void)
@@ -805,7 +837,6 @@ static void lead_anywhere(void)
 static void copies(void)
 {
     static uint8_t one[MEMORY], two[MEMORY];
-    uda50_map map;
 
     reach(&called, MAPPED);
     for (uint32_t n = 0; n < 300; n++) {
@@ -820,17 +851,34 @@ static void copies(void)
         whole = copy(&called, (uda50_range){ at, bytes }, one, NULL);
         EXPECT(uda50_read_mapped(called.physical, PHYSICAL, &called.map, at, two, bytes), whole ? UDA50_OK : UDA50_NOWHERE);
         EXPECT(memcmp(one, two, MEMORY), 0);
-        EXPECT(uda50_write_mapped(called.physical, PHYSICAL, &called.map, at, memory, bytes), UDA50_OK);
+        memset(two, 0xee, MEMORY);
+        EXPECT(uda50_mapped_read(&called.mapped, at, bytes, two), whole);
+        EXPECT(memcmp(one, two, MEMORY), 0);
+        if (any(2))
+            EXPECT(uda50_write_mapped(called.physical, PHYSICAL, &called.map, at, memory, bytes), UDA50_OK);
+        else
+            uda50_mapped_write(&called.mapped, at, bytes, memory);
         write_bytes(&held, at, bytes, memory);
         EXPECT(memcmp(called.physical, held.physical, PHYSICAL), 0);
     }
+}
+
+/* Maps that no bus has, and addresses past the end of a bus. */
+static void refused_copies(void)
+{
+    static uint8_t one[MEMORY], two[MEMORY];
+    uda50_map map;
+
+    reach(&called, MAPPED);
+    memcpy(held.physical, called.physical, PHYSICAL);
     map = called.map;
     for (uint32_t n = 0; n < 3; n++) {
         uint32_t wanted = n == 0 ? UDA50_BAD_MAP : n == 1 ? UDA50_TOO_LARGE : UDA50_BAD_LENGTH;
 
         map.page = n == 0 ? 32 : n == 1 ? 31 : 0;
         map.count = n == 2 ? 3 : PAGES;
-        memcpy(two, one, MEMORY);
+        memset(one, 0xee, MEMORY);
+        memset(two, 0xee, MEMORY);
         EXPECT(uda50_read_mapped(called.physical, PHYSICAL, &map, 0, two, 4), wanted);
         EXPECT(uda50_write_mapped(called.physical, PHYSICAL, &map, 0, memory, 4), wanted);
         EXPECT(memcmp(one, two, MEMORY), 0);
@@ -983,14 +1031,18 @@ int main(int count, char **arguments)
     make(&held, true);
     each_block_fails();
     difference_before_a_failure();
-    nothing_moved();
+    missing_buffer();
+    rejected_moves();
+    aborted_write();
     not_ready();
     lent_in_pieces();
     told_bytes();
     statuses_of_images();
     statuses_of_turns();
+    ended_runs();
     missing_memory();
     copies();
+    refused_copies();
     large_commands();
     free_machine(&called);
     free_machine(&held);

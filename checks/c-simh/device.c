@@ -356,7 +356,7 @@ static void locked_files(uint32 way)
     make_file("short", 1000);
     other = open("short", O_RDWR);
     for (int n = 0; n < 2; n++) {
-        EXPECT(flock(other, n == 0 ? LOCK_EX : LOCK_SH), 0);
+        EXPECT(flock(other, (n == 0 ? LOCK_EX : LOCK_SH) | LOCK_NB), 0);
         EXPECT(rq_dev.attach(rq_dev.units, "short"), SCPE_OPENERR);
         PRINTED("RQ: the file is in use\n");
         EXPECT(length_of("short"), 1000);
@@ -478,6 +478,25 @@ static void failing_files(void)
     cpu_bme = 0;
 }
 
+/* The blocks of a drive past the end of its file are zeros, up to its size. */
+static void short_file(void)
+{
+    static const uint32 blocks_read[] = { 1, 2, RX50 / BLOCK - 1 };
+
+    make_file("short", 0);
+    attach(&rq_dev, 0, "short");
+    EXPECT(written(&rq_dev, 0, 1), 0);
+    EXPECT(truncate("short", 1000), 0);
+    for (int n = 0; n < 3; n++) {
+        memset(at_bus(DATA), 0xee, BLOCK);
+        EXPECT(executed(&rq_dev, (command){ READ, 0, 9, BLOCK, blocks_read[n] }), 0);
+        for (uint32 k = 0; k < BLOCK / 2; k++)
+            EXPECT(at_bus(DATA)[k], n == 0 && k < (1000 - BLOCK) / 2 ? 0x0101 : 0);
+    }
+    EXPECT(executed(&rq_dev, (command){ READ, 0, 9, BLOCK, RX50 / BLOCK }), 0x1c01);
+    EXPECT(rq_dev.detach(rq_dev.units), SCPE_OK);
+}
+
 /* ---- full disks ---- */
 
 static void fill(const char *path)
@@ -539,6 +558,7 @@ int main(int argc, char **argv)
     EXPECT(rqb_dev.reset(&rqb_dev), SCPE_OK);
     boots();
     failing_files();
+    short_file();
     for (int n = 0; n < 2; n++) {
         set_way(n == 0 ? 0 : MMAP);
         states();

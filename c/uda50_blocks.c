@@ -60,11 +60,22 @@ static uint32_t move_blocks(const prepared *it, const uda50_called *image)
     return UDA50_OK;
 }
 
+/* Whether a command may be executed next. One that a turn fetches is executed in a later turn. */
+static bool is_any_pending(uda50 *handle)
+{
+    uda50_state state;
+
+    return uda50_get_state(handle, &state) == UDA50_OK && state.pending != 0;
+}
+
 uint32_t uda50_blocks_turn(uda50 *handle, const uda50_bus *bus, const uda50_called images[UDA50_UNITS])
 {
     prepared it = {.handle = handle, .bus = bus};
-    uint32_t status = uda50_bus_begin_turn(handle, bus, &it.turn);
+    uint32_t status;
 
+    if (!is_any_pending(handle))
+        return uda50_bus_turn(handle, bus);
+    status = uda50_bus_begin_turn(handle, bus, &it.turn);
     if (status == UDA50_OK)
         status = uda50_get_blocks(handle, bus->window, bus->length, &it.turn, &it.blocks);
     if (status == UDA50_OK && it.blocks.count != 0)

@@ -5,9 +5,6 @@
 
 enum { RANGES = 4 };
 
-/* What is missing if a descriptor can't be read. One before the next one then counts as one that the host owns. */
-static const uint32_t missing_descriptor[RANGES] = {UDA50_MISSING_COMMAND, 0, UDA50_MISSING_RESPONSE, 0};
-
 /* Reads a range into the window. Returns whether each of its addresses leads somewhere. */
 static bool fetch(const uda50_bus *bus, uda50_range range)
 {
@@ -21,14 +18,31 @@ static void store(const uda50_bus *bus, uda50_range range)
         bus->write(bus->context, range.at, range.bytes, bus->window + range.at);
 }
 
+/* Reads the next descriptor of a ring and the one before it. If they are side by side and there, one call reads both, and
+   in a ring of one they are the same. Returns whether the next one is there. One before it that isn't there counts as one
+   that the host owns. */
+static bool fetch_pair(const uda50_bus *bus, uda50_range next, uda50_range before)
+{
+    uda50_range both = {before.at, before.bytes + next.bytes};
+
+    if (before.at + before.bytes == next.at && fetch(bus, both))
+        return true;
+    if (before.at != next.at)
+        fetch(bus, before);
+    return fetch(bus, next);
+}
+
 /* Reads the descriptors into the window, if it isn't the guest's memory. */
 static void fetch_descriptors(uda50 *handle, const uda50_bus *bus, uda50_turn_use *turn)
 {
+    const uda50_range *it = turn->descriptors;
+
     if (bus->read == NULL || uda50_get_descriptors(handle, bus->window, bus->length, turn) != UDA50_OK)
         return;
-    for (int i = 0; i < RANGES; i++)
-        if (!fetch(bus, turn->descriptors[i]))
-            turn->missing |= missing_descriptor[i];
+    if (!fetch_pair(bus, it[0], it[1]))
+        turn->missing |= UDA50_MISSING_COMMAND;
+    if (!fetch_pair(bus, it[2], it[3]))
+        turn->missing |= UDA50_MISSING_RESPONSE;
 }
 
 uint32_t uda50_bus_begin_turn(uda50 *handle, const uda50_bus *bus, uda50_turn_use *turn)
@@ -55,8 +69,11 @@ uint32_t uda50_bus_end_turn(uda50 *handle, const uda50_bus *bus, uda50_turn_use 
 uint32_t uda50_bus_turn(uda50 *handle, const uda50_bus *bus)
 {
     uda50_turn_use turn;
-    uint32_t status = uda50_bus_begin_turn(handle, bus, &turn);
+    uint32_t status;
 
+    if (bus->read == NULL)
+        return uda50_turn(handle, bus->window, bus->length);
+    status = uda50_bus_begin_turn(handle, bus, &turn);
     return status == UDA50_OK ? uda50_bus_end_turn(handle, bus, &turn) : status;
 }
 

@@ -318,9 +318,11 @@ static uint32_t both_turn(void)
     return result;
 }
 
+static uint16_t two_commands = 1; /* 0 for a command ring of one descriptor */
+
 static void start_machine(machine *it, int way)
 {
-    static const uint16_t words[] = { 0x8080 | 1 << 11 | 2 << 8 | VECTOR / 4, BASE, 0, 1 };
+    const uint16_t words[] = { (uint16_t)(0x8080 | two_commands << 11 | 2 << 8 | VECTOR / 4), BASE, 0, 1 };
 
     reach(it, way);
     uda50_write_ip(&it->uda, 0);
@@ -940,8 +942,8 @@ static void post_some(bool compatible)
     for (uint32_t n = 0; n < RESPONSES; n++)
         if (!is_ports(n) && any(8) != 0)
             give_response(n);
-    for (uint32_t n = 0; n < COMMANDS && n < state.credits; n++) {
-        uint32_t k = (state.commands.next + n) % COMMANDS;
+    for (uint32_t n = 0; n < state.commands.count && n < state.credits; n++) {
+        uint32_t k = (state.commands.next + n) % state.commands.count;
 
         if (is_ports(RESPONSES + k) || any(8) == 0)
             break;
@@ -989,6 +991,7 @@ static bool play_round(bool compatible)
 static void start_any(int way)
 {
     memset(memory, 0, BUFFER);
+    two_commands = (uint16_t)any(2);
     start_both(way);
     if (way != ARRAY)
         lead_anywhere();
@@ -996,7 +999,7 @@ static void start_any(int way)
     for (uint16_t n = 0; n < UDA50_UNITS; n++) { /* a page of the rings may be missing */
         see();
         give_response(n);
-        post(n % COMMANDS, (command){ ONLINE, n, n, 0, 0 });
+        post(two_commands * n % COMMANDS, (command){ ONLINE, n, n, 0, 0 });
         show();
         uda50_read_ip(&called.uda);
         uda50_read_ip(&held.uda);

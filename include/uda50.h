@@ -337,20 +337,20 @@ uint32_t uda50_write_sa_at(uda50 *handle, uint16_t word, uint8_t *window, size_t
 
    Such an image has a size and no bytes. Before each turn the emulator reads or writes the blocks that the turn uses, and
    says which it could. For a turn:
-     1. it does the steps 1 to 3 of memory behind calls. Memory that is one array is its own window: then only the two
-        calls and `missing` = 0 are left of them;
-     2. it calls uda50_get_blocks. If `count` isn't 0, it goes through these blocks in rising order, in pieces of any size:
-          UDA50_READS    it reads them and lends their bytes by uda50_lend_blocks;
-          UDA50_CHECKS   it reads them, drops their bytes and calls uda50_allow_blocks;
-          UDA50_WRITES   it gets the bytes by uda50_get_written, writes them, and calls uda50_allow_blocks.
-        It ends at the first block that it can't read or write;
-     3. it calls uda50_turn_at, and copies out what that wrote.
+     1. it does the steps 1 and 2 of memory behind calls, and sets `missing`. Memory that is one array is its own window,
+        and of these steps only uda50_get_body is left, with `missing` = 0;
+     2. it calls uda50_get_blocks. If `count` isn't 0, it goes through these blocks in rising order, in pieces of any size.
+        It ends at the first block that it can't read or write:
+          UDA50_READS: it reads them, and lends their bytes by uda50_lend_blocks.
+          UDA50_CHECKS: it reads them, drops their bytes, and calls uda50_allow_blocks.
+          UDA50_WRITES: it gets the bytes by uda50_get_written, writes them, and calls uda50_allow_blocks;
+     3. it calls uda50_turn_at, and copies the written ranges to the guest's memory, if that isn't the window.
    The blocks that were lent or allowed are ready. At the first that isn't, the command fails: it ends with status 0x000B,
    a drive error, and the byte count of the blocks before.
 
    A Write is written before the turn that executes it, so its end message tells which blocks were written. An Access or
-   an Erase may have up to 8,388,608 blocks, and lends none. Blocks stay ready until uda50_get_blocks tells others of the
-   unit. So take each turn of such a controller in these steps: uda50_turn and uda50_run make no blocks ready. */
+   an Erase may have up to 8,388,608 blocks, and lends none. Blocks stay ready until uda50_get_blocks next tells blocks of
+   that unit. So take each turn of such a controller in these steps: uda50_turn and uda50_run make no blocks ready. */
 
 /* How a turn uses blocks. */
 enum {

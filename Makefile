@@ -49,7 +49,7 @@ out/scenarios: $(sources) tools/unproved
 
 library: $(built)/libuda50.a $(built)/$(shared)
 
-$(built)/libuda50.a: $(sources) tools/unproved c/uda50_bus.c c/uda50_file.c $(headers)
+$(built)/libuda50.a: $(sources) tools/unproved c/uda50_blocks.c c/uda50_bus.c c/uda50_file.c $(headers)
 	tools/unproved library $@
 
 test check:

@@ -1,8 +1,8 @@
 /* uda50.h: a simulated UDA50 disk controller, for an emulator of a PDP-11 or a VAX.
 
-   The functions are in groups: lifecycle, drives, registers, turns, memory behind map registers, memory
-   behind calls, inspection, save and restore, and failures for tests. The project's docs/C.md shows how an emulator uses
-   them, and docs/PORT.md says what the controller does.
+   The functions are in groups: lifecycle, drives, registers, turns, memory behind map registers, memory behind calls,
+   images behind calls, inspection, save and restore, and failures for tests. The project's docs/C.md shows how an
+   emulator uses them, and docs/PORT.md says what the controller does.
 
    A `uda50` is the handle of one controller. Set it to zero before its first use, pass its address, and neither copy
    it nor write into it. Every function accepts every handle. On a handle without a controller, each function except
@@ -15,14 +15,14 @@
    memory.
 
    Guest memory is passed to each call that uses it, as a pointer and a number of bytes. Byte n is what the guest's
-   bus shows at address n: pass no more bytes than the bus has memory. Only the calls over map registers get all of the
+   bus shows at address n: pass no more bytes than the bus has memory. Only the calls with a map get all of the
    machine's memory. The library reads and writes it in place, only during that call, so the next call may pass other
    memory. No other thread writes it during the call. A word is
    stored low byte first: an array of uint16_t serves on a little-endian machine only.
 
    One call at a time uses a handle. A handle may go from one thread to another, if a lock or the start or end of a
    thread orders the calls. Threads may use different handles at once. No call blocks. Only uda50_new, uda50_new_as,
-   uda50_format_last_turn and the calls over map registers allocate memory. */
+   uda50_lend_blocks, uda50_format_last_turn and the turns and words over map registers allocate memory. */
 #ifndef UDA50_H
 #define UDA50_H
 
@@ -50,7 +50,8 @@ enum { UDA50_UNITS = 4, UDA50_MAX_BLOCKS = 2147483647 };
    is empty, as one that is set to zero.
 
    The struct says who has the bytes. uda50_attach takes them and leaves the struct empty. uda50_detach and uda50_free
-   put them into an empty struct. While a unit has the bytes, nothing else reads, writes or frees them. */
+   put them into an empty struct. While a unit has the bytes, nothing else reads, writes or frees them. An image behind
+   calls has no bytes in memory, and no struct. */
 typedef struct {
     uint8_t *at;
     size_t length;
@@ -64,8 +65,9 @@ enum {
     UDA50_NO_SUCH_UNIT = 66,     /* the unit isn't 0 to 3 */
     UDA50_ALREADY_ATTACHED = 67, /* the unit has an image */
     UDA50_NOT_ATTACHED = 68,     /* the unit has no image */
-    UDA50_BAD_LENGTH = 69,       /* an image isn't one or more whole blocks, guest memory or a bus has an odd length, or
-                                    a saved state hasn't UDA50_STATE_LENGTH bytes */
+    UDA50_BAD_LENGTH = 69,       /* an image isn't one or more whole blocks, guest memory or a bus has an odd length, a
+                                    saved state hasn't UDA50_STATE_LENGTH bytes, or bytes aren't those of whole blocks,
+                                    or go past their end */
     UDA50_TOO_LARGE = 70,        /* an image has more than UDA50_MAX_BLOCKS blocks, or guest memory that is one array, or
                                     a bus, more than 4,194,304 bytes */
     UDA50_NOT_EMPTY = 71,        /* a struct that an image is to be put into isn't empty */
@@ -76,7 +78,10 @@ enum {
     UDA50_BAD_STATE = 76,        /* no controller has the saved state */
     UDA50_OTHER_IMAGES = 77,     /* the images aren't as many and as long as the saved ones, or not as protected */
     UDA50_BAD_FIRST_UNIT = 78,   /* first_unit is above 65,532: the last unit's would be above 65,535 */
-    UDA50_BAD_MAP = 79           /* `page` or `scale` of a map is above 31 */
+    UDA50_BAD_MAP = 79,          /* `page` or `scale` of a map is above 31 */
+    UDA50_OTHER_KIND = 80,       /* the unit's image is in memory and the call needs one behind calls, or the reverse; or
+                                    a use of blocks is another one */
+    UDA50_NOWHERE = 81           /* an address leads nowhere; all others were copied */
 };
 
 /* What a turn did. Each call that takes turns returns it. */
@@ -150,8 +155,8 @@ uint32_t uda50_new(uda50 *handle, bool compatible);
 uint32_t uda50_new_as(uda50 *handle, uint32_t bus, uint16_t first_unit);
 
 /* Frees the controller and returns its images. images[n], which must be empty, is then the image of unit n, as the
-   commands left it, or empty if the unit has none. Returns UDA50_OK, or the first that holds of UDA50_NO_CONTROLLER
-   and UDA50_NOT_EMPTY. */
+   commands left it. It stays empty if the unit has none, or one behind calls. Returns UDA50_OK, or the first that holds
+   of UDA50_NO_CONTROLLER and UDA50_NOT_EMPTY. */
 uint32_t uda50_free(uda50 *handle, uda50_image images[UDA50_UNITS]);
 
 /* ---- Drives ---- */
@@ -168,8 +173,9 @@ uint32_t uda50_attach(uda50 *handle, uint32_t unit, uda50_image *image, bool wri
    UDA50_NO_SUCH_UNIT, UDA50_NO_SUCH_TYPE and UDA50_ALREADY_ATTACHED. */
 uint32_t uda50_set_type(uda50 *handle, uint32_t unit, uint32_t drive_type);
 
-/* Detaches a unit's image. *image, which must be empty, is then that image, as the commands left it. Returns UDA50_OK,
-   or the first that holds of UDA50_NO_CONTROLLER, UDA50_NO_SUCH_UNIT, UDA50_NOT_ATTACHED and UDA50_NOT_EMPTY. */
+/* Detaches a unit's image. *image, which must be empty, is then that image, as the commands left it. It stays empty if
+   the image was behind calls. Returns UDA50_OK, or the first that holds of UDA50_NO_CONTROLLER, UDA50_NO_SUCH_UNIT,
+   UDA50_NOT_ATTACHED and UDA50_NOT_EMPTY. */
 uint32_t uda50_detach(uda50 *handle, uint32_t unit, uda50_image *image);
 
 /* ---- Registers ---- */
@@ -257,6 +263,17 @@ uint32_t uda50_turn_mapped(uda50 *handle, uint8_t *memory, size_t length, const 
 uint32_t uda50_run_mapped(uda50 *handle, uint32_t turns, uint8_t *memory, size_t length, const uda50_map *map);
 uint32_t uda50_write_sa_mapped(uda50 *handle, uint16_t word, uint8_t *memory, size_t length, const uda50_map *map);
 
+/* Copies the bytes of the bus from this address on to `to`, and 0 for each whose address leads nowhere. Returns UDA50_OK,
+   or UDA50_NOWHERE if an address leads nowhere; or the first that holds of UDA50_BAD_MAP, UDA50_TOO_LARGE and
+   UDA50_BAD_LENGTH, and then nothing is copied. */
+uint32_t uda50_read_mapped(const uint8_t *memory, size_t length, const uda50_map *map, uint32_t address, uint8_t *to,
+                           size_t bytes);
+
+/* Copies bytes to the bus from this address on, in rising order, except those whose address leads nowhere. Returns
+   UDA50_OK; or the first that holds of UDA50_BAD_MAP, UDA50_TOO_LARGE and UDA50_BAD_LENGTH, and then nothing is copied. */
+uint32_t uda50_write_mapped(uint8_t *memory, size_t length, const uda50_map *map, uint32_t address,
+                            const uint8_t *from, size_t bytes);
+
 /* ---- Memory behind calls ---- */
 
 /* For guest memory that the emulator reaches by calls of its own. uda50_bus.h makes the calls of this group in their
@@ -312,6 +329,73 @@ uint32_t uda50_get_zeroed(uda50 *handle, uint16_t word, const uint8_t *window, s
    `missing` says that an address of the area leads nowhere. Returns UDA50_OK or UDA50_NO_CONTROLLER. */
 uint32_t uda50_write_sa_at(uda50 *handle, uint16_t word, uint8_t *window, size_t length, bool missing,
                            uda50_range *area);
+
+/* ---- Images behind calls ---- */
+
+/* For images that the emulator reads and writes by calls of its own, such as overlays, compressed files, and files whose
+   blocks may fail. uda50_blocks.h makes the calls of this group in their order; most emulators use that, and not these.
+
+   Such an image has a size and no bytes. Before each turn the emulator reads or writes the blocks that the turn uses, and
+   says which it could. For a turn:
+     1. it does the steps 1 and 2 of memory behind calls, and sets `missing`. Memory that is one array is its own window,
+        and of these steps only uda50_get_body is left, with `missing` = 0;
+     2. it calls uda50_get_blocks. If `count` isn't 0, it goes through these blocks in rising order, in pieces of any size.
+        It ends at the first block that it can't read or write:
+          UDA50_READS: it reads them, and lends their bytes by uda50_lend_blocks.
+          UDA50_CHECKS: it reads them, drops their bytes, and calls uda50_allow_blocks.
+          UDA50_WRITES: it gets the bytes by uda50_get_written, writes them, and calls uda50_allow_blocks;
+     3. it calls uda50_turn_at, and copies the written ranges to the guest's memory, if that isn't the window.
+   The blocks that were lent or allowed are ready. At the first that isn't, the command fails: it ends with status 0x000B,
+   a drive error, and the byte count of the blocks before.
+
+   A Write is written before the turn that executes it, so its end message tells which blocks were written. An Access or
+   an Erase may have up to 8,388,608 blocks, and lends none. Blocks stay ready until uda50_get_blocks next tells blocks of
+   that unit. So take each turn of such a controller in these steps: uda50_turn and uda50_run make no blocks ready. */
+
+/* How a turn uses blocks. */
+enum {
+    UDA50_NO_BLOCKS = 0,
+    UDA50_READS = 1,  /* a Read or a Compare Host Data: it needs their bytes */
+    UDA50_CHECKS = 2, /* an Access: it needs to know that they can be read */
+    UDA50_WRITES = 3  /* a Write or an Erase */
+};
+
+/* The blocks that a turn uses of an image behind calls. If there are none, `use` is UDA50_NO_BLOCKS and all else 0. */
+typedef struct {
+    uint32_t use;   /* UDA50_NO_BLOCKS to UDA50_WRITES */
+    uint32_t unit;  /* 0 to 3 */
+    uint32_t first; /* the first block */
+    uint32_t count; /* how many blocks */
+} uda50_blocks;
+
+/* Attaches an image of this many blocks to unit 0 to 3, which the emulator reads and writes by calls of its own.
+   Otherwise it does what uda50_attach does. Returns UDA50_OK, or the first that holds of UDA50_NO_CONTROLLER,
+   UDA50_NO_SUCH_UNIT, UDA50_ALREADY_ATTACHED, UDA50_BAD_LENGTH, which is 0 blocks, and UDA50_TOO_LARGE, which is more
+   than UDA50_MAX_BLOCKS. */
+uint32_t uda50_attach_called(uda50 *handle, uint32_t unit, uint32_t blocks, bool write_protected);
+
+/* Fills *blocks with what the next turn uses of an image behind calls, if it executes the command at `place` of *turn
+   with these bits of `missing`. From then on no block of that unit is ready. Returns UDA50_OK, or the first that holds of
+   UDA50_NO_CONTROLLER, UDA50_BAD_LENGTH and UDA50_TOO_LARGE. */
+uint32_t uda50_get_blocks(uda50 *handle, const uint8_t *window, size_t length, const uda50_turn_use *turn,
+                          uda50_blocks *blocks);
+
+/* Fills `to` with bytes that the turn will write, from block number `skip` of its range on. A partial last block is
+   padded with zeros, and an Erase writes only zeros. Returns UDA50_OK, or the first that holds of UDA50_NO_CONTROLLER,
+   UDA50_BAD_LENGTH, also if there aren't that many bytes, and UDA50_TOO_LARGE. */
+uint32_t uda50_get_written(uda50 *handle, const uint8_t *window, size_t length, const uda50_turn_use *turn,
+                           uint32_t skip, uint8_t *to, size_t bytes);
+
+/* Lends the bytes of blocks from block `first` on, which is the one after those that were lent since uda50_get_blocks, or
+   the first of its range. The library copies them. Returns UDA50_OK, or the first that holds of UDA50_NO_CONTROLLER,
+   UDA50_NO_SUCH_UNIT, UDA50_NOT_ATTACHED, UDA50_OTHER_KIND, UDA50_BAD_LENGTH and UDA50_NO_MEMORY. UDA50_BAD_LENGTH is
+   another first block, or a length that isn't whole blocks or goes past the end of the image. */
+uint32_t uda50_lend_blocks(uda50 *handle, uint32_t unit, uint32_t first, const uint8_t *from, size_t length);
+
+/* Says that the next `count` blocks can be read, if `use` is UDA50_CHECKS, or are written, if it is UDA50_WRITES. Returns
+   UDA50_OK, or the first that holds of UDA50_NO_CONTROLLER, UDA50_NO_SUCH_UNIT, UDA50_NOT_ATTACHED, UDA50_OTHER_KIND,
+   also of another use, and UDA50_BAD_LENGTH, if they go past the end of the image. */
+uint32_t uda50_allow_blocks(uda50 *handle, uint32_t unit, uint32_t use, uint32_t count);
 
 /* ---- Inspection ---- */
 
@@ -392,8 +476,9 @@ uint32_t uda50_restore(uda50 *handle, const uint8_t *state, size_t length);
    or writes one block; reads and writes are counted together, from 1. A transfer that meets the failure ends with
    status 0x000B, a drive error, and the byte count of the blocks before. If it is a Write or an Erase, the first 256
    bytes of that block are then new and the last 256 are old. A Read leaves that block's part of the buffer as it was.
-   The unit's mode doesn't change. A later call replaces an earlier one, and uda50_detach ends it. Returns UDA50_OK, or
-   the first that holds of UDA50_NO_CONTROLLER, UDA50_NO_SUCH_UNIT and UDA50_NOT_ATTACHED. */
+   The unit's mode doesn't change. A later call replaces an earlier one, and uda50_detach ends it. An image behind calls
+   is UDA50_OTHER_KIND: there the emulator says itself which blocks fail. Returns UDA50_OK, or the first that holds of
+   UDA50_NO_CONTROLLER, UDA50_NO_SUCH_UNIT, UDA50_NOT_ATTACHED and UDA50_OTHER_KIND. */
 uint32_t uda50_inject_failure(uda50 *handle, uint32_t unit, uint32_t call);
 
 #ifdef __cplusplus

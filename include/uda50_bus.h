@@ -1,5 +1,6 @@
 /* uda50_bus.h: turns of a controller whose guest's memory an emulator reaches by calls of its own. If that memory is one
-   array behind map registers, uda50_turn_mapped of uda50.h is simpler. docs/C.md has an example of each. */
+   array behind map registers, and all images are in memory, uda50_turn_mapped of uda50.h is simpler. docs/C.md has an
+   example of each. */
 #ifndef UDA50_BUS_H
 #define UDA50_BUS_H
 
@@ -11,7 +12,9 @@ extern "C" {
 
 /* The guest's bus. The window has as many bytes as the bus has addresses, an even number: 253,952 of a UNIBUS or 4,194,304
    of a Q-bus. The library uses it only during these calls, and what is in it before a call has no influence. So
-   controllers may share a window. The two functions don't touch it, and make no call of the library with this handle. */
+   controllers may share a window. The two functions don't touch it, and make no call of the library with this handle.
+
+   If `read` is null, the window is the guest's memory itself, as uda50_turn gets it. Then `write` isn't called. */
 typedef struct {
     /* Copies the bytes from this bus address on to `to`, and 0 for each whose address leads nowhere. Returns whether each
        address leads somewhere. */
@@ -31,6 +34,26 @@ typedef struct {
 uint32_t uda50_bus_turn(uda50 *handle, const uda50_bus *bus);
 uint32_t uda50_bus_run(uda50 *handle, uint32_t turns, const uda50_bus *bus);
 void uda50_bus_write_sa(uda50 *handle, uint16_t word, const uda50_bus *bus);
+
+/* The two halves of uda50_bus_turn, for an emulator that does something in between, as uda50_blocks_turn does. The first
+   reads from the bus what the next turn may need, and fills *turn. It returns UDA50_OK, or the first that holds of
+   UDA50_NO_CONTROLLER, UDA50_BAD_LENGTH and UDA50_TOO_LARGE. The second takes the turn and writes its ranges. It returns
+   what uda50_turn does. If it isn't called, nothing has happened. */
+uint32_t uda50_bus_begin_turn(uda50 *handle, const uda50_bus *bus, uda50_turn_use *turn);
+uint32_t uda50_bus_end_turn(uda50 *handle, const uda50_bus *bus, uda50_turn_use *turn);
+
+/* A machine's memory behind map registers, as the context of a bus whose functions are the next two. The registers of a
+   bus like that may change between two calls. */
+typedef struct {
+    uint8_t *memory;
+    size_t length;
+    const uda50_map *map;
+} uda50_mapped;
+
+/* They copy by uda50_read_mapped and uda50_write_mapped. With a map for which those return UDA50_BAD_MAP,
+   UDA50_TOO_LARGE or UDA50_BAD_LENGTH each address leads nowhere. */
+bool uda50_mapped_read(void *context, uint32_t address, uint32_t bytes, uint8_t *to);
+void uda50_mapped_write(void *context, uint32_t address, uint32_t bytes, const uint8_t *from);
 
 #ifdef __cplusplus
 }

@@ -20,7 +20,10 @@ bool save(uda50 *uda, uint8_t state[UDA50_STATE_LENGTH]);
 bool restore(uda50 *uda, uda50_file *file, const uint8_t state[UDA50_STATE_LENGTH]);
 bool attach(uda50 *uda, uint32_t unit, uda50_file *file, const char *path);
 bool detach(uda50 *uda, uint32_t unit, uda50_file *file);
-uint32_t take_turns_of_11_70(uda50 *uda), take_turns_by_calls(uda50 *uda);
+uint32_t take_turns_of_11_70(uda50 *uda), take_turns_by_calls(uda50 *uda), take_turns_over_overlay(uda50 *uda);
+bool attach_overlay(uda50 *uda);
+bool read_base(uint32_t lbn, uint8_t *to), read_second(uint32_t lbn, uint8_t *to);
+bool write_second(uint32_t lbn, const uint8_t *from);
 void write_sa_of_11_70(uda50 *uda, uint16_t word);
 bool read_byte(uint32_t address, uint8_t *byte), write_byte(uint32_t address, uint8_t byte);
 bool execute(void);
@@ -277,6 +280,69 @@ static void reach_memory(void)
     EXPECT(uda50_free(&uda, images), UDA50_OK);
 }
 
+/* Both files of the overlay. Block 6 of the base can't be read, and block 5 of the second file can't be written. */
+enum { OVERLAY = 8, BAD_TO_READ = 6, BAD_TO_WRITE = 5 };
+static uint8_t base[OVERLAY * BLOCK], second[OVERLAY * BLOCK];
+
+bool read_base(uint32_t lbn, uint8_t *to)
+{
+    memcpy(to, base + lbn * BLOCK, BLOCK);
+    return lbn != BAD_TO_READ;
+}
+
+bool read_second(uint32_t lbn, uint8_t *to)
+{
+    memcpy(to, second + lbn * BLOCK, BLOCK);
+    return true;
+}
+
+bool write_second(uint32_t lbn, const uint8_t *from)
+{
+    if (lbn != BAD_TO_WRITE)
+        memcpy(second + lbn * BLOCK, from, BLOCK);
+    return lbn != BAD_TO_WRITE;
+}
+
+/* Executes a command of the overlay's guest, a few turns at a time. Returns the status, and stores the byte count. */
+static uint32_t over_overlay(uda50 *uda, command c, uint32_t *bytes)
+{
+    uint32_t n = c.reference % RESPONSES, result = UDA50_FETCHED;
+
+    give_response(n);
+    post(c.reference % COMMANDS, c);
+    uda50_read_ip(uda);
+    for (int turns = 0; turns < 10 && result != UDA50_IDLE; turns++)
+        result = take_turns_over_overlay(uda);
+    EXPECT(result, UDA50_IDLE);
+    *bytes = get16(response_at(n) + 12);
+    return get16(response_at(n) + 10);
+}
+
+static void play_overlay(void)
+{
+    enum { DRIVE_ERROR = 0x0b };
+    uda50_image images[UDA50_UNITS] = { { NULL, 0 } };
+    uda50 uda = { NULL };
+    uint32_t bytes;
+
+    memset(base, 'b', sizeof base);
+    EXPECT(uda50_new(&uda, true), UDA50_OK);
+    EXPECT(attach_overlay(&uda), true);
+    start(&uda);
+    EXPECT(over_overlay(&uda, (command){ ONLINE, 0, 0, 0, 0 }, &bytes), 0);
+    memset(memory + BUFFER, 'w', 8 * BLOCK);
+    EXPECT(over_overlay(&uda, (command){ WRITE, 0, 1, 4 * BLOCK, 3 }, &bytes), DRIVE_ERROR);
+    EXPECT(bytes, 2 * BLOCK);
+    EXPECT(over_overlay(&uda, (command){ READ, 0, 2, 5 * BLOCK, 2 }, &bytes), DRIVE_ERROR);
+    EXPECT(bytes, 4 * BLOCK);
+    for (uint32_t n = 0; n < 5 * BLOCK; n++)
+        EXPECT(memory[BUFFER + n], n / BLOCK == 0 || n / BLOCK == 3 ? 'b' : 'w');
+    EXPECT(over_overlay(&uda, (command){ READ, 0, 3, BLOCK, 7 }, &bytes), 0);
+    EXPECT(memory[BUFFER], 'b');
+    EXPECT(base[3 * BLOCK] == 'b' && base[5 * BLOCK] == 'b', true);
+    EXPECT(uda50_free(&uda, images), UDA50_OK);
+}
+
 static void attach_nothing(void)
 {
     uda50 none = { NULL };
@@ -326,6 +392,7 @@ int main(void)
     attach_nothing();
     save_and_restore();
     reach_memory();
+    play_overlay();
     fclose(stderr);
     expect_errors();
     return ended();

@@ -1,8 +1,10 @@
 /* device.c: tests examples/simh/pdp11_uda50.c without SIMH, of which pdp11_defs.h beside it has what that file uses:
-   which unit is booted, a state that doesn't fit, a change of the bus, and files that are locked or have no room.
+   which unit is booted, a state that doesn't fit, a change of the bus, files that are locked or have no room, and files
+   whose blocks fail, with the UNIBUS map off and on.
    Usage: device [full]    with `full`, ./small is a tmpfs of 2 MB, and ./bare a ramfs */
 #include "pdp11_defs.h"
 #undef printf
+#undef perror
 
 #include "../c-calls/guest.h"
 #include "rq_bootrom.h"
@@ -15,19 +17,21 @@
 #include <unistd.h>
 
 enum { WORDS = 0100000, RING = 02000, MESSAGE = 02104, COMMAND = 02304, DATA = 04000, WRITE_LIMIT = 32 };
-enum { RX50 = 409600, QBUS = 2, LOCKED = 1 << UNIT_V_UF, PROTECTED = 6, STATE_UNIT = 7 };
+enum { RX50 = 409600, QBUS = 2, LOCKED = 1 << UNIT_V_UF, MMAP = 2 << UNIT_V_UF, PROTECTED = 6, STATE_UNIT = 7 };
+enum { DRIVE_ERROR = 0x0b, PAGE = 8192 };
 
 extern DEVICE rq_dev, rqb_dev;
 t_stat rq_rd(int32 *data, int32 address, int32 access);
 t_stat rq_wr(int32 data, int32 address, int32 access);
 t_stat rq_set_type(UNIT *unit, int32 type, char *text, void *desc);
+t_stat rq_set_mmap(UNIT *unit, int32 mapped, char *text, void *desc);
 
 /* ---- SIMH's part ---- */
 
 static uint16 words[WORDS];
 uint16 *M = words;
 uint32 cpu_bme, cpu_opt = BUS_U;
-int32 ub_map[31]; /* the map, which is off */
+int32 ub_map[31]; /* the map, which is off at first */
 t_addr cpu_memsize = 2 * WORDS;
 int32 int_req[IPL_HLVL], tmr_poll = 1, clk_tps = 60, saved_PC, sim_switches;
 UNIT cpu_unit;
@@ -46,9 +50,12 @@ int print_line(const char *format, ...)
     return count;
 }
 
+static FILE *open_failing(void); /* see below */
+static char failing[] = "failing";
+
 t_stat attach_unit(UNIT *unit, char *path)
 {
-    unit->fileref = fopen(path, "rb+");
+    unit->fileref = path == failing ? open_failing() : fopen(path, "rb+");
     if (unit->fileref == NULL)
         unit->fileref = fopen(path, "wb+");
     if (unit->fileref == NULL)
@@ -114,10 +121,11 @@ t_value get_uint(char *text, uint32 radix, t_value limit, t_stat *status)
     return 0;
 }
 
-/* Lets the events of a device happen until none is due. */
-static void settle(DEVICE *device)
+/* Lets the events of a device happen until none is due. Returns how many of them end with an I/O error. */
+static uint32 settle(DEVICE *device)
 {
     bool found = true;
+    uint32 count = 0;
 
     for (int round = 0; found && round < 1000; round++) {
         found = false;
@@ -128,10 +136,11 @@ static void settle(DEVICE *device)
                 continue;
             found = true;
             unit->time = 0;
-            EXPECT(unit->action(unit), SCPE_OK);
+            count += unit->action(unit) == SCPE_IOERR;
         }
     }
     EXPECT(found, false);
+    return count;
 }
 
 /* ---- the guest's part ---- */
@@ -149,24 +158,32 @@ static void start_up(DEVICE *device)
     EXPECT(rq_wr(0, register_of(device, 0), 0), SCPE_OK);
     for (int n = 0; n < 4; n++) {
         EXPECT(rq_wr(steps[n], register_of(device, 2), 0), SCPE_OK);
-        settle(device);
+        EXPECT(settle(device), 0);
     }
     EXPECT(rq_rd(&sa, register_of(device, 2), 0), SCPE_OK);
     EXPECT(sa, 0);
 }
 
+/* The words of the guest's memory from a bus address on. While the map is on, each page leads to the next one. */
+static uint16 *at_bus(uint32 at)
+{
+    return M + (at + (cpu_bme ? PAGE : 0)) / 2;
+}
+
 static void put(uint32 at, uint32 number)
 {
-    M[at / 2] = (uint16)number;
-    M[at / 2 + 1] = (uint16)(number >> 16);
+    at_bus(at)[0] = (uint16)number;
+    at_bus(at)[1] = (uint16)(number >> 16);
 }
+
+static uint32 errors; /* I/O errors of the last command */
 
 /* Executes a command over rings of one. Returns the status of its end message. */
 static uint32 executed(DEVICE *device, command c)
 {
     int32 ip;
 
-    memset(M + COMMAND / 2, 0, 48);
+    memset(at_bus(COMMAND), 0, 48);
     put(MESSAGE - 4, 48);
     put(COMMAND - 4, 48);
     put(COMMAND, c.reference);
@@ -178,9 +195,9 @@ static uint32 executed(DEVICE *device, command c)
     put(RING, MESSAGE | 0x80000000);
     put(RING + 4, COMMAND | 0x80000000);
     EXPECT(rq_rd(&ip, register_of(device, 0), 0), SCPE_OK);
-    settle(device);
-    EXPECT(M[MESSAGE / 2], c.reference);
-    return M[MESSAGE / 2 + 5];
+    errors = settle(device);
+    EXPECT(at_bus(MESSAGE)[0], c.reference);
+    return at_bus(MESSAGE)[5];
 }
 
 /* Brings a unit online and writes the first blocks, 32 at a time. Returns the status of the last Write. */
@@ -191,7 +208,7 @@ static uint32 written(DEVICE *device, uint16 unit, uint32 blocks)
     start_up(device);
     EXPECT(executed(device, (command){ ONLINE, unit, 1, 0, 0 }), 0);
     for (uint32 lbn = 0; lbn < blocks && status == 0; lbn += WRITE_LIMIT) {
-        memset(M + DATA / 2, (int)(lbn / WRITE_LIMIT) + 1, WRITE_LIMIT * BLOCK);
+        memset(at_bus(DATA), (int)(lbn / WRITE_LIMIT) + 1, WRITE_LIMIT * BLOCK);
         status = executed(device, (command){ WRITE, unit, 2 + lbn, WRITE_LIMIT * BLOCK, lbn });
     }
     return status;
@@ -225,6 +242,13 @@ static void expect_printed(const char *wanted, int line)
 }
 
 #define PRINTED(wanted) expect_printed(wanted, __LINE__)
+
+/* How the files of the first controller's drives are reached. */
+static void set_way(uint32 flag)
+{
+    for (int n = 0; n < UDA50_UNITS; n++)
+        rq_dev.units[n].flags = (rq_dev.units[n].flags & ~(uint32)MMAP) | flag;
+}
 
 static const char no_reservations[] = "RQ: the file system can't reserve room\n";
 
@@ -324,24 +348,156 @@ static void buses(void)
     PRINTED("");
 }
 
-/* A file that another program has locked, for itself or with others, isn't made longer. */
-static void locked_files(void)
+/* A file that another program has locked, for itself or with others, isn't attached. A file is made longer for a map. */
+static void locked_files(uint32 way)
 {
     int other;
 
     make_file("short", 1000);
     other = open("short", O_RDWR);
     for (int n = 0; n < 2; n++) {
-        EXPECT(flock(other, n == 0 ? LOCK_EX : LOCK_SH), 0);
+        EXPECT(flock(other, (n == 0 ? LOCK_EX : LOCK_SH) | LOCK_NB), 0);
         EXPECT(rq_dev.attach(rq_dev.units, "short"), SCPE_OPENERR);
         PRINTED("RQ: the file is in use\n");
         EXPECT(length_of("short"), 1000);
     }
-    close(other);
+    EXPECT(flock(other, LOCK_UN), 0);
     attach(&rq_dev, 0, "short");
-    EXPECT(length_of("short"), RX50);
+    EXPECT(flock(other, LOCK_SH | LOCK_NB), -1);
+    EXPECT(length_of("short"), way == MMAP ? RX50 : 1000);
+    EXPECT(rq_dev.detach(rq_dev.units), SCPE_OK);
+    rq_dev.units->flags |= LOCKED;
+    attach(&rq_dev, 0, "short");
+    EXPECT(flock(other, LOCK_SH | LOCK_NB), 0);
+    EXPECT(rq_dev.detach(rq_dev.units), SCPE_OK);
+    rq_dev.units->flags &= ~(uint32)LOCKED;
+    close(other);
+}
+
+/* The way of a file can't be changed while it is attached. */
+static void attached_way(void)
+{
+    attach(&rq_dev, 0, "rq0");
+    EXPECT(rq_set_mmap(rq_dev.units, 1, NULL, NULL), SCPE_ALATT);
+    EXPECT(rq_dev.detach(rq_dev.units), SCPE_OK);
+    EXPECT(rq_set_mmap(rq_dev.units, 1, NULL, NULL), SCPE_OK);
+}
+
+/* ---- files whose blocks fail ---- */
+
+static uint8 blocks[RX50];
+static off64_t place;
+static uint32 bad_block = UINT32_MAX; /* it can be neither read nor written */
+
+/* How many bytes can be moved before the bad block. */
+static size_t movable(size_t bytes)
+{
+    off64_t end = place + (off64_t)bytes, bad = (off64_t)bad_block * BLOCK;
+
+    if (place <= bad && bad < end)
+        end = bad;
+    return (size_t)((end < RX50 ? end : RX50) - place);
+}
+
+static ssize_t read_failing(void *cookie, char *to, size_t bytes)
+{
+    size_t count = movable(bytes);
+
+    if (count == 0 && bytes != 0 && place < RX50)
+        return errno = EIO, -1;
+    memcpy(to, blocks + place, count);
+    place += (off64_t)count;
+    return (void)cookie, (ssize_t)count;
+}
+
+static ssize_t write_failing(void *cookie, const char *from, size_t bytes)
+{
+    size_t count = movable(bytes);
+
+    if (count == 0)
+        return errno = EIO, 0;
+    memcpy(blocks + place, from, count);
+    place += (off64_t)count;
+    return (void)cookie, (ssize_t)count;
+}
+
+static int seek_failing(void *cookie, off64_t *offset, int whence)
+{
+    if (whence == SEEK_SET)
+        place = *offset;
+    *offset = place;
+    return (void)cookie, 0;
+}
+
+static FILE *open_failing(void)
+{
+    return fopencookie(NULL, "r+", (cookie_io_functions_t){ read_failing, write_failing, seek_failing, NULL });
+}
+
+/* A command of eight blocks, of which the third fails or none. */
+static void expect_failure(uint8 opcode, bool fails)
+{
+    enum { COUNT = 8, FIRST = 40 };
+    static uint8 before[RX50];
+    uint32 done = fails ? 2 : COUNT;
+    uint8 *at = (uint8 *)at_bus(DATA), *of = blocks + FIRST * BLOCK, given = (uint8)(opcode + fails);
+
+    memset(at, given, COUNT * BLOCK);
+    memcpy(before, blocks, RX50);
+    bad_block = fails ? FIRST + 2 : UINT32_MAX;
+    EXPECT(executed(&rq_dev, (command){ opcode, 0, opcode, COUNT * BLOCK, FIRST }), fails ? DRIVE_ERROR : 0);
+    EXPECT(at_bus(MESSAGE)[6], done * BLOCK);
+    EXPECT(errors, fails);
+    PRINTED(fails ? "RQ I/O error: Input/output error\n" : "");
+    for (uint32 n = 0; n < COUNT * BLOCK; n++) {
+        uint8 old = before[FIRST * BLOCK + n];
+        bool is_done = n < done * BLOCK;
+
+        EXPECT(of[n], opcode == WRITE && is_done ? given : old);
+        EXPECT(at[n], opcode == READ && is_done ? old : given);
+    }
+    EXPECT(memcmp(blocks, before, FIRST * BLOCK), 0);
+    EXPECT(memcmp(of + COUNT * BLOCK, before + (FIRST + COUNT) * BLOCK, RX50 - (FIRST + COUNT) * BLOCK), 0);
+}
+
+/* A failure is a drive error of its command, and of no other. */
+static void failing_files(void)
+{
+    for (int n = 0; n < 31; n++)
+        ub_map[n] = PAGE * (n + 1);
+    for (uint32 n = 0; n < RX50; n++)
+        blocks[n] = (uint8)(n / BLOCK + n);
+    for (cpu_bme = 0; cpu_bme < 2; cpu_bme++) {
+        attach(&rq_dev, 0, failing);
+        start_up(&rq_dev);
+        EXPECT(executed(&rq_dev, (command){ ONLINE, 0, 1, 0, 0 }), 0);
+        for (int n = 0; n < 8; n++)
+            expect_failure(n % 4 < 2 ? READ : WRITE, n % 2 == 0);
+        EXPECT(rq_dev.detach(rq_dev.units), SCPE_OK);
+    }
+    cpu_bme = 0;
+}
+
+/* The blocks of a drive past the end of its file are zeros, up to its size. */
+static void short_file(void)
+{
+    static const uint32 blocks_read[] = { 1, 2, RX50 / BLOCK - 1 };
+
+    make_file("short", 0);
+    attach(&rq_dev, 0, "short");
+    EXPECT(written(&rq_dev, 0, 1), 0);
+    EXPECT(truncate("short", 1000), 0);
+    for (int n = 0; n < 3; n++) {
+        memset(at_bus(DATA), 0xee, BLOCK);
+        EXPECT(executed(&rq_dev, (command){ READ, 0, 9, BLOCK, blocks_read[n] }), 0);
+        for (uint32 k = 0; k < BLOCK / 2; k++)
+            EXPECT(at_bus(DATA)[k], n == 0 && k < (1000 - BLOCK) / 2 ? 0x0101 : 0);
+    }
+    EXPECT(executed(&rq_dev, (command){ READ, 0, 9, BLOCK, RX50 / BLOCK }), 0x1c01);
     EXPECT(rq_dev.detach(rq_dev.units), SCPE_OK);
 }
+
+/* ---- full disks ---- */
 
 static void fill(const char *path)
 {
@@ -401,9 +557,15 @@ int main(int argc, char **argv)
     EXPECT(rq_dev.reset(&rq_dev), SCPE_OK);
     EXPECT(rqb_dev.reset(&rqb_dev), SCPE_OK);
     boots();
-    states();
-    buses();
-    locked_files();
+    failing_files();
+    short_file();
+    for (int n = 0; n < 2; n++) {
+        set_way(n == 0 ? 0 : MMAP);
+        states();
+        buses();
+        locked_files(n == 0 ? 0 : MMAP);
+    }
+    attached_way();
     if (argc > 1 && strcmp(argv[1], "full") == 0) {
         full_disk();
         no_reservation();

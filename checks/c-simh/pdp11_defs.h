@@ -4,6 +4,7 @@
 #define PDP11_DEFS_H
 #define _GNU_SOURCE /* as examples/simh/build has it */
 
+#include <errno.h>
 #include <stdint.h>
 #include <stdio.h>
 #include <string.h>
@@ -17,6 +18,7 @@ typedef int t_stat, t_bool;
 /* What the device prints at the console. */
 int print_line(const char *format, ...);
 #define printf print_line
+#define perror(what) print_line("%s: %s\n", what, strerror(errno))
 
 enum { SCPE_OK, SCPE_NXM = 64, SCPE_UNATT, SCPE_IOERR, SCPE_OPENERR, SCPE_MEM, SCPE_ARG, SCPE_INCOMP, SCPE_ALATT,
        SCPE_NOFNC, SCPE_IERR };

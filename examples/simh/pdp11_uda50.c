@@ -1,9 +1,12 @@
 /* pdp11_uda50.c: the controller of uda50.h as the devices RQ, RQB, RQC and RQD of SIMH 3.8, in place of SIMH's own: of
    its PDP-11, and of its VAX, a MicroVAX 3900.
 
-   The library does what a controller does. For each of the four devices this file has the two registers, four units
-   whose files are mapped, the steps of the start-up and the port's turns as timed events, the interrupts, the guest's
-   memory, and the state that SIMH saves and restores.
+   The library does what a controller does. For each of the four devices this file has the two registers, four units,
+   the steps of the start-up and the port's turns as timed events, the interrupts, the guest's memory, and the state that
+   SIMH saves and restores.
+
+   A unit's file is read and written by SIMH's own calls, as RQ's is. So an I/O error of the host is a drive error of the
+   guest, and stops the simulator. After SET RQn MMAP the file is mapped into memory instead.
 
    The library works in the memory as SIMH keeps it: an array of words or longwords of the host's own order, so the host
    must be little-endian. While the UNIBUS map of a PDP-11 is on, and on a VAX always, it goes through the map. */
@@ -12,7 +15,7 @@
 #else
 #include "pdp11_defs.h"
 #endif
-#include "uda50.h"
+#include "uda50_blocks.h"
 #include "uda50_file.h"
 
 #include <errno.h>
@@ -36,6 +39,7 @@ enum { USER_MIN = 10000, USER_LIMIT = sizeof(t_addr) > 4 ? 2000000000 : 4000000,
 #define TICK(it) ((it)->device->units + UNITS + 2)
 #define STATE(it) ((it)->device->units + UNITS + 3)
 #define UNIT_LOCKED (1u << UNIT_V_UF)
+#define UNIT_MMAP (1u << (UNIT_V_UF + 1))
 #define drive_type u3
 #define controller_number u4
 
@@ -62,6 +66,8 @@ t_stat rq_set_type(UNIT *unit, int32 type, char *text, void *desc);
 t_stat rq_show_type(FILE *to, UNIT *unit, int32 value, void *desc);
 t_stat rq_set_lock(UNIT *unit, int32 locked, char *text, void *desc);
 t_stat rq_show_lock(FILE *to, UNIT *unit, int32 value, void *desc);
+t_stat rq_set_mmap(UNIT *unit, int32 mapped, char *text, void *desc);
+t_stat rq_show_mmap(FILE *to, UNIT *unit, int32 value, void *desc);
 t_stat rq_show_rings(FILE *to, UNIT *unit, int32 value, void *desc);
 int32 rq_acknowledge(void);
 
@@ -70,7 +76,9 @@ typedef struct {
     DEVICE *device;
     uda50 uda;
     uint32 bus;
-    uda50_file files[UNITS];
+    uda50_file files[UNITS];    /* those that are mapped */
+    uda50_called images[UNITS]; /* those that are read and written by calls */
+    t_stat error;  /* of such a call since the last event */
     int32 word;    /* was written to SA: the library gets it at an event */
     int32 request; /* for an interrupt: the processor hasn't granted it yet */
     uint8 state[UDA50_STATE_LENGTH]; /* while SIMH saves or restores */
@@ -118,6 +126,9 @@ static int32 rq_qtime = 200, rq_xtime = 500, rq_turns = 1;
 MTAB rq_mod[] = {
     {UNIT_LOCKED, 0, NULL, "WRITEENABLED", &rq_set_lock},
     {UNIT_LOCKED, UNIT_LOCKED, NULL, "LOCKED", &rq_set_lock},
+    {UNIT_MMAP, 0, NULL, "NOMMAP", &rq_set_mmap},
+    {UNIT_MMAP, UNIT_MMAP, NULL, "MMAP", &rq_set_mmap},
+    {MTAB_XTD | MTAB_VUN | MTAB_NMO, 0, "MMAP", NULL, NULL, &rq_show_mmap, NULL},
     {MTAB_XTD | MTAB_VDV | MTAB_NMO, 0, "RINGS", NULL, NULL, &rq_show_rings, NULL},
     {MTAB_XTD | MTAB_VUN, 0, "WRITE", NULL, NULL, &rq_show_lock, NULL},
     TYPE("RX50", UDA50_RX50),
@@ -222,6 +233,8 @@ static uint16 first_unit(controller *it)
 /* The guest's memory, and the registers of the map through which the bus reaches it, if the map is on. */
 #if defined(VM_VAX)
 
+enum { WINDOW = 8192 << 9 }; /* as many bytes as the bus has addresses */
+
 extern uint32 *M;
 extern int32 cq_mbr; /* where in memory the registers are */
 
@@ -239,6 +252,8 @@ static bool find_map(uda50_map *map)
 }
 
 #else
+
+enum { WINDOW = 31 << 13 };
 
 extern uint16 *M;
 extern int32 ub_map[];
@@ -259,12 +274,40 @@ static bool find_map(uda50_map *map)
 
 #endif
 
+/* Whether a unit's file is read and written by calls. */
+static bool is_called(UNIT *unit)
+{
+    return (unit->flags & (UNIT_ATT | UNIT_MMAP)) == UNIT_ATT;
+}
+
+static bool has_calls(controller *it)
+{
+    for (int n = 0; n < UNITS; n++)
+        if (is_called(it->device->units + n))
+            return true;
+    return false;
+}
+
+/* Turns of a controller with files that are read and written by calls. All controllers share the window. */
+static uint32 run_with_calls(controller *it, uint32 turns, const uda50_map *map)
+{
+    static uint8 window[WINDOW];
+    uda50_mapped mapped = {(uint8 *)M, memory_bytes(), map};
+    uda50_bus by_map = {uda50_mapped_read, uda50_mapped_write, &mapped, window, WINDOW};
+    uda50_bus whole = {NULL, NULL, NULL, (uint8 *)M, memory_bytes()};
+
+    return uda50_blocks_run(&it->uda, turns, map == NULL ? &whole : &by_map, it->images);
+}
+
 static uint32 run(controller *it, uint32 turns)
 {
     uda50_map map;
+    bool is_mapped = find_map(&map);
 
-    return find_map(&map) ? uda50_run_mapped(&it->uda, turns, (uint8 *)M, memory_bytes(), &map)
-                          : uda50_run(&it->uda, turns, (uint8 *)M, memory_bytes());
+    if (has_calls(it))
+        return run_with_calls(it, turns, is_mapped ? &map : NULL);
+    return is_mapped ? uda50_run_mapped(&it->uda, turns, (uint8 *)M, memory_bytes(), &map)
+                     : uda50_run(&it->uda, turns, (uint8 *)M, memory_bytes());
 }
 
 static void write_sa(controller *it, uint16 word)
@@ -384,19 +427,22 @@ static uint32 traced_turns(controller *it)
     return kind;
 }
 
-/* An event: some turns; and the next one later, while something is left to do or an end waits for a descriptor. */
+/* An event: some turns; and the next one later, while something is left to do or an end waits for a descriptor. A file's
+   I/O error stops the simulator, and so does missing memory. When the user continues, the turns go on. */
 t_stat rq_turn(UNIT *unit)
 {
     controller *it = of_unit(unit);
     uint32 kind = DEBUG_PRD(it->device) ? traced_turns(it) : run(it, (uint32)rq_turns);
+    t_stat status = kind == UDA50_NO_MEMORY ? SCPE_MEM : it->error;
     uda50_state state;
 
+    it->error = SCPE_OK;
     request_interrupt(it);
     if (kind == UDA50_IDLE && uda50_get_state(&it->uda, &state) == UDA50_OK && state.queued == 0)
-        return SCPE_OK;
-    if (kind < UDA50_DEAD)
+        return status;
+    if (kind < UDA50_DEAD || kind == UDA50_NO_MEMORY)
         sim_activate(unit, kind == UDA50_EXECUTED ? rq_xtime : rq_qtime);
-    return SCPE_OK;
+    return status;
 }
 
 static bool is_attention_due(controller *it)
@@ -427,6 +473,22 @@ static uint32 tell_type(UNIT *unit)
     return uda50_set_type(&of_unit(unit)->uda, number_of(unit), type);
 }
 
+static bool is_locked(UNIT *unit)
+{
+    return (unit->flags & (UNIT_RO | UNIT_LOCKED)) != 0 || unit->drive_type == UDA50_RRD40;
+}
+
+/* Gives the unit's file to the controller, if it has one. */
+static uint32 tell_file(UNIT *unit)
+{
+    controller *it = of_unit(unit);
+    uint32 number = number_of(unit);
+
+    if (is_called(unit))
+        return uda50_attach_called(&it->uda, number, (uint32)(unit->capac / BLOCK), is_locked(unit));
+    return unit->flags & UNIT_ATT ? uda50_file_attach(&it->uda, number, &it->files[number]) : UDA50_OK;
+}
+
 /* Makes the controller, or makes it anew on another bus: the units keep their types and images. */
 static t_stat make_controller(controller *it, uint32 bus)
 {
@@ -438,8 +500,8 @@ static t_stat make_controller(controller *it, uint32 bus)
     for (uint32 n = 0; status == UDA50_OK && n < UNITS; n++) {
         it->files[n].image = images[n];
         status = tell_type(it->device->units + n);
-        if (status == UDA50_OK && images[n].length != 0)
-            status = uda50_file_attach(&it->uda, n, &it->files[n]);
+        if (status == UDA50_OK)
+            status = tell_file(it->device->units + n);
     }
     it->bus = bus;
     return status == UDA50_OK ? SCPE_OK : SCPE_MEM;
@@ -510,15 +572,11 @@ t_stat rq_deposit(t_value value, t_addr address, UNIT *unit, int32 switches)
     return address + sizeof word == sizeof it->state ? restore_state(it) : SCPE_OK;
 }
 
-static bool is_locked(UNIT *unit)
+/* Takes the lock that uda50_file_open takes, by SIMH's own descriptor: while the length of a file is changed, or as long
+   as it is read and written by calls. */
+static bool lock_file(UNIT *unit, int kind)
 {
-    return (unit->flags & (UNIT_RO | UNIT_LOCKED)) != 0 || unit->drive_type == UDA50_RRD40;
-}
-
-/* Takes the lock that the library takes, by SIMH's own descriptor, while the length of a file is changed. */
-static bool lock_file(UNIT *unit)
-{
-    return flock(fileno(unit->fileref), LOCK_EX | LOCK_NB) == 0 || errno != EWOULDBLOCK;
+    return flock(fileno(unit->fileref), kind | LOCK_NB) == 0 || errno != EWOULDBLOCK;
 }
 
 static off_t length_of(UNIT *unit)
@@ -535,7 +593,7 @@ static int extend(UNIT *unit, off_t *before)
     int descriptor = fileno(unit->fileref);
     int reason = 0;
 
-    if (!lock_file(unit))
+    if (!lock_file(unit, LOCK_EX))
         return UDA50_FILE_LOCKED;
     *before = length_of(unit);
     if (*before >= 0 && *before < (off_t)unit->capac && ftruncate(descriptor, (off_t)unit->capac) != 0)
@@ -550,7 +608,7 @@ static void cut_back(UNIT *unit, off_t before)
 {
     int descriptor = fileno(unit->fileref);
 
-    if (before < 0 || before >= (off_t)unit->capac || !lock_file(unit))
+    if (before < 0 || before >= (off_t)unit->capac || !lock_file(unit, LOCK_EX))
         return;
     if (length_of(unit) == (off_t)unit->capac && ftruncate(descriptor, before) != 0)
         perror(unit->filename);
@@ -569,8 +627,9 @@ static void print_fault(UNIT *unit, int fault)
 /* Maps a unit's file, which SIMH has attached. If it may be written, it is made as long as its drive before, and its
    room is reserved. If the file system can't reserve room, a line says so: there a full disk may end the program. If
    anything else fails, a line says so too, and the file is closed and as long as it was. */
-static bool map_file(UNIT *unit, uda50_file *file)
+static bool map_file(UNIT *unit)
 {
+    uda50_file *file = &of_unit(unit)->files[number_of(unit)];
     bool read_only = is_locked(unit);
     off_t before = -1;
     int fault = read_only ? UDA50_FILE_OK : extend(unit, &before);
@@ -581,11 +640,60 @@ static bool map_file(UNIT *unit, uda50_file *file)
         fault = uda50_file_reserve(file);
     if (fault != UDA50_FILE_OK)
         print_fault(unit, fault);
+    if (file->image.length > unit->capac)
+        file->image.length = (size_t)unit->capac;
     if (fault == UDA50_FILE_OK || fault == UDA50_FILE_NO_RESERVE)
         return true;
     uda50_file_close(file);
     cut_back(unit, before);
     return false;
+}
+
+/* Prints an I/O error as RQ does. The turn's event stops the simulator. Returns how many blocks were moved before. */
+static uint32_t note_error(UNIT *unit, size_t bytes)
+{
+    perror("RQ I/O error");
+    clearerr(unit->fileref);
+    of_unit(unit)->error = SCPE_IOERR;
+    return (uint32_t)(bytes / BLOCK);
+}
+
+/* Past the end of its file a drive has zeros. */
+static uint32_t read_blocks(void *context, uint32_t lbn, uint32_t count, uint8_t *to)
+{
+    UNIT *unit = context;
+    size_t found = 0;
+
+    if (sim_fseek(unit->fileref, (t_addr)lbn * BLOCK, SEEK_SET) != 0)
+        return note_error(unit, 0);
+    found = sim_fread(to, 1, count * BLOCK, unit->fileref);
+    if (ferror(unit->fileref))
+        return note_error(unit, found);
+    memset(to + found, 0, count * BLOCK - found);
+    return count;
+}
+
+static uint32_t write_blocks(void *context, uint32_t lbn, uint32_t count, const uint8_t *from)
+{
+    UNIT *unit = context;
+    size_t written;
+
+    if (sim_fseek(unit->fileref, (t_addr)lbn * BLOCK, SEEK_SET) != 0)
+        return note_error(unit, 0);
+    written = sim_fwrite((void *)from, 1, count * BLOCK, unit->fileref);
+    return written < count * BLOCK ? note_error(unit, written) : count;
+}
+
+/* Prepares a unit's file, which SIMH has attached, for calls. It has no buffer, so each call tells what failed. */
+static bool call_file(UNIT *unit)
+{
+    if (!lock_file(unit, is_locked(unit) ? LOCK_SH : LOCK_EX)) {
+        print_fault(unit, UDA50_FILE_LOCKED);
+        return false;
+    }
+    setvbuf(unit->fileref, NULL, _IONBF, 0);
+    of_unit(unit)->images[number_of(unit)] = (uda50_called){read_blocks, write_blocks, unit};
+    return true;
 }
 
 /* Starts the turns that deliver an attention message, if one is due. */
@@ -599,25 +707,18 @@ static void announce(controller *it)
 
 t_stat rq_attach(UNIT *unit, char *path)
 {
-    controller *it = of_unit(unit);
-    uint32 number = number_of(unit);
     t_stat status = attach_unit(unit, path);
-    uda50_file *file = &it->files[number];
+    bool is_ready;
 
     if (status != SCPE_OK)
         return status;
-    if (!map_file(unit, file)) {
+    is_ready = unit->flags & UNIT_MMAP ? map_file(unit) : call_file(unit);
+    if (!is_ready || tell_type(unit) != UDA50_OK || tell_file(unit) != UDA50_OK) {
+        uda50_file_close(&of_unit(unit)->files[number_of(unit)]);
         detach_unit(unit);
         return SCPE_OPENERR;
     }
-    if (file->image.length > unit->capac)
-        file->image.length = (size_t)unit->capac;
-    if (tell_type(unit) != UDA50_OK || uda50_file_attach(&it->uda, number, file) != UDA50_OK) {
-        uda50_file_close(file);
-        detach_unit(unit);
-        return SCPE_OPENERR;
-    }
-    announce(it);
+    announce(of_unit(unit));
     return SCPE_OK;
 }
 
@@ -675,6 +776,17 @@ t_stat rq_show_lock(FILE *to, UNIT *unit, int32 value, void *desc)
         fprintf(to, "read only");
     else
         fprintf(to, "write %s", is_locked(unit) ? "locked" : "enabled");
+    return SCPE_OK;
+}
+
+t_stat rq_set_mmap(UNIT *unit, int32 mapped, char *text, void *desc)
+{
+    return unit->flags & UNIT_ATT ? SCPE_ALATT : SCPE_OK;
+}
+
+t_stat rq_show_mmap(FILE *to, UNIT *unit, int32 value, void *desc)
+{
+    fprintf(to, unit->flags & UNIT_MMAP ? "mmap" : "no mmap");
     return SCPE_OK;
 }
 

@@ -1,0 +1,1055 @@
+/* blocks.c: turns with images that are read and written by calls, beside a controller with the same images in memory.
+   First each command with each of its blocks failing; what must write nothing; blocks that aren't ready; large commands,
+   and missing memory. Then random guests of both profiles, with memory that is one array, by calls or behind a map. Any
+   block may fail. Both controllers must do the same. What the calls moved must be what the end messages say.
+   Usage: blocks [GUESTS [ROUNDS]] */
+#include <stdint.h>
+
+enum { MEMORY = 0x10000 };
+static uint8_t memory[MEMORY];
+
+#define HAS_MEMORY
+#include "guest.h"
+#include "uda50_blocks.h"
+
+#include <stdlib.h>
+
+enum { PAGES = MEMORY / BLOCK, FRAMES = PAGES + 8, PHYSICAL = FRAMES * BLOCK, LARGEST = 100, PIECE = 32, TURNS = 40 };
+enum { ABORT = 1, AVAILABLE = 8, ACCESS = 16, ERASE = 18, COMPARE = 32 };
+enum { DIFFERENT = 7, PROTECTED = 0x2006, SOFT_PROTECTED = 0x1006, DRIVE_ERROR = 0x0b, NO_BUFFER = 0x69 };
+enum { ARRAY, CALLS, MAPPED, WAYS }; /* how memory is reached */
+
+static const uint32_t VALID = 0x80000000, NEVER = UINT32_MAX;
+
+/* Unit 2 is write-protected. That of unit 3 is in memory for both controllers. */
+static const uint32_t sizes[UDA50_UNITS] = { LARGEST, 37, 20, 64 };
+
+typedef struct machine {
+    uda50 uda;
+    uint8_t disks[UDA50_UNITS][LARGEST * BLOCK], physical[PHYSICAL], window[MEMORY];
+    uint32_t registers[PAGES];
+    uda50_map map;
+    uda50_mapped mapped;
+    uda50_bus bus;
+    int way;
+} machine;
+
+static machine called, held; /* the images are behind calls, and in memory */
+static uint64_t seed = 88172645463325252u;
+
+static uint32_t any(uint32_t below)
+{
+    seed ^= seed << 13;
+    seed ^= seed >> 7;
+    seed ^= seed << 17;
+    return (uint32_t)(seed >> 32) % below;
+}
+
+/* ---- Memory that the library gets ---- */
+
+void *__real_malloc(size_t bytes), *__real_realloc(void *at, size_t bytes);
+void *__wrap_malloc(size_t bytes), *__wrap_realloc(void *at, size_t bytes);
+
+static uint32_t allocations, allowed = UINT32_MAX;
+
+void *__wrap_malloc(size_t bytes)
+{
+    return allocations++ < allowed ? __real_malloc(bytes) : NULL;
+}
+
+void *__wrap_realloc(void *at, size_t bytes)
+{
+    return allocations++ < allowed ? __real_realloc(at, bytes) : NULL;
+}
+
+/* ---- The images by calls ---- */
+
+/* What the calls of a turn moved. The one after `fails_after` blocks fails. */
+static struct {
+    uint32_t calls, unit, first, end;
+    bool writes, failed;
+} moved;
+static uint32_t fails_after = UINT32_MAX;
+
+/* Notes a call, which must go on where the one before it ended. Returns how many of its blocks can be moved. */
+static uint32_t note(uint32_t unit, uint32_t lbn, uint32_t count, bool writes)
+{
+    uint32_t can;
+
+    if (moved.calls++ == 0) {
+        moved.unit = unit;
+        moved.first = moved.end = lbn;
+        moved.writes = writes;
+    }
+    EXPECT(moved.unit, unit);
+    EXPECT(moved.end, lbn);
+    EXPECT(moved.writes, writes);
+    EXPECT(moved.failed, false);
+    EXPECT(count >= 1 && count <= PIECE && lbn + count <= sizes[unit], true);
+    can = fails_after - (moved.end - moved.first);
+    can = can < count ? can : count;
+    moved.end += can;
+    moved.failed = can < count;
+    return can;
+}
+
+/* The blocks after the failing one are no blocks of the image. */
+static uint32_t read_blocks(void *context, uint32_t lbn, uint32_t count, uint8_t *to)
+{
+    uint32_t unit = (uint32_t)((uint8_t (*)[LARGEST * BLOCK])context - called.disks);
+    uint32_t can = note(unit, lbn, count, false);
+
+    memset(to, 0xee, count * BLOCK);
+    memcpy(to, called.disks[unit] + lbn * BLOCK, can * BLOCK);
+    return moved.failed ? can : count + any(2) * any(UINT32_MAX - PIECE);
+}
+
+/* The first half of the failing block is written, as by uda50_inject_failure. */
+static uint32_t write_blocks(void *context, uint32_t lbn, uint32_t count, const uint8_t *from)
+{
+    uint32_t unit = (uint32_t)((uint8_t (*)[LARGEST * BLOCK])context - called.disks);
+    uint32_t can = note(unit, lbn, count, true);
+
+    memcpy(called.disks[unit] + lbn * BLOCK, from, can * BLOCK + (moved.failed ? BLOCK / 2 : 0));
+    return moved.failed ? can : count + any(2) * any(UINT32_MAX - PIECE);
+}
+
+static const uda50_called images[UDA50_UNITS] = {
+    { read_blocks, write_blocks, called.disks[0] },
+    { read_blocks, write_blocks, called.disks[1] },
+    { read_blocks, NULL, called.disks[2] },
+    { NULL, NULL, NULL },
+};
+
+/* ---- The bus, page by page ---- */
+
+/* Copies bytes of the bus to `to` or, if that is null, from `from`. Returns whether each address leads somewhere. */
+static bool copy(machine *it, uda50_range range, uint8_t *to, const uint8_t *from)
+{
+    bool whole = true;
+
+    for (uint32_t n = 0, bytes; n < range.bytes; n += bytes) {
+        uint32_t address = range.at + n, left = BLOCK - address % BLOCK, found = it->registers[address / BLOCK];
+        uint8_t *at = it->physical + (found & ~VALID) * BLOCK + address % BLOCK;
+
+        bytes = left < range.bytes - n ? left : range.bytes - n;
+        if ((found & VALID) == 0) {
+            whole = false;
+            if (to != NULL)
+                memset(to + n, 0, bytes);
+        } else if (to != NULL)
+            memcpy(to + n, at, bytes);
+        else
+            memcpy(at, from + n, bytes);
+    }
+    return whole;
+}
+
+static uint32_t reads; /* calls of read_bytes */
+
+static bool read_bytes(void *context, uint32_t address, uint32_t bytes, uint8_t *to)
+{
+    reads++;
+    return copy(context, (uda50_range){ address, bytes }, to, NULL);
+}
+
+static void write_bytes(void *context, uint32_t address, uint32_t bytes, const uint8_t *from)
+{
+    copy(context, (uda50_range){ address, bytes }, NULL, from);
+}
+
+/* The guest's memory goes to the bus of both machines, and comes from that of the first. */
+static void show(void)
+{
+    write_bytes(&called, 0, MEMORY, memory);
+    write_bytes(&held, 0, MEMORY, memory);
+}
+
+static void see(void)
+{
+    read_bytes(&called, 0, MEMORY, memory);
+}
+
+/* ---- Machines ---- */
+
+static void reach(machine *it, int way)
+{
+    it->map = (uda50_map){ .registers = it->registers, .count = PAGES, .page = 9, .frame = ~VALID, .valid = VALID, .scale = 9 };
+    it->mapped = (uda50_mapped){ it->physical, PHYSICAL, &it->map };
+    it->way = way;
+    if (way == ARRAY)
+        it->bus = (uda50_bus){ NULL, NULL, NULL, it->physical, MEMORY };
+    else if (way == CALLS)
+        it->bus = (uda50_bus){ read_bytes, write_bytes, it, it->window, MEMORY };
+    else
+        it->bus = (uda50_bus){ uda50_mapped_read, uda50_mapped_write, &it->mapped, it->window, MEMORY };
+    for (uint32_t n = 0; n < PAGES; n++)
+        it->registers[n] = VALID | n;
+}
+
+static void attach(machine *it, uint32_t unit)
+{
+    uda50_image image = { it->disks[unit], sizes[unit] * BLOCK };
+
+    if (it == &called && unit < 3)
+        EXPECT(uda50_attach_called(&it->uda, unit, sizes[unit], unit == 2), UDA50_OK);
+    else
+        EXPECT(uda50_attach(&it->uda, unit, &image, unit == 2), UDA50_OK);
+}
+
+/* A struct gets the bytes of an image in memory, and stays empty for one behind calls. */
+static void expect_image(const machine *it, uint32_t unit, uda50_image image)
+{
+    bool empty = it == &called && unit < 3;
+
+    EXPECT(image.length, empty ? 0 : sizes[unit] * BLOCK);
+    EXPECT(image.at == (empty ? NULL : it->disks[unit]), true);
+}
+
+static void detach(machine *it, uint32_t unit)
+{
+    uda50_image image = { NULL, 0 };
+
+    EXPECT(uda50_detach(&it->uda, unit, &image), UDA50_OK);
+    expect_image(it, unit, image);
+}
+
+static void make(machine *it, bool compatible)
+{
+    EXPECT(uda50_new(&it->uda, compatible), UDA50_OK);
+    for (uint32_t unit = 0; unit < UDA50_UNITS; unit++)
+        attach(it, unit);
+}
+
+static void free_machine(machine *it)
+{
+    uda50_image returned[UDA50_UNITS] = { { NULL, 0 } };
+
+    EXPECT(uda50_free(&it->uda, returned), UDA50_OK);
+    for (uint32_t unit = 0; unit < UDA50_UNITS; unit++)
+        expect_image(it, unit, returned[unit]);
+}
+
+static void write_sa(machine *it, uint16_t word)
+{
+    if (it == &called || it->way == CALLS)
+        uda50_bus_write_sa(&it->uda, word, &it->bus);
+    else if (it->way == ARRAY)
+        uda50_write_sa(&it->uda, word, it->physical, MEMORY);
+    else
+        EXPECT(uda50_write_sa_mapped(&it->uda, word, it->physical, PHYSICAL, &it->map), UDA50_OK);
+}
+
+static uint32_t plain_turn(machine *it)
+{
+    return it->way == ARRAY   ? uda50_turn(&it->uda, it->physical, MEMORY)
+           : it->way == CALLS ? uda50_bus_turn(&it->uda, &it->bus)
+                              : uda50_turn_mapped(&it->uda, it->physical, PHYSICAL, &it->map);
+}
+
+/* A turn of the controller with images in memory. Of each unit that is behind calls elsewhere the same block fails. */
+static uint32_t held_turn(void)
+{
+    uint32_t result;
+
+    for (uint32_t unit = 0; unit < 3; unit++)
+        EXPECT(uda50_inject_failure(&held.uda, unit, fails_after + 1), UDA50_OK);
+    result = plain_turn(&held);
+    for (uint32_t unit = 0; unit < 3; unit++)
+        EXPECT(uda50_inject_failure(&held.uda, unit, 0), UDA50_OK);
+    return result;
+}
+
+/* What the calls moved is what the end message says, and only a turn that executes a command makes calls. */
+static void expect_told(uint32_t result)
+{
+    uint32_t count = moved.end - moved.first;
+    uda50_turn_record told;
+
+    EXPECT(uda50_get_last_turn(&called.uda, &told), UDA50_OK);
+    if (result != UDA50_EXECUTED || moved.calls == 0) {
+        EXPECT(moved.calls, 0);
+        EXPECT(result == UDA50_EXECUTED && told.status == DRIVE_ERROR, false);
+        return;
+    }
+    EXPECT(told.unit, moved.unit);
+    EXPECT(moved.writes, told.code == (END | WRITE) || told.code == (END | ERASE));
+    if (told.code == (END | COMPARE) && told.status == DIFFERENT)
+        EXPECT(told.bytes < count * BLOCK, true);
+    else if (moved.failed)
+        EXPECT(told.status == DRIVE_ERROR && told.bytes == count * BLOCK, true);
+    else
+        EXPECT(told.status == 0 && (told.bytes + BLOCK - 1) / BLOCK == count, true);
+}
+
+/* A turn of the controller with images behind calls. Whatever is in a window has no influence. */
+static uint32_t called_turn(void)
+{
+    uint32_t result;
+
+    memset(&moved, 0, sizeof moved);
+    if (called.way != ARRAY)
+        memset(called.window, (int)any(256), MEMORY);
+    result = uda50_blocks_turn(&called.uda, &called.bus, images);
+    expect_told(result);
+    return result;
+}
+
+/* Of the states all but whether a failure was ever injected, the byte 88 of unit 0. */
+static bool same(void)
+{
+    static uint8_t one[UDA50_STATE_LENGTH], two[UDA50_STATE_LENGTH];
+
+    EXPECT(uda50_save(&called.uda, one, sizeof one), UDA50_OK);
+    EXPECT(uda50_save(&held.uda, two, sizeof two), UDA50_OK);
+    for (uint32_t unit = 0; unit < UDA50_UNITS; unit++)
+        two[88 + 8 * unit] = 0;
+    return memcmp(one, two, sizeof one) == 0 && memcmp(called.physical, held.physical, PHYSICAL) == 0
+           && memcmp(called.disks, held.disks, sizeof called.disks) == 0;
+}
+
+/* The same turn of both. Returns what it did. */
+static uint32_t both_turn(void)
+{
+    uint32_t result = called_turn();
+
+    EXPECT(held_turn(), result);
+    EXPECT(same(), true);
+    return result;
+}
+
+static uint16_t two_commands = 1; /* 0 for a command ring of one descriptor */
+
+static void start_machine(machine *it, int way)
+{
+    const uint16_t words[] = { (uint16_t)(0x8080 | two_commands << 11 | 2 << 8 | VECTOR / 4), BASE, 0, 1 };
+
+    reach(it, way);
+    uda50_write_ip(&it->uda, 0);
+    for (int n = 0; n < 4; n++)
+        write_sa(it, words[n]);
+}
+
+/* From here on both have the same memory, blocks and state. */
+static void start_both(int way)
+{
+    static uint8_t state[UDA50_STATE_LENGTH];
+
+    memcpy(held.physical, called.physical, PHYSICAL);
+    memcpy(held.disks, called.disks, sizeof held.disks);
+    start_machine(&called, way);
+    start_machine(&held, way);
+    EXPECT(uda50_save(&called.uda, state, sizeof state), UDA50_OK);
+    EXPECT(uda50_restore(&held.uda, state, sizeof state), UDA50_OK);
+    EXPECT(uda50_restore(&called.uda, state, sizeof state), UDA50_OK);
+    EXPECT(same(), true);
+    see();
+}
+
+/* ---- A guest that waits for each response ---- */
+
+static uint32_t posted; /* commands since the start-up */
+
+/* Has commands executed that are in the ring: one, or two at once. Returns the status of the last end message. */
+static uint32_t executed(uint32_t count)
+{
+    uint32_t last = (posted + count - 1) % RESPONSES, result = UDA50_FETCHED;
+
+    for (uint32_t n = 0; n < count; n++)
+        give_response((posted + n) % RESPONSES);
+    show();
+    EXPECT(uda50_read_ip(&called.uda), uda50_read_ip(&held.uda));
+    for (uint32_t n = 0; n < TURNS && result != UDA50_IDLE && result != UDA50_DEAD; n++)
+        result = both_turn();
+    EXPECT(result, UDA50_IDLE);
+    posted += count;
+    see();
+    return get16(response_at(last) + 10);
+}
+
+static uint32_t status_after(command c)
+{
+    post(posted % COMMANDS, c);
+    return executed(1);
+}
+
+static uint32_t bytes_told(void)
+{
+    uint32_t at = response_at((posted - 1) % RESPONSES) + 12;
+
+    return get16(at) | get16(at + 2) << 16;
+}
+
+static void begin(int way)
+{
+    start_both(way);
+    posted = 0;
+    for (uint16_t unit = 0; unit < UDA50_UNITS; unit++)
+        EXPECT(status_after((command){ ONLINE, unit, unit, 0, 0 }), 0);
+}
+
+/* Fills the blocks of both, and memory from the buffer on. */
+static void fill(void)
+{
+    for (uint32_t unit = 0; unit < UDA50_UNITS; unit++)
+        for (uint32_t n = 0; n < LARGEST * BLOCK; n++)
+            called.disks[unit][n] = (uint8_t)any(256);
+    memcpy(held.disks, called.disks, sizeof held.disks);
+    for (uint32_t n = BUFFER; n < MEMORY; n++)
+        memory[n] = (uint8_t)any(256);
+}
+
+/* ---- Each block of a command fails ---- */
+
+/* Executes a command of 70 blocks, or a partial block less, with a failing one or with none. */
+static void fail_at(uint8_t opcode, uint32_t failing, bool partial)
+{
+    enum { COUNT = 70, FIRST = 11 };
+    static uint8_t disk[LARGEST * BLOCK], before[MEMORY];
+    uint32_t done = failing < COUNT ? failing : COUNT, bytes = COUNT * BLOCK - (partial ? 100 : 0);
+
+    fill();
+    memcpy(disk, called.disks[0], sizeof disk);
+    if (opcode == COMPARE)
+        memcpy(memory + BUFFER, disk + FIRST * BLOCK, COUNT * BLOCK);
+    memcpy(before, memory, MEMORY);
+    fails_after = failing;
+    EXPECT(status_after((command){ opcode, 0, failing, bytes, FIRST }), failing < COUNT ? DRIVE_ERROR : 0);
+    EXPECT(bytes_told(), failing < COUNT ? done * BLOCK : bytes);
+    fails_after = NEVER;
+    for (uint32_t n = 0; n < COUNT * BLOCK; n++) {
+        uint8_t old = disk[FIRST * BLOCK + n], written = opcode == ERASE || n >= bytes ? 0 : before[BUFFER + n];
+        bool writes = opcode == WRITE || opcode == ERASE, told = n < done * BLOCK;
+
+        if (n < done * BLOCK || n >= (done + 1) * BLOCK)
+            EXPECT(called.disks[0][FIRST * BLOCK + n], writes && told ? written : old);
+        EXPECT(memory[BUFFER + n], opcode == READ && told && n < bytes ? old : before[BUFFER + n]);
+    }
+    EXPECT(memcmp(disk, called.disks[0], FIRST * BLOCK), 0);
+    EXPECT(memcmp(disk + (FIRST + COUNT) * BLOCK, called.disks[0] + (FIRST + COUNT) * BLOCK, sizeof disk - (FIRST + COUNT) * BLOCK), 0);
+}
+
+static void each_block_fails(void)
+{
+    static const uint8_t opcodes[] = { READ, WRITE, ERASE, ACCESS, COMPARE };
+
+    for (int way = 0; way < WAYS; way++) {
+        begin(way);
+        for (uint32_t n = 0; n < sizeof opcodes; n++)
+            for (uint32_t failing = 0; failing <= 70; failing += 1 + any(3))
+                fail_at(opcodes[n], failing, failing % 2 == 0);
+        for (uint32_t n = 0; n < sizeof opcodes; n++)
+            fail_at(opcodes[n], 70, true);
+    }
+}
+
+/* A Compare Host Data that finds a difference tells nothing of a block that fails after it. */
+static void difference_before_a_failure(void)
+{
+    begin(ARRAY);
+    fill();
+    memcpy(memory + BUFFER, called.disks[1], 4 * BLOCK);
+    memory[BUFFER + BLOCK + 3] ^= 1;
+    fails_after = 2;
+    EXPECT(status_after((command){ COMPARE, 1, 1, 4 * BLOCK, 0 }), DIFFERENT);
+    EXPECT(bytes_told(), BLOCK + 3);
+    fails_after = 1;
+    EXPECT(status_after((command){ COMPARE, 1, 1, 4 * BLOCK, 0 }), DRIVE_ERROR);
+    fails_after = NEVER;
+}
+
+/* ---- What moves nothing ---- */
+
+static uint32_t moves; /* calls of the images for the last commands */
+
+/* Executes commands one turn after the other, and counts the calls of the images. */
+static uint32_t counted(uint32_t count)
+{
+    uint32_t last = (posted + count - 1) % RESPONSES, result = UDA50_FETCHED;
+
+    for (uint32_t n = 0; n < count; n++)
+        give_response((posted + n) % RESPONSES);
+    show();
+    EXPECT(uda50_read_ip(&called.uda), uda50_read_ip(&held.uda));
+    for (moves = 0; result != UDA50_IDLE && result < UDA50_DEAD; moves += moved.calls)
+        result = both_turn();
+    posted += count;
+    see();
+    return get16(response_at(last) + 10);
+}
+
+static void expect_no_moves(command c, uint32_t status)
+{
+    post(posted % COMMANDS, c);
+    EXPECT(counted(1), status);
+    EXPECT(moves, 0);
+}
+
+static void missing_buffer(void)
+{
+    begin(MAPPED);
+    fill();
+    called.registers[BUFFER / BLOCK + 1] &= ~VALID;
+    held.registers[BUFFER / BLOCK + 1] &= ~VALID;
+    expect_no_moves((command){ WRITE, 0, 1, 2 * BLOCK, 0 }, NO_BUFFER);
+    expect_no_moves((command){ READ, 0, 2, 2 * BLOCK, 0 }, NO_BUFFER);
+    expect_no_moves((command){ COMPARE, 0, 3, 2 * BLOCK, 0 }, NO_BUFFER);
+}
+
+/* A unit that is protected or available, a range or a byte count that isn't right, no bytes, and an image in memory. */
+static void rejected_moves(void)
+{
+    uint32_t n;
+
+    begin(ARRAY);
+    expect_no_moves((command){ WRITE, 2, 4, BLOCK, 0 }, PROTECTED);
+    expect_no_moves((command){ ERASE, 2, 5, BLOCK, 0 }, PROTECTED);
+    expect_no_moves((command){ WRITE, 1, 6, BLOCK, 37 }, 0x1c01);
+    expect_no_moves((command){ READ, 1, 7, 2 * BLOCK, 36 }, 0x0c01);
+    expect_no_moves((command){ WRITE, 1, 8, 1, 0 }, 0x49);
+    expect_no_moves((command){ WRITE, 0, 9, 0, 0 }, 0);
+    expect_no_moves((command){ WRITE, 3, 10, BLOCK, 0 }, 0);
+    EXPECT(status_after((command){ AVAILABLE, 1, 11, 0, 0 }), 0);
+    expect_no_moves((command){ WRITE, 1, 12, BLOCK, 0 }, 4);
+    n = posted % COMMANDS; /* with software protection */
+    post(n, (command){ ONLINE, 1, 13, 0, 0 });
+    put16(command_at(n) + 10, 4);
+    put16(command_at(n) + 14, 0x1000);
+    EXPECT(executed(1), 0);
+    expect_no_moves((command){ WRITE, 1, 14, BLOCK, 0 }, SOFT_PROTECTED);
+}
+
+/* An Abort that comes with the Write. */
+static void aborted_write(void)
+{
+    uint32_t n;
+
+    begin(ARRAY);
+    n = posted % COMMANDS;
+    post(n, (command){ WRITE, 0, 15, BLOCK, 0 });
+    post(1 - n, (command){ ABORT, 0, 16, 15, 0 });
+    EXPECT(counted(2), 0);
+    EXPECT(moves, 0);
+    EXPECT(get16(response_at((posted - 2) % RESPONSES) + 10), 2);
+}
+
+/* ---- The calls below ---- */
+
+/* Posts a Read of unit 0 and takes turns until it is pending, with the whole window in memory. */
+static void make_pending(uint8_t opcode, uint32_t bytes)
+{
+    post(posted % COMMANDS, (command){ opcode, 0, 1, bytes, 5 });
+    give_response(posted++ % RESPONSES);
+    show();
+    EXPECT(uda50_read_ip(&called.uda), 0);
+    EXPECT(uda50_turn(&called.uda, called.physical, MEMORY), UDA50_FETCHED);
+}
+
+static uda50_blocks ask(uda50_turn_use *use)
+{
+    uda50_blocks blocks = { 9, 9, 9, 9 };
+
+    memset(use, 0, sizeof *use);
+    EXPECT(uda50_get_descriptors(&called.uda, called.physical, MEMORY, use), UDA50_OK);
+    EXPECT(uda50_get_body(&called.uda, called.physical, MEMORY, use), UDA50_OK);
+    EXPECT(uda50_get_blocks(&called.uda, called.physical, MEMORY, use, &blocks), UDA50_OK);
+    return blocks;
+}
+
+/* Ends the pending command, delivers its end message, and returns its byte count. */
+static uint32_t bytes_after(uint32_t status)
+{
+    uda50_turn_record told;
+
+    EXPECT(uda50_turn(&called.uda, called.physical, MEMORY), UDA50_EXECUTED);
+    EXPECT(uda50_get_last_turn(&called.uda, &told), UDA50_OK);
+    EXPECT(told.status, status);
+    EXPECT(uda50_run(&called.uda, TURNS, called.physical, MEMORY), UDA50_IDLE);
+    see();
+    return told.bytes;
+}
+
+static bool are(uda50_blocks blocks, uint32_t use, uint32_t count)
+{
+    return blocks.use == use && blocks.unit == 0 && blocks.first == (count == 0 ? 0 : 5) && blocks.count == count;
+}
+
+/* A command whose blocks aren't ready ends at the first of them. */
+static void not_ready(void)
+{
+    static const uint8_t opcodes[] = { READ, WRITE, ERASE, ACCESS, COMPARE };
+
+    for (uint32_t n = 0; n < sizeof opcodes; n++) {
+        begin(ARRAY);
+        fill();
+        make_pending(opcodes[n], 3 * BLOCK);
+        EXPECT(bytes_after(DRIVE_ERROR), 0);
+        make_pending(opcodes[n], 3 * BLOCK);
+        EXPECT(uda50_run(&called.uda, TURNS, called.physical, MEMORY), UDA50_IDLE);
+        see();
+        EXPECT(get16(response_at((posted - 1) % RESPONSES) + 10), DRIVE_ERROR);
+    }
+}
+
+/* Blocks are lent in pieces of any size. Those that were lent before the last uda50_get_blocks aren't ready. */
+static void lent_in_pieces(void)
+{
+    static uint8_t bytes[8 * BLOCK];
+    uda50_turn_use use;
+
+    begin(ARRAY);
+    EXPECT(are(ask(&use), UDA50_NO_BLOCKS, 0), true);
+    fill();
+    for (uint32_t n = 0; n < sizeof bytes; n++)
+        bytes[n] = (uint8_t)any(256);
+    make_pending(READ, 8 * BLOCK);
+    EXPECT(are(ask(&use), UDA50_READS, 8), true);
+    EXPECT(uda50_lend_blocks(&called.uda, 0, 5, bytes + BLOCK, 2 * BLOCK), UDA50_OK);
+    EXPECT(are(ask(&use), UDA50_READS, 8), true);
+    EXPECT(uda50_lend_blocks(&called.uda, 0, 5, bytes, 3 * BLOCK), UDA50_OK);
+    EXPECT(uda50_lend_blocks(&called.uda, 0, 8, bytes + 3 * BLOCK, BLOCK), UDA50_OK);
+    EXPECT(uda50_lend_blocks(&called.uda, 0, 9, bytes + 4 * BLOCK, 2 * BLOCK), UDA50_OK);
+    EXPECT(bytes_after(DRIVE_ERROR), 6 * BLOCK);
+    EXPECT(memcmp(memory + BUFFER, bytes, 6 * BLOCK), 0);
+    EXPECT(memcmp(memory + BUFFER + 6 * BLOCK, bytes + 6 * BLOCK, BLOCK) != 0, true);
+    make_pending(READ, BLOCK); /* lent and then forgotten by the emulator: uda50_blocks_turn begins again */
+    EXPECT(are(ask(&use), UDA50_READS, 1), true);
+    EXPECT(uda50_lend_blocks(&called.uda, 0, 5, bytes, BLOCK), UDA50_OK);
+    EXPECT(called_turn(), UDA50_EXECUTED);
+    see();
+    EXPECT(memcmp(memory + BUFFER, called.disks[0] + 5 * BLOCK, BLOCK), 0);
+}
+
+/* The bytes of a Write, from any block on, and those of an Erase. */
+static void told_bytes(void)
+{
+    static uint8_t bytes[3 * BLOCK], zeros[BLOCK];
+    uda50_turn_use use;
+
+    begin(ARRAY);
+    fill();
+    make_pending(WRITE, 3 * BLOCK - 100);
+    EXPECT(are(ask(&use), UDA50_WRITES, 3), true);
+    EXPECT(uda50_get_written(&called.uda, called.physical, MEMORY, &use, 0, bytes, 3 * BLOCK), UDA50_OK);
+    EXPECT(memcmp(bytes, memory + BUFFER, 3 * BLOCK - 100), 0);
+    EXPECT(memcmp(bytes + 3 * BLOCK - 100, zeros, 100), 0);
+    EXPECT(uda50_get_written(&called.uda, called.physical, MEMORY, &use, 1, bytes, BLOCK), UDA50_OK);
+    EXPECT(memcmp(bytes, memory + BUFFER + BLOCK, BLOCK), 0);
+    EXPECT(uda50_get_written(&called.uda, called.physical, MEMORY, &use, 2, bytes, 2 * BLOCK), UDA50_BAD_LENGTH);
+    EXPECT(uda50_get_written(&called.uda, called.physical, MEMORY, &use, 4, bytes, BLOCK), UDA50_BAD_LENGTH);
+    EXPECT(memcmp(bytes, memory + BUFFER + BLOCK, BLOCK), 0);
+    EXPECT(uda50_allow_blocks(&called.uda, 0, UDA50_WRITES, 2), UDA50_OK);
+    EXPECT(bytes_after(DRIVE_ERROR), 2 * BLOCK);
+    make_pending(ERASE, 2 * BLOCK);
+    EXPECT(are(ask(&use), UDA50_WRITES, 2), true);
+    EXPECT(uda50_get_written(&called.uda, called.physical, MEMORY, &use, 1, bytes, BLOCK), UDA50_OK);
+    EXPECT(memcmp(bytes, zeros, BLOCK), 0);
+    EXPECT(uda50_allow_blocks(&called.uda, 0, UDA50_WRITES, 2), UDA50_OK);
+    EXPECT(bytes_after(0), 2 * BLOCK);
+    make_pending(ACCESS, 3 * BLOCK);
+    EXPECT(are(ask(&use), UDA50_CHECKS, 3), true);
+    EXPECT(uda50_get_written(&called.uda, called.physical, MEMORY, &use, 0, bytes, BLOCK), UDA50_BAD_LENGTH);
+    EXPECT(uda50_allow_blocks(&called.uda, 0, UDA50_CHECKS, 1), UDA50_OK);
+    EXPECT(uda50_allow_blocks(&called.uda, 0, UDA50_CHECKS, 2), UDA50_OK);
+    EXPECT(bytes_after(0), 3 * BLOCK);
+}
+
+/* A run ends after the first turn that does nothing, and after as many turns as it gets. */
+static void ended_runs(void)
+{
+    begin(CALLS);
+    reads = 0;
+    EXPECT(uda50_blocks_run(&called.uda, 1000, &called.bus, images), UDA50_IDLE);
+    EXPECT(reads <= 5, true);
+    post(posted % COMMANDS, (command){ GET_UNIT_STATUS, 0, 1, 0, 0 });
+    give_response(posted++ % RESPONSES);
+    show();
+    uda50_read_ip(&called.uda);
+    EXPECT(uda50_blocks_run(&called.uda, 1, &called.bus, images), UDA50_FETCHED);
+    EXPECT(uda50_blocks_run(&called.uda, 2, &called.bus, images), UDA50_DELIVERED);
+    EXPECT(uda50_blocks_run(&called.uda, 2, &called.bus, images), UDA50_IDLE);
+}
+
+static void statuses_of_images(void)
+{
+    static uint8_t block[BLOCK];
+    static uda50 none;
+    uda50 *uda = &called.uda;
+    uda50_image full = { block, BLOCK }, empty = { NULL, 0 };
+
+    EXPECT(uda50_attach_called(&none, 4, 0, false), UDA50_NO_CONTROLLER);
+    EXPECT(uda50_attach_called(uda, 4, 0, false), UDA50_NO_SUCH_UNIT);
+    EXPECT(uda50_attach_called(uda, 0, 0, false), UDA50_ALREADY_ATTACHED);
+    EXPECT(uda50_attach(uda, 0, &full, false), UDA50_ALREADY_ATTACHED);
+    EXPECT(uda50_set_type(uda, 0, UDA50_RD54), UDA50_ALREADY_ATTACHED);
+    EXPECT(uda50_detach(uda, 0, &full), UDA50_NOT_EMPTY);
+    EXPECT(uda50_inject_failure(uda, 0, 1), UDA50_OTHER_KIND);
+    EXPECT(uda50_inject_failure(uda, 0, 0), UDA50_OTHER_KIND);
+    EXPECT(uda50_detach(uda, 1, &empty), UDA50_OK);
+    EXPECT(uda50_attach_called(uda, 1, 0, false), UDA50_BAD_LENGTH);
+    EXPECT(uda50_attach_called(uda, 1, (uint32_t)UDA50_MAX_BLOCKS + 1, false), UDA50_TOO_LARGE);
+    EXPECT(uda50_lend_blocks(uda, 1, 0, block, BLOCK), UDA50_NOT_ATTACHED);
+    EXPECT(uda50_allow_blocks(uda, 1, UDA50_CHECKS, 1), UDA50_NOT_ATTACHED);
+    EXPECT(uda50_attach_called(uda, 1, sizes[1], false), UDA50_OK);
+    EXPECT(uda50_lend_blocks(&none, 4, 0, block, 1), UDA50_NO_CONTROLLER);
+    EXPECT(uda50_lend_blocks(uda, 4, 0, block, 1), UDA50_NO_SUCH_UNIT);
+    EXPECT(uda50_lend_blocks(uda, 3, 0, block, 1), UDA50_OTHER_KIND);
+    EXPECT(uda50_lend_blocks(uda, 0, 0, block, BLOCK - 1), UDA50_BAD_LENGTH);
+    EXPECT(uda50_allow_blocks(&none, 4, 9, 1), UDA50_NO_CONTROLLER);
+    EXPECT(uda50_allow_blocks(uda, 4, 9, 1), UDA50_NO_SUCH_UNIT);
+    EXPECT(uda50_allow_blocks(uda, 3, UDA50_CHECKS, 1), UDA50_OTHER_KIND);
+    EXPECT(uda50_allow_blocks(uda, 0, UDA50_READS, 1), UDA50_OTHER_KIND);
+    EXPECT(uda50_allow_blocks(uda, 0, UDA50_NO_BLOCKS, 1), UDA50_OTHER_KIND);
+}
+
+static void statuses_of_turns(void)
+{
+    static uint8_t bytes[BLOCK];
+    static uda50 none;
+    uda50 *uda = &called.uda;
+    uda50_blocks blocks = { 9, 9, 9, 9 }, before = blocks;
+    uda50_bus odd = called.bus, large = called.bus, other = called.bus;
+    uda50_turn_use use;
+
+    odd.length--;
+    large.length = (4 << 20) + 2;
+    begin(ARRAY);
+    make_pending(WRITE, BLOCK);
+    EXPECT(are(ask(&use), UDA50_WRITES, 1), true);
+    EXPECT(uda50_get_blocks(&none, called.physical, 1, &use, &blocks), UDA50_NO_CONTROLLER);
+    EXPECT(uda50_get_blocks(uda, called.physical, MEMORY - 1, &use, &blocks), UDA50_BAD_LENGTH);
+    EXPECT(memcmp(&blocks, &before, sizeof blocks), 0);
+    EXPECT(uda50_get_written(&none, called.physical, 1, &use, 0, bytes, BLOCK), UDA50_NO_CONTROLLER);
+    EXPECT(uda50_get_written(uda, called.physical, MEMORY - 1, &use, 0, bytes, BLOCK), UDA50_BAD_LENGTH);
+    EXPECT(uda50_blocks_turn(&none, &other, images), UDA50_NO_CONTROLLER);
+    EXPECT(uda50_blocks_turn(uda, &odd, images), UDA50_BAD_LENGTH);
+    EXPECT(uda50_blocks_turn(uda, &large, images), UDA50_TOO_LARGE);
+    EXPECT(uda50_blocks_run(&none, 0, &other, images), UDA50_NO_CONTROLLER);
+    EXPECT(uda50_blocks_run(uda, 1, &odd, images), UDA50_BAD_LENGTH);
+    EXPECT(uda50_blocks_run(uda, 0, &large, images), UDA50_TOO_LARGE);
+    EXPECT(uda50_blocks_run(uda, 0, &called.bus, images), UDA50_IDLE);
+    memset(&moved, 0, sizeof moved);
+    EXPECT(uda50_blocks_run(uda, 1, &called.bus, images), UDA50_EXECUTED);
+    EXPECT(moved.end - moved.first, 1);
+    EXPECT(uda50_blocks_run(uda, TURNS, &called.bus, images), UDA50_IDLE);
+}
+
+/* ---- Memory ---- */
+
+/* A Read takes its turn when there is memory for its blocks, and until then nothing changes. */
+static void missing_memory(void)
+{
+    static uint8_t before[UDA50_STATE_LENGTH], after[UDA50_STATE_LENGTH], bytes[MEMORY];
+
+    detach(&called, 0); /* with the memory that it had */
+    attach(&called, 0);
+    begin(CALLS);
+    fill();
+    make_pending(READ, 70 * BLOCK);
+    memcpy(bytes, called.physical, MEMORY);
+    EXPECT(uda50_save(&called.uda, before, sizeof before), UDA50_OK);
+    for (allowed = 0; allowed < 20; allowed++) {
+        uint32_t result;
+
+        allocations = 0;
+        memset(&moved, 0, sizeof moved);
+        result = uda50_blocks_turn(&called.uda, &called.bus, images);
+        EXPECT(uda50_save(&called.uda, after, sizeof after), UDA50_OK);
+        if (result != UDA50_NO_MEMORY)
+            break;
+        EXPECT(memcmp(before, after, sizeof before), 0);
+        EXPECT(memcmp(bytes, called.physical, MEMORY), 0);
+    }
+    EXPECT(allowed > 0 && allowed < 20, true);
+    allowed = UINT32_MAX;
+    see();
+    EXPECT(memcmp(memory + BUFFER, called.disks[0] + 5 * BLOCK, 70 * BLOCK), 0);
+    expect_told(UDA50_EXECUTED);
+}
+
+static uint32_t blocks_moved;
+
+static uint32_t read_nothing(void *context, uint32_t lbn, uint32_t count, uint8_t *to)
+{
+    EXPECT(context == NULL && lbn == blocks_moved && to != NULL, true);
+    blocks_moved += count;
+    return count;
+}
+
+static uint32_t write_nothing(void *context, uint32_t lbn, uint32_t count, const uint8_t *from)
+{
+    EXPECT(from[0] == 0 && from[count * BLOCK - 1] == 0, true);
+    return read_nothing(context, lbn, count, (uint8_t *)from);
+}
+
+/* The largest Access and Erase of the largest image. */
+static void large_commands(void)
+{
+    static const uda50_called nothing[UDA50_UNITS] = { { NULL, NULL, NULL }, { read_nothing, write_nothing, NULL } };
+    static const uint8_t opcodes[] = { ONLINE, ACCESS, ERASE };
+
+    detach(&called, 1);
+    EXPECT(uda50_attach_called(&called.uda, 1, UDA50_MAX_BLOCKS, false), UDA50_OK);
+    start_machine(&called, ARRAY);
+    see();
+    posted = 0;
+    for (uint32_t n = 0; n < sizeof opcodes; n++) {
+        uint32_t bytes = n == 0 ? 0 : 0xfffffffe;
+
+        post(posted % COMMANDS, (command){ opcodes[n], 1, n, bytes, 0 });
+        give_response(posted++);
+        show();
+        uda50_read_ip(&called.uda);
+        allocations = blocks_moved = 0;
+        EXPECT(uda50_blocks_run(&called.uda, TURNS, &called.bus, nothing), UDA50_IDLE);
+        see();
+        EXPECT(get16(response_at(n) + 10), 0);
+        EXPECT(bytes_told(), n == 0 ? bytes_told() : bytes);
+        EXPECT(blocks_moved, n == 0 ? 0 : 8388608);
+        EXPECT(allocations, 0);
+    }
+    EXPECT(uda50_detach(&called.uda, 1, &(uda50_image){ NULL, 0 }), UDA50_OK);
+    attach(&called, 1);
+}
+
+/* ---- The bus of a map ---- */
+
+/* Any register: one page for two, or a page that is missing. Those of the rings mostly lead somewhere. */
+static void lead_anywhere(void)
+{
+    for (uint32_t n = 0; n < PAGES; n++) {
+        uint32_t way = any(n >= BUFFER / BLOCK ? 16 : 512);
+
+        called.registers[n] = VALID | (way == 0 ? any(FRAMES) : n);
+        if (way == 1)
+            called.registers[n] &= ~VALID;
+    }
+    for (uint32_t n = 0; n < PAGES; n++) { /* exchange pages */
+        uint32_t k = any(PAGES), kept = called.registers[n];
+
+        if (n >= BUFFER / BLOCK && k >= BUFFER / BLOCK) {
+            called.registers[n] = called.registers[k];
+            called.registers[k] = kept;
+        }
+    }
+    memcpy(held.registers, called.registers, sizeof held.registers);
+}
+
+/* Copies behind a map are those of the pages. */
+static void copies(void)
+{
+    static uint8_t one[MEMORY], two[MEMORY];
+
+    reach(&called, MAPPED);
+    for (uint32_t n = 0; n < 300; n++) {
+        uint32_t at = any(MEMORY), bytes = any(MEMORY - at + 1);
+        bool whole;
+
+        lead_anywhere();
+        fill();
+        memcpy(held.physical, called.physical, PHYSICAL);
+        memset(one, 0xee, MEMORY);
+        memset(two, 0xee, MEMORY);
+        whole = copy(&called, (uda50_range){ at, bytes }, one, NULL);
+        EXPECT(uda50_read_mapped(called.physical, PHYSICAL, &called.map, at, two, bytes), whole ? UDA50_OK : UDA50_NOWHERE);
+        EXPECT(memcmp(one, two, MEMORY), 0);
+        memset(two, 0xee, MEMORY);
+        EXPECT(uda50_mapped_read(&called.mapped, at, bytes, two), whole);
+        EXPECT(memcmp(one, two, MEMORY), 0);
+        if (any(2))
+            EXPECT(uda50_write_mapped(called.physical, PHYSICAL, &called.map, at, memory, bytes), UDA50_OK);
+        else
+            uda50_mapped_write(&called.mapped, at, bytes, memory);
+        write_bytes(&held, at, bytes, memory);
+        EXPECT(memcmp(called.physical, held.physical, PHYSICAL), 0);
+    }
+}
+
+/* Maps that no bus has, and addresses past the end of a bus. */
+static void refused_copies(void)
+{
+    static uint8_t one[MEMORY], two[MEMORY];
+    uda50_map map;
+
+    reach(&called, MAPPED);
+    memcpy(held.physical, called.physical, PHYSICAL);
+    map = called.map;
+    for (uint32_t n = 0; n < 3; n++) {
+        uint32_t wanted = n == 0 ? UDA50_BAD_MAP : n == 1 ? UDA50_TOO_LARGE : UDA50_BAD_LENGTH;
+
+        map.page = n == 0 ? 32 : n == 1 ? 31 : 0;
+        map.count = n == 2 ? 3 : PAGES;
+        memset(one, 0xee, MEMORY);
+        memset(two, 0xee, MEMORY);
+        EXPECT(uda50_read_mapped(called.physical, PHYSICAL, &map, 0, two, 4), wanted);
+        EXPECT(uda50_write_mapped(called.physical, PHYSICAL, &map, 0, memory, 4), wanted);
+        EXPECT(memcmp(one, two, MEMORY), 0);
+        called.mapped.map = &map;
+        EXPECT(uda50_mapped_read(&called.mapped, 0, 4, two), false);
+        EXPECT(two[0] == 0 && two[3] == 0, true);
+        uda50_mapped_write(&called.mapped, 0, 4, memory);
+        EXPECT(memcmp(called.physical, held.physical, PHYSICAL), 0);
+    }
+    map = called.map;
+    EXPECT(uda50_read_mapped(called.physical, PHYSICAL, &map, MEMORY - 2, two, 4), UDA50_NOWHERE);
+    EXPECT(uda50_read_mapped(called.physical, PHYSICAL, &map, UINT32_MAX, two, 4), UDA50_NOWHERE);
+    EXPECT(uda50_write_mapped(called.physical, PHYSICAL, &map, UINT32_MAX, memory, 4), UDA50_OK);
+    EXPECT(memcmp(called.physical, held.physical, PHYSICAL), 0);
+}
+
+/* ---- Random guests ---- */
+
+static bool is_ports(uint32_t descriptor)
+{
+    return memory[BASE + 4 * descriptor + 3] & 0x80;
+}
+
+/* Any command, a Compare Host Data often of what the last command moved. */
+static void post_any(uint32_t n, bool compatible)
+{
+    static const uint8_t opcodes[] = { READ, WRITE, READ, WRITE, READ, WRITE, ERASE, ACCESS, ONLINE, GET_UNIT_STATUS, AVAILABLE,
+                                       COMPARE, COMPARE, COMPARE, ABORT, 11 };
+    static command last;
+    static uint32_t buffer = BUFFER, reference;
+    command c = { opcodes[any(compatible ? 16 : 11)], (uint16_t)any(4), ++reference, (any(81) + 1) * BLOCK, any(LARGEST + 2) };
+
+    if (c.opcode == COMPARE && any(4) != 0) {
+        c = last;
+        c.opcode = COMPARE;
+        if (any(4) == 0 && buffer + c.bytes < MEMORY)
+            memory[buffer + any(c.bytes + 1)] ^= (uint8_t)any(2);
+    } else {
+        buffer = (any(16) == 0 ? any(MEMORY) : BUFFER + any(MEMORY - BUFFER)) & ~1u;
+        c.bytes = any(3) == 0 ? c.bytes - any(BLOCK / 2) * 2 : any(2) ? c.bytes : any(4) * BLOCK;
+        c.lbn = any(4) == 0 ? any(4) : c.lbn % (sizes[c.unit] + 2);
+    }
+    last = c;
+    if (c.opcode == ABORT) /* of the command before */
+        c.bytes = reference - 1;
+    if (any(64) == 0)
+        c.unit = 4;
+    post(n, c);
+    put32(command_at(n) + 16, buffer);
+    memory[command_at(n) + 15] |= (uint8_t)(c.opcode == ACCESS && any(64) == 0 ? 0xff : 0);
+}
+
+/* Gives the port commands for which it has credits, and most response descriptors. */
+static void post_some(bool compatible)
+{
+    uda50_state state;
+
+    EXPECT(uda50_get_state(&called.uda, &state), UDA50_OK);
+    for (uint32_t n = 0; n < RESPONSES; n++)
+        if (!is_ports(n) && any(8) != 0)
+            give_response(n);
+    for (uint32_t n = 0; n < state.commands.count && n < state.credits; n++) {
+        uint32_t k = (state.commands.next + n) % state.commands.count;
+
+        if (is_ports(RESPONSES + k) || any(8) == 0)
+            break;
+        post_any(k, compatible);
+    }
+}
+
+/* What happens now and then between turns: volumes are exchanged, and the state is saved and restored. */
+static void do_something_rare(void)
+{
+    static uint8_t state[UDA50_STATE_LENGTH];
+    uint32_t unit = any(UDA50_UNITS);
+
+    if (any(2)) {
+        detach(&called, unit);
+        detach(&held, unit);
+        attach(&called, unit);
+        attach(&held, unit);
+    } else {
+        EXPECT(uda50_save(&called.uda, state, sizeof state), UDA50_OK);
+        EXPECT(uda50_restore(&called.uda, state, sizeof state), UDA50_OK);
+        EXPECT(uda50_restore(&held.uda, state, sizeof state), UDA50_OK);
+    }
+}
+
+/* Returns whether the port is dead. */
+static bool play_round(bool compatible)
+{
+    uint32_t result = UDA50_FETCHED;
+
+    see();
+    post_some(compatible);
+    show();
+    EXPECT(uda50_read_ip(&called.uda), uda50_read_ip(&held.uda));
+    for (uint32_t n = 0; n < TURNS && result != UDA50_IDLE && result != UDA50_DEAD; n++) {
+        fails_after = any(3) == 0 ? any(any(8) == 0 ? 90 : 6) : NEVER;
+        result = both_turn();
+        if (any(128) == 0)
+            do_something_rare();
+    }
+    fails_after = NEVER;
+    return result == UDA50_DEAD;
+}
+
+static void start_any(int way)
+{
+    memset(memory, 0, BUFFER);
+    two_commands = (uint16_t)any(2);
+    start_both(way);
+    if (way != ARRAY)
+        lead_anywhere();
+    posted = 0;
+    for (uint16_t n = 0; n < UDA50_UNITS; n++) { /* a page of the rings may be missing */
+        see();
+        give_response(n);
+        post(two_commands * n % COMMANDS, (command){ ONLINE, n, n, 0, 0 });
+        show();
+        uda50_read_ip(&called.uda);
+        uda50_read_ip(&held.uda);
+        for (uint32_t turn = 0; turn < 3; turn++)
+            both_turn();
+    }
+}
+
+static void random_guest(bool compatible, uint32_t rounds)
+{
+    make(&called, compatible);
+    make(&held, compatible);
+    start_both(ARRAY);
+    fill();
+    show();
+    for (uint32_t n = 0; n < rounds && failures == 0; n++) {
+        if (n % 64 == 0)
+            start_any((int)any(WAYS));
+        if (play_round(compatible))
+            start_any(called.way);
+    }
+    free_machine(&called);
+    free_machine(&held);
+}
+
+int main(int count, char **arguments)
+{
+    uint32_t guests = count > 1 ? (uint32_t)strtoul(arguments[1], NULL, 10) : 8;
+    uint32_t rounds = count > 2 ? (uint32_t)strtoul(arguments[2], NULL, 10) : 400;
+
+    make(&called, true);
+    make(&held, true);
+    each_block_fails();
+    difference_before_a_failure();
+    missing_buffer();
+    rejected_moves();
+    aborted_write();
+    not_ready();
+    lent_in_pieces();
+    told_bytes();
+    statuses_of_images();
+    statuses_of_turns();
+    ended_runs();
+    missing_memory();
+    copies();
+    refused_copies();
+    large_commands();
+    free_machine(&called);
+    free_machine(&held);
+    for (uint32_t n = 0; n < guests && failures == 0; n++)
+        random_guest(n % 2 == 0, rounds);
+    return ended();
+}

@@ -1,5 +1,5 @@
 -- A unit whose image is changed: its drive is removed, changed and put back, and all else is unchanged.
-use Rattle.std.specs.Prelude.{Result, Ok, Err, is_ok, IfErr}
+use Rattle.std.specs.Prelude.{Result, Ok, Err, is_ok, IfOk, IfErr, length, ◌+◌, ◌/◌, ◌%◌, ◌≤◌}
 use Rattle.std.proofs.Common.{◌≡◌, ◌≢◌, ℕ, Bool, true, false, List, subst, set, Option, Some, None, refl, sym, ap, ap₂, ◌∙◌}
 use Rattle.std.specs.Prelude.{option_map, slice_get, unwrap_or, nat_lt, is_some, if◌then◌else◌}
 use Rattle.std.proofs.lemmas.List.{set-set, set-get_or}
@@ -13,10 +13,10 @@ use Rattle.uda_port.specs.Port.{PortState}
 use Rattle.uda_c.specs.declared.call_status.CallStatus.TheVariants.{Done, NoSuchUnit, NotAttached, OtherKind}
 use Rattle.uda_c.specs.ControllerState.{ControllerState}
 use Rattle.uda_image.specs.Store.{StoreState}
-use Rattle.uda_c.specs.declared.block_range.BlockAnswer.{BlockAnswer}
+use Rattle.uda_c.specs.declared.block_range.Prepared.{Prepared}
 use Rattle.uda_c.specs.declared.call_status.CallStatus.{CallStatus}
-use Rattle.uda_c.specs.BlockRange.{LendsBlocks, AllowsBlocks}
-use Rattle.uda_c.specs.UnitImage.{store_failing, store_lent, is_called, is_called_in, LentAnswer, status_of}
+use Rattle.uda_c.specs.BlockRange.{LendsBlocks, AllowsBlocks, size_in, size_at}
+use Rattle.uda_c.specs.UnitImage.{store_failing, store_lent, is_called, is_called_in, LentAnswer, PreparedAnswer, status_of}
 use Rattle.uda_c.specs.Controllers.{FailsAt, unit_with, with_store, port_put_back, has_image, unit_answer, failing_answer, is_called_at}
 
 -- a unit with a mode and a size has a drive
@@ -153,6 +153,17 @@ called_drive_is old u look drive e back =
     ap (λ (o : Option DriveState). unwrap_or o drive) (back ∙ handed units u s.unit s.here) in
     ap is_called_in s.here ∙ sym (ap (λ (d : DriveState). is_called d.store) drive_is)
 
+-- and one of as many blocks
+pub drive_size_is : (old : ControllerState) (u : ℕ) (look : UnitInfo) (drive : DriveState)
+    → info_at (slice_get old.port.exec.units u) ≡ Some look → Some drive ≡ returned_drive old.port.exec.units u None
+    → size_at old u ≡ drive.store.size
+drive_size_is old u look drive e back =
+    let units = old.port.exec.units in
+    let s = seen (slice_get units u) look e in
+    let drive_is : drive ≡ drive_in s.unit =
+    ap (λ (o : Option DriveState). unwrap_or o drive) (back ∙ handed units u s.unit s.here) in
+    ap size_in s.here ∙ sym (ap (λ (d : DriveState). d.store.size) drive_is)
+
 -- ---- blocks that are made ready
 
 pub lent_size : (done : Bool) (first : ℕ) (from : List ℕ) (store : StoreState)
@@ -169,27 +180,32 @@ lent_faithful false first from store = refl
 pub lends : (old : ControllerState) (u first : ℕ) (from : List ℕ) (look : UnitInfo) (made : Result Unit CallStatus)
     (answer : CallStatus) (new : ControllerState)
     → unit_answer old u ≡ Done → LentAnswer (is_called_at old u) (status_of made)
+    → IfOk made (λ _. (length from % 512 ≡ 0) × (first + length from / 512 ≤ size_at old u))
     → IfErr made (λ status. status ≢ Done) → answer ≡ status_of made
     → new ≡ with_store old u (store_lent (is_ok made) first from) → LendsBlocks old (u, first) from answer new
-lends old u first from look (Ok done) answer new there kind fails is goes = record {
+lends old u first from look (Ok done) answer new there kind fits fails is goes = record {
   no_image = λ no. absurd (no there);
   answers = λ _. subst (LentAnswer (is_called_at old u)) (sym is) kind;
+  fits = λ _. fits;
   lent = λ _. goes;
   refused = λ no. absurd (no is);
 }
-lends old u first from look (Err status) answer new there kind fails is goes = record {
+lends old u first from look (Err status) answer new there kind fits fails is goes = record {
   no_image = λ no. absurd (no there);
   answers = λ _. subst (LentAnswer (is_called_at old u)) (sym is) kind;
+  fits = λ done. absurd (fails (sym is ∙ done));
   lent = λ done. absurd (fails (sym is ∙ done));
   refused = λ _. goes ∙ nothing_changes old u;
 }
 
--- what C says of blocks that it doesn't lend changes nothing that a controller shows
-pub allows : (old : ControllerState) (u : ℕ) (access : BlockAnswer) (answer : CallStatus) (new : ControllerState)
-    → unit_answer old u ≡ Done → LentAnswer (is_called_at old u) answer → new ≡ old
-    → AllowsBlocks old u (Some access) answer new
-allows old u access answer new there kind same = record {
+-- what C prepared changes nothing that a controller shows
+pub allows : (old : ControllerState) (u count : ℕ) (prepared : Prepared) (answer : CallStatus) (new : ControllerState)
+    → unit_answer old u ≡ Done → PreparedAnswer (is_called_at old u) answer
+    → (answer ≡ Done → count ≤ size_at old u) → new ≡ old
+    → AllowsBlocks old (u, count) (Some prepared) answer new
+allows old u count prepared answer new there kind fits same = record {
   no_image = λ no. absurd (no there);
   answers = λ _. kind;
+  fits = fits;
   same = same;
 }

@@ -1,6 +1,6 @@
 -- The blocks that the next turn uses of an image that C reads and writes, and how C makes them ready.
-use Rattle.std.specs.Prelude.{◌≡◌, ◌≢◌, ℕ, ◌+◌, ◌*◌, ◌≤◌, ◌==◌, Bool, true, List, length, Option, Some, None}
-use Rattle.std.specs.Prelude.{nat_lt, if◌then◌else◌}
+use Rattle.std.specs.Prelude.{◌≡◌, ◌≢◌, ℕ, ◌+◌, ◌*◌, ◌≤◌, ◌==◌, ◌/◌, ◌%◌, ◌↔◌, Bool, true, List, length, Option, Some, None}
+use Rattle.std.specs.Prelude.{nat_lt, slice_get, if◌then◌else◌}
 use Rattle.uda_mem.specs.Put.{part}
 use Rattle.uda_mem.specs.Slices.{IsMemory}
 use Rattle.uda_image.specs.Limits.{store_limit}
@@ -10,8 +10,8 @@ use Rattle.uda_exec.specs.declared.block_use.BlockUse.{BlockUse}
 use Rattle.uda_exec.specs.Drives.{DriveState}
 use Rattle.uda_port.specs.BlockUse.{blocks_of, block_bytes_of}
 use Rattle.uda_port.specs.MemoryUse.{IsPlace}
-use Rattle.uda_c.specs.declared.block_range.BlockAnswer.{BlockAnswer}
-use Rattle.uda_c.specs.declared.block_range.BlockAnswer.TheVariants.{Readable, Written}
+use Rattle.uda_c.specs.declared.block_range.Prepared.{Prepared}
+use Rattle.uda_c.specs.declared.block_range.Prepared.TheVariants.{Checked, Written}
 use Rattle.uda_c.specs.declared.block_range.BlockRange.{BlockRange}
 use Rattle.uda_c.specs.declared.call_status.CallStatus.{CallStatus}
 use Rattle.uda_c.specs.declared.call_status.CallStatus.TheVariants.{Done, NoSuchUnit, AlreadyAttached, BadLength, TooLarge, OtherKind}
@@ -19,7 +19,8 @@ use Rattle.uda_c.specs.declared.turn_use.TurnUse.{TurnUse}
 use Rattle.uda_c.specs.ControllerState.{ControllerState}
 use Rattle.uda_c.specs.Controllers.{controller_with, has_image, unit_answer, is_called_at, with_store, memory_refusal}
 use Rattle.uda_c.specs.TurnUse.{missing_of}
-use Rattle.uda_c.specs.UnitImage.{store_lent, zero_state, LentAnswer}
+use Rattle.uda_disk.specs.Units.{UnitState}
+use Rattle.uda_c.specs.UnitImage.{store_lent, zero_state, LentAnswer, PreparedAnswer}
 
 -- the number of a use in C
 abbrev pub access_code : BlockAccess → ℕ
@@ -34,14 +35,14 @@ range_of used =
 abbrev pub NO_BLOCKS : BlockRange
 NO_BLOCKS = record { access = 0; unit = 0; first = 0; count = 0 }
 
--- what C says of blocks that it doesn't lend, by its number
-abbrev pub answer_numbered : ℕ → Option BlockAnswer
-answer_numbered number =
-    if number == 2 then Some Readable else if number == 3 then Some Written else None
+-- how C made blocks ready that it doesn't lend, by its number
+abbrev pub prepared_numbered : ℕ → Option Prepared
+prepared_numbered number =
+    if number == 2 then Some Checked else if number == 3 then Some Written else None
 
 -- ---- an image that C reads and writes
 
--- the status of an image of so many blocks
+-- the status of an image of this many blocks
 abbrev pub size_answer : ℕ → CallStatus
 size_answer blocks = if blocks == 0 then BadLength else if nat_lt store_limit blocks then TooLarge else Done
 
@@ -53,7 +54,7 @@ called_answer c unit blocks =
 abbrev pub called_drive : ℕ → Bool → DriveState
 called_drive blocks hard = record { store = zero_state blocks; hard = hard }
 
--- an image of so many blocks, with this protection, becomes a unit's; or nothing changes
+-- an image of this many blocks, with this protection, becomes a unit's; or nothing changes
 pub record AttachesCalled (old : ControllerState) (image : ℕ × (ℕ × Bool)) (answer : CallStatus) (new : ControllerState)
     : Type 0 where
   pub answer_is : answer ≡ called_answer old image.0 image.1.0
@@ -72,7 +73,7 @@ pub record IsPlaceOf (c : ControllerState) (asked : TurnUse) (place : ℕ) : Typ
   pub is_place : IsPlace c.port.exec.pending place
   pub asked_is : IsPlace c.port.exec.pending asked.place → place ≡ asked.place
 
--- the blocks that the turn with this command uses are told; none of them is ready
+-- the blocks that the turn with this command uses are told
 pub record TellsBlocks (c : ControllerState) (memory : List ℕ) (asked : TurnUse) (told : BlockRange) : Type 0 where
   pub place : ℕ
   pub place_is : IsPlaceOf c asked place
@@ -85,16 +86,22 @@ pub record GetsBlocks (before : ControllerState × BlockRange) (memory : List �
   pub tells : IsMemory memory → (answer ≡ Done) × TellsBlocks before.0 memory asked after.1
   pub refuses : (IsMemory memory → ⊥) → (answer ≡ memory_refusal memory) × (after.1 ≡ before.1)
 
+-- as many bytes are written to blocks after the first of them
+abbrev pub HasPart : List ℕ → ℕ → ℕ → Type 0
+HasPart bytes skip count = 512 * skip + count ≤ length bytes
+
 -- the bytes that the turn with this command writes to blocks, after the first of them, if there are as many
 pub record CopiesWritten (c : ControllerState) (memory : List ℕ) (asked : TurnUse × ℕ) (answer : CallStatus)
     (copied : List ℕ × List ℕ) : Type 0 where
   pub place : ℕ
   pub place_is : IsPlaceOf c asked.0 place
-  pub done : 512 * asked.1 + length copied.0 ≤ length (block_bytes_of (missing_of asked.0.missing) c.port memory place)
-      → (answer ≡ Done) × (copied.1 ≡ part (block_bytes_of (missing_of asked.0.missing) c.port memory place)
-      (512 * asked.1) (length copied.0))
+  pub fits : (answer ≡ Done)
+      ↔ HasPart (block_bytes_of (missing_of asked.0.missing) c.port memory place) asked.1 (length copied.0)
+  pub done : answer ≡ Done → copied.1
+      ≡ part (block_bytes_of (missing_of asked.0.missing) c.port memory place) (512 * asked.1) (length copied.0)
   pub refused : answer ≢ Done → (answer ≡ BadLength) × (copied.1 ≡ copied.0)
 
+-- in invalid memory nothing changes
 pub record GetsWritten (c : ControllerState) (memory : List ℕ) (asked : TurnUse × ℕ) (answer : CallStatus)
     (copied : List ℕ × List ℕ) : Type 0 where
   pub copies : IsMemory memory → CopiesWritten c memory asked answer copied
@@ -102,22 +109,33 @@ pub record GetsWritten (c : ControllerState) (memory : List ℕ) (asked : TurnUs
 
 -- ---- blocks that C makes ready
 
--- blocks of a unit's image are lent from one on; or nothing changes
+-- the number of blocks of a unit's image
+abbrev pub size_in : Option (Option UnitState) → ℕ
+size_in (Some (Some unit)) = unit.store.size
+size_in _ = 0
+
+abbrev pub size_at : ControllerState → ℕ → ℕ
+size_at c unit = size_in (slice_get c.port.exec.units unit)
+
+-- blocks of a unit's image are lent from one on: they are whole blocks of it; or nothing changes
 pub record LendsBlocks (old : ControllerState) (place : ℕ × ℕ) (from : List ℕ) (answer : CallStatus)
     (new : ControllerState) : Type 0 where
   pub no_image : unit_answer old place.0 ≢ Done → answer ≡ unit_answer old place.0
   pub answers : unit_answer old place.0 ≡ Done → LentAnswer (is_called_at old place.0) answer
+  pub fits : answer ≡ Done → (length from % 512 ≡ 0) × (place.1 + length from / 512 ≤ size_at old place.0)
   pub lent : answer ≡ Done → new ≡ with_store old place.0 (store_lent true place.1 from)
   pub refused : answer ≢ Done → new ≡ old
 
--- the status of what C says of blocks that it doesn't lend
-abbrev pub AllowAnswer : Option BlockAnswer → Bool → CallStatus → Type 0
+-- the status of a call that makes blocks ready which C prepared in this way
+abbrev pub AllowAnswer : Option Prepared → Bool → CallStatus → Type 0
 AllowAnswer None called answer = answer ≡ OtherKind
-AllowAnswer (Some access) called answer = LentAnswer called answer
+AllowAnswer (Some prepared) called answer = PreparedAnswer called answer
 
--- C says that the next blocks of a unit are ready. Which blocks are ready isn't in the controller's state.
-pub record AllowsBlocks (old : ControllerState) (unit : ℕ) (access : Option BlockAnswer) (answer : CallStatus)
+-- C prepared the next blocks of a unit, as many as the image has at most. Which blocks are ready isn't in the
+-- controller's state.
+pub record AllowsBlocks (old : ControllerState) (asked : ℕ × ℕ) (prepared : Option Prepared) (answer : CallStatus)
     (new : ControllerState) : Type 0 where
-  pub no_image : unit_answer old unit ≢ Done → answer ≡ unit_answer old unit
-  pub answers : unit_answer old unit ≡ Done → AllowAnswer access (is_called_at old unit) answer
+  pub no_image : unit_answer old asked.0 ≢ Done → answer ≡ unit_answer old asked.0
+  pub answers : unit_answer old asked.0 ≡ Done → AllowAnswer prepared (is_called_at old asked.0) answer
+  pub fits : answer ≡ Done → asked.1 ≤ size_at old asked.0
   pub same : new ≡ old

@@ -1,14 +1,18 @@
 -- The image of a unit as a store: bytes that C has lent, or blocks that C reads and writes by calls of its own.
-use Rattle.std.specs.Prelude.{◌≡◌, ◌⊎◌, ℕ, ◌&&◌, not, Bool, true, false, List, Option, Some, None, is_none, Result, Ok, Err}
+use Rattle.std.specs.Prelude.{◌≡◌, ◌⊎◌, ℕ, nat_le, ◌&&◌, not, Bool, true, false, List, Option, Some, None, is_none, Result, Ok, Err}
 use Rattle.std.specs.Prelude.{if◌then◌else◌}
 use Rattle.std.specs.List.{concat}
 use Rattle.uda_image.specs.Store.{StoreState}
 use Rattle.uda_disk.specs.Units.{UnitState}
-use Rattle.uda_called.specs.CalledImage.{called_state, zero_image, with_blocks_lent}
+use Rattle.uda_image.specs.Image.{block_count_of}
+use Rattle.uda_called.specs.CalledImage.{called_state, zero_image, begun_at, can_lend, with_lent, with_blocks_lent}
+use Rattle.uda_called.specs.CalledImage.{can_check, can_allow, with_checked, with_writable}
 use Rattle.uda_called.specs.declared.image.Refusal.{Refusal}
 use Rattle.uda_called.specs.declared.image.Refusal.TheVariants.{Length, NoMemory as Refused}
 use Rattle.uda_c.specs.declared.call_status.CallStatus.{CallStatus}
 use Rattle.uda_c.specs.declared.call_status.CallStatus.TheVariants.{Done, NoMemory, BadLength, OtherKind}
+use Rattle.uda_c.specs.declared.block_range.Prepared.{Prepared}
+use Rattle.uda_c.specs.declared.block_range.Prepared.TheVariants.{Checked, Written}
 use Rattle.uda_c.specs.declared.unit_image.UnitImage.{UnitImage}
 use Rattle.uda_c.specs.declared.unit_image.UnitImage.TheVariants.{Lent, Called}
 use Rattle.uda_c.specs.BorrowedImage.{borrowed_state, failures_of}
@@ -21,7 +25,7 @@ unit_state (Called image) = called_state image
 abbrev pub lent_state : List ℕ → StoreState
 lent_state bytes = borrowed_state (record { bytes = bytes; left = None })
 
--- an image of so many blocks that C reads and writes by calls of its own: zeros until C lends others
+-- an image of this many blocks that C reads and writes by calls of its own: zeros until C lends others
 abbrev pub zero_state : ℕ → StoreState
 zero_state blocks = called_state (zero_image blocks)
 
@@ -59,7 +63,44 @@ abbrev pub status_of : Result Unit CallStatus → CallStatus
 status_of (Ok done) = Done
 status_of (Err status) = status
 
--- the status of a call that makes blocks ready
+-- the status of a call that lends blocks
 abbrev pub LentAnswer : Bool → CallStatus → Type 0
 LentAnswer true answer = (answer ≡ Done) ⊎ ((answer ≡ BadLength) ⊎ (answer ≡ NoMemory))
 LentAnswer false answer = answer ≡ OtherKind
+
+-- the status of a call that makes blocks ready which C prepared
+abbrev pub PreparedAnswer : Bool → CallStatus → Type 0
+PreparedAnswer true answer = (answer ≡ Done) ⊎ (answer ≡ BadLength)
+PreparedAnswer false answer = answer ≡ OtherKind
+
+-- ---- what is ready of a unit's image
+
+-- what was ready is dropped, and the next that is made ready is this block, if the image has as many
+abbrev pub image_begun : ℕ → UnitImage → UnitImage
+image_begun first (Lent image) = Lent image
+image_begun first (Called image) =
+    Called (if nat_le first (block_count_of image.bytes) then begun_at first image else image)
+
+-- the status of lending as many bytes from this block on, if no allocation fails
+abbrev pub lend_answer : ℕ → ℕ → UnitImage → CallStatus
+lend_answer first bytes (Lent image) = OtherKind
+lend_answer first bytes (Called image) = if can_lend image first bytes then Done else BadLength
+
+-- the image after these bytes were lent, if that was done
+abbrev pub image_lent : Bool → ℕ → List ℕ → UnitImage → UnitImage
+image_lent true first from (Called image) = Called (with_lent first from image)
+image_lent done first from image = image
+
+-- the status of making the next blocks ready which C prepared in this way
+abbrev pub allow_answer : Prepared → ℕ → UnitImage → CallStatus
+allow_answer prepared count (Lent image) = OtherKind
+allow_answer Checked count (Called image) = if can_check image count then Done else BadLength
+allow_answer Written count (Called image) = if can_allow image count then Done else BadLength
+
+-- the image after that
+abbrev pub image_allowed : Prepared → ℕ → UnitImage → UnitImage
+image_allowed prepared count (Lent image) = Lent image
+image_allowed Checked count (Called image) =
+    Called (if can_check image count then with_checked count image else image)
+image_allowed Written count (Called image) =
+    Called (if can_allow image count then with_writable count image else image)

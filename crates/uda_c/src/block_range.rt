@@ -1,6 +1,6 @@
 //! Blocks that the next turn uses of an image that C reads and writes, for C.
 ghost use Rattle.std.specs.Prelude.{◌≡◌, option_map};
-ghost use Rattle.uda_c.specs.BlockRange.{access_code, range_of, NO_BLOCKS, answer_numbered};
+ghost use Rattle.uda_c.specs.BlockRange.{access_code, range_of, NO_BLOCKS, prepared_numbered};
 
 use uda_exec::{BlockAccess, BlockUse};
 
@@ -19,12 +19,12 @@ pub struct BlockRange {
     pub count: u32,
 }
 
-/// What C says of blocks that it doesn't lend.
+/// How C made blocks ready that it doesn't lend.
 #[derive(Clone, Copy, Debug, PartialEq, Eq)]
-pub enum BlockAnswer {
-    /// They are readable.
-    Readable,
-    /// They are written.
+pub enum Prepared {
+    /// It checked that they are readable.
+    Checked,
+    /// It wrote them.
     Written,
 }
 
@@ -50,14 +50,14 @@ impl BlockRange {
     }
 }
 
-impl BlockAnswer {
-    /// Returns the answer with this number in C, if there is one.
-    pub fn of_number(number: u32) -> Option<BlockAnswer>
-        ensures { result ≡ answer_numbered number }
+impl Prepared {
+    /// Returns the one with this number in C, if there is one.
+    pub fn of_number(number: u32) -> Option<Prepared>
+        ensures { result ≡ prepared_numbered number }
     {
         match number {
-            2 => Some(BlockAnswer::Readable),
-            3 => Some(BlockAnswer::Written),
+            2 => Some(Prepared::Checked),
+            3 => Some(Prepared::Written),
             _ => None,
         }
     }

@@ -8,7 +8,7 @@ ghost use Rattle.uda_c.specs.BlockRange.{CopiesWritten, LendsBlocks, AllowsBlock
 ghost use Rattle.uda_c.specs.Controllers.{is_called_at};
 ghost use Rattle.uda_c.specs.UnitImage.{status_of};
 
-use crate::block_range::{BlockAnswer, BlockRange};
+use crate::block_range::{BlockRange, Prepared};
 use crate::call_status::CallStatus;
 use crate::controller::{Controller, put_back, refusal_of};
 use crate::turn_use::TurnUse;
@@ -38,7 +38,7 @@ impl Controller {
         }
     }
 
-    /// Fills in the blocks that the next turn uses of an image that C reads and writes. None of them is ready then.
+    /// Fills in the blocks that the next turn uses of an image that C reads and writes. None of its blocks is ready then.
     pub fn get_blocks(
         &mut self,
         memory: &[u8],
@@ -137,9 +137,9 @@ impl Controller {
         }
     }
 
-    /// Makes the next blocks of a unit's image ready, of which C says that they are readable or written.
-    pub fn allow_blocks(&mut self, unit: u32, access: Option<BlockAnswer>, count: u32) -> CallStatus
-        ensures allows { AllowsBlocks self.old unit access result self.new }
+    /// Makes the next blocks of a unit's image ready, which C checked or wrote.
+    pub fn allow_blocks(&mut self, unit: u32, prepared: Option<Prepared>, count: u32) -> CallStatus
+        ensures allows { AllowsBlocks self.old (unit, count) prepared result self.new }
     {
         let unit = unit as usize;
         if unit > 3 {
@@ -148,13 +148,13 @@ impl Controller {
         let Some(look) = self.port.unit(unit) else {
             return CallStatus::NotAttached;
         };
-        let Some(access) = access else {
+        let Some(prepared) = prepared else {
             return CallStatus::OtherKind;
         };
         match self.port.exchange_drive(unit, None) {
             Some(Drive { store, hard }) => {
                 let mut store = store;
-                let answer = store.allow(access, count);
+                let answer = store.allow(prepared, count);
                 put_back(&mut self.port, unit, Drive { store, hard }, look.mode);
                 answer
             }
@@ -173,7 +173,7 @@ fn status_of(made: Result<(), CallStatus>) -> CallStatus
     }
 }
 
-// Returns the status of an image of so many blocks.
+// Returns the status of an image of this many blocks.
 fn size_answer(blocks: u32) -> CallStatus
     ensures answer { result ≡ size_answer blocks }
     ensures limit { result ≡ Done → blocks ≤ store_limit }

@@ -14,13 +14,13 @@ ghost use Rattle.uda_c.specs.Controllers.{FailsAt, TurnsWhereMemory, TakesInterr
 ghost use Rattle.uda_port.specs.StartupUse.{range_zeroed};
 ghost use Rattle.uda_c.specs.TurnUse.{GetsDescriptors, GetsBody, TurnsAtWhereMemory, WritesSaAt};
 ghost use Rattle.uda_c.specs.Saving.{Saves, Restores};
-ghost use Rattle.uda_c.specs.BlockRange.{AttachesCalled, GetsBlocks, GetsWritten, LendsBlocks, AllowsBlocks, answer_numbered};
+ghost use Rattle.uda_c.specs.BlockRange.{AttachesCalled, GetsBlocks, GetsWritten, LendsBlocks, AllowsBlocks, prepared_numbered};
 ghost use Rattle.uda_c.specs.Maps.{OverMap, ReadsMapped, WritesMapped, TakesTurnBehind, TakesTurnsBehind, WritesSaOver};
 ghost use Rattle.uda_c.specs.Runs.{RunsWhereMemory};
 ghost use Rattle.uda_c.specs.Snapshot.{port_snapshot};
 ghost use Rattle.uda_c.specs.Last.{turn_record, TellsLine};
 
-use crate::block_range::{BlockAnswer, BlockRange};
+use crate::block_range::{BlockRange, Prepared};
 use crate::call_status::CallStatus;
 use crate::choices::bus_of;
 use crate::controller::Controller;
@@ -637,19 +637,19 @@ pub extern "C" fn uda50_lend_blocks(handle: &mut Handle, unit: u32, first: u32, 
     }
 }
 
-/// Makes the next blocks of a unit's image ready, of which C says that they are readable or written.
+/// Makes the next blocks of a unit's image ready, which C checked or wrote.
 #[unsafe(no_mangle)]
 pub extern "C" fn uda50_allow_blocks(handle: &mut Handle, unit: u32, access: u32, count: u32) -> u32
     ensures allows { OnHandle handle.old.value handle.new.value (result ≡ status_code NoController)
         (λ old new. (answer : CallStatus) × (result ≡ status_code answer)
-        × AllowsBlocks old unit (answer_numbered access) answer new) }
+        × AllowsBlocks old (unit, count) (prepared_numbered access) answer new) }
     ensures sound { AreSound handle.old.value handle.new.value }
 {
     match handle.get() {
         Some(controller) => {
             controller.keep();
             let answer = controller
-                .allow_blocks(unit, BlockAnswer::of_number(access), count)
+                .allow_blocks(unit, Prepared::of_number(access), count)
                 .code();
             controller.keep();
             answer

@@ -1,18 +1,19 @@
 //! The image of a unit: bytes that C has lent, or blocks that C reads and writes by calls of its own.
 ghost use Rattle.std.specs.Prelude.{◌≡◌, ◌≢◌, ◌+◌, ◌*◌, ◌<◌, ◌≤◌, true, false, [], length, option_map, Some, None};
-ghost use Rattle.std.specs.Prelude.{IfErr, IsOk, is_ok};
+ghost use Rattle.std.specs.Prelude.{IfOk, IfErr, IsOk, is_ok, ◌/◌, ◌%◌};
 ghost use Rattle.std.specs.List.{concat};
 ghost use Rattle.uda_image.specs.AtOnce.{TriesToRead, TriesToWrite, ChecksBlocks};
 ghost use Rattle.uda_image.specs.Store.{Reads, Writes, KeepsAttributes, is_sound};
 ghost use Rattle.uda_called.specs.CalledImage.{zero_image};
 ghost use Rattle.uda_c.specs.BorrowedImage.{IsWhole};
-ghost use Rattle.uda_c.specs.UnitImage.{unit_state, is_called, bytes_of_store, store_failing, store_lent, LentAnswer, status_of, status_of_refusal};
+ghost use Rattle.uda_c.specs.UnitImage.{unit_state, is_called, bytes_of_store, store_failing, store_lent, LentAnswer, PreparedAnswer, status_of, status_of_refusal};
+ghost use Rattle.uda_c.specs.UnitImage.{image_begun, lend_answer, image_lent, allow_answer, image_allowed};
 ghost use Rattle.uda_c.specs.UnitImage.{zero_state, lent_state};
 ghost use Rattle.uda_c.specs.UnitImageLaws.{within_limit_of, whole_blocks_of};
 ghost use Rattle.uda_image.specs.Limits.{store_limit};
-ghost use Rattle.uda_c.specs.declared.call_status.CallStatus.TheVariants.{Done, OtherKind};
+ghost use Rattle.uda_c.specs.declared.call_status.CallStatus.TheVariants.{Done, NoMemory, OtherKind};
 
-use crate::block_range::BlockAnswer;
+use crate::block_range::Prepared;
 use crate::call_status::CallStatus;
 use crate::lent::BorrowedBytes;
 use crate::lent_image::BorrowedImage;
@@ -38,7 +39,7 @@ impl UnitImage {
         UnitImage::Lent(BorrowedImage::new(lent))
     }
 
-    /// Returns an image of so many blocks that C reads and writes by calls of its own.
+    /// Returns an image of this many blocks that C reads and writes by calls of its own.
     pub fn of_calls(alloc: Global, blocks: u32) -> UnitImage
         requires limit { blocks ≤ store_limit }
         ensures state { unit_state result ≡ zero_state blocks }
@@ -84,8 +85,9 @@ impl UnitImage {
     }
 
     /// Drops what is ready of blocks that C reads and writes. Those that are made ready next are those from this one
-    /// on.
+    /// on. Does nothing if the image has fewer blocks.
     pub fn begin(&mut self, first: u32)
+        ensures image { self.new ≡ image_begun first self.old }
         ensures state { unit_state self.new ≡ unit_state self.old }
     {
         if let UnitImage::Called(image) = self {
@@ -96,7 +98,13 @@ impl UnitImage {
     /// Lends the bytes of blocks from this one on.
     pub fn lend(&mut self, first: u32, from: &[u8]) -> Result<(), CallStatus>
         ensures state { unit_state self.new ≡ store_lent (is_ok result) first from.now (unit_state self.old) }
-        ensures answer { LentAnswer (is_called (unit_state self.old)) (status_of result) }
+        ensures image { self.new ≡ image_lent (is_ok result) first from.now self.old }
+        ensures answer { status_of result ≢ NoMemory
+            → status_of result ≡ lend_answer first (length from.now) self.old }
+        ensures no_memory { status_of result ≡ NoMemory → lend_answer first (length from.now) self.old ≡ Done }
+        ensures kind { LentAnswer (is_called (unit_state self.old)) (status_of result) }
+        ensures fits { IfOk result (λ _. (length from.now % 512 ≡ 0)
+            × (first + length from.now / 512 ≤ (unit_state self.old).size)) }
         ensures refused { IfErr result (λ status. status ≢ Done) }
     {
         match self {
@@ -109,16 +117,19 @@ impl UnitImage {
     }
 
     /// Makes the next blocks ready: they are readable, or a command may write them.
-    pub fn allow(&mut self, access: BlockAnswer, count: u32) -> CallStatus
+    pub fn allow(&mut self, prepared: Prepared, count: u32) -> CallStatus
         ensures state { unit_state self.new ≡ unit_state self.old }
-        ensures answer { LentAnswer (is_called (unit_state self.old)) result }
+        ensures image { self.new ≡ image_allowed prepared count self.old }
+        ensures answer { result ≡ allow_answer prepared count self.old }
+        ensures kind { PreparedAnswer (is_called (unit_state self.old)) result }
+        ensures fits { result ≡ Done → count ≤ (unit_state self.old).size }
     {
         let UnitImage::Called(image) = self else {
             return CallStatus::OtherKind;
         };
-        let has_room = match access {
-            BlockAnswer::Readable => image.check(count),
-            BlockAnswer::Written => image.allow(count),
+        let has_room = match prepared {
+            Prepared::Checked => image.check(count),
+            Prepared::Written => image.allow(count),
         };
         if has_room {
             CallStatus::Done

@@ -45,7 +45,7 @@ begun_at first image = record image { ready = none_ready first }
 abbrev pub has_room : CalledBlocks → ℕ → ℕ → Bool
 has_room image these count = nat_le (image.ready.first + these + count) (block_count_of image.bytes)
 
--- so many bytes from this block on follow the lent ones: they are whole blocks, and the image has as many
+-- this many bytes from this block on are the next to lend: they are whole blocks, and the image has as many
 abbrev pub can_lend : CalledBlocks → ℕ → ℕ → Bool
 can_lend image first bytes =
     nat_eq first (image.ready.first + image.ready.lent) && nat_eq (bytes % 512) 0
@@ -70,7 +70,7 @@ can_check image count = has_room image image.ready.checked count
 abbrev pub can_allow : CalledBlocks → ℕ → Bool
 can_allow image count = has_room image image.ready.writable count
 
--- so many more blocks are checked, or writable
+-- this many more blocks are checked, or writable
 abbrev pub with_checked : ℕ → CalledBlocks → CalledBlocks
 with_checked count image =
     record image { ready = record image.ready { checked = image.ready.checked + count } }

@@ -136,12 +136,15 @@ impl CalledImage {
         ensures blocks { IfOk result (λ _. called_state self.new
             ≡ with_blocks_lent first from.now (called_state self.old)) }
         ensures unchanged { IfErr result (λ _. self.new ≡ self.old) }
+        ensures within { IfOk result (λ _. (length from.now % 512 ≡ 0)
+            × (first + length from.now / 512 ≤ block_count_of self.old.bytes)) }
         ensures length { (result ≡ Err Refusal.Length) ↔ (can_lend self.old first (length from.now) ≡ false) }
     {
         if !self.can_lend(first, from.len()) {
             return Err(Refusal::Length);
         }
         append(&mut self.bytes, from)?;
+        // For the trace a lend is a write: the image then has these bytes.
         self.trace.note(&Call::Written {
             block: first,
             bytes: from,
@@ -154,6 +157,7 @@ impl CalledImage {
     /// nothing if the image has fewer blocks.
     pub fn check(&mut self, count: u32) -> bool
         ensures fits { result ≡ can_check self.old count }
+        ensures within { result ≡ true → count ≤ block_count_of self.old.bytes }
         ensures checked { self.new ≡ (if result then with_checked count self.old else self.old) }
     {
         if !self.has_room(self.ready.checked, u64::from(count)) {
@@ -167,6 +171,7 @@ impl CalledImage {
     /// changes nothing if the image has fewer blocks.
     pub fn allow(&mut self, count: u32) -> bool
         ensures fits { result ≡ can_allow self.old count }
+        ensures within { result ≡ true → count ≤ block_count_of self.old.bytes }
         ensures writable { self.new ≡ (if result then with_writable count self.old else self.old) }
     {
         if !self.has_room(self.ready.writable, u64::from(count)) {
@@ -176,7 +181,7 @@ impl CalledImage {
         true
     }
 
-    // Returns whether so many bytes from this block on follow the lent ones.
+    // Returns whether this many bytes from this block on are the next to lend.
     fn can_lend(&self, first: u32, bytes: usize) -> bool
         ensures fits { result ≡ can_lend self.now first bytes }
         ensures within { result ≡ true → (first ≡ self.now.ready.first + self.now.ready.lent) × (bytes % 512 ≡ 0)

@@ -1,12 +1,14 @@
+use Rattle.std.specs.Prelude.{ℕ, ◌≤◌}
+use Rattle.uda_c.specs.declared.call_status.CallStatus.TheVariants.{Done}
 use Rattle.std.proofs.Common.{◌≡◌, refl, sym, ap, subst, ◌∙◌}
 use Rattle.std.proofs.lemmas.Bool.{le-ltb}
 use Rattle.uda_image.specs.Store.{StoreState}
 use Rattle.uda_exec.specs.Drives.{DriveState, drive_state}
 use Rattle.uda_c.specs.ControllerState.{ControllerState}
-use Rattle.uda_c.specs.UnitImage.{unit_state, LentAnswer}
+use Rattle.uda_c.specs.UnitImage.{unit_state, PreparedAnswer}
 use Rattle.uda_c.specs.Controllers.{with_store}
 use Rattle.uda_c.specs.BlockRange.{AllowsBlocks}
-use Rattle.uda_c.proofs.FailingUnits.{store_changes, nothing_changes, is_handed, has_status, called_drive_is, allows}
+use Rattle.uda_c.proofs.FailingUnits.{store_changes, nothing_changes, is_handed, has_status, called_drive_is, drive_size_is, allows}
 use Rattle.uda_c.proofs.FaithfulUnits.{changed_faithful}
 use Rattle.uda_c.proofs.FittingUnits.{changed_fits}
 use Rattle.uda_c.proofs.controller.Controller.allow_blocks.Goals as goal
@@ -45,12 +47,14 @@ returns-in-Some-exchange_drive c =
     c.in-Some-exchange_drive.ensures.returned_drive (ap (λ (s : StoreState). record { store = s; hard = hard }) c.allow-answer.ensures.state)
     c.exchange_drive.ensures.set c.put_back.ensures.back in
     let kind = sym (called_drive_is was c.args.unit c.in-Some.look drive look c.in-Some-exchange_drive.ensures.returned_drive) in
+    let size = sym (drive_size_is was c.args.unit c.in-Some.look drive look c.in-Some-exchange_drive.ensures.returned_drive) in
     let there = has_status was c.args.unit c.in-Some.look (le-ltb 3 c.args.unit c.if-unit-gt3.false) look in
     record {
-      allows = subst (λ (old : ControllerState). AllowsBlocks old c.args.unit c.args.access c.allow-answer.result new)
+      allows = subst (λ (old : ControllerState). AllowsBlocks old (c.args.unit, c.args.count) c.args.prepared c.allow-answer.result new)
           c.self.view_is
-          (rw c.in-Some-access.is (allows was c.args.unit c.in-Some-access.access c.allow-answer.result new there
-          (subst (λ b. LentAnswer b c.allow-answer.result) kind c.allow-answer.ensures.answer)
+          (rw c.in-Some-prepared.is (allows was c.args.unit c.args.count c.in-Some-prepared.prepared c.allow-answer.result new there
+          (subst (λ b. PreparedAnswer b c.allow-answer.result) kind c.allow-answer.ensures.kind)
+          (subst (λ (n : ℕ). c.allow-answer.result ≡ Done → c.args.count ≤ n) size c.allow-answer.ensures.fits)
           (is ∙ nothing_changes was c.args.unit)));
     }
 

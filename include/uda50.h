@@ -349,8 +349,9 @@ uint32_t uda50_write_sa_at(uda50 *handle, uint16_t word, uint8_t *window, size_t
    a drive error, and the byte count of the blocks before.
 
    A Write is written before the turn that executes it, so its end message tells which blocks were written. An Access or
-   an Erase may have up to 8,388,608 blocks, and lends none. Blocks stay ready until uda50_get_blocks next tells blocks of
-   that unit. So take each turn of such a controller in these steps: uda50_turn and uda50_run make no blocks ready. */
+   an Erase may have up to 8,388,608 blocks, and lends none. Each block is ready for one use: a turn uses up its blocks and
+   those before them, and uda50_get_blocks drops all that are ready of the unit whose blocks it tells. So take each turn of
+   such a controller in these steps: uda50_turn and uda50_run make no blocks ready. */
 
 /* How a turn uses blocks. */
 enum {

@@ -591,6 +591,39 @@ static void not_ready(void)
     }
 }
 
+/* Makes the two blocks of the pending command ready in the way of its opcode. */
+static void make_ready(uint8_t opcode)
+{
+    static uint8_t bytes[2 * BLOCK];
+    uda50_turn_use use;
+    uda50_blocks blocks = ask(&use);
+
+    EXPECT(blocks.count, 2);
+    memcpy(bytes, memory + BUFFER, sizeof bytes);
+    if (opcode == READ || opcode == COMPARE)
+        EXPECT(uda50_lend_blocks(&called.uda, 0, 5, bytes, sizeof bytes), UDA50_OK);
+    else
+        EXPECT(uda50_allow_blocks(&called.uda, 0, blocks.use, 2), UDA50_OK);
+}
+
+/* Blocks are ready for one command: the next one without the steps fails at its first block. */
+static void ready_once(void)
+{
+    static const uint8_t opcodes[] = { READ, WRITE, ERASE, ACCESS, COMPARE };
+
+    for (uint32_t n = 0; n < sizeof opcodes; n++) {
+        begin(ARRAY);
+        fill();
+        make_pending(opcodes[n], 2 * BLOCK);
+        make_ready(opcodes[n]);
+        EXPECT(bytes_after(0), 2 * BLOCK);
+        make_pending(opcodes[n], 2 * BLOCK);
+        EXPECT(bytes_after(DRIVE_ERROR), 0);
+        make_pending(opcodes[n], BLOCK);
+        EXPECT(bytes_after(DRIVE_ERROR), 0);
+    }
+}
+
 /* Blocks are lent in pieces of any size. Those that were lent before the last uda50_get_blocks aren't ready. */
 static void lent_in_pieces(void)
 {
@@ -1038,6 +1071,7 @@ int main(int count, char **arguments)
     rejected_moves();
     aborted_write();
     not_ready();
+    ready_once();
     lent_in_pieces();
     told_bytes();
     statuses_of_images();

@@ -44,7 +44,8 @@ pub enum CallStatus {
     BadFirstUnit,
     /// The number of bits of an offset in a page of a map, or of its shift, is above 31.
     BadMap,
-    /// The unit's image is in memory where the call needs one that C reads and writes, or the other way round.
+    /// The unit's image is in memory where the call needs one that C reads and writes, or the other way round. Or no
+    /// blocks are prepared in the way of this number.
     OtherKind,
     /// An address leads nowhere.
     Nowhere,

@@ -26,7 +26,7 @@ use uda_image::{BlockStore, StoreError};
 pub enum UnitImage {
     /// Bytes in memory that C has lent.
     Lent(BorrowedImage),
-    /// Blocks that C reads and writes by calls of its own.
+    /// An image by calls: C reads and writes its blocks before each turn, by calls of its own.
     Called(CalledImage),
 }
 

@@ -260,11 +260,12 @@ impl<S: BlockStore> Exec<S> {
     /// whole and puts its first bytes into the buffer. A Write writes its bytes followed by zeros. An Erase
     /// and an Access use the block whole.
     ///
-    /// An accepted Access of any blocks first calls `check_blocks` of its store. Of the blocks that are left, a
-    /// transfer of two or more whole blocks asks for several at once. Access and Read call `try_read_blocks`,
-    /// Erase and Write `try_write_blocks`. An Access and an Erase ask for at most 32 blocks a call. If the store
-    /// declines, the transfer calls `read` or `write` for one block at a time, in rising order. An Access and an Erase ask for several blocks again at each 32nd block of the
-    /// range. A Read and a Write always use a single call for a partial block.
+    /// An accepted Access of at least one block first calls `check_blocks` of its store. Of the blocks that are
+    /// left, a transfer of two or more whole blocks asks for several at once. Access and Read call
+    /// `try_read_blocks`, Erase and Write `try_write_blocks`. An Access and an Erase ask for at most 32 blocks a
+    /// call. If the store declines, the transfer calls `read` or `write` for one block at a time, in rising
+    /// order. An Access and an Erase ask for several blocks again at each 32nd block of the range, and there an
+    /// Access calls `check_blocks` again. A Read and a Write always use a single call for a partial block.
     ///
     /// The first call that fails ends the transfer with status 0x000B, and with the byte count of the blocks
     /// before. The failing block of a Write or an Erase, or its part of a Read's buffer, may then hold

@@ -1,4 +1,4 @@
-//! The blocks that a turn uses, for a caller whose images are behind calls.
+//! The blocks that a turn uses, for a caller that reads and writes its images by calls of its own.
 //!
 //! MSCP Basic Disk Functions Manual: transfer commands, Compare Host Data.
 ghost use Rattle.std.specs.Prelude.{◌≡◌, ◌↔◌, ◌+◌, ◌*◌, ◌≤◌, List, ℕ, IsTrue, Option, length, option_map, IfSome, if◌then◌else◌};
@@ -17,7 +17,7 @@ impl<S: BlockStore> Port<S> {
     /// ([`turn_at`](Port::turn_at)). Returns None if it executes none, if a check of the command fails, or if the
     /// command uses no blocks. Of memory only what the turn reads matters.
     ///
-    /// A caller whose images are behind calls makes these blocks ready before the turn.
+    /// A caller that reads and writes its images by calls of its own makes these blocks ready before the turn.
     pub fn blocks_at(&self, memory: &[u8], place: usize, missing: Missing) -> Option<BlockUse>
         requires memory { IsMemory memory.now }
         ensures blocks { result ≡ blocks_of missing self.now memory.now place }

@@ -73,7 +73,7 @@ pub record IsPlaceOf (c : ControllerState) (asked : TurnUse) (place : ℕ) : Typ
   pub is_place : IsPlace c.port.exec.pending place
   pub asked_is : IsPlace c.port.exec.pending asked.place → place ≡ asked.place
 
--- the blocks that the turn with this command uses are told
+-- the range is that of the blocks which the turn with this command uses
 pub record TellsBlocks (c : ControllerState) (memory : List ℕ) (asked : TurnUse) (told : BlockRange) : Type 0 where
   pub place : ℕ
   pub place_is : IsPlaceOf c asked place

@@ -21,7 +21,7 @@ abbrev pub unit_state : UnitImage → StoreState
 unit_state (Lent image) = borrowed_state image
 unit_state (Called image) = called_state image
 
--- an image of lent bytes, of which no call fails
+-- an image of lent bytes whose calls never fail
 abbrev pub lent_state : List ℕ → StoreState
 lent_state bytes = borrowed_state (record { bytes = bytes; left = None })
 

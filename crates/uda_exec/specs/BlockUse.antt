@@ -23,7 +23,7 @@ use Rattle.uda_exec.specs.Disks.{ExecState}
 use Rattle.uda_exec.specs.Drives.{info_at}
 use Rattle.uda_exec.specs.Transfers.{blocks_due, blocks_stored}
 
--- the transfer that a command stands for: a comparison is as a Read
+-- the transfer of a command: a Compare Host Data counts as a Read
 abbrev pub transfer_by : GuestOp → Op → Option Transfer
 transfer_by guest.Basic o = transfer_of o
 transfer_by guest.SetUnit o = None

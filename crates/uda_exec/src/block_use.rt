@@ -36,7 +36,7 @@ pub struct BlockUse {
     pub access: BlockAccess,
 }
 
-/// Returns the transfer that a command stands for, or None if it uses no blocks. A comparison is as a Read.
+/// Returns the transfer of a command, or None if it uses no blocks. A Compare Host Data counts as a Read.
 pub fn transfer_by(asked: GuestCommand) -> Option<Transfer>
     ensures { result ≡ transfer_by asked.op asked.command.op }
 {

@@ -110,7 +110,7 @@ check_result-with_buffer_checks odd missing None disk = refl
 check_result-with_buffer_checks odd missing (Some refusal) disk = refl
 
 -- the checks of a command are those of its action, and those of its buffer
-check_on-by : (c : Command) (act : Act) (unit : UnitState) (memory : List ℕ) (address room : ℕ)
+pub check_on-by : (c : Command) (act : Act) (unit : UnitState) (memory : List ℕ) (address room : ℕ)
     (found : Option Refusal) → buffer_start c.op ≡ address → buffer_length c.op ≡ room
     → refusal_on (extent_of act) unit.store.size unit.mode ≡ found
     → check_on c act unit memory ≡ check_by
@@ -123,7 +123,7 @@ check_on-by c act unit memory address room found at has is =
     ∙ ap (λ (f : Option Refusal). check_with (is_odd address) (is_missing address room m) (check_by f disk)) is
     ∙ check_result-with_buffer_checks _ _ found disk
 
-free-still : (c : Command) (act : Act) (unit : UnitState) (memory : List ℕ) → transfer_of c.op ≡ None
+pub free-still : (c : Command) (act : Act) (unit : UnitState) (memory : List ℕ) → transfer_of c.op ≡ None
     → extent_of act ≡ None → check_on c act unit memory ≡ Accepted (disk_of unit)
 free-still c act unit memory none still =
     let present : is_missing 0 0 (length memory) ≡ false = le-ltb (length memory) 0 zero-le in

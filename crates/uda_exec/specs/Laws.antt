@@ -1,6 +1,6 @@
--- Laws of one execution, for those who know which commands are pending.
--- MSCP Basic Disk Functions Manual: command ordering.
-use Rattle.std.specs.Prelude.{◌≡◌, ℕ, List, [], ◌∷◌}
+-- Laws of one execution: of the only pending command, and of the blocks that a command uses.
+-- MSCP Basic Disk Functions Manual: command ordering, transfer commands.
+use Rattle.std.specs.Prelude.{◌≡◌, ℕ, List, [], ◌∷◌, length}
 use Rattle.uda_packet.specs.declared.command.Command.{Command}
 use Rattle.uda_packet.specs.declared.end.End.{End}
 use Rattle.uda_packet.specs.declared.reply.Reply.{Reply}
@@ -8,6 +8,8 @@ use Rattle.uda_exec.specs.Disks.{ExecState}
 use Rattle.uda_exec.specs.Execution.{Executes, ExecutesAt}
 use Rattle.uda_exec.specs.GuestExecution.{ExecutesAs, ExecutesGuestAt}
 use Rattle.uda_exec.specs.GuestOps.{op_at}
+use Rattle.uda_exec.specs.BlockUse.{block_use_at, written_at}
+use Rattle.uda_exec.specs.UsedBlocks.{ChangesOnly}
 
 -- the only pending command is the one that is executed, and none is pending then
 abbrev pub OnlyOneIsExecuted : Type 0
@@ -23,3 +25,10 @@ OnlyGuestIsExecuted =
     → old.pending ≡ c ∷ [] → ExecutesGuestAt j old memory r new memory_left
     → (new.pending ≡ [])
     × ExecutesAs (op_at old.guest_ops 0) c old.units memory r new.units memory_left
+
+-- a command changes only blocks that it uses, and writes to them what was told before
+abbrev pub OnlyUsedBlocksChange : Type 0
+OnlyUsedBlocksChange =
+    (j : ℕ) (old new : ExecState) (memory memory_left : List ℕ) (r : Reply)
+    → ExecutesGuestAt j old memory r new memory_left
+    → ChangesOnly (block_use_at old j (length memory)) (written_at old j memory) old.units new.units

@@ -1,7 +1,7 @@
 //! Laws of one execution, each the contract of a function that does nothing, so that a caller's proof can cite it.
 //!
-//! MSCP Basic Disk Functions Manual: command ordering.
-ghost use Rattle.uda_exec.specs.Laws.{OnlyOneIsExecuted, OnlyGuestIsExecuted};
+//! MSCP Basic Disk Functions Manual: command ordering, transfer commands.
+ghost use Rattle.uda_exec.specs.Laws.{OnlyOneIsExecuted, OnlyGuestIsExecuted, OnlyUsedBlocksChange};
 
 /// States that the only pending command is the one that is executed, and that none is pending then.
 #[tactic(auto, using(crate::proofs::OnlyOne::only_one_is_executed))]
@@ -13,4 +13,13 @@ pub fn only_one_is_executed()
 #[tactic(auto, using(crate::proofs::OnlyOne::only_guest_is_executed))]
 pub fn only_guest_is_executed()
     ensures law { OnlyGuestIsExecuted }
+{}
+
+/// States that a command changes only blocks that [`Exec::block_use_at`](crate::Exec::block_use_at) returned. If it
+/// writes them, they get the bytes of [`Exec::copy_written`](crate::Exec::copy_written), up to a block at which the
+/// store fails. That holds of each unit whose store is sound afterwards.
+///
+/// MSCP Basic Disk Functions Manual: transfer commands.
+pub fn only_used_blocks_change()
+    ensures law { OnlyUsedBlocksChange }
 {}

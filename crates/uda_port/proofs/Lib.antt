@@ -12,3 +12,4 @@ pub mod Saving
 pub mod MemoryUseLaws
 pub mod StartupUseLaws
 pub mod BlockUseLaws
+pub mod UsedBlocksLaws

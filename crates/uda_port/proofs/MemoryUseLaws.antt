@@ -621,7 +621,7 @@ op_none j = ap (λ (o : Option GuestOp). option_op o) (slice_get_past [] j (omeg
     option_op (Some o) = o
 
 -- a command of a strict port has no additional operation
-as_guest : (profile : Profile) (j : ℕ) (old : ExecState) (memory : List ℕ) (r : Reply) (new : ExecState)
+pub as_guest : (profile : Profile) (j : ℕ) (old : ExecState) (memory : List ℕ) (r : Reply) (new : ExecState)
     (memory_after : List ℕ) → (profile ≡ Strict → old.guest_ops ≡ [])
     → ExecutesFor profile j old memory r new memory_after → ExecutesGuestAt j old memory r new memory_after
 as_guest Strict j old memory r new memory_after none x =
@@ -1647,6 +1647,14 @@ waiting_is port memory j n idle size none =
     no_commands : (pending : List Command) → length pending ≡ 0 → pending ≡ []
     no_commands [] none = refl
     no_commands (c ∷ cs) none = absurd (omega arith)
+
+-- a running port that has nothing to fetch and a pending command
+pub executed_access : (port : PortState) (memory : List ℕ) (j : ℕ) → port.phase ≡ Running
+    → NothingToFetch port memory → 0 < length port.exec.pending → (use_of port memory j).access ≡ Execute
+executed_access port memory j runs nothing pending =
+    let access : MemoryUse → Access = λ u. u.access in
+    ap (λ (p : Phase). access (use_in p port memory j)) runs ∙ ap access (is_later port memory j nothing)
+    ∙ ap access (executing_is port memory j pending) ∙ command_is port memory j (buffer_use_at port.exec j)
 
 -- a turn without its buffer executes a command
 without_at : (missing : Missing) (access : Access) → fate_at missing access ≡ WithoutBuffer → access ≡ Execute

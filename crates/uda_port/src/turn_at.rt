@@ -6,6 +6,8 @@ ghost use Rattle.uda_mem.specs.Slices.{IsMemory};
 ghost use Rattle.uda_mem.specs.Ranges.{LiesIn};
 ghost use Rattle.uda_disk.specs.Units.{AreWellFormed};
 ghost use Rattle.uda_exec.specs.Order.{IsEligible};
+ghost use Rattle.uda_exec.specs.UsedBlocks.{ChangesOnly};
+ghost use Rattle.uda_port.specs.BlockUse.{blocks_of, block_bytes_of};
 ghost use Rattle.uda_port.specs.Port.{CreditsAgree};
 ghost use Rattle.uda_port.specs.Trace.{Reports, Traces, turn_of};
 ghost use Rattle.uda_port.specs.Turn.{may_fetch, port_turn_on, port_not_polling};
@@ -70,6 +72,10 @@ impl<S: BlockStore> Port<S> {
     /// that doesn't need the range is as usual. A missing descriptor before the next one counts as one that the
     /// host owns, so the caller fills its range with zeros.
     ///
+    /// Of all units, only the blocks of [`blocks_at`](Port::blocks_at) change, if the command writes them. They get the
+    /// bytes of [`copy_written`](Port::copy_written), up to a block at which the store fails. That holds of each unit
+    /// whose store is sound afterwards.
+    ///
     /// UDA50 Programmer's Documentation Kit: command ring polling, UNIBUS addresses, fatal errors.
     pub fn turn_at(&mut self, memory: &mut [u8], place: usize, missing: Missing) -> TurnTaken
         requires memory { IsMemory memory.old }
@@ -79,6 +85,8 @@ impl<S: BlockStore> Port<S> {
         ensures within { All (LiesIn memory.old) result.written }
         ensures written { (other : List ℕ) → Agrees self.old place memory.old other
             → result.written ≡ written_of missing self.old other place }
+        ensures blocks { ChangesOnly (blocks_of missing self.old memory.old place)
+            (block_bytes_of missing self.old memory.old place) self.old.exec.units self.new.exec.units }
         ensures credits { CreditsAgree self.new }
         ensures four_units { length self.new.exec.units ≡ 4 }
         ensures well_formed { AreWellFormed self.new.exec.units }
@@ -102,6 +110,8 @@ impl<S: BlockStore> Port<S> {
         ensures within { All (LiesIn memory.old) result.written }
         ensures written { (other : List ℕ) → Agrees self.old place memory.old other
             → result.written ≡ written_of missing self.old other place }
+        ensures blocks { ChangesOnly (blocks_of missing self.old memory.old place)
+            (block_bytes_of missing self.old memory.old place) self.old.exec.units self.new.exec.units }
         ensures turn { result.turn ≡ turn_of trace.new }
         ensures accurate { Traces trace.new self.old self.new }
         ensures credits { CreditsAgree self.new }
@@ -134,6 +144,8 @@ impl<S: BlockStore> Port<S> {
         ensures within { All (LiesIn memory.old) result.written }
         ensures written { (other : List ℕ) → Agrees self.old place memory.old other
             → result.written ≡ written_of missing self.old other place }
+        ensures blocks { ChangesOnly (blocks_of missing self.old memory.old place)
+            (block_bytes_of missing self.old memory.old place) self.old.exec.units self.new.exec.units }
         ensures reports { Reports result.turn trace.new self.old self.new }
     {
         self.rings_are_sound();

@@ -1,4 +1,4 @@
-use Rattle.std.proofs.Common.{◌*◌, length, arith}
+use Rattle.std.proofs.Common.{◌*◌, arith}
 use Rattle.uda_port.specs.BlockUse.{block_bytes_of}
 use Rattle.uda_port.proofs.BlockUseLaws.{none_or_same}
 use Rattle.uda_port.proofs.port.Port.copy_written.Goals as goal

@@ -7,6 +7,7 @@ use Rattle.uda_port.specs.declared.turn_at.Fate.{Fate}
 use Rattle.uda_port.specs.Turn.{may_fetch}
 use Rattle.uda_port.specs.MemoryUse.{fate_in, CanFail, EffectBy, IsLocal, written_by_fate}
 use Rattle.uda_port.proofs.MemoryUseLaws.{access_any, is_local, without_buffer, fate_fails, fate_lies, written_there}
+use Rattle.uda_port.proofs.UsedBlocksLaws.{turn_changes}
 use Rattle.uda_port.proofs.port.Port.take_turn_at.Goals as goal
 
 pub returns-clause-effect : goal.returns-clause-effect
@@ -75,3 +76,8 @@ returns-clause-written g c =
     λ other agrees. c.written_by_fate.ensures
     ∙ ap₂ written_by_fate (sym fate) (ap (λ (u : MemoryUse). u.written) uses)
     ∙ written_there c.args.missing c.args.place old memory other agrees
+
+pub returns-clause-blocks : goal.returns-clause-blocks
+returns-clause-blocks g c =
+    turn_changes c.args.missing c.args.place c.args.self.now c.args.memory.now c.turn_by-turn.result
+    c.turn_by-turn.new.self c.turn_by-turn.new.memory c.rings_are_sound.ensures.sound (returns-clause-effect g c)

@@ -34,16 +34,7 @@ typedef struct machine {
     int way;
 } machine;
 
-static machine called, held; /* the images are behind calls, and in memory */
-static uint64_t seed = 88172645463325252u;
-
-static uint32_t any(uint32_t below)
-{
-    seed ^= seed << 13;
-    seed ^= seed >> 7;
-    seed ^= seed << 17;
-    return (uint32_t)(seed >> 32) % below;
-}
+static machine called, held; /* images by calls, and in memory */
 
 /* ---- Memory that the library gets ---- */
 
@@ -349,6 +340,7 @@ static void start_both(int way)
 /* ---- A guest that waits for each response ---- */
 
 static uint32_t posted; /* commands since the start-up */
+static uint32_t moves; /* calls of the images for the last commands */
 
 /* Has commands executed that are in the ring: one, or two at once. Returns the status of the last end message. */
 static uint32_t executed(uint32_t count)
@@ -359,8 +351,11 @@ static uint32_t executed(uint32_t count)
         give_response((posted + n) % RESPONSES);
     show();
     EXPECT(uda50_read_ip(&called.uda), uda50_read_ip(&held.uda));
-    for (uint32_t n = 0; n < TURNS && result != UDA50_IDLE && result != UDA50_DEAD; n++)
+    moves = 0;
+    for (uint32_t n = 0; n < TURNS && result != UDA50_IDLE && result != UDA50_DEAD; n++) {
         result = both_turn();
+        moves += moved.calls;
+    }
     EXPECT(result, UDA50_IDLE);
     posted += count;
     see();
@@ -460,28 +455,9 @@ static void difference_before_a_failure(void)
 
 /* ---- What moves nothing ---- */
 
-static uint32_t moves; /* calls of the images for the last commands */
-
-/* Executes commands one turn after the other, and counts the calls of the images. */
-static uint32_t counted(uint32_t count)
-{
-    uint32_t last = (posted + count - 1) % RESPONSES, result = UDA50_FETCHED;
-
-    for (uint32_t n = 0; n < count; n++)
-        give_response((posted + n) % RESPONSES);
-    show();
-    EXPECT(uda50_read_ip(&called.uda), uda50_read_ip(&held.uda));
-    for (moves = 0; result != UDA50_IDLE && result < UDA50_DEAD; moves += moved.calls)
-        result = both_turn();
-    posted += count;
-    see();
-    return get16(response_at(last) + 10);
-}
-
 static void expect_no_moves(command c, uint32_t status)
 {
-    post(posted % COMMANDS, c);
-    EXPECT(counted(1), status);
+    EXPECT(status_after(c), status);
     EXPECT(moves, 0);
 }
 
@@ -528,7 +504,7 @@ static void aborted_write(void)
     n = posted % COMMANDS;
     post(n, (command){ WRITE, 0, 15, BLOCK, 0 });
     post(1 - n, (command){ ABORT, 0, 16, 15, 0 });
-    EXPECT(counted(2), 0);
+    EXPECT(executed(2), 0);
     EXPECT(moves, 0);
     EXPECT(get16(response_at((posted - 2) % RESPONSES) + 10), 2);
 }

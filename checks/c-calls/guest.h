@@ -38,6 +38,17 @@ static int ended(void)
     return failures == 0 ? 0 : 1;
 }
 
+static PER_THREAD uint64_t seed = 88172645463325252u;
+
+/* Returns a random number below this one. */
+static inline uint32_t any(uint32_t below)
+{
+    seed ^= seed << 13;
+    seed ^= seed >> 7;
+    seed ^= seed << 17;
+    return (uint32_t)(seed >> 32) % below;
+}
+
 static void put16(uint32_t at, uint32_t word)
 {
     memory[at] = (uint8_t)word;

@@ -28,15 +28,6 @@ static machine mapped, other;
 static uda50 flat;
 static uint8_t flat_disk[DISK];
 static uint32_t reads; /* calls of read_bytes */
-static uint64_t seed = 88172645463325252u;
-
-static uint32_t any(uint32_t below)
-{
-    seed ^= seed << 13;
-    seed ^= seed >> 7;
-    seed ^= seed << 17;
-    return (uint32_t)(seed >> 32) % below;
-}
 
 /* ---- The bus, byte by byte ---- */
 

@@ -74,16 +74,6 @@ static bool same_state(machine *it, const uint8_t *state)
 
 /* ---- A random guest ---- */
 
-static uint64_t seed = 88172645463325252u;
-
-static uint32_t any(uint32_t below)
-{
-    seed ^= seed << 13;
-    seed ^= seed >> 7;
-    seed ^= seed << 17;
-    return (uint32_t)(seed >> 32) % below;
-}
-
 static void set16(machine *it, uint32_t at, uint32_t word)
 {
     it->memory[at] = (uint8_t)word;

@@ -2,6 +2,8 @@
 use Rattle.std.proofs.Common.{◌≡◌, ℕ, List, Some, refl, ap, subst, ◌∙◌}
 use Rattle.std.specs.Prelude.{All}
 use Rattle.uda_mem.specs.Ranges.{LiesIn}
+use Rattle.uda_exec.specs.UsedBlocks.{ChangesOnly}
+use Rattle.uda_port.specs.BlockUse.{blocks_of, block_bytes_of}
 use Rattle.uda_port.specs.declared.memory_use.Missing.{Missing}
 use Rattle.uda_port.specs.declared.trace.Trace.{Trace}
 use Rattle.uda_port.specs.declared.turn.Turn.{Turn}
@@ -30,10 +32,11 @@ module _ (old : ControllerState) (memory : List ℕ) (asked : TurnUse) (missing 
       → IsLocal missing place (old.port, memory) taken (port, after) → All (LiesIn memory) taken.written
       → ((other : List ℕ) → Agrees old.port place memory other
       → taken.written ≡ written_of missing old.port other place)
-      → taken.turn ≡ turn_of trace → Traces trace old.port port
+      → ChangesOnly (blocks_of missing old.port memory place) (block_bytes_of missing old.port memory place)
+      old.port.exec.units port.exec.units → taken.turn ≡ turn_of trace → Traces trace old.port port
       → TakesTurnAt (old, memory) asked (RanTurn taken.turn) (record asked { written = taken.written })
       (record { port = port; last = Some trace }, after)
-  takes_at is_missing asks goes local within written turn tells =
+  takes_at is_missing asks goes local within written blocks turn tells =
       let by_bits : EffectWithout (missing_of asked.missing) place (old.port, memory) taken.turn (port, after) =
       subst (λ (m : Missing). EffectWithout m place (old.port, memory) taken.turn (port, after)) is_missing goes in
       let local_by_bits : IsLocal (missing_of asked.missing) place (old.port, memory) taken (port, after) =
@@ -45,7 +48,7 @@ module _ (old : ControllerState) (memory : List ℕ) (asked : TurnUse) (missing 
         answer_is = ap RanTurn turn;
         last_is = refl;
         tells = tells;
-        told_is = refl;
+        filled_is = refl;
         place_is = asks;
         goes =
             subst
@@ -58,4 +61,8 @@ module _ (old : ControllerState) (memory : List ℕ) (asked : TurnUse) (missing 
         written_is = written memory itself
             ∙ ap (λ (m : Missing). written_of m old.port memory place) is_missing;
         within = within;
+        used_blocks =
+            subst
+            (λ (m : Missing). ChangesOnly (blocks_of m old.port memory place) (block_bytes_of m old.port memory place)
+            old.port.exec.units port.exec.units) is_missing blocks;
       }

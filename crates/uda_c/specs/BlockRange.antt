@@ -55,8 +55,8 @@ abbrev pub called_drive : ℕ → Bool → DriveState
 called_drive blocks hard = record { store = zero_state blocks; hard = hard }
 
 -- an image of this many blocks, with this protection, becomes a unit's; or nothing changes
-pub record AttachesCalled (old : ControllerState) (image : ℕ × (ℕ × Bool)) (answer : CallStatus) (new : ControllerState)
-    : Type 0 where
+pub record AttachesCalled (old : ControllerState) (image : ℕ × (ℕ × Bool)) (answer : CallStatus)
+    (new : ControllerState) : Type 0 where
   pub answer_is : answer ≡ called_answer old image.0 image.1.0
   pub attached : answer ≡ Done → new ≡ controller_with old image.0 (Some (called_drive image.1.0 image.1.1))
   pub refused : answer ≢ Done → new ≡ old
@@ -64,9 +64,9 @@ pub record AttachesCalled (old : ControllerState) (image : ℕ × (ℕ × Bool))
 -- ---- the blocks that the next turn uses
 
 -- those of an image that C reads and writes
-abbrev pub range_told : ControllerState → Option BlockUse → BlockRange
-range_told c None = NO_BLOCKS
-range_told c (Some used) = if is_called_at c used.unit then range_of used else NO_BLOCKS
+abbrev pub range_reported : ControllerState → Option BlockUse → BlockRange
+range_reported c None = NO_BLOCKS
+range_reported c (Some used) = if is_called_at c used.unit then range_of used else NO_BLOCKS
 
 -- the index of a command: the one that the struct names, if that is eligible
 pub record IsPlaceOf (c : ControllerState) (asked : TurnUse) (place : ℕ) : Type 0 where
@@ -74,16 +74,17 @@ pub record IsPlaceOf (c : ControllerState) (asked : TurnUse) (place : ℕ) : Typ
   pub asked_is : IsPlace c.port.exec.pending asked.place → place ≡ asked.place
 
 -- the range is that of the blocks which the turn with this command uses
-pub record TellsBlocks (c : ControllerState) (memory : List ℕ) (asked : TurnUse) (told : BlockRange) : Type 0 where
+pub record ReportsBlocks (c : ControllerState) (memory : List ℕ) (asked : TurnUse) (range : BlockRange)
+    : Type 0 where
   pub place : ℕ
   pub place_is : IsPlaceOf c asked place
-  pub told_is : told ≡ range_told c (blocks_of (missing_of asked.missing) c.port memory place)
+  pub range_is : range ≡ range_reported c (blocks_of (missing_of asked.missing) c.port memory place)
 
 -- in invalid memory nothing changes
-pub record GetsBlocks (before : ControllerState × BlockRange) (memory : List ℕ) (asked : TurnUse) (answer : CallStatus)
-    (after : ControllerState × BlockRange) : Type 0 where
+pub record GetsBlocks (before : ControllerState × BlockRange) (memory : List ℕ) (asked : TurnUse)
+    (answer : CallStatus) (after : ControllerState × BlockRange) : Type 0 where
   pub same : after.0 ≡ before.0
-  pub tells : IsMemory memory → (answer ≡ Done) × TellsBlocks before.0 memory asked after.1
+  pub reports : IsMemory memory → (answer ≡ Done) × ReportsBlocks before.0 memory asked after.1
   pub refuses : (IsMemory memory → ⊥) → (answer ≡ memory_refusal memory) × (after.1 ≡ before.1)
 
 -- as many bytes are written to blocks after the first of them
@@ -98,7 +99,8 @@ pub record CopiesWritten (c : ControllerState) (memory : List ℕ) (asked : Turn
   pub fits : (answer ≡ Done)
       ↔ HasPart (block_bytes_of (missing_of asked.0.missing) c.port memory place) asked.1 (length copied.0)
   pub done : answer ≡ Done → copied.1
-      ≡ part (block_bytes_of (missing_of asked.0.missing) c.port memory place) (512 * asked.1) (length copied.0)
+      ≡ part (block_bytes_of (missing_of asked.0.missing) c.port memory place) (512 * asked.1)
+      (length copied.0)
   pub refused : answer ≢ Done → (answer ≡ BadLength) × (copied.1 ≡ copied.0)
 
 -- in invalid memory nothing changes
@@ -133,8 +135,8 @@ AllowAnswer (Some prepared) called answer = PreparedAnswer called answer
 
 -- C prepared the next blocks of a unit, as many as the image has at most. Which blocks are ready isn't in the
 -- controller's state.
-pub record AllowsBlocks (old : ControllerState) (asked : ℕ × ℕ) (prepared : Option Prepared) (answer : CallStatus)
-    (new : ControllerState) : Type 0 where
+pub record AllowsBlocks (old : ControllerState) (asked : ℕ × ℕ) (prepared : Option Prepared)
+    (answer : CallStatus) (new : ControllerState) : Type 0 where
   pub no_image : unit_answer old asked.0 ≢ Done → answer ≡ unit_answer old asked.0
   pub answers : unit_answer old asked.0 ≡ Done → AllowAnswer prepared (is_called_at old asked.0) answer
   pub fits : answer ≡ Done → asked.1 ≤ size_at old asked.0

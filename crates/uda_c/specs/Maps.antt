@@ -44,7 +44,8 @@ pub record IsBusOf (m : MapRegisters) (bus : MappedBus) : Type 0 where
   pub size : bus.size ≡ register_count m * 2 ^ m.page
 
 -- one turn over guest memory behind a map, whose record is stored as the last
-pub record TakesTurnBehind (bus : MappedBus) (before : Machine) (answer : CallStatus) (after : Machine) : Type 0 where
+pub record TakesTurnBehind (bus : MappedBus) (before : Machine) (answer : CallStatus) (after : Machine)
+    : Type 0 where
   pub trace : Trace
   pub answer_is : answer ≡ RanTurn (turn_of trace)
   pub last_is : after.0.last ≡ Some trace

@@ -6,6 +6,8 @@ use Rattle.uda_mem.specs.Ranges.{LiesIn}
 use Rattle.uda_mem.specs.Slices.{IsMemory}
 use Rattle.uda_port.specs.declared.memory_use.Missing.{Missing}
 use Rattle.uda_port.specs.declared.trace.Trace.{Trace}
+use Rattle.uda_exec.specs.UsedBlocks.{ChangesOnly}
+use Rattle.uda_port.specs.BlockUse.{blocks_of, block_bytes_of}
 use Rattle.uda_port.specs.MemoryUse.{descriptor_ranges, use_of, written_of, EffectWithout, IsLocal, IsPlace}
 use Rattle.uda_port.specs.StartupUse.{range_written, WordEffect, WordIsLocal}
 use Rattle.uda_port.specs.Trace.{turn_of, Traces}
@@ -43,28 +45,32 @@ GetsBody c memory before answer after =
     × (filled ≡ record before { place = filled.place; body = (use_of c.port memory filled.place).body }))
 
 -- A turn over a window. If it executes a command, that is the pending command at this index. It is the index that
--- the struct names, if a command there may be executed next, or none is pending.
+-- the struct names, if a command there may be executed next, or none is pending. Of all units only the blocks that
+-- the turn uses change, and they get the bytes that it writes to them.
 pub record TakesTurnAt (before : ControllerState × List ℕ) (asked : TurnUse) (answer : CallStatus)
-    (told : TurnUse) (after : ControllerState × List ℕ) : Type 0 where
+    (filled : TurnUse) (after : ControllerState × List ℕ) : Type 0 where
   pub trace : Trace
   pub place : ℕ
   pub answer_is : answer ≡ RanTurn (turn_of trace)
   pub last_is : after.0.last ≡ Some trace
   pub tells : Traces trace before.0.port after.0.port
-  pub told_is : told ≡ record asked { written = told.written }
+  pub filled_is : filled ≡ record asked { written = filled.written }
   pub place_is : IsPlace before.0.port.exec.pending asked.place → place ≡ asked.place
   pub goes : EffectWithout (missing_of asked.missing) place (before.0.port, before.1) (turn_of trace)
       (after.0.port, after.1)
   pub local : IsLocal (missing_of asked.missing) place (before.0.port, before.1)
-      (record { turn = turn_of trace; written = told.written }) (after.0.port, after.1)
-  pub written_is : told.written ≡ written_of (missing_of asked.missing) before.0.port before.1 place
-  pub within : All (LiesIn before.1) told.written
+      (record { turn = turn_of trace; written = filled.written }) (after.0.port, after.1)
+  pub written_is : filled.written ≡ written_of (missing_of asked.missing) before.0.port before.1 place
+  pub within : All (LiesIn before.1) filled.written
+  pub used_blocks : ChangesOnly (blocks_of (missing_of asked.missing) before.0.port before.1 place)
+      (block_bytes_of (missing_of asked.missing) before.0.port before.1 place) before.0.port.exec.units
+      after.0.port.exec.units
 
 pub record TurnsAtWhereMemory (before : ControllerState × List ℕ) (asked : TurnUse) (answer : CallStatus)
-    (told : TurnUse) (after : ControllerState × List ℕ) : Type 0 where
-  pub turns : IsMemory before.1 → TakesTurnAt before asked answer told after
+    (filled : TurnUse) (after : ControllerState × List ℕ) : Type 0 where
+  pub turns : IsMemory before.1 → TakesTurnAt before asked answer filled after
   pub refuses : (IsMemory before.1 → ⊥)
-      → (answer ≡ memory_refusal before.1) × ((told ≡ asked) × (after ≡ before))
+      → (answer ≡ memory_refusal before.1) × ((filled ≡ asked) × (after ≡ before))
 
 -- a word written to SA over a window, and the range that it zeroed
 pub record WritesSaAt (missing : Bool) (before : ControllerState × List ℕ) (word : ℕ) (zeroed : ByteRange)

@@ -3,7 +3,7 @@ ghost use Rattle.std.specs.Prelude.{◌≡◌, ◌≢◌, ◌+◌, ◌*◌, ◌�
 ghost use Rattle.uda_image.specs.Limits.{store_limit};
 ghost use Rattle.uda_mem.specs.Slices.{IsMemory};
 ghost use Rattle.uda_c.specs.declared.call_status.CallStatus.TheVariants.{Done};
-ghost use Rattle.uda_c.specs.BlockRange.{size_answer, AttachesCalled, GetsBlocks, TellsBlocks, GetsWritten};
+ghost use Rattle.uda_c.specs.BlockRange.{AttachesCalled, GetsBlocks, ReportsBlocks, GetsWritten};
 ghost use Rattle.uda_c.specs.BlockRange.{CopiesWritten, LendsBlocks, AllowsBlocks};
 ghost use Rattle.uda_c.specs.Controllers.{is_called_at};
 ghost use Rattle.uda_c.specs.UnitImage.{status_of};
@@ -14,7 +14,7 @@ use crate::controller::{Controller, put_back, refusal_of};
 use crate::turn_use::TurnUse;
 use crate::unit_image::UnitImage;
 use uda_exec::BlockUse;
-use uda_image::{Drive, STORE_LIMIT};
+use uda_image::Drive;
 
 impl Controller {
     /// Attaches an image of `blocks` blocks that C reads and writes by calls of its own.
@@ -28,17 +28,18 @@ impl Controller {
         if self.port.unit(unit).is_some() {
             return CallStatus::AlreadyAttached;
         }
-        match size_answer(blocks) {
-            CallStatus::Done => {
-                let store = UnitImage::of_calls(self.alloc, blocks);
-                self.port.set_drive(unit, Some(Drive { store, hard }));
-                CallStatus::Done
-            }
-            refusal => refusal,
+        if blocks == 0 {
+            return CallStatus::BadLength;
         }
+        let Some(store) = UnitImage::of_calls(self.alloc, blocks) else {
+            return CallStatus::TooLarge;
+        };
+        self.port.set_drive(unit, Some(Drive { store, hard }));
+        CallStatus::Done
     }
 
-    /// Fills in the blocks that the next turn uses of an image that C reads and writes. None of its blocks is ready then.
+    /// Fills in the blocks that the next turn uses of an image that C reads and writes. None of its blocks is ready
+    /// then.
     pub fn get_blocks(
         &mut self,
         memory: &[u8],
@@ -59,7 +60,7 @@ impl Controller {
     // Returns these blocks in valid memory.
     fn begin_blocks(&mut self, memory: &[u8], turn: &TurnUse) -> BlockRange
         requires memory { IsMemory memory.now }
-        ensures tells { TellsBlocks self.old memory.now turn.now result }
+        ensures reports { ReportsBlocks self.old memory.now turn.now result }
         ensures same { self.new ≡ self.old }
     {
         let place = self.place_of(turn);
@@ -170,19 +171,5 @@ fn status_of(made: Result<(), CallStatus>) -> CallStatus
     match made {
         Ok(()) => CallStatus::Done,
         Err(status) => status,
-    }
-}
-
-// Returns the status of an image of this many blocks.
-fn size_answer(blocks: u32) -> CallStatus
-    ensures answer { result ≡ size_answer blocks }
-    ensures limit { result ≡ Done → blocks ≤ store_limit }
-{
-    if blocks == 0 {
-        CallStatus::BadLength
-    } else if blocks > STORE_LIMIT {
-        CallStatus::TooLarge
-    } else {
-        CallStatus::Done
     }
 }

@@ -1,12 +1,12 @@
 //! The image of a unit: bytes that C has lent, or blocks that C reads and writes by calls of its own.
 ghost use Rattle.std.specs.Prelude.{◌≡◌, ◌≢◌, ◌+◌, ◌*◌, ◌<◌, ◌≤◌, true, false, [], length, option_map, Some, None};
-ghost use Rattle.std.specs.Prelude.{IfOk, IfErr, IsOk, is_ok, ◌/◌, ◌%◌};
+ghost use Rattle.std.specs.Prelude.{IfOk, IfErr, IfSome, IsOk, is_ok, is_some, nat_le, ◌/◌, ◌%◌};
 ghost use Rattle.std.specs.List.{concat};
 ghost use Rattle.uda_image.specs.AtOnce.{TriesToRead, TriesToWrite, ChecksBlocks};
 ghost use Rattle.uda_image.specs.Store.{Reads, Writes, KeepsAttributes, is_sound};
 ghost use Rattle.uda_called.specs.CalledImage.{zero_image};
 ghost use Rattle.uda_c.specs.BorrowedImage.{IsWhole};
-ghost use Rattle.uda_c.specs.UnitImage.{unit_state, is_called, bytes_of_store, store_failing, store_lent, LentAnswer, PreparedAnswer, status_of, status_of_refusal};
+ghost use Rattle.uda_c.specs.UnitImage.{unit_state, is_called, bytes_of_store, store_failing, store_lent, LentAnswer, PreparedAnswer, status_of, status_of_error};
 ghost use Rattle.uda_c.specs.UnitImage.{image_begun, lend_answer, image_lent, allow_answer, image_allowed};
 ghost use Rattle.uda_c.specs.UnitImage.{zero_state, lent_state};
 ghost use Rattle.uda_c.specs.UnitImageLaws.{within_limit_of, whole_blocks_of};
@@ -18,7 +18,7 @@ use crate::call_status::CallStatus;
 use crate::lent::BorrowedBytes;
 use crate::lent_image::BorrowedImage;
 use std::alloc::Global;
-use uda_called::{CalledImage, Refusal};
+use uda_called::{CalledImage, LendError};
 use uda_image::{BlockStore, StoreError};
 
 /// The image of a unit.
@@ -31,7 +31,7 @@ pub enum UnitImage {
 }
 
 impl UnitImage {
-    /// Returns an image of the lent bytes, of which no call fails.
+    /// Returns an image of the lent bytes. None of its calls fails.
     pub fn of_bytes(lent: BorrowedBytes) -> UnitImage
         requires whole { IsWhole lent.held }
         ensures state { unit_state result ≡ lent_state lent.held }
@@ -39,12 +39,14 @@ impl UnitImage {
         UnitImage::Lent(BorrowedImage::new(lent))
     }
 
-    /// Returns an image of this many blocks that C reads and writes by calls of its own.
-    pub fn of_calls(alloc: Global, blocks: u32) -> UnitImage
-        requires limit { blocks ≤ store_limit }
-        ensures state { unit_state result ≡ zero_state blocks }
+    /// Returns an image of this many blocks that C reads and writes by calls of its own. Returns None if they are
+    /// more than a store has.
+    pub fn of_calls(alloc: Global, blocks: u32) -> Option<UnitImage>
+        ensures fits { is_some result ≡ nat_le blocks store_limit }
+        ensures state { IfSome result (λ image. unit_state image ≡ zero_state blocks) }
     {
-        UnitImage::Called(CalledImage::new(alloc, blocks))
+        let image = CalledImage::new(alloc, blocks)?;
+        Some(UnitImage::Called(image))
     }
 
     /// Returns the lent bytes, or None if C has the blocks.
@@ -111,7 +113,7 @@ impl UnitImage {
             UnitImage::Lent(_) => Err(CallStatus::OtherKind),
             UnitImage::Called(image) => match image.lend(first, from) {
                 Ok(()) => Ok(()),
-                Err(refusal) => Err(status_of_refusal(refusal)),
+                Err(error) => Err(status_of_error(error)),
             },
         }
     }
@@ -140,12 +142,12 @@ impl UnitImage {
 }
 
 // Returns the status of blocks that can't be lent.
-fn status_of_refusal(refusal: Refusal) -> CallStatus
-    ensures { result ≡ status_of_refusal refusal }
+fn status_of_error(error: LendError) -> CallStatus
+    ensures { result ≡ status_of_error error }
 {
-    match refusal {
-        Refusal::Length => CallStatus::BadLength,
-        Refusal::NoMemory => CallStatus::NoMemory,
+    match error {
+        LendError::Length => CallStatus::BadLength,
+        LendError::NoMemory => CallStatus::NoMemory,
     }
 }
 

@@ -1,6 +1,6 @@
 //! Images that a program reads and writes by calls of its own.
 ghost use Rattle.std.specs.Prelude.{◌≡◌, ◌+◌, ◌++◌, ◌*◌, ◌/◌, ◌%◌, ◌<◌, ◌≤◌, ◌^◌, ◌↔◌, true, false, length, Ok, Err, IfOk, IfErr};
-ghost use Rattle.std.specs.Prelude.{if◌then◌else◌, is_ok, nat_le};
+ghost use Rattle.std.specs.Prelude.{if◌then◌else◌, is_ok, is_some, nat_le, IfSome};
 ghost use Rattle.uda_mem.specs.Put.{part};
 ghost use Rattle.uda_image.specs.AtOnce.{TriesToRead, TriesToWrite, ChecksBlocks};
 ghost use Rattle.uda_image.specs.Image.{block_count_of, block_of};
@@ -13,7 +13,7 @@ ghost use Rattle.uda_called.specs.CalledImage.{with_failure, with_used, with_wri
 
 use std::alloc::Global;
 use std::marker::Model;
-use uda_image::{BlockStore, StoreError};
+use uda_image::{BlockStore, STORE_LIMIT, StoreError};
 use uda_trace::{Call, FileTrace, Supposition};
 
 /// Which blocks of an image are ready for the next command, counted from one block on.
@@ -33,7 +33,7 @@ pub struct Ready {
 
 /// Why blocks can't be lent.
 #[derive(Clone, Copy, Debug, PartialEq, Eq)]
-pub enum Refusal {
+pub enum LendError {
     /// The bytes aren't whole blocks, or there are fewer blocks.
     Length,
     /// An allocation failed.
@@ -79,12 +79,16 @@ impl Ready {
 }
 
 impl CalledImage {
-    /// Returns an image of `blocks` blocks, at most [`STORE_LIMIT`](uda_image::STORE_LIMIT). None is ready.
-    pub fn new(alloc: Global, blocks: u32) -> CalledImage
-        requires limit { blocks ≤ store_limit }
-        ensures image { result ≡ zero_image blocks }
+    /// Returns an image of `blocks` blocks, of which none is ready. Returns None if they are more than
+    /// [`STORE_LIMIT`].
+    pub fn new(alloc: Global, blocks: u32) -> Option<CalledImage>
+        ensures fits { is_some result ≡ nat_le blocks store_limit }
+        ensures image { IfSome result (λ image. image ≡ zero_image blocks) }
     {
-        CalledImage {
+        if blocks > STORE_LIMIT {
+            return None;
+        }
+        Some(CalledImage {
             size: blocks,
             ready: Ready {
                 first: 0,
@@ -95,7 +99,7 @@ impl CalledImage {
             },
             bytes: Vec::new(alloc),
             trace: FileTrace::new(&Supposition::of(&[], &[])),
-        }
+        })
     }
 
     /// Drops what is ready. The blocks that are made ready next are those from block `first` on. Returns false and
@@ -131,17 +135,17 @@ impl CalledImage {
     ///
     /// - `Length` if it is another block, if they aren't whole blocks, or if the image has fewer;
     /// - `NoMemory` if an allocation fails.
-    pub fn lend(&mut self, first: u32, from: &[u8]) -> Result<(), Refusal>
+    pub fn lend(&mut self, first: u32, from: &[u8]) -> Result<(), LendError>
         ensures lent { IfOk result (λ _. self.new ≡ with_lent first from.now self.old) }
         ensures blocks { IfOk result (λ _. called_state self.new
             ≡ with_blocks_lent first from.now (called_state self.old)) }
         ensures unchanged { IfErr result (λ _. self.new ≡ self.old) }
         ensures within { IfOk result (λ _. (length from.now % 512 ≡ 0)
             × (first + length from.now / 512 ≤ block_count_of self.old.bytes)) }
-        ensures length { (result ≡ Err Refusal.Length) ↔ (can_lend self.old first (length from.now) ≡ false) }
+        ensures length { (result ≡ Err LendError.Length) ↔ (can_lend self.old first (length from.now) ≡ false) }
     {
         if !self.can_lend(first, from.len()) {
-            return Err(Refusal::Length);
+            return Err(LendError::Length);
         }
         append(&mut self.bytes, from)?;
         // For the trace a lend is a write: the image then has these bytes.
@@ -245,14 +249,14 @@ impl CalledImage {
 }
 
 // Appends bytes. Changes nothing if an allocation fails.
-fn append(to: &mut Vec<u8>, from: &[u8]) -> Result<(), Refusal>
+fn append(to: &mut Vec<u8>, from: &[u8]) -> Result<(), LendError>
     ensures appended { IfOk result (λ _. to.new.items ≡ to.old.items ++ from.now) }
     ensures unchanged { IfErr result (λ _. to.new.items ≡ to.old.items) }
-    ensures error { IfErr result (λ r. r ≡ Refusal.NoMemory) }
+    ensures error { IfErr result (λ r. r ≡ LendError.NoMemory) }
 {
     match to.extend_from_slice(from) {
         Ok(()) => Ok(()),
-        Err(_) => Err(Refusal::NoMemory),
+        Err(_) => Err(LendError::NoMemory),
     }
 }
 

@@ -17,6 +17,7 @@ use Rattle.uda_packet.specs.declared.guest_command.GuestOp.{GuestOp}
 use Rattle.uda_packet.specs.declared.guest_command.GuestOp.TheVariants as guest
 use Rattle.uda_packet.specs.declared.reply.Reply.{Reply}
 use Rattle.uda_disk.specs.Units.{Units, failures_at, is_sound_at}
+use Rattle.uda_disk.specs.Laws.{blocks_in, blocks_at}
 use Rattle.uda_disk.proofs.Callers.{joined_and_cut}
 use Rattle.uda_disk.proofs.Slots.{slice_get-set_same, slice_get-set_other, set-itself}
 use Rattle.uda_exec.specs.declared.block_use.BlockUse.{BlockUse}
@@ -31,7 +32,7 @@ use Rattle.uda_exec.specs.GuestExecution.{ExecutesAs}
 use Rattle.uda_exec.specs.GuestOps.{op_at}
 use Rattle.uda_exec.specs.Laws.{OnlyUsedBlocksChange}
 use Rattle.uda_exec.specs.SetUnit.{unit_set}
-use Rattle.uda_exec.specs.UsedBlocks.{blocks_in, blocks_at, use_on, LeavesUnit, ChangesUnit, ChangesOnly}
+use Rattle.uda_exec.specs.UsedBlocks.{use_on, LeavesUnit, ChangesUnit, ChangesOnly}
 use Rattle.uda_exec.proofs.Blocks.{AreBlocks-in_blocks}
 use Rattle.uda_exec.proofs.Steps.{length-due_le}
 use Rattle.uda_exec.proofs.Transferred.{check_on-by, extent-asks, free-still}
@@ -43,14 +44,27 @@ use Rattle.uda_exec.proofs.Words.{put, Command, Op, Kind, Transfer, transfer_of,
 abbrev make : Command → GuestOp → GuestCommand
 make c o = record { command = c; op = o }
 
+-- the blocks of a unit, and of its slot
+abbrev unit_blocks : Units → ℕ → List (List ℕ)
+unit_blocks units u = blocks_at (disks_of units) u
+
+abbrev slot_blocks : Option (Option UnitState) → List (List ℕ)
+slot_blocks slot = blocks_in (option_map (option_map disk_of) slot)
+
+at_slot : (units : Units) (u : ℕ) → unit_blocks units u ≡ slot_blocks (slice_get units u)
+at_slot units u = ap blocks_in (slice_get-map (option_map disk_of) units u)
+
 same_units : (old new : Units) (u : ℕ) → new ≡ old → LeavesUnit u old new
 same_units old new u same = record {
-  blocks_stay = ap (λ (units : Units). blocks_at units u) same;
+  blocks_stay = ap (λ (units : Units). unit_blocks units u) same;
   failures_stay = ap (λ (units : Units). failures_at (slice_get units u)) same;
 }
 
 same_slot : (old new : Units) (u : ℕ) → slice_get new u ≡ slice_get old u → LeavesUnit u old new
-same_slot old new u same = record { blocks_stay = ap blocks_in same; failures_stay = ap failures_at same }
+same_slot old new u same = record {
+  blocks_stay = at_slot new u ∙ ap slot_blocks same ∙ sym (at_slot old u);
+  failures_stay = ap failures_at same;
+}
 
 -- units that don't change
 pub leaves_all : (bytes : List ℕ) (old new : Units) → new ≡ old → ChangesOnly None bytes old new
@@ -66,22 +80,6 @@ use_own : (c : Command) (o : GuestOp) (u : ℕ) → (u == c.unit) ≡ true → (
     → use_on u (range_of (Some (make c o)) t) ≡ range_of (Some (make c o)) t
 use_own c o u own None = refl
 use_own c o u own (Some t) = rw own refl
-
--- ---- the blocks of a unit by its disk
-
-abbrev disk_blocks : Option (Option Disk) → List (List ℕ)
-disk_blocks (Some (Some disk)) = disk.blocks
-disk_blocks _ = []
-
-blocks_by_disk : (slot : Option (Option UnitState)) → blocks_in slot
-    ≡ disk_blocks (option_map (option_map disk_of) slot)
-blocks_by_disk None = refl
-blocks_by_disk (Some None) = refl
-blocks_by_disk (Some (Some unit)) = refl
-
-blocks_by_disks : (units : Units) (u : ℕ) → blocks_at units u ≡ disk_blocks (slice_get (disks_of units) u)
-blocks_by_disks units u = blocks_by_disk (slice_get units u)
-    ∙ ap disk_blocks (sym (slice_get-map (option_map disk_of) units u))
 
 -- ---- the blocks that a transfer writes
 
@@ -170,20 +168,21 @@ module _ (c : Command) (units units_after : Units) (memory memory_left : List �
         (slice_get_within (disks_of units) c.unit (Some (disk_of unit))
         (slot_in units c.unit (Some (Some unit)) here))
 
-    own_blocks : blocks_at units_after c.unit ≡ put (blocks_at units c.unit) (lbn_of act)
+    own_blocks : unit_blocks units_after c.unit ≡ put (unit_blocks units c.unit) (lbn_of act)
         (blocks_written act (blocks_moved it.outcome (due act unit.store.blocks)))
     own_blocks =
-        blocks_by_disks units_after c.unit ∙ ap disk_blocks own_disk
+        ap blocks_in own_disk
         ∙ ap (λ (b : List (List ℕ)). put b (lbn_of act)
-        (blocks_written act (blocks_moved it.outcome (due act unit.store.blocks)))) (sym (ap blocks_in here))
+        (blocks_written act (blocks_moved it.outcome (due act unit.store.blocks))))
+        (sym (ap blocks_in (slot_in units c.unit (Some (Some unit)) here)))
 
     -- nothing is written
     unwritten : blocks_asked c.op ≡ 0
         → blocks_written act (blocks_moved it.outcome (due act unit.store.blocks)) ≡ []
         → LeavesUnit c.unit units units_after
     unwritten none nothing = record {
-      blocks_stay = own_blocks ∙ ap (put (blocks_at units c.unit) (lbn_of act)) nothing
-          ∙ put-nil (blocks_at units c.unit) (lbn_of act);
+      blocks_stay = own_blocks ∙ ap (put (unit_blocks units c.unit) (lbn_of act)) nothing
+          ∙ put-nil (unit_blocks units c.unit) (lbn_of act);
       failures_stay = it.failures_are
           ∙ ap (λ (o : TransferOutcome). failures_at (slice_get units c.unit) + (if is_lost o then 1 else 0))
           (succeeds none)
@@ -264,7 +263,7 @@ module _ (c : Command) (units units_after : Units) (memory memory_left : List �
           outcome = it.outcome;
           within = subst (λ (n : ℕ). IsWithinRange n it.outcome) counted it.fits.count;
           written = own_blocks act unit asks_it here free
-              ∙ ap₂ (put (blocks_at units c.unit)) (rw extent refl) written_is;
+              ∙ ap₂ (put (unit_blocks units c.unit)) (rw extent refl) written_is;
           failures_are = it.failures_are;
         }
     by_check None false found calls =
@@ -299,7 +298,8 @@ store_failures _ = 0
 abbrev store_of : UnitState → StoreState
 store_of unit = unit.store
 
-blocks_by_store : (slot : Option (Option UnitState)) → blocks_in slot ≡ store_blocks (option_map (option_map store_of) slot)
+blocks_by_store : (slot : Option (Option UnitState))
+    → slot_blocks slot ≡ store_blocks (option_map (option_map store_of) slot)
 blocks_by_store None = refl
 blocks_by_store (Some None) = refl
 blocks_by_store (Some (Some unit)) = refl
@@ -313,12 +313,14 @@ failures_by_store (Some (Some unit)) = refl
 same_stores : (old new : Units) (u : ℕ) → map (option_map store_of) new ≡ map (option_map store_of) old
     → LeavesUnit u old new
 same_stores old new u same =
-    let slots : option_map (option_map store_of) (slice_get new u) ≡ option_map (option_map store_of) (slice_get old u) =
+    let slots : option_map (option_map store_of) (slice_get new u)
+    ≡ option_map (option_map store_of) (slice_get old u) =
     sym (slice_get-map (option_map store_of) new u)
     ∙ ap (λ (stores : List (Option StoreState)). slice_get stores u) same
     ∙ slice_get-map (option_map store_of) old u in
     record {
-      blocks_stay = blocks_by_store (slice_get new u) ∙ ap store_blocks slots ∙ sym (blocks_by_store (slice_get old u));
+      blocks_stay = at_slot new u ∙ blocks_by_store (slice_get new u) ∙ ap store_blocks slots
+          ∙ sym (at_slot old u ∙ blocks_by_store (slice_get old u));
       failures_stay = failures_by_store (slice_get new u) ∙ ap store_failures slots
           ∙ sym (failures_by_store (slice_get old u));
     }
@@ -383,14 +385,15 @@ module _ (c : Command) (units units_after : Units) (memory memory_left : List �
     there = ap (λ (u : Units). slice_get u c.unit) set_is
         ∙ slice_get-set_same units c.unit (Some unit_after) (slice_get_within units c.unit (Some unit) here)
 
-    by_count : (v : Verdict) → FitsTransfer t_of v → blocks_at units_after c.unit ≡ blocks_at units c.unit
+    by_count : (v : Verdict) → FitsTransfer t_of v → unit_blocks units_after c.unit ≡ unit_blocks units c.unit
         → failures_at (slice_get units_after c.unit) ≡ failures_at (slice_get units c.unit) + failures_in v
         → (some : Bool) → nat_lt 0 (block_count t_of) ≡ some → compared_unit (if some then Some t_of else None)
     by_count v fits stays failed false calls =
         let few : block_count t_of ≡ 0 = grind (arith, nat_tests) in
         record {
           blocks_stay = stays;
-          failures_stay = failed ∙ ap (λ (n : ℕ). failures_at (slice_get units c.unit) + n) (failures_none t_of v few fits)
+          failures_stay = failed
+              ∙ ap (λ (n : ℕ). failures_at (slice_get units c.unit) + n) (failures_none t_of v few fits)
               ∙ add-zero (failures_at (slice_get units c.unit));
         }
     by_count v fits stays failed true calls =
@@ -400,8 +403,8 @@ module _ (c : Command) (units units_after : Units) (memory memory_left : List �
         record {
           outcome = outcome_of v;
           within = outcome_within t_of v fits;
-          written = stays ∙ sym (ap (put (blocks_at units c.unit) t_of.lbn) moved
-              ∙ put-nil (blocks_at units c.unit) t_of.lbn);
+          written = stays ∙ sym (ap (put (unit_blocks units c.unit) t_of.lbn) moved
+              ∙ put-nil (unit_blocks units c.unit) t_of.lbn);
           failures_are = failed ∙ ap (λ (n : ℕ). failures_at (slice_get units c.unit) + n) (failures_of v);
         }
 
@@ -412,10 +415,12 @@ module _ (c : Command) (units units_after : Units) (memory memory_left : List �
         (set_is ∙ ap (λ (u : UnitState). set units c.unit (Some u)) it.1 ∙ set-itself units c.unit (Some unit) here)
     compared_by_check None some calls (v, it) =
         let kept = it.blocks_if_sound (sym (ap is_sound_at there) ∙ sound) in
-        let stays : blocks_at units_after c.unit ≡ blocks_at units c.unit =
-        ap blocks_in there ∙ kept.blocks_stay ∙ sym (ap blocks_in here) in
+        let stays : unit_blocks units_after c.unit ≡ unit_blocks units c.unit =
+        at_slot units_after c.unit ∙ ap slot_blocks there ∙ kept.blocks_stay
+        ∙ sym (at_slot units c.unit ∙ ap slot_blocks here) in
         let failed : failures_at (slice_get units_after c.unit) ≡ failures_at (slice_get units c.unit) + failures_in v =
-        ap failures_at there ∙ kept.failures_are ∙ sym (ap (λ (slot : Option (Option UnitState)). failures_at slot + failures_in v) here) in
+        ap failures_at there ∙ kept.failures_are
+        ∙ sym (ap (λ (slot : Option (Option UnitState)). failures_at slot + failures_in v) here) in
         by_count v it.fits stays failed some calls
 
   on_slot : (slot : Option (Option UnitState)) → slice_get units c.unit ≡ slot
@@ -424,7 +429,8 @@ module _ (c : Command) (units units_after : Units) (memory memory_left : List �
   on_slot None here it = same_units units units_after c.unit it.1
   on_slot (Some None) here it = same_units units units_after c.unit it.1
   on_slot (Some (Some unit)) here (unit_after, both) =
-      compared_by_check unit unit_after here both.0 (transfer_refusal t_of (length memory) unit.store.size unit.mode) (nat_lt 0 (block_count t_of)) refl both.1
+      compared_by_check unit unit_after here both.0
+      (transfer_refusal t_of (length memory) unit.store.size unit.mode) (nat_lt 0 (block_count t_of)) refl both.1
 
 -- ---- any command
 
@@ -468,7 +474,8 @@ module _ (c : Command) (old new : Units) (memory memory_left : List ℕ) (r : Re
       let same : u ≡ c.unit = eqb-true u c.unit is in
       subst (λ (used : Option BlockUse). ChangesUnit used (bytes_written (used_as o) memory) u old new)
       (sym (use_own c o u is (used_as o)))
-      (subst (λ (v : ℕ). ChangesUnit (range_of (Some (make c o)) (used_as o)) (bytes_written (used_as o) memory) v old new)
+      (subst
+      (λ (v : ℕ). ChangesUnit (range_of (Some (make c o)) (used_as o)) (bytes_written (used_as o) memory) v old new)
       (sym same) (on_this o x (subst (λ (v : ℕ). is_sound_at (slice_get new v) ≡ true) same sound)))
 
 pub only_used_blocks_change : OnlyUsedBlocksChange

@@ -71,7 +71,8 @@ module _ (old : PortState) (memory : List ℕ) (new : PortState) (memory_after :
 
 -- ---- a turn that would execute a command executes one
 
-module _ (old : PortState) (memory : List ℕ) (nothing : NothingToFetch old memory) (pending : 0 < length old.exec.pending) where
+module _ (old : PortState) (memory : List ℕ) (nothing : NothingToFetch old memory)
+    (pending : 0 < length old.exec.pending) where
   host_owns : {A : Type 0} (d : Descriptor) → may_fetch old ≡ true → next_descriptor memory old.commands ≡ Some d
       → is_owned d ≡ true → A
   host_owns d looks is owned =
@@ -226,7 +227,8 @@ module _ (old : PortState) (memory : List ℕ) (j : ℕ) (new : PortState) (memo
 
   failed : (f : Fate) → memory_by f memory ≡ None → units_of new ≡ units_of old
       → Changes (memory_executed access f memory)
-  failed f none same = subst Changes (sym (failed_memory access f none)) (leaves_all [] (units_of old) (units_of new) same)
+  failed f none same =
+      subst Changes (sym (failed_memory access f none)) (leaves_all [] (units_of old) (units_of new) same)
 
   by_fate : (missing : Missing) (f : Fate) (turn : Turn) → fate_of missing old memory ≡ f
       → EffectBy f j (old, memory) turn (new, memory_after) → Changes (memory_executed access f memory)

@@ -85,7 +85,7 @@ impl<S: BlockStore> Port<S> {
         ensures within { All (LiesIn memory.old) result.written }
         ensures written { (other : List ℕ) → Agrees self.old place memory.old other
             → result.written ≡ written_of missing self.old other place }
-        ensures blocks { ChangesOnly (blocks_of missing self.old memory.old place)
+        ensures used_blocks { ChangesOnly (blocks_of missing self.old memory.old place)
             (block_bytes_of missing self.old memory.old place) self.old.exec.units self.new.exec.units }
         ensures credits { CreditsAgree self.new }
         ensures four_units { length self.new.exec.units ≡ 4 }
@@ -110,7 +110,7 @@ impl<S: BlockStore> Port<S> {
         ensures within { All (LiesIn memory.old) result.written }
         ensures written { (other : List ℕ) → Agrees self.old place memory.old other
             → result.written ≡ written_of missing self.old other place }
-        ensures blocks { ChangesOnly (blocks_of missing self.old memory.old place)
+        ensures used_blocks { ChangesOnly (blocks_of missing self.old memory.old place)
             (block_bytes_of missing self.old memory.old place) self.old.exec.units self.new.exec.units }
         ensures turn { result.turn ≡ turn_of trace.new }
         ensures accurate { Traces trace.new self.old self.new }
@@ -144,7 +144,7 @@ impl<S: BlockStore> Port<S> {
         ensures within { All (LiesIn memory.old) result.written }
         ensures written { (other : List ℕ) → Agrees self.old place memory.old other
             → result.written ≡ written_of missing self.old other place }
-        ensures blocks { ChangesOnly (blocks_of missing self.old memory.old place)
+        ensures used_blocks { ChangesOnly (blocks_of missing self.old memory.old place)
             (block_bytes_of missing self.old memory.old place) self.old.exec.units self.new.exec.units }
         ensures reports { Reports result.turn trace.new self.old self.new }
     {

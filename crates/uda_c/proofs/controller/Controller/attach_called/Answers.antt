@@ -8,9 +8,9 @@ use Rattle.uda_c.proofs.controller.Controller.attach_called.Goals as goal
 
 pub invariant_of-self : goal.invariant_of-self
 invariant_of-self c =
-    let drive : DriveState = record { store = unit_state c.of_calls-store.result; hard = c.args.hard } in (
+    let drive : DriveState = record { store = unit_state c.in-Some.store; hard = c.args.hard } in (
       put_faithful c.self.inside.port c.set_drive.new.self c.args.unit (Some drive)
-          (faithful_of c.of_calls-store.result) c.set_drive.ensures.set c.self.invariant.0,
+          (faithful_of c.in-Some.store) c.set_drive.ensures.set c.self.invariant.0,
       put_among_four c.self.inside.port c.set_drive.new.self c.args.unit (Some drive)
           c.set_drive.ensures.four_units c.if-unit-gt3.false c.set_drive.ensures.set c.self.invariant.1,
     )

@@ -3,12 +3,12 @@ use Rattle.std.specs.Prelude.{if◌then◌else◌}
 use Rattle.uda_port.specs.declared.memory_use.Missing.{Missing}
 use Rattle.uda_port.specs.BlockUse.{blocks_of}
 use Rattle.uda_c.specs.ControllerState.{ControllerState}
-use Rattle.uda_c.specs.BlockRange.{range_told, range_of, NO_BLOCKS}
+use Rattle.uda_c.specs.BlockRange.{range_reported, range_of, NO_BLOCKS}
 use Rattle.uda_c.specs.TurnUse.{missing_of}
 use Rattle.uda_c.proofs.controller.Controller.begin_blocks.Goals as goal
 
-pub returns-in-Some-clause-tells : goal.returns-in-Some-clause-tells
-returns-in-Some-clause-tells c =
+pub returns-in-Some-clause-reports : goal.returns-in-Some-clause-reports
+returns-in-Some-clause-reports c =
     let blocks : blocks_of (missing_of c.args.turn.now.missing) c.args.self.now.port c.args.memory.now c.place_of-place.result
     ≡ Some c.in-Some.used =
     sym (ap₂ (λ (m : Missing) (v : ControllerState). blocks_of m v.port c.args.memory.now c.place_of-place.result)
@@ -17,13 +17,13 @@ returns-in-Some-clause-tells c =
     record {
       place = c.place_of-place.result;
       place_is = record { is_place = c.place_of-place.ensures.place; asked_is = c.place_of-place.ensures.asked };
-      told_is = c.of.ensures
-          ∙ sym (ap (range_told c.args.self.now) blocks
+      range_is = c.of.ensures
+          ∙ sym (ap (range_reported c.args.self.now) blocks
           ∙ ap (λ b. if b then range_of c.in-Some.used else NO_BLOCKS) called);
     }
 
-pub returns-in_default-clause-tells : goal.returns-in_default-clause-tells
-returns-in_default-clause-tells c =
+pub returns-in_default-clause-reports : goal.returns-in_default-clause-reports
+returns-in_default-clause-reports c =
     let blocks : blocks_of (missing_of c.args.turn.now.missing) c.args.self.now.port c.args.memory.now c.place_of-place.result
     ≡ Some c.in-Some.used =
     sym (ap₂ (λ (m : Missing) (v : ControllerState). blocks_of m v.port c.args.memory.now c.place_of-place.result)
@@ -32,6 +32,6 @@ returns-in_default-clause-tells c =
     record {
       place = c.place_of-place.result;
       place_is = record { is_place = c.place_of-place.ensures.place; asked_is = c.place_of-place.ensures.asked };
-      told_is = sym (ap (range_told c.args.self.now) blocks
+      range_is = sym (ap (range_reported c.args.self.now) blocks
           ∙ ap (λ b. if b then range_of c.in-Some.used else NO_BLOCKS) called);
     }

@@ -32,4 +32,4 @@ returns c =
     (record { port = taken.new.self; last = Some taken.new.trace }, taken.new.memory)) c.self.view_is
     (takes_at _ memory asked c.missing-missing.result c.place_of-place.result taken.result taken.new.trace
     taken.new.self taken.new.memory c.missing-missing.ensures asks taken.ensures.effect taken.ensures.local
-    taken.ensures.within taken.ensures.written taken.ensures.turn taken.ensures.accurate)
+    taken.ensures.within taken.ensures.written taken.ensures.used_blocks taken.ensures.turn taken.ensures.accurate)

@@ -77,7 +77,7 @@ returns-clause-written g c =
     ∙ ap₂ written_by_fate (sym fate) (ap (λ (u : MemoryUse). u.written) uses)
     ∙ written_there c.args.missing c.args.place old memory other agrees
 
-pub returns-clause-blocks : goal.returns-clause-blocks
-returns-clause-blocks g c =
+pub returns-clause-used_blocks : goal.returns-clause-used_blocks
+returns-clause-used_blocks g c =
     turn_changes c.args.missing c.args.place c.args.self.now c.args.memory.now c.turn_by-turn.result
     c.turn_by-turn.new.self c.turn_by-turn.new.memory c.rings_are_sound.ensures.sound (returns-clause-effect g c)

@@ -2,19 +2,19 @@
 use Rattle.std.proofs.Common.{◌≡◌, ℕ, List, Some, refl, ap, subst, ◌∙◌}
 use Rattle.std.specs.Prelude.{All}
 use Rattle.uda_mem.specs.Ranges.{LiesIn}
-use Rattle.uda_exec.specs.UsedBlocks.{ChangesOnly}
+use Rattle.uda_exec.specs.BlockChanges.{ChangesOnly}
 use Rattle.uda_port.specs.BlockUse.{blocks_of, block_bytes_of}
 use Rattle.uda_port.specs.declared.memory_use.Missing.{Missing}
 use Rattle.uda_port.specs.declared.trace.Trace.{Trace}
 use Rattle.uda_port.specs.declared.turn.Turn.{Turn}
 use Rattle.uda_port.specs.declared.turn_at.TurnTaken.{TurnTaken}
-use Rattle.uda_port.specs.MemoryUse.{Agrees, EffectWithout, IsLocal, IsPlace, written_of}
+use Rattle.uda_port.specs.MemoryUse.{Agrees, EffectWithout, IsLocal, written_of}
 use Rattle.uda_port.specs.Port.{PortState}
 use Rattle.uda_port.specs.Trace.{turn_of, Traces}
 use Rattle.uda_c.specs.declared.call_status.CallStatus.TheVariants.{RanTurn}
 use Rattle.uda_c.specs.declared.turn_use.TurnUse.{TurnUse}
 use Rattle.uda_c.specs.ControllerState.{ControllerState}
-use Rattle.uda_c.specs.TurnUse.{missing_of, TakesTurnAt}
+use Rattle.uda_c.specs.TurnUse.{missing_of, IsPlaceOf, TakesTurnAt}
 
 module _ (old : ControllerState) (memory : List ℕ) (asked : TurnUse) (missing : Missing) (place : ℕ)
     (taken : TurnTaken) (trace : Trace) (port : PortState) (after : List ℕ) where
@@ -27,7 +27,7 @@ module _ (old : ControllerState) (memory : List ℕ) (asked : TurnUse) (missing 
   }
 
   pub takes_at : missing ≡ missing_of asked.missing
-      → (IsPlace old.port.exec.pending asked.place → place ≡ asked.place)
+      → IsPlaceOf old asked place
       → EffectWithout missing place (old.port, memory) taken.turn (port, after)
       → IsLocal missing place (old.port, memory) taken (port, after) → All (LiesIn memory) taken.written
       → ((other : List ℕ) → Agrees old.port place memory other

@@ -9,7 +9,6 @@ use Rattle.uda_exec.specs.declared.block_use.BlockAccess.TheVariants.{Reads, Che
 use Rattle.uda_exec.specs.declared.block_use.BlockUse.{BlockUse}
 use Rattle.uda_exec.specs.Drives.{DriveState}
 use Rattle.uda_port.specs.BlockUse.{blocks_of, block_bytes_of}
-use Rattle.uda_port.specs.MemoryUse.{IsPlace}
 use Rattle.uda_c.specs.declared.block_range.Prepared.{Prepared}
 use Rattle.uda_c.specs.declared.block_range.Prepared.TheVariants.{Checked, Written}
 use Rattle.uda_c.specs.declared.block_range.BlockRange.{BlockRange}
@@ -18,7 +17,7 @@ use Rattle.uda_c.specs.declared.call_status.CallStatus.TheVariants.{Done, NoSuch
 use Rattle.uda_c.specs.declared.turn_use.TurnUse.{TurnUse}
 use Rattle.uda_c.specs.ControllerState.{ControllerState}
 use Rattle.uda_c.specs.Controllers.{controller_with, has_image, unit_answer, is_called_at, with_store, memory_refusal}
-use Rattle.uda_c.specs.TurnUse.{missing_of}
+use Rattle.uda_c.specs.TurnUse.{missing_of, IsPlaceOf}
 use Rattle.uda_disk.specs.Units.{UnitState}
 use Rattle.uda_c.specs.UnitImage.{store_lent, zero_state, LentAnswer, PreparedAnswer}
 
@@ -67,11 +66,6 @@ pub record AttachesCalled (old : ControllerState) (image : ℕ × (ℕ × Bool))
 abbrev pub range_reported : ControllerState → Option BlockUse → BlockRange
 range_reported c None = NO_BLOCKS
 range_reported c (Some used) = if is_called_at c used.unit then range_of used else NO_BLOCKS
-
--- the index of a command: the one that the struct names, if that is eligible
-pub record IsPlaceOf (c : ControllerState) (asked : TurnUse) (place : ℕ) : Type 0 where
-  pub is_place : IsPlace c.port.exec.pending place
-  pub asked_is : IsPlace c.port.exec.pending asked.place → place ≡ asked.place
 
 -- the range is that of the blocks which the turn with this command uses
 pub record ReportsBlocks (c : ControllerState) (memory : List ℕ) (asked : TurnUse) (range : BlockRange)

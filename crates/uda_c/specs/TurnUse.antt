@@ -6,7 +6,7 @@ use Rattle.uda_mem.specs.Ranges.{LiesIn}
 use Rattle.uda_mem.specs.Slices.{IsMemory}
 use Rattle.uda_port.specs.declared.memory_use.Missing.{Missing}
 use Rattle.uda_port.specs.declared.trace.Trace.{Trace}
-use Rattle.uda_exec.specs.UsedBlocks.{ChangesOnly}
+use Rattle.uda_exec.specs.BlockChanges.{ChangesOnly}
 use Rattle.uda_port.specs.BlockUse.{blocks_of, block_bytes_of}
 use Rattle.uda_port.specs.MemoryUse.{descriptor_ranges, use_of, written_of, EffectWithout, IsLocal, IsPlace}
 use Rattle.uda_port.specs.StartupUse.{range_written, WordEffect, WordIsLocal}
@@ -44,9 +44,14 @@ GetsBody c memory before answer after =
     (λ filled. IsPlace c.port.exec.pending filled.place
     × (filled ≡ record before { place = filled.place; body = (use_of c.port memory filled.place).body }))
 
--- A turn over a window. If it executes a command, that is the pending command at this index. It is the index that
--- the struct names, if a command there may be executed next, or none is pending. Of all units only the blocks that
--- the turn uses change, and they get the bytes that it writes to them.
+-- the index of a command: the one that the struct names, if that one may be executed next, or none is pending
+pub record IsPlaceOf (c : ControllerState) (asked : TurnUse) (place : ℕ) : Type 0 where
+  pub is_place : IsPlace c.port.exec.pending place
+  pub asked_is : IsPlace c.port.exec.pending asked.place → place ≡ asked.place
+
+-- A turn over a window. If it executes a command, that is the pending command at this index. Of each unit whose store
+-- is sound afterwards, only the blocks that the turn uses change. They get the bytes that it writes, up to a block at
+-- which the store fails.
 pub record TakesTurnAt (before : ControllerState × List ℕ) (asked : TurnUse) (answer : CallStatus)
     (filled : TurnUse) (after : ControllerState × List ℕ) : Type 0 where
   pub trace : Trace
@@ -55,7 +60,7 @@ pub record TakesTurnAt (before : ControllerState × List ℕ) (asked : TurnUse) 
   pub last_is : after.0.last ≡ Some trace
   pub tells : Traces trace before.0.port after.0.port
   pub filled_is : filled ≡ record asked { written = filled.written }
-  pub place_is : IsPlace before.0.port.exec.pending asked.place → place ≡ asked.place
+  pub place_is : IsPlaceOf before.0 asked place
   pub goes : EffectWithout (missing_of asked.missing) place (before.0.port, before.1) (turn_of trace)
       (after.0.port, after.1)
   pub local : IsLocal (missing_of asked.missing) place (before.0.port, before.1)

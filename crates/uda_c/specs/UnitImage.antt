@@ -8,7 +8,7 @@ use Rattle.uda_image.specs.Image.{block_count_of}
 use Rattle.uda_called.specs.CalledImage.{called_state, zero_image, begun_at, can_lend, with_lent, with_blocks_lent}
 use Rattle.uda_called.specs.CalledImage.{can_check, can_allow, with_checked, with_writable}
 use Rattle.uda_called.specs.declared.image.LendError.{LendError}
-use Rattle.uda_called.specs.declared.image.LendError.TheVariants.{Length, NoMemory as NoRoom}
+use Rattle.uda_called.specs.declared.image.LendError.TheVariants.{Length, NoMemory as AllocationFailed}
 use Rattle.uda_c.specs.declared.call_status.CallStatus.{CallStatus}
 use Rattle.uda_c.specs.declared.call_status.CallStatus.TheVariants.{Done, NoMemory, BadLength, OtherKind}
 use Rattle.uda_c.specs.declared.block_range.Prepared.{Prepared}
@@ -57,7 +57,7 @@ store_lent false first from store = store
 -- the status of blocks that can't be lent
 abbrev pub status_of_error : LendError → CallStatus
 status_of_error Length = BadLength
-status_of_error NoRoom = NoMemory
+status_of_error AllocationFailed = NoMemory
 
 abbrev pub status_of : Result Unit CallStatus → CallStatus
 status_of (Ok done) = Done

@@ -38,8 +38,8 @@ impl Controller {
         CallStatus::Done
     }
 
-    /// Fills in the blocks that the next turn uses of an image that C reads and writes. None of its blocks is ready
-    /// then.
+    /// Fills in the blocks that the next turn uses of an image that C reads and writes. None of its blocks is
+    /// ready then.
     pub fn get_blocks(
         &mut self,
         memory: &[u8],

@@ -39,8 +39,8 @@ impl UnitImage {
         UnitImage::Lent(BorrowedImage::new(lent))
     }
 
-    /// Returns an image of this many blocks that C reads and writes by calls of its own. Returns None if they are
-    /// more than a store has.
+    /// Returns an image of this many blocks that C reads and writes by calls of its own. Returns None if they
+    /// are more than a store can have.
     pub fn of_calls(alloc: Global, blocks: u32) -> Option<UnitImage>
         ensures fits { is_some result ≡ nat_le blocks store_limit }
         ensures state { IfSome result (λ image. unit_state image ≡ zero_state blocks) }

@@ -34,7 +34,7 @@ pub struct Ready {
 /// Why blocks can't be lent.
 #[derive(Clone, Copy, Debug, PartialEq, Eq)]
 pub enum LendError {
-    /// The bytes aren't whole blocks, or there are fewer blocks.
+    /// It is another block than the next, the bytes aren't whole blocks, or the image has fewer.
     Length,
     /// An allocation failed.
     NoMemory,

@@ -19,4 +19,4 @@ pub mod OnlyOne
 pub mod Removals
 pub mod Saving
 pub mod Written
-pub mod UsedBlocksLaw
+pub mod BlockChangesLaw

@@ -9,7 +9,7 @@ use Rattle.uda_exec.specs.Execution.{Executes, ExecutesAt}
 use Rattle.uda_exec.specs.GuestExecution.{ExecutesAs, ExecutesGuestAt}
 use Rattle.uda_exec.specs.GuestOps.{op_at}
 use Rattle.uda_exec.specs.BlockUse.{block_use_at, written_at}
-use Rattle.uda_exec.specs.UsedBlocks.{ChangesOnly}
+use Rattle.uda_exec.specs.BlockChanges.{ChangesOnly}
 
 -- the only pending command is the one that is executed, and none is pending then
 abbrev pub OnlyOneIsExecuted : Type 0
@@ -26,7 +26,7 @@ OnlyGuestIsExecuted =
     → (new.pending ≡ [])
     × ExecutesAs (op_at old.guest_ops 0) c old.units memory r new.units memory_left
 
--- a command changes only blocks that it uses, and writes to them what was told before
+-- a command changes only the blocks that it uses, and if it writes them, they get the bytes of `written_at`
 abbrev pub OnlyUsedBlocksChange : Type 0
 OnlyUsedBlocksChange =
     (j : ℕ) (old new : ExecState) (memory memory_left : List ℕ) (r : Reply)

@@ -16,4 +16,4 @@ pub mod BufferUse
 pub mod Laws
 pub mod Saved
 pub mod BlockUse
-pub mod UsedBlocks
+pub mod BlockChanges

@@ -15,9 +15,9 @@ pub fn only_guest_is_executed()
     ensures law { OnlyGuestIsExecuted }
 {}
 
-/// States that a command changes only blocks that [`Exec::block_use_at`](crate::Exec::block_use_at) returned. If it
-/// writes them, they get the bytes of [`Exec::copy_written`](crate::Exec::copy_written), up to a block at which the
-/// store fails. That holds of each unit whose store is sound afterwards.
+/// States that a command changes only the blocks of [`Exec::block_use_at`](crate::Exec::block_use_at). If it writes
+/// them, they get the bytes of [`Exec::copy_written`](crate::Exec::copy_written), up to a block at which the store
+/// fails. That block may have any 512 bytes. This holds of each unit whose store is sound afterwards.
 ///
 /// MSCP Basic Disk Functions Manual: transfer commands.
 pub fn only_used_blocks_change()

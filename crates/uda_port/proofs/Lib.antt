@@ -12,4 +12,4 @@ pub mod Saving
 pub mod MemoryUseLaws
 pub mod StartupUseLaws
 pub mod BlockUseLaws
-pub mod UsedBlocksLaws
+pub mod TurnBlockChanges

@@ -6,7 +6,7 @@ ghost use Rattle.uda_mem.specs.Slices.{IsMemory};
 ghost use Rattle.uda_mem.specs.Ranges.{LiesIn};
 ghost use Rattle.uda_disk.specs.Units.{AreWellFormed};
 ghost use Rattle.uda_exec.specs.Order.{IsEligible};
-ghost use Rattle.uda_exec.specs.UsedBlocks.{ChangesOnly};
+ghost use Rattle.uda_exec.specs.BlockChanges.{ChangesOnly};
 ghost use Rattle.uda_port.specs.BlockUse.{blocks_of, block_bytes_of};
 ghost use Rattle.uda_port.specs.Port.{CreditsAgree};
 ghost use Rattle.uda_port.specs.Trace.{Reports, Traces, turn_of};
@@ -72,9 +72,9 @@ impl<S: BlockStore> Port<S> {
     /// that doesn't need the range is as usual. A missing descriptor before the next one counts as one that the
     /// host owns, so the caller fills its range with zeros.
     ///
-    /// Of all units, only the blocks of [`blocks_at`](Port::blocks_at) change, if the command writes them. They get the
-    /// bytes of [`copy_written`](Port::copy_written), up to a block at which the store fails. That holds of each unit
-    /// whose store is sound afterwards.
+    /// Only the blocks of [`blocks_at`](Port::blocks_at) may change, and only by a Write or an Erase. They get the
+    /// bytes of [`copy_written`](Port::copy_written), up to a block at which the store fails. That block may have
+    /// any 512 bytes. This holds of each unit whose store is sound after the turn.
     ///
     /// UDA50 Programmer's Documentation Kit: command ring polling, UNIBUS addresses, fatal errors.
     pub fn turn_at(&mut self, memory: &mut [u8], place: usize, missing: Missing) -> TurnTaken

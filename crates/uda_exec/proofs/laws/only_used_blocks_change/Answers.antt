@@ -1,4 +1,4 @@
-use Rattle.uda_exec.proofs.UsedBlocksLaw.{only_used_blocks_change}
+use Rattle.uda_exec.proofs.BlockChangesLaw.{only_used_blocks_change}
 use Rattle.uda_exec.proofs.laws.only_used_blocks_change.Goals as goal
 
 pub returns : goal.returns

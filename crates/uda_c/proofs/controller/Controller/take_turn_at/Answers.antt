@@ -1,8 +1,7 @@
 use Rattle.std.proofs.Common.{◌≡◌, sym, subst, Some}
-use Rattle.uda_port.specs.MemoryUse.{IsPlace}
 use Rattle.uda_c.specs.declared.call_status.CallStatus.TheVariants.{RanTurn}
 use Rattle.uda_c.specs.ControllerState.{ControllerState}
-use Rattle.uda_c.specs.TurnUse.{TakesTurnAt}
+use Rattle.uda_c.specs.TurnUse.{IsPlaceOf, TakesTurnAt}
 use Rattle.uda_c.proofs.FaithfulUnits.{effect_faithful}
 use Rattle.uda_c.proofs.FittingUnits.{effect_fits}
 use Rattle.uda_c.proofs.MapTurns.{takes_at}
@@ -23,9 +22,8 @@ returns c =
     let asked = c.args.turn.now in
     let memory = c.args.memory.now in
     let taken = c.turn_traced_at-taken in
-    let asks = subst
-    (λ (s : ControllerState). IsPlace s.port.exec.pending asked.place → c.place_of-place.result ≡ asked.place)
-    (sym c.self.view_is) c.place_of-place.ensures.asked in
+    let asks = subst (λ (s : ControllerState). IsPlaceOf s asked c.place_of-place.result) (sym c.self.view_is)
+    (record { is_place = c.place_of-place.ensures.place; asked_is = c.place_of-place.ensures.asked }) in
     subst
     (λ (s : ControllerState). TakesTurnAt (s, memory) asked (RanTurn taken.result.turn)
     (record asked { written = taken.result.written })

@@ -7,7 +7,7 @@ use Rattle.uda_port.specs.declared.turn_at.Fate.{Fate}
 use Rattle.uda_port.specs.Turn.{may_fetch}
 use Rattle.uda_port.specs.MemoryUse.{fate_in, CanFail, EffectBy, IsLocal, written_by_fate}
 use Rattle.uda_port.proofs.MemoryUseLaws.{access_any, is_local, without_buffer, fate_fails, fate_lies, written_there}
-use Rattle.uda_port.proofs.UsedBlocksLaws.{turn_changes}
+use Rattle.uda_port.proofs.TurnBlockChanges.{turn_changes}
 use Rattle.uda_port.proofs.port.Port.take_turn_at.Goals as goal
 
 pub returns-clause-effect : goal.returns-clause-effect

@@ -7,8 +7,8 @@ use Rattle.uda_packet.specs.declared.reply.ReplyBody.{ReplyBody}
 use Rattle.uda_packet.specs.declared.reply.ReplyBody.TheVariants as body
 use Rattle.uda_disk.specs.Units.{Units}
 use Rattle.uda_exec.specs.Disks.{ExecState}
-use Rattle.uda_exec.specs.UsedBlocks.{ChangesOnly}
-use Rattle.uda_exec.proofs.UsedBlocksLaw.{only_used_blocks_change, leaves_all}
+use Rattle.uda_exec.specs.BlockChanges.{ChangesOnly}
+use Rattle.uda_exec.proofs.BlockChangesLaw.{only_used_blocks_change, leaves_all}
 use Rattle.uda_port.specs.declared.descriptor.Descriptor.{Descriptor}
 use Rattle.uda_port.specs.declared.memory_use.Access.{Access}
 use Rattle.uda_port.specs.declared.memory_use.Access.TheVariants.{Nothing, Fetch, Execute, Wait, Deliver}

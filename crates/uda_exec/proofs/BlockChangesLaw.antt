@@ -1,5 +1,5 @@
 -- A command changes only blocks that it uses.
-use Rattle.std.proofs.Common.{◌≡◌, ℕ, ◌+◌, ◌<◌, ◌≤◌, Bool, true, false, List, [], ◌∷◌, length, set, replicate, Option, Some, None, inl, inr, ◌⊎◌, get_or, refl, sym, ap, ap₂, subst, ◌∙◌, arith, add-zero}
+use Rattle.std.proofs.Common.{◌≡◌, ℕ, ◌*◌, ◌+◌, ◌<◌, ◌≤◌, Bool, true, false, List, [], ◌∷◌, length, set, replicate, Option, Some, None, inl, inr, ◌⊎◌, get_or, refl, sym, ap, ap₂, subst, ◌∙◌, arith, add-zero}
 use Rattle.std.specs.Prelude.{◌≢◌, ◌&&◌, ◌==◌, nat_lt, is_none, map, option_map, unwrap_or, slice_get, if◌then◌else◌}
 use Rattle.std.specs.List.{concat}
 use Rattle.std.proofs.lemmas.Bool.{cases_lt, eqb-true, eqb-false}
@@ -17,11 +17,11 @@ use Rattle.uda_packet.specs.declared.guest_command.GuestOp.{GuestOp}
 use Rattle.uda_packet.specs.declared.guest_command.GuestOp.TheVariants as guest
 use Rattle.uda_packet.specs.declared.reply.Reply.{Reply}
 use Rattle.uda_disk.specs.Units.{Units, failures_at, is_sound_at}
-use Rattle.uda_disk.specs.Laws.{blocks_in, blocks_at}
+use Rattle.uda_disk.specs.Laws.{blocks_in, blocks_at, size_in, size_at}
 use Rattle.uda_disk.proofs.Callers.{joined_and_cut}
 use Rattle.uda_disk.proofs.Slots.{slice_get-set_same, slice_get-set_other, set-itself}
 use Rattle.uda_exec.specs.declared.block_use.BlockUse.{BlockUse}
-use Rattle.uda_exec.specs.BlockUse.{transfer_by, used_by, transfer_used, range_of, bytes_written}
+use Rattle.uda_exec.specs.BlockUse.{access_by, transfer_by, used_by, transfer_used, range_of, bytes_written}
 use Rattle.uda_exec.specs.BufferUse.{guest_at}
 use Rattle.uda_exec.specs.Compare.{compared_by, compared, ComparesSlot, ComparesUnit, ComparesUnits, failures_in, FitsTransfer}
 use Rattle.uda_exec.specs.declared.compare.Verdict.{Verdict}
@@ -32,10 +32,11 @@ use Rattle.uda_exec.specs.GuestExecution.{ExecutesAs}
 use Rattle.uda_exec.specs.GuestOps.{op_at}
 use Rattle.uda_exec.specs.Laws.{OnlyUsedBlocksChange}
 use Rattle.uda_exec.specs.SetUnit.{unit_set}
-use Rattle.uda_exec.specs.UsedBlocks.{use_on, LeavesUnit, ChangesUnit, ChangesOnly}
+use Rattle.uda_exec.specs.BlockChanges.{use_on, are_written, LeavesUnit, ChangesUnit, ChangesOnly}
 use Rattle.uda_exec.proofs.Blocks.{AreBlocks-in_blocks}
 use Rattle.uda_exec.proofs.Steps.{length-due_le}
-use Rattle.uda_exec.proofs.Transferred.{check_on-by, extent-asks, free-still}
+use Rattle.uda_exec.proofs.Written.{length-written}
+use Rattle.uda_exec.proofs.Transferred.{Passes, passes_if, check_on-by, extent-asks, free-still}
 use Rattle.uda_exec.proofs.Units.{map-set_same, slot_in}
 use Rattle.uda_exec.proofs.Words.{put, Command, Op, Kind, Transfer, transfer_of, changes_blocks, Refusal, Disk, Act, in_blocks, extent_of, lbn_of, blocks_due, blocks_stored, UnitState, disk_of, disks_of, block_count, transfer_buffer_length, blocks_asked, bytes_at, asks_by, act_of, due, blocks_moved, blocks_written, disk_after, is_lost, is_accepted, CheckResult, Accepted, check_by, first_failed_check, check_on, check_in, extent_in, transfer_refusal, TransferOutcome, Done, Lost, IsWithinRange, World, does, effect_by, effect, passes_checks_by, passes_checks, world_of, End, Executes}
 
@@ -126,6 +127,23 @@ no_bytes t memory few =
     let due_none : blocks_due t [] memory ≡ [] =
     no_blocks_left (blocks_due t [] memory) (omega (arith, length-due_le t [] memory t.kind, few)) in
     ap (λ (b : List (List ℕ)). concat (blocks_stored t b)) due_none ∙ ap concat (stored_none t)
+
+-- a transfer that passes its checks is on its unit, and has as many bytes to write as its blocks have
+kind_writes : (kind : Kind) → changes_blocks kind ≡ are_written (access_by kind)
+kind_writes Access = refl
+kind_writes Erase = refl
+kind_writes Read = refl
+kind_writes Write = refl
+
+size_is : (t : Transfer) (memory : List ℕ) (size : ℕ) → Passes t (length memory) size
+    → length (bytes_written (Some t) memory) ≡ (if are_written (access_by t.kind) then 512 * block_count t else 0)
+size_is t memory size passes = length-written (Some t) memory passes.in_memory
+    ∙ ap (λ (writes : Bool). if writes then 512 * block_count t else 0) (kind_writes t.kind)
+
+unit_size : (units : Units) (u : ℕ) (unit : UnitState) (n : ℕ) → slice_get units u ≡ Some (Some unit)
+    → n ≤ unit.store.size → n ≤ size_at (disks_of units) u
+unit_size units u unit n here within = subst (λ (size : ℕ). n ≤ size)
+    (sym (ap size_in (slot_in units u (Some (Some unit)) here))) within
 
 -- ---- a command of the strict profile, on its own unit
 
@@ -259,7 +277,10 @@ module _ (c : Command) (units units_after : Units) (memory memory_left : List �
         ∙ ap is_accepted (checked ∙ ap (λ (f : Option Refusal). check_by f (disk_of unit)) found))
     by_check None true found calls =
         let free = checked ∙ ap (λ (f : Option Refusal). check_by f (disk_of unit)) found in
+        let passes = passes_if t (length memory) unit.store.size unit.mode found in
         record {
+          on_unit = unit_size units c.unit unit (t.lbn + block_count t) here passes.on_unit;
+          size = size_is t memory unit.store.size passes;
           outcome = it.outcome;
           within = subst (λ (n : ℕ). IsWithinRange n it.outcome) counted it.fits.count;
           written = own_blocks act unit asks_it here free
@@ -385,10 +406,11 @@ module _ (c : Command) (units units_after : Units) (memory memory_left : List �
     there = ap (λ (u : Units). slice_get u c.unit) set_is
         ∙ slice_get-set_same units c.unit (Some unit_after) (slice_get_within units c.unit (Some unit) here)
 
-    by_count : (v : Verdict) → FitsTransfer t_of v → unit_blocks units_after c.unit ≡ unit_blocks units c.unit
+    by_count : transfer_refusal t_of (length memory) unit.store.size unit.mode ≡ None → (v : Verdict)
+        → FitsTransfer t_of v → unit_blocks units_after c.unit ≡ unit_blocks units c.unit
         → failures_at (slice_get units_after c.unit) ≡ failures_at (slice_get units c.unit) + failures_in v
         → (some : Bool) → nat_lt 0 (block_count t_of) ≡ some → compared_unit (if some then Some t_of else None)
-    by_count v fits stays failed false calls =
+    by_count passed v fits stays failed false calls =
         let few : block_count t_of ≡ 0 = grind (arith, nat_tests) in
         record {
           blocks_stay = stays;
@@ -396,11 +418,14 @@ module _ (c : Command) (units units_after : Units) (memory memory_left : List �
               ∙ ap (λ (n : ℕ). failures_at (slice_get units c.unit) + n) (failures_none t_of v few fits)
               ∙ add-zero (failures_at (slice_get units c.unit));
         }
-    by_count v fits stays failed true calls =
+    by_count passed v fits stays failed true calls =
         let none : bytes_written (Some t_of) memory ≡ [] = rw (kind_compared c.op) refl in
         let moved : blocks_moved (outcome_of v) (in_blocks (bytes_written (Some t_of) memory)) ≡ [] =
         ap (λ (bytes : List ℕ). blocks_moved (outcome_of v) (in_blocks bytes)) none ∙ moved_none (outcome_of v) in
+        let passes = passes_if t_of (length memory) unit.store.size unit.mode passed in
         record {
+          on_unit = unit_size units c.unit unit (t_of.lbn + block_count t_of) here passes.on_unit;
+          size = size_is t_of memory unit.store.size passes;
           outcome = outcome_of v;
           within = outcome_within t_of v fits;
           written = stays ∙ sym (ap (put (unit_blocks units c.unit) t_of.lbn) moved
@@ -409,11 +434,12 @@ module _ (c : Command) (units units_after : Units) (memory memory_left : List �
         }
 
     compared_by_check : (found : Option Refusal) (some : Bool)
+        → transfer_refusal t_of (length memory) unit.store.size unit.mode ≡ found
         → nat_lt 0 (block_count t_of) ≡ some → ComparesUnit found c unit memory r unit_after
         → compared_unit (if is_none found && some then Some t_of else None)
-    compared_by_check (Some refusal) some calls it = same_units units units_after c.unit
+    compared_by_check (Some refusal) some is calls it = same_units units units_after c.unit
         (set_is ∙ ap (λ (u : UnitState). set units c.unit (Some u)) it.1 ∙ set-itself units c.unit (Some unit) here)
-    compared_by_check None some calls (v, it) =
+    compared_by_check None some is calls (v, it) =
         let kept = it.blocks_if_sound (sym (ap is_sound_at there) ∙ sound) in
         let stays : unit_blocks units_after c.unit ≡ unit_blocks units c.unit =
         at_slot units_after c.unit ∙ ap slot_blocks there ∙ kept.blocks_stay
@@ -421,7 +447,7 @@ module _ (c : Command) (units units_after : Units) (memory memory_left : List �
         let failed : failures_at (slice_get units_after c.unit) ≡ failures_at (slice_get units c.unit) + failures_in v =
         ap failures_at there ∙ kept.failures_are
         ∙ sym (ap (λ (slot : Option (Option UnitState)). failures_at slot + failures_in v) here) in
-        by_count v it.fits stays failed some calls
+        by_count is v it.fits stays failed some calls
 
   on_slot : (slot : Option (Option UnitState)) → slice_get units c.unit ≡ slot
       → ComparesSlot slot c units memory r units_after
@@ -430,7 +456,7 @@ module _ (c : Command) (units units_after : Units) (memory memory_left : List �
   on_slot (Some None) here it = same_units units units_after c.unit it.1
   on_slot (Some (Some unit)) here (unit_after, both) =
       compared_by_check unit unit_after here both.0
-      (transfer_refusal t_of (length memory) unit.store.size unit.mode) (nat_lt 0 (block_count t_of)) refl both.1
+      (transfer_refusal t_of (length memory) unit.store.size unit.mode) (nat_lt 0 (block_count t_of)) refl refl both.1
 
 -- ---- any command
 

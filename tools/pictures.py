@@ -1,5 +1,6 @@
 #!/usr/bin/env python3
-"""Draws the pictures of docs/pictures: the way of one Read, the crates, and the bytes of messages.
+"""Draws the pictures of docs/pictures: driver, port and disks, the way of one Read, the crates, and the bytes of
+messages.
 
 Each picture is an SVG with a white background, and the same tree always gives the same bytes. The arrows between
 crates are read from crates.txt and from what the sources of a crate import: an arrow is drawn from each crate to
@@ -66,6 +67,64 @@ class Picture:
             f"<defs>\n{markers}\n</defs>\n"
             f'<rect width="{width}" height="{height}" fill="#ffffff"/>\n' + "\n".join(self.parts) + "\n</svg>\n"
         )
+
+
+# ---- driver, port and disks
+
+
+def named_box(picture, x, y, width, height, name, about, fill="#ffffff"):
+    picture.box(x, y, width, height, fill)
+    picture.text(x + width / 2, y + height / 2 - 4, name, 14, bold=True)
+    picture.text(x + width / 2, y + height / 2 + 16, about, 11.5)
+
+
+def disk(picture, x, y, name):
+    """A cylinder, as for a disk."""
+    picture.parts.append(
+        f'<path d="M{x} {y} v28 a50 9 0 0 0 100 0 v-28" fill="{GREEN}" stroke="{INK}" stroke-width="1.2"/>'
+        f'<ellipse cx="{x + 50}" cy="{y}" rx="50" ry="9" fill="{UNITS}" stroke="{INK}" stroke-width="1.2"/>'
+    )
+    picture.text(x + 50, y + 27, name, 12)
+
+
+def overview():
+    p = Picture(1040, 310, "Driver, port and disks")
+    p.text(30, 34, "Driver, port and disks", 20, bold=True, middle=False)
+
+    named_box(p, 30, 70, 190, 80, "your emulator", "a guest with a driver of its own", "#f4f4f7")
+    named_box(p, 30, 190, 190, 80, "uda, uda50", "scripts of block requests", "#f4f4f7")
+    named_box(p, 280, 190, 130, 80, "class driver", "up to 15 commands", BLUE)
+    p.arrow("M220 230 H278")
+
+    p.box(470, 70, 170, 200, MEMORY)
+    p.text(555, 94, "host memory", 14, bold=True)
+    for y, name, fill in ((124, "command ring", BLUE), (194, "response ring", AMBER)):
+        p.text(487, y - 6, name, 11.5, middle=False)
+        for n in range(5):
+            p.box(487 + 27 * n, y, 27, 24, fill if n in (1, 2) else "#ffffff", round=0)
+    p.text(555, 252, "buffers of the transfers", 11.5)
+    for y in (90, 210):
+        right = 468
+        left = 220 if y == 90 else 410
+        p.arrow(f"M{left} {y + 8} H{right}")
+        p.arrow(f"M{right + 2} {y + 40} H{left + 2}")
+    p.text(345, 92, "commands", 11.5)
+    p.text(345, 146, "end messages", 11.5)
+
+    p.box(700, 70, 150, 200, PORT)
+    p.text(775, 94, "port", 14, bold=True)
+    p.lines(775, 114, ["registers, initialization,", "credits, interrupts"], 11.5, 16)
+    named_box(p, 715, 180, 120, 72, "executor", "moves the blocks", UNITS)
+    p.arrow("M640 136 H698")
+    p.arrow("M700 206 H642")
+
+    p.arrow("M835 216 H880", head=False)
+    p.arrow("M880 94 V250", head=False)
+    for unit in range(4):
+        p.arrow(f"M880 {94 + 52 * unit} H910", head=False)
+        disk(p, 910, 80 + 52 * unit, f"unit {unit}")
+    p.text(960, 294, "files, memory, your calls", 11.5)
+    return p
 
 
 # ---- the way of one Read
@@ -427,7 +486,7 @@ def messages():
 def main():
     folder = TOP / "docs/pictures"
     folder.mkdir(exist_ok=True)
-    for name, draw in (("read", read), ("crates", crates), ("messages", messages)):
+    for name, draw in (("overview", overview), ("read", read), ("crates", crates), ("messages", messages)):
         (folder / f"{name}.svg").write_text(draw().svg())
 
 

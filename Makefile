@@ -1,5 +1,5 @@
 # What to build, and what to check. CONTRIBUTING.md has the time of each.
-#   make            the programs uda and uda50 as out/uda and out/uda50, without proofs
+#   make            the programs uda and uda50 as out/uda and out/uda50, both at once, without proofs
 #   make uda50      only the program uda50
 #   make install    installs both programs, their man pages, and the completions of uda50 for bash, zsh and fish, below
 #                   PREFIX, /usr/local, and below DESTDIR
@@ -15,26 +15,31 @@ top := .
 built := out
 how := built without proofs
 
-sources := $(shell find crates -name '*.rt') crates.txt
-
-all: out/uda out/uda50
+all: programs
 
 include c/library.mk
 
-out/uda: $(sources) tools/unproved
-	tools/unproved program uda $@
+# Builds both programs at once, without -j too.
+programs:
+	@$(MAKE) --no-print-directory $(if $(filter -j%,$(MAKEFLAGS)),,-j2) out/uda out/uda50
 
 uda50: out/uda50
 
-out/uda50: $(sources) tools/unproved
-	tools/unproved program uda50 $@
+scenarios: out/scenarios
+
+# What is built depends on the sources of its crate, and of the crates below that by crates.txt.
+.SECONDEXPANSION:
+what_builds := crates.txt tools/unproved
+
+out/uda out/uda50 out/scenarios: out/%: $$(shell tools/unproved sources $$*) $(what_builds)
+	tools/unproved program $* $@
 
 share = $(DESTDIR)$(PREFIX)/share
 bash := bash-completion/completions
 zsh := zsh/site-functions
 fish := fish/vendor_completions.d
 
-install: out/uda out/uda50
+install: programs
 	install -d $(DESTDIR)$(PREFIX)/bin $(share)/man/man1 $(share)/$(bash) $(share)/$(zsh) $(share)/$(fish)
 	install -m 755 out/uda out/uda50 $(DESTDIR)$(PREFIX)/bin
 	install -m 644 man/uda.1 man/uda50.1 $(share)/man/man1
@@ -42,14 +47,9 @@ install: out/uda out/uda50
 	install -m 644 completions/_uda50 $(share)/$(zsh)
 	install -m 644 completions/uda50.fish $(share)/$(fish)
 
-scenarios: out/scenarios
-
-out/scenarios: $(sources) tools/unproved
-	tools/unproved program scenarios $@
-
 library: $(built)/libuda50.a $(built)/$(shared)
 
-$(built)/libuda50.a: $(sources) tools/unproved c/uda50_blocks.c c/uda50_bus.c c/uda50_file.c $(headers)
+$(built)/libuda50.a: $$(shell tools/unproved sources uda_c) $(what_builds) c/uda50_blocks.c c/uda50_bus.c c/uda50_file.c $(headers)
 	tools/unproved library $@
 
 test check:
@@ -61,4 +61,4 @@ proofs:
 clean:
 	rm -rf out
 
-.PHONY: all uda50 install scenarios library test check proofs clean
+.PHONY: all programs uda50 install scenarios library test check proofs clean

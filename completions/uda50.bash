@@ -17,7 +17,7 @@ _uda50() {
             #: run
             run) options='--names -q --quiet --check -h --help' ;;
             #: copy
-            copy) options='--blocks --verify --continue --map --resume --no-sparse --force --device -h --help' ;;
+            copy) options='--blocks --verify --continue --map --resume --no-sparse --without-record --force --device -h --help' ;;
             #: info
             info) options='--json -h --help' ;;
             #: dump

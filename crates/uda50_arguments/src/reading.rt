@@ -310,6 +310,7 @@ fn read_copy<'w>(alloc: Global, found: &ArgMatches<'w>) -> Result<Task<'w>, Erro
         map: found.get_str("map"),
         resumes: found.get_flag("resume"),
         sparse: !found.get_flag("no-sparse"),
+        without_record: found.get_flag("without-record"),
         device: found.get_str("device"),
         force: found.get_flag("force"),
     }))

@@ -71,6 +71,8 @@ pub struct Copy<'w> {
     pub resumes: bool,
     /// Whether blocks of zeros may become holes of the target.
     pub sparse: bool,
+    /// Whether the record that another program put after the blocks is left out.
+    pub without_record: bool,
     /// Whether an existing file may be written.
     pub force: bool,
     /// The device that may be written; `None` for no device.

@@ -171,6 +171,11 @@ pub(crate) static COPY: Verb = Verb {
             help: "Writes blocks of zeros too",
         },
         Argument {
+            name: "without-record",
+            form: Form::Flag(Flag::Long),
+            help: "Leaves out the record that another program put after the blocks",
+        },
+        Argument {
             name: "force",
             form: Form::Flag(Flag::Long),
             help: "Writes to TO even if it exists",

@@ -3,9 +3,10 @@ use Rattle.std.specs.Prelude.{◌<◌}
 use Rattle.uda50_decode.specs.declared.error.DecodeError.{DecodeError}
 use Rattle.uda50_decode.specs.declared.error.DecodeError.TheVariants as error
 
--- The line and the token of an error are numbers from 1. A packet that is not whole has 1 to 47 of its 48
+-- The lines and the token of an error are numbers from 1. A packet that is not whole has 1 to 47 of its 48
 -- bytes.
 abbrev pub IsCounted : DecodeError → Type 0
 IsCounted (error.Token line word wrong) = 0 < line × 0 < word
+IsCounted (error.NotText line) = 0 < line
 IsCounted (error.ShortPacket bytes) = 0 < bytes × bytes < 48
 IsCounted _ = Unit {0}

@@ -8,6 +8,8 @@ use uda50_show::TokenError;
 pub enum DecodeError {
     /// The text can't be read.
     Read(io::Error),
+    /// This line, counted from 1, isn't text in UTF-8.
+    NotText(u64),
     /// The packets can't be written.
     Write(io::Error),
     /// A token is neither a byte nor a word.

@@ -5,7 +5,7 @@ ghost use Rattle.uda50_decode.specs.Errors.{IsCounted};
 use crate::error::DecodeError;
 use std::alloc::Global;
 use std::io;
-use std::io::{BufRead, BufReader, BufWriter, Read, Write};
+use std::io::{BufRead, BufReader, BufWriter, ErrorKind, Read, Write};
 use std::marker::Model;
 use uda50_show::{COMPATIBLE_TEXT, CompatibleMessage, Packet, PacketReader};
 
@@ -90,7 +90,7 @@ pub fn decode<R: Read + Drop, W: Write + Drop>(
             Ok(read) => read,
             Err(error) => {
                 out.flush()?;
-                return Err(DecodeError::Read(error));
+                return Err(read_error(lines_before, error));
             }
         };
         if read == 0 {
@@ -103,6 +103,16 @@ pub fn decode<R: Read + Drop, W: Write + Drop>(
         line.clear();
     }
     Err(DecodeError::TooManyLines)
+}
+
+// Returns the error of the line that follows `lines_before` lines and can't be read.
+fn read_error(lines_before: u64, error: io::Error) -> DecodeError
+    ensures counted { IsCounted result }
+{
+    match error.kind() {
+        ErrorKind::InvalidData => DecodeError::NotText(lines_before.saturating_add(1)),
+        _ => DecodeError::Read(error),
+    }
 }
 
 // Reads the tokens of the line that follows `lines_before` lines, and prints the packets that they complete.

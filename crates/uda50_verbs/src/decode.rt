@@ -41,6 +41,7 @@ fn outcome<'w>(name: &'w str, done: Result<Decoded, DecodeError>) -> Result<Outc
 fn fault<'w>(name: &'w str, error: DecodeError) -> Fault<'w> {
     match error {
         DecodeError::Read(error) => Fault::system(name, error),
+        DecodeError::NotText(line) => Fault::new(name, Reason::NotText(line)),
         DecodeError::Write(error) => Fault::from(error),
         DecodeError::Token { line, word, error } => {
             Fault::new(name, Reason::Token { line, word, error })

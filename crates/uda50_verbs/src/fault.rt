@@ -283,6 +283,9 @@ pub enum Reason {
         /// The error of the token.
         error: TokenError,
     },
+    /// A line of packets has bytes that are no text.
+    #[error("line {0}: is not text in UTF-8")]
+    NotText(u64),
     /// The text ends inside a packet.
     #[error("the last packet has {0} of 48 bytes")]
     ShortPacket(usize),

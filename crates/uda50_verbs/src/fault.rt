@@ -273,6 +273,9 @@ pub enum Reason {
     /// Raw blocks would be written to a terminal.
     #[error("is a terminal; --force writes raw blocks to it")]
     Terminal,
+    /// The blocks that a script reads would be written to a terminal.
+    #[error("is a terminal, to which no blocks are written; redirect it to a file or a pipe")]
+    BlocksToTerminal,
     /// A token is neither a byte nor a word.
     #[error("line {line}, word {word}: {error}")]
     Token {

@@ -3,6 +3,7 @@
 use crate::fault::{Fault, Reason, STANDARD_ERROR, STANDARD_INPUT, STANDARD_OUTPUT};
 use crate::streams::{LastError, Noting};
 use std::alloc::{AllocError, Global};
+use std::cell::Cell;
 use std::io;
 use std::io::{BufReader, Read};
 use uda_grammar::{Expected, ScriptError};
@@ -22,6 +23,8 @@ pub(crate) struct RunNotes {
     pub(crate) input: LastError,
     /// The last error of standard output.
     pub(crate) out: LastError,
+    /// Whether blocks were refused, since standard output is a terminal.
+    pub(crate) refused: Cell<bool>,
     /// The last error of standard error.
     pub(crate) report: LastError,
     /// The failures of the images of units 0 to 3.
@@ -36,6 +39,7 @@ impl RunNotes {
             script: LastError::none(),
             input: LastError::none(),
             out: LastError::none(),
+            refused: Cell::new(false),
             report: LastError::none(),
             failures: no_failures(alloc)?,
         })
@@ -98,6 +102,7 @@ impl RunNotes {
     // Returns the reason why standard output or standard error can't be written.
     fn reason_of_output(&self) -> Reason {
         match self.out.get() {
+            Some(_) if self.refused.get() => Reason::BlocksToTerminal,
             Some(error) => Reason::of_stream(error),
             None => reason_of(&self.report, Reason::Unwritable),
         }

@@ -5,7 +5,7 @@ use crate::fault::{Fault, STANDARD_INPUT};
 use crate::notes::{RunNotes, ScriptText};
 use crate::outcome::Outcome;
 use crate::script::{Drives, Job, execute_script, open_drives};
-use crate::streams::{Noting, open_script};
+use crate::streams::{BlockOutput, Noting, open_script};
 use std::io;
 use std::io::{BufWriter, Read, Write};
 use uda_driver::Unwatched;
@@ -60,7 +60,10 @@ fn run_from<'w, T: Read + Drop, R: Read + Drop>(
     let notes = job.notes;
     let mut channels = Channels {
         input: Noting::new(input, &notes.input),
-        out: buffered(rt, Noting::new(rt.stdout(), &notes.out))?,
+        out: buffered(
+            rt,
+            Noting::new(BlockOutput::new(rt.stdout(), &notes.refused), &notes.out),
+        )?,
         report: buffered(rt, Noting::new(rt.stderr(), &notes.report))?,
         watch: Unwatched,
     };

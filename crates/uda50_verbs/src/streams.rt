@@ -5,7 +5,7 @@ use crate::fault::Fault;
 use std::cell::Cell;
 use std::fs::{File, OpenFile};
 use std::io;
-use std::io::{BufReader, ErrorKind, Read, Write};
+use std::io::{BufReader, ErrorKind, IsTerminal, Read, Write};
 
 /// Opens files that replace closed standard streams. The caller keeps them open while it uses other files.
 /// Without them an image could be opened in place of a closed stream, and printed text would be written to
@@ -114,6 +114,52 @@ impl<S: Write> Write for Noting<'_, S> {
     fn write_all(&mut self, buf: &[u8]) -> io::Result<()> {
         let written = self.stream.write_all(buf);
         self.last.noted(written)
+    }
+}
+
+/// Standard output for the blocks that a script reads. A terminal gets none of them.
+#[derive(Drop)]
+pub(crate) struct BlockOutput<'n, S> {
+    stream: S,
+    is_terminal: bool,
+    refused: &'n Cell<bool>,
+}
+
+impl<'n, S: IsTerminal> BlockOutput<'n, S> {
+    /// Makes the output over a stream. It is noted there if blocks were refused.
+    pub(crate) fn new(stream: S, refused: &'n Cell<bool>) -> BlockOutput<'n, S> {
+        BlockOutput {
+            is_terminal: stream.is_terminal(),
+            stream,
+            refused,
+        }
+    }
+}
+
+impl<S> BlockOutput<'_, S> {
+    // Fails if bytes would go to a terminal.
+    fn check(&self, bytes: &[u8]) -> io::Result<()> {
+        if self.is_terminal && !bytes.is_empty() {
+            self.refused.set(true);
+            return Err(io::Error::from(ErrorKind::Unsupported));
+        }
+        Ok(())
+    }
+}
+
+impl<S: Write> Write for BlockOutput<'_, S> {
+    fn write(&mut self, buf: &[u8]) -> io::Result<usize> {
+        self.check(buf)?;
+        self.stream.write(buf)
+    }
+
+    fn flush(&mut self) -> io::Result<()> {
+        self.stream.flush()
+    }
+
+    fn write_all(&mut self, buf: &[u8]) -> io::Result<()> {
+        self.check(buf)?;
+        self.stream.write_all(buf)
     }
 }
 

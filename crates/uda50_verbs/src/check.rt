@@ -7,7 +7,10 @@ use crate::streams::open_script;
 use std::io::Read;
 use uda50_script_text::{LineReader, ScriptLine};
 
-/// Prints a fault's line for each line of a script that is not a statement. It executes nothing.
+/// The most mistakes that are named.
+const MOST_NAMED: u32 = 100;
+
+/// Prints a fault's line for each line of a script that is not a statement, up to a number of them. It executes nothing.
 pub(crate) fn check<'w>(rt: &HostRuntime, script: &'w str) -> Result<Outcome, Fault<'w>> {
     if script == "-" {
         check_lines(rt, STANDARD_INPUT, rt.stdin())
@@ -24,16 +27,23 @@ fn check_lines<'w, T: Read + Drop>(
     text: T,
 ) -> Result<Outcome, Fault<'w>> {
     let mut lines = LineReader::new(rt.alloc(), text)?;
-    let mut outcome = Outcome::Done;
+    let mut mistakes = 0u32;
     for number in 1..u64::MAX {
         let Some(line) = next_line(name, &mut lines)? else {
             break;
         };
+        if mistakes >= MOST_NAMED {
+            return Err(Fault::new(name, Reason::ManyMistakes(mistakes)));
+        }
         if is_reported(rt, name, number, &line) {
-            outcome = Outcome::FaultReported;
+            mistakes = mistakes.saturating_add(1);
         }
     }
-    Ok(outcome)
+    Ok(if mistakes > 0 {
+        Outcome::FaultReported
+    } else {
+        Outcome::Done
+    })
 }
 
 // Reads the next line.

@@ -264,6 +264,9 @@ pub enum Reason {
         /// Its mistake.
         mistake: Mistake,
     },
+    /// The script has more mistakes than are named, which is this many.
+    #[error("{0} mistakes; the rest is not checked")]
+    ManyMistakes(u32),
     /// The script begins with a byte order mark.
     #[error("begins with a byte order mark of {0}; a script has none")]
     ByteOrderMark(ByteOrderMark),

@@ -46,16 +46,16 @@ fn create_new<'w>(rt: &HostRuntime, create: &Create<'w>) -> Result<Outcome, Faul
     Ok(Outcome::Done)
 }
 
-/// Fails if an existing file may not be overwritten: without `--force`, and if it isn't a plain file.
+/// Fails if an existing file may not be overwritten: if it isn't a plain file, and without `--force`.
 pub(crate) fn check_existing<'w>(
     path: &'w str,
     force: bool,
     metadata: &Metadata,
 ) -> Result<(), Fault<'w>> {
-    if !force {
-        Err(Fault::new(path, Reason::Exists))
-    } else if !metadata.is_file() {
+    if !metadata.is_file() {
         Err(Fault::new(path, Reason::NotPlain))
+    } else if !force {
+        Err(Fault::new(path, Reason::Exists))
     } else {
         Ok(())
     }

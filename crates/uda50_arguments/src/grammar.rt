@@ -9,8 +9,14 @@ use std::alloc::{AllocError, Global};
 /// The version that `--version` prints.
 const PROGRAM_VERSION: &str = "0.1.0";
 
-const AFTER_HELP: &str = "Exit status: 0 if all is well, 1 after a fault, 2 for wrong arguments, \
-    3 if a request failed\n\nThe lines of a script, for uda too: uda50 help script";
+const AFTER_HELP: &str = "\
+Exit status:
+  0  All is well
+  1  A fault, or run --check: the script has mistakes
+  2  Wrong arguments
+  3  run and trace: a request failed; copy: blocks were lost; decode: a packet is invalid
+
+The lines of a script, for uda too: uda50 help script";
 
 /// The values that options and arguments take.
 #[derive(Clone, Copy)]

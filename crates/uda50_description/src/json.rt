@@ -4,9 +4,10 @@ use crate::facts::ImageFacts;
 use serde::Serialize;
 use serde_json::Error;
 use std::alloc::{AllocError, Global};
+use std::fmt;
 use uda50_show::{
     BootBlock, Checksum, ContainerRecord, DRIVE_TYPES, DiskLabel, DriveTypeEntry, FixedText,
-    HomeBlock, SimhRecord,
+    HomeBlock, SimhRecord, is_control,
 };
 
 // The object of an image.
@@ -71,12 +72,39 @@ struct ErrorObject<'w> {
 /// Returns the JSON object of an image.
 pub fn image_json(alloc: Global, facts: &ImageFacts<'_>) -> Result<String, Error> {
     let object = image_object(alloc, facts)?;
-    serde_json::to_string(alloc, &object)
+    json_of(alloc, &object)
 }
 
 /// Returns the JSON object of an image that can't be described, with the reason.
 pub fn error_json(alloc: Global, path: &str, error: &str) -> Result<String, Error> {
-    serde_json::to_string(alloc, &ErrorObject { path, error })
+    json_of(alloc, &ErrorObject { path, error })
+}
+
+// Returns the JSON of a value, with an escape in place of each control character.
+fn json_of<T: Serialize>(alloc: Global, object: &T) -> Result<String, Error> {
+    let json = serde_json::to_string(alloc, object)?;
+    if !json.chars().any(|character| is_control(character)) {
+        return Ok(json);
+    }
+    Ok(format!(in alloc; "{}", EscapedJson(json.as_str()))?)
+}
+
+// JSON that is printed without control characters. They are only in its texts, where an escape such as `\u007f`
+// means the same.
+#[derive(Clone, Copy)]
+struct EscapedJson<'j>(&'j str);
+
+impl fmt::Display for EscapedJson<'_> {
+    fn fmt<W: fmt::Write>(&self, f: &mut fmt::Formatter<W>) -> fmt::Result {
+        for character in self.0.chars() {
+            if is_control(character) {
+                write!(f, "\\u{:04x}", u32::from(character))?;
+            } else {
+                write!(f, "{character}")?;
+            }
+        }
+        Ok(())
+    }
 }
 
 // Makes the object of an image.

@@ -1,7 +1,7 @@
 //! The facts of an image.
 ghost use Rattle.std.specs.Prelude.{◌≡◌, ◌-◌, is_some, if◌then◌else◌};
 
-use uda50_show::{BootBlock, ContainerRecord, DiskLabel, HomeBlock};
+use uda50_show::{BootBlock, ContainerRecord, DiskLabel, ForeignFormat, HomeBlock};
 
 /// The blocks that can hold a structure.
 #[derive(Drop)]
@@ -17,6 +17,8 @@ pub struct StructureBlocks {
 /// The structures in the blocks of an image.
 #[derive(Clone, Copy, Debug, PartialEq, Eq)]
 pub struct Contents {
+    /// The format of another program that begins with block 0.
+    pub format: Option<ForeignFormat>,
     /// The bootstrap in block 0.
     pub boot: Option<BootBlock>,
     /// The label in block 0.
@@ -33,6 +35,7 @@ impl Contents {
     /// Reads the structures in blocks.
     pub fn read(blocks: &StructureBlocks) -> Contents {
         Contents {
+            format: ForeignFormat::read(&blocks.zero),
             boot: BootBlock::read(&blocks.zero),
             label_0: DiskLabel::in_block_0(&blocks.zero),
             home: HomeBlock::read(&blocks.one),
@@ -43,7 +46,8 @@ impl Contents {
 
     /// Returns whether there is no structure.
     pub fn is_empty(&self) -> bool {
-        self.boot.is_none()
+        self.format.is_none()
+            && self.boot.is_none()
             && self.label_0.is_none()
             && self.home.is_none()
             && self.label_1.is_none()

@@ -207,6 +207,9 @@ fn structure_objects(
 ) -> Result<Vec<StructureObject>, AllocError> {
     let contents = &facts.contents;
     let mut objects = Vec::new(alloc);
+    if let Some(format) = contents.format {
+        objects.push(plain_object(0, format.kind(), None))?;
+    }
     if let Some(boot) = contents.boot {
         objects.push(boot_object(boot))?;
     }

@@ -1,5 +1,5 @@
 -- How long the text of a packet is at most.
-use Rattle.std.proofs.Common.{ℕ, ◌+◌, ◌<◌, ◌≤◌, ◌^◌, Bool, true, false, List, ◌++◌, length, codes, decimal, Option, Some, None, if◌then◌else◌, arith, rules}
+use Rattle.std.proofs.Common.{ℕ, ◌==◌, ◌+◌, ◌<◌, ◌≤◌, ◌^◌, Bool, true, false, List, ◌++◌, length, codes, decimal, Option, Some, None, if◌then◌else◌, arith, rules}
 use Rattle.std.proofs.lemmas.Fmt.{length-decimal-le}
 use Rattle.std.proofs.lemmas.List.{length-append}
 use Rattle.uda_disk.specs.Status.{status_name}
@@ -21,7 +21,7 @@ use Rattle.uda_packet.specs.Opcode.{opcode_of, end_code, blank_body, parameters}
 use Rattle.uda_packet.specs.Range.{EntriesFit}
 use Rattle.uda_packet.specs.Transfer.{has_buffer}
 use Rattle.uda50_show.specs.Hex.{hex_byte, hex_word, hex_long}
-use Rattle.uda50_show.specs.PacketText.{line, named_status, protection_name, flags_line, size_line, result_lines, end_text, request_lines, head_lines, buffer_line, transfer_lines, protection_line, parameter_lines, command_text, bad_title, bad_text}
+use Rattle.uda50_show.specs.PacketText.{line, named_status, protection_name, flags_line, size_line, size_end, result_lines, end_text, request_lines, head_lines, buffer_line, transfer_lines, protection_line, parameter_lines, command_text, bad_title, bad_text}
 
 -- ---- names
 
@@ -78,8 +78,9 @@ flags_line_short flags =
 
 size_line_short : (size : ℕ) → size < 2 ^ 32 → length (size_line size) ≤ 32
 size_line_short size small =
-    line_short (codes "  unit size   ") (decimal size ++ codes " blocks") 14 17 (omega arith)
-    (both_short (decimal size) (codes " blocks") 10 7 (long_short size small) (omega arith))
+    both_short (codes "  unit size   " ++ decimal size) (size_end size) 24 8
+    (both_short (codes "  unit size   ") (decimal size) 14 10 (omega arith) (long_short size small))
+    (if_short (size == 1) (codes " block\n") (codes " blocks\n") 8 (omega arith) (omega arith))
 
 result_lines_short : (b : EndBody) → BodyFits b → length (result_lines b) ≤ 94
 result_lines_short body.Invalid fits = omega arith

@@ -11,4 +11,6 @@ pub mod Names
 pub mod Squeeze
 pub mod Compatible
 pub mod Container
+pub mod Counts
 pub mod DriveTypes
+pub mod Foreign

@@ -51,8 +51,12 @@ protection_name flags =
 abbrev pub flags_line : ℕ → List ℕ
 flags_line flags = line (codes "  unit flags  0x") (hex_word flags ++ protection_name flags)
 
+-- what follows the number of a unit's blocks
+abbrev pub size_end : ℕ → List ℕ
+size_end size = if size == 1 then codes " block\n" else codes " blocks\n"
+
 abbrev pub size_line : ℕ → List ℕ
-size_line size = line (codes "  unit size   ") (decimal size ++ codes " blocks")
+size_line size = codes "  unit size   " ++ decimal size ++ size_end size
 
 -- the lines of an end message's results
 abbrev pub result_lines : EndBody → List ℕ

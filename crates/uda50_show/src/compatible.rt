@@ -5,7 +5,7 @@ ghost use Rattle.uda50_show.specs.Compatible.{compatible_message, command_of, un
 ghost use Rattle.uda50_show.specs.Compatible.{as_end};
 
 use crate::fields::{code, modifiers};
-use crate::packet::{Packet, protection_name};
+use crate::packet::{Packet, protection_name, size_end};
 use byteorder::{ByteOrder, LittleEndian};
 use std::fmt;
 use uda_packet::{Reply, ReplyBody, decode_reply, status};
@@ -188,7 +188,7 @@ fn write_end<W: fmt::Write>(f: &mut fmt::Formatter<W>, end: &Reply) -> fmt::Resu
         }
         ReplyBody::SetUnit { flags, size } => {
             write_flags(f, flags)?;
-            writeln!(f, "  unit size   {size} blocks")
+            write!(f, "  unit size   {size}{}", size_end(size))
         }
         ReplyBody::Compare { bytes } => writeln!(f, "  byte count  {bytes}"),
         _ => Ok(()),

@@ -7,7 +7,7 @@ ghost use Rattle.uda50_show.specs.Container.{container_record, simh_record, big_
 ghost use Rattle.uda50_show.specs.Container.{before_zero, crc_bit, crc_byte, crc_sum, crc};
 
 use crate::checksum::Checksum;
-use crate::number::Grouped;
+use crate::number::Counted;
 use crate::text::FixedText;
 use byteorder::{BigEndian, ByteOrder};
 use std::fmt;
@@ -67,7 +67,7 @@ fn simh_record(block: &[u8; 512]) -> SimhRecord
 }
 
 // Returns whether two texts are equal.
-fn is_same(text: &[u8], other: &[u8]) -> bool
+pub(crate) fn is_same(text: &[u8], other: &[u8]) -> bool
     ensures { IsTrue result ↔ (text.now ≡ other.now) }
 {
     text == other
@@ -150,13 +150,18 @@ impl fmt::Display for ContainerRecord {
 
 // Writes the text of a record of SIMH.
 fn write_simh<W: fmt::Write>(f: &mut fmt::Formatter<W>, record: &SimhRecord) -> fmt::Result {
+    let size = Counted::bytes(u64::from(record.sector_size));
+    let sectors = Counted {
+        number: u64::from(record.sectors),
+        noun: "sector",
+    };
     write!(
         f,
-        "SIMH container record, simulator \"{}\", drive type \"{}\", {} sectors of {} bytes{}",
+        "SIMH container record, simulator \"{}\", drive type \"{}\", {sectors} of {} byte{}{}",
         FixedText(record.simulator_name()),
         FixedText(record.drive_name()),
-        Grouped(u64::from(record.sectors)),
         record.sector_size,
+        size.ending(),
         record.checksum
     )
 }

@@ -3,7 +3,7 @@ ghost use Rattle.std.specs.Prelude.{◌≡◌, [], ◌∷◌, find};
 ghost use Rattle.std.proofs.Common.{reverse};
 ghost use Rattle.uda50_show.specs.DriveTypes.{is_larger, is_smaller};
 
-use crate::number::Grouped;
+use crate::number::Counted;
 use std::fmt;
 
 /// A drive type, with the size of its units.
@@ -169,15 +169,15 @@ fn write_nearest<W: fmt::Write>(f: &mut fmt::Formatter<W>, blocks: u32) -> fmt::
     let larger = DriveTypeEntry::next_larger(&DRIVE_TYPES, blocks);
     let smaller = DriveTypeEntry::next_smaller(&DRIVE_TYPES, blocks);
     if let Some(drive) = larger {
-        let more = Grouped(u64::from(drive.blocks.saturating_sub(blocks)));
-        write!(f, "{} ({more} blocks more)", drive.name)?;
+        let more = Counted::blocks(drive.blocks.saturating_sub(blocks));
+        write!(f, "{} ({more} more)", drive.name)?;
     }
     if larger.is_some() && smaller.is_some() {
         f.write_str(", ")?;
     }
     if let Some(drive) = smaller {
-        let fewer = Grouped(u64::from(blocks.saturating_sub(drive.blocks)));
-        write!(f, "{} ({fewer} blocks fewer)", drive.name)?;
+        let fewer = Counted::blocks(blocks.saturating_sub(drive.blocks));
+        write!(f, "{} ({fewer} fewer)", drive.name)?;
     }
     Ok(())
 }

@@ -1,4 +1,6 @@
 //! Numbers for human readers.
+ghost use Rattle.std.specs.Prelude.{◌≡◌, codes};
+ghost use Rattle.uda50_show.specs.Counts.{plural_ending};
 
 use std::fmt;
 
@@ -30,5 +32,52 @@ impl fmt::Display for Grouped {
             }
         }
         Ok(())
+    }
+}
+
+/// A number of things, such as `1 block` or `1,000 blocks`.
+#[derive(Clone, Copy, Debug, PartialEq, Eq)]
+pub struct Counted {
+    /// The number.
+    pub number: u64,
+    /// What one of them is called.
+    pub noun: &'static str,
+}
+
+impl Counted {
+    /// Returns a number of blocks.
+    pub fn blocks(number: u32) -> Counted
+        ensures number { result.number ≡ number }
+        ensures noun { result.noun.now ≡ codes "block" }
+    {
+        Counted {
+            number: u64::from(number),
+            noun: "block",
+        }
+    }
+
+    /// Returns a number of bytes.
+    pub fn bytes(number: u64) -> Counted
+        ensures number { result.number ≡ number }
+        ensures noun { result.noun.now ≡ codes "byte" }
+    {
+        Counted {
+            number,
+            noun: "byte",
+        }
+    }
+
+    /// Returns the ending of the noun: `s`, unless the number is 1.
+    pub fn ending(&self) -> &'static str
+        ensures ending { result.now ≡ plural_ending self.now.number }
+    {
+        if self.number == 1 { "" } else { "s" }
+    }
+}
+
+impl fmt::Display for Counted {
+    fn fmt<W: fmt::Write>(&self, f: &mut fmt::Formatter<W>) -> fmt::Result {
+        let number = Grouped(self.number);
+        write!(f, "{number} {}{}", self.noun, self.ending())
     }
 }

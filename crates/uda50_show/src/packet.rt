@@ -9,7 +9,7 @@ ghost use Rattle.uda_packet.specs.Opcode.{parameters};
 ghost use Rattle.uda_packet.specs.Range.{EntriesFit};
 ghost use Rattle.uda_packet.specs.Transfer.{has_buffer};
 ghost use Rattle.uda50_show.specs.PacketText.{packet_text, end_text, command_text, bad_text, head_lines};
-ghost use Rattle.uda50_show.specs.PacketText.{line, request_lines, named_status, flags_line, size_line};
+ghost use Rattle.uda50_show.specs.PacketText.{line, request_lines, named_status, flags_line, size_line, size_end};
 ghost use Rattle.uda50_show.specs.PacketText.{parameter_lines, transfer_lines, buffer_line, protection_line};
 ghost use Rattle.uda50_show.specs.PacketText.{result_lines, protection_name, bad_title};
 ghost use Rattle.uda50_show.specs.Pieces.{piece_text, pieces_text};
@@ -282,7 +282,7 @@ impl Pieces {
     {
         self.push(Piece::Text("  unit size   "));
         self.push(Piece::Decimal(size));
-        self.push(Piece::Text(" blocks\n"));
+        self.push(Piece::Text(size_end(size)));
     }
 
     // Adds the lines of a command's parameters.
@@ -353,6 +353,13 @@ impl Pieces {
             }
         }
     }
+}
+
+/// Returns what follows the number of a unit's blocks on its line.
+pub(crate) fn size_end(size: u32) -> &'static str
+    ensures end { result.now ≡ size_end size }
+{
+    if size == 1 { " block\n" } else { " blocks\n" }
 }
 
 /// Returns the write protection that unit flags tell.

@@ -1,10 +1,11 @@
-//! Records that other programs put after the blocks of an image.
+//! Records that other programs put after the blocks of an image, and formats that are no plain images.
 
 use crate::fault::{Fault, Reason, RecordPlace};
 use crate::image::NamedImage;
+use std::fs;
 use std::fs::{File, OpenFile};
-use std::os::unix::fs::FileExt;
-use uda50_show::ContainerRecord;
+use std::os::unix::fs::{FileExt, FileTypeExt};
+use uda50_show::{ContainerRecord, ForeignFormat};
 
 /// Returns the record in the last block of an image. A block that can't be read has none.
 pub(crate) fn last_record(image: &mut NamedImage<'_>) -> Option<ContainerRecord> {
@@ -13,7 +14,24 @@ pub(crate) fn last_record(image: &mut NamedImage<'_>) -> Option<ContainerRecord>
     ContainerRecord::read(&block)
 }
 
-/// Returns a fault. If it is that of a length, and the file has a record, the reason says so.
+/// Returns the format of another program in which a file is, by its first bytes. Only a plain file or a block device is
+/// read, so that no call waits.
+pub(crate) fn format_of(rt: &HostRuntime, path: &str) -> Option<ForeignFormat> {
+    let metadata = fs::metadata(rt, path).ok()?;
+    let length = if metadata.is_file() {
+        metadata.len().min(512) as usize
+    } else if metadata.file_type().is_block_device() {
+        512
+    } else {
+        return None;
+    };
+    let file = File::open(rt, path).ok()?;
+    let mut block = [0; 512];
+    file.read_exact_at(&mut block[..length], 0).ok()?;
+    ForeignFormat::read(&block)
+}
+
+/// Returns a fault. If it is that of a length, and the file has a record or another program's format, the reason says so.
 pub(crate) fn explain_length<'w>(rt: &HostRuntime, fault: Fault<'w>) -> Fault<'w> {
     match fault.reason {
         Reason::Length(bytes) => Fault::new(fault.name, length_reason(rt, fault.name, bytes)),
@@ -39,7 +57,10 @@ fn length_reason(rt: &HostRuntime, path: &str, bytes: u64) -> Reason {
             record,
         };
     }
-    Reason::Length(bytes)
+    match format_of(rt, path) {
+        Some(format) => Reason::LengthOfFormat { bytes, format },
+        None => Reason::Length(bytes),
+    }
 }
 
 // Returns the record in the 512 bytes before a place of a file.

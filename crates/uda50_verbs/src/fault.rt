@@ -8,7 +8,9 @@ use uda_image::StoreError;
 use uda50_arguments::BlockRange;
 use uda50_map::MapError;
 use uda50_script_text::{ByteOrderMark, Mistake};
-use uda50_show::{ContainerRecord, EscapedName, Grouped, TokenError};
+use uda50_show::{
+    ContainerRecord, Counted, DRIVE_TYPES, EscapedName, ForeignFormat, Grouped, TokenError,
+};
 
 /// The name of standard input in faults.
 pub(crate) const STANDARD_INPUT: &str = "standard input";
@@ -24,6 +26,20 @@ fn verb_of(error: StoreError) -> &'static str {
     match error {
         StoreError::Read => "read",
         StoreError::Write => "written",
+    }
+}
+
+// Returns what is guessed of a length that is not a multiple of 512: a record after the blocks, if these are as many as a
+// drive type has.
+fn length_guess(bytes: u64) -> &'static str {
+    let blocks = bytes / 512;
+    if DRIVE_TYPES
+        .iter()
+        .any(|drive| u64::from(drive.blocks) == blocks)
+    {
+        "; perhaps another emulator's format with a trailing record?"
+    } else {
+        ""
     }
 }
 
@@ -106,10 +122,9 @@ pub struct StreamLength {
 /// Writes a text such as `1 block and 488 bytes`.
 impl fmt::Display for StreamLength {
     fn fmt<W: fmt::Write>(&self, f: &mut fmt::Formatter<W>) -> fmt::Result {
-        let blocks = if self.blocks == 1 { "block" } else { "blocks" };
-        let bytes = if self.bytes == 1 { "byte" } else { "bytes" };
-        let whole = Grouped(u64::from(self.blocks));
-        write!(f, "{whole} {blocks} and {} {bytes}", self.bytes)
+        let blocks = Counted::blocks(self.blocks);
+        let bytes = Counted::bytes(self.bytes as u64);
+        write!(f, "{blocks} and {bytes}")
     }
 }
 
@@ -149,8 +164,16 @@ pub enum Reason {
     #[error("in use by another process")]
     InUse,
     /// The length is not a multiple of 512.
-    #[error("{} bytes is not a multiple of 512; perhaps another emulator's format with a trailing record?", Grouped(*.0))]
+    #[error("{} is not a multiple of 512{}", Counted::bytes(*.0), length_guess(*.0))]
     Length(u64),
+    /// The length is not a multiple of 512, and the file begins like one of another program.
+    #[error("{} is not a multiple of 512; it begins with the {format}", Counted::bytes(*.bytes))]
+    LengthOfFormat {
+        /// The length.
+        bytes: u64,
+        /// The format.
+        format: ForeignFormat,
+    },
     /// The length is not a multiple of 512, and the file has a record of another program.
     #[error("{} bytes is not a multiple of 512; perhaps another emulator's format with a trailing record? {place} {record}", Grouped(*.bytes))]
     LengthWithRecord {
@@ -165,7 +188,7 @@ pub enum Reason {
     #[error("{} blocks are more than 2,147,483,647", Grouped(*.0))]
     TooLarge(u64),
     /// The image doesn't have the blocks.
-    #[error("no blocks {} to {}: the image has {} blocks", .range.start, .range.end.saturating_sub(1), Grouped(u64::from(*.blocks)))]
+    #[error("no blocks {} to {}: the image has {}", .range.start, .range.end.saturating_sub(1), Counted::blocks(*.blocks))]
     PastEnd {
         /// The requested blocks.
         range: BlockRange,

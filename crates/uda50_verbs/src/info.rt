@@ -9,7 +9,7 @@ use std::io;
 use std::io::Write;
 use uda50_arguments::ImageName;
 use uda50_description::{Contents, ImageFacts, StructureBlocks, error_json, image_json};
-use uda50_show::{ContainerRecord, EscapedName, Grouped, TypesOfSize};
+use uda50_show::{ContainerRecord, Counted, EscapedName, TypesOfSize};
 
 /// Describes each image. If one has a fault, it prints the fault's line and continues with the others.
 pub(crate) fn info<'w, W: Write>(
@@ -142,9 +142,9 @@ fn write_writable<W: Write>(out: &mut W, writable: &str) -> io::Result<()> {
 
 // Writes the line of an image's size.
 fn write_size<W: Write>(out: &mut W, path: &str, blocks: u32) -> io::Result<()> {
-    let bytes = Grouped(512 * u64::from(blocks));
-    let count = Grouped(u64::from(blocks));
-    writeln!(out, "{}: {count} blocks, {bytes} bytes", EscapedName(path))
+    let bytes = Counted::bytes(512 * u64::from(blocks));
+    let blocks = Counted::blocks(blocks);
+    writeln!(out, "{}: {blocks}, {bytes}", EscapedName(path))
 }
 
 // Writes the line of the drive types of an image's size. If its last block is a record, the line of this comes
@@ -176,6 +176,7 @@ fn write_contents<W: Write>(out: &mut W, contents: &Contents) -> io::Result<()> 
     if contents.is_empty() {
         return write_unknown(out);
     }
+    write_found(out, 0, contents.format)?;
     write_found(out, 0, contents.boot)?;
     write_found(out, 0, contents.label_0)?;
     write_found(out, 1, contents.home)?;

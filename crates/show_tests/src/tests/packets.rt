@@ -68,6 +68,9 @@ fn write_end_body<W: fmt::Write>(f: &mut fmt::Formatter<W>, body: EndBody) -> fm
         EndBody::Status { flags } => write_flags(f, flags),
         EndBody::Online { flags, size } => {
             write_flags(f, flags)?;
+            if size == 1 {
+                return writeln!(f, "  unit size   {size} block");
+            }
             writeln!(f, "  unit size   {size} blocks")
         }
         EndBody::Moved { bytes, .. } => write_number(f, "  byte count  ", bytes),

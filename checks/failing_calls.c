@@ -81,23 +81,27 @@ int flock(int fd, int how) {
     tell(how & LOCK_EX ? "lock" : "share", name_of(fd));
     return fails(ENOLCK);
 }
-/* Returns whether a call for n bytes touches a block that the variable has. */
-static int touches(const char *variable, int fd, size_t n, off_t at) {
+/* Returns the first block that the variable has and a call for n bytes touches, or -1. */
+static off_t touched(const char *variable, int fd, size_t n, off_t at) {
     char word[4200];
     for (off_t block = at / 512; block <= (at + (off_t)n - 1) / 512; block++) {
         snprintf(word, sizeof word, "%s@%ld", name_of(fd), (long)block);
-        if (is_in(variable, word)) return 1;
+        if (is_in(variable, word)) return block;
     }
-    return 0;
+    return -1;
+}
+/* Makes the file end that many bytes after the start of such a block, and returns whether that fails. */
+static int cannot_cut(const char *variable, int fd, size_t n, off_t at, off_t bytes) {
+    off_t block = touched(variable, fd, n, at);
+    return block >= 0 && truncate(name_of(fd), 512 * block + bytes);
 }
 static size_t moved(int fd, size_t n) { return n > 1536 && is_in("SHORT", name_of(fd)) ? 1536 : n; }
 static ssize_t get(int fd, void *to, size_t n, off_t at) {
     if (is_in("LOG", name_of(fd)))
         for (off_t block = at / 512; block <= (at + (off_t)n - 1) / 512; block++) log_number("read", fd, (long)block);
-    while (touches("HANG", fd, n, at)) pause();
-    if (touches("CUT", fd, n, at) && truncate(name_of(fd), at / 512 * 512 + 100)) return -1;
-    if (touches("EDGE", fd, n, at) && truncate(name_of(fd), at / 512 * 512)) return -1;
-    if (touches("BAD", fd, n, at)) return fails(EIO);
+    while (touched("HANG", fd, n, at) >= 0) pause();
+    if (cannot_cut("CUT", fd, n, at, 100) || cannot_cut("EDGE", fd, n, at, 0)) return -1;
+    if (touched("BAD", fd, n, at) >= 0) return fails(EIO);
     ssize_t got = syscall(SYS_pread64, fd, to, moved(fd, n), at);
     if (got > 0 && is_in("FLIP", name_of(fd))) *(char *)to ^= 1;
     return got;
@@ -106,7 +110,7 @@ ssize_t pread(int fd, void *to, size_t n, off_t at) { return get(fd, to, n, at);
 ssize_t pread64(int fd, void *to, size_t n, off_t at) { return get(fd, to, n, at); }
 static ssize_t put(int fd, const void *from, size_t n, off_t at) {
     if (!strncmp(name_of(fd), "image", 5)) tell("write", name_of(fd));
-    if (touches("BAD", fd, n, at)) return fails(EIO);
+    if (touched("BAD", fd, n, at) >= 0) return fails(EIO);
     return syscall(SYS_pwrite64, fd, from, moved(fd, n), at);
 }
 ssize_t pwrite(int fd, const void *from, size_t n, off_t at) { return put(fd, from, n, at); }

@@ -58,6 +58,18 @@ impl<'w> NamedImage<'w> {
         }
     }
 
+    /// Reads consecutive blocks in one call, as many as `to` has room for. Returns whether it read all of them.
+    pub(crate) fn try_read_blocks(&mut self, start: u32, to: &mut [u8]) -> bool {
+        let Ok(count) = u32::try_from(to.len() / 512) else {
+            return false;
+        };
+        let on_image = match start.checked_add(count) {
+            Some(end) => end <= self.image.size(),
+            None => false,
+        };
+        on_image && to.len() % 512 == 0 && self.image.try_read_blocks(start, count, to)
+    }
+
     // Returns the fault of a block that can't be read.
     fn fault_of(&self, block: u32) -> Fault<'w> {
         block_fault(self.path, block, StoreError::Read, &self.failures)

@@ -18,6 +18,7 @@ mod notes;
 mod outcome;
 mod printer;
 mod progress;
+mod raw_blocks;
 mod run;
 mod script;
 mod script_help;

@@ -1,0 +1,113 @@
+//! Raw blocks of plain files.
+ghost use Rattle.std.specs.Prelude.{◌≤◌};
+
+use crate::fault::Fault;
+use crate::image::NamedImage;
+use crate::outcome::Outcome;
+use std::io;
+use std::io::{BufWriter, Write};
+use std::ops::Range;
+
+/// The bytes of a block.
+const BLOCK: usize = 512;
+
+/// The most blocks that are read before some of them are written.
+const MOST: usize = 17;
+
+/// The bytes of the blocks that are written at once: those of the buffer of standard output.
+const WRITTEN: usize = 8_192;
+
+/// Writes blocks of a plain file as they are. They are read in calls of 16 blocks, and written when one more is read than
+/// the buffer of the output holds. So they go out as if each were read by itself and went through that buffer.
+pub(crate) fn write_blocks<'w, W: Write + Drop>(
+    image: &mut NamedImage<'w>,
+    blocks: Range<u32>,
+    out: &mut BufWriter<W>,
+) -> Result<Outcome, Fault<'w>> {
+    let mut held = HeldBlocks::none();
+    let Range { mut start, end } = blocks;
+    for _ in 0..u32::MAX {
+        let next = start.saturating_add(held.room()).min(end);
+        if next <= start {
+            break;
+        }
+        if let Err(fault) = held.read(image, start..next) {
+            let _ = held.write_all(out);
+            return Err(fault);
+        }
+        held.write_full(out)?;
+        start = next;
+    }
+    held.write_all(out)?;
+    Ok(Outcome::Done)
+}
+
+// Blocks that were read, and are not written yet.
+#[derive(Drop)]
+struct HeldBlocks {
+    bytes: [u8; BLOCK * MOST],
+    count: usize,
+}
+
+impl HeldBlocks {
+    // Makes no blocks.
+    fn none() -> HeldBlocks {
+        HeldBlocks {
+            bytes: [0; BLOCK * MOST],
+            count: 0,
+        }
+    }
+
+    // Returns for how many more blocks there is room.
+    fn room(&self) -> u32
+        ensures few { result ≤ 17 }
+    {
+        MOST.saturating_sub(self.count) as u32
+    }
+
+    // Reads the next blocks in one call. If that fails, reads each by itself up to the one that can't be read.
+    fn read<'w>(
+        &mut self,
+        image: &mut NamedImage<'w>,
+        blocks: Range<u32>,
+    ) -> Result<(), Fault<'w>> {
+        let Range { start, end } = blocks;
+        let count = end.saturating_sub(start) as usize;
+        let at = BLOCK * self.count.min(MOST);
+        if let Some(to) = self.bytes.get_mut(at..at + BLOCK * count) {
+            if image.try_read_blocks(start, to) {
+                self.count = self.count.saturating_add(count);
+                return Ok(());
+            }
+        }
+        for block in start..end {
+            self.read_one(image, block)?;
+        }
+        Ok(())
+    }
+
+    // Reads the next block.
+    fn read_one<'w>(&mut self, image: &mut NamedImage<'w>, block: u32) -> Result<(), Fault<'w>> {
+        let mut bytes = [0; BLOCK];
+        image.read_block(block, &mut bytes)?;
+        let at = BLOCK * self.count.min(MOST - 1);
+        self.bytes[at..at + BLOCK].copy_from_slice(&bytes);
+        self.count = self.count.saturating_add(1);
+        Ok(())
+    }
+
+    // Writes all blocks but the last, if no more can be held.
+    fn write_full<W: Write + Drop>(&mut self, out: &mut BufWriter<W>) -> io::Result<()> {
+        if self.count >= MOST {
+            out.write_all(&self.bytes[..WRITTEN])?;
+            self.bytes.copy_within(WRITTEN.., 0);
+            self.count = 1;
+        }
+        Ok(())
+    }
+
+    // Writes all blocks.
+    fn write_all<W: Write + Drop>(&self, out: &mut BufWriter<W>) -> io::Result<()> {
+        out.write_all(&self.bytes[..BLOCK * self.count.min(MOST)])
+    }
+}

@@ -3,7 +3,7 @@
 use crate::test_streams::{Bits, Sink};
 use std::alloc::{AllocError, Global};
 use std::io;
-use std::io::{BufRead, BufReader, BufWriter, Write};
+use std::io::{BufRead, BufReader, BufWriter, ErrorKind, Write};
 use std::process::Abort;
 use std::test::Fail;
 use uda50_decode::{DecodeError, Decoded, LINE_ROOM, decode};
@@ -30,8 +30,14 @@ fn decode_lines<R: BufRead + Drop, W: Write>(
     };
     let mut number = 0u64;
     for line in input.lines(alloc) {
-        let line = line.map_err(DecodeError::Read)?;
         number = number.saturating_add(1);
+        let line = match line {
+            Ok(line) => line,
+            Err(error) if error.kind() == ErrorKind::InvalidData => {
+                return Err(DecodeError::NotText(number));
+            }
+            Err(error) => return Err(DecodeError::Read(error)),
+        };
         decode_line(number, line.as_str(), &mut progress, out)?;
     }
     match progress.reader.filled() {

@@ -89,8 +89,8 @@ fn json_of<T: Serialize>(alloc: Global, object: &T) -> Result<String, Error> {
     Ok(format!(in alloc; "{}", EscapedJson(json.as_str()))?)
 }
 
-// JSON that is printed without control characters. They are only in its texts, where an escape such as `\u007f`
-// means the same.
+// JSON that is printed without control characters. They are only in its texts, where an escape such as
+// `\u007f` means the same.
 #[derive(Clone, Copy)]
 struct EscapedJson<'j>(&'j str);
 

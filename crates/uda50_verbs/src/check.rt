@@ -10,7 +10,8 @@ use uda50_script_text::{LineReader, ScriptLine};
 /// The most mistakes that are named.
 const MOST_NAMED: u32 = 100;
 
-/// Prints a fault's line for each line of a script that is not a statement, up to a number of them. It executes nothing.
+/// Prints a fault's line for each line of a script that is not a statement, up to a number of them. It
+/// executes nothing.
 pub(crate) fn check<'w>(rt: &HostRuntime, script: &'w str) -> Result<Outcome, Fault<'w>> {
     if script == "-" {
         check_lines(rt, STANDARD_INPUT, rt.stdin())

@@ -14,8 +14,8 @@ pub(crate) fn last_record(image: &mut NamedImage<'_>) -> Option<ContainerRecord>
     ContainerRecord::read(&block)
 }
 
-/// Returns the format of another program in which a file is, by its first bytes. Only a plain file or a block device is
-/// read, so that no call waits.
+/// Returns the format of another program in which a file is, by its first bytes. Only a plain file or a
+/// block device is read, so that no call waits.
 pub(crate) fn format_of(rt: &HostRuntime, path: &str) -> Option<ForeignFormat> {
     let metadata = fs::metadata(rt, path).ok()?;
     let length = if metadata.is_file() {
@@ -31,7 +31,8 @@ pub(crate) fn format_of(rt: &HostRuntime, path: &str) -> Option<ForeignFormat> {
     ForeignFormat::read(&block)
 }
 
-/// Returns a fault. If it is that of a length, and the file has a record or another program's format, the reason says so.
+/// Returns a fault. If it is that of a length, and the file has a record or the format of another program,
+/// the reason says so.
 pub(crate) fn explain_length<'w>(rt: &HostRuntime, fault: Fault<'w>) -> Fault<'w> {
     match fault.reason {
         Reason::Length(bytes) => Fault::new(fault.name, length_reason(rt, fault.name, bytes)),

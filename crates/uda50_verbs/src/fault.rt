@@ -29,8 +29,8 @@ fn verb_of(error: StoreError) -> &'static str {
     }
 }
 
-// Returns what is guessed of a length that is not a multiple of 512: a record after the blocks, if these are as many as a
-// drive type has.
+// Returns what is guessed of a length that is not a multiple of 512: a record after the blocks, if these are
+// as many as a drive type has.
 fn length_guess(bytes: u64) -> &'static str {
     let blocks = bytes / 512;
     if DRIVE_TYPES

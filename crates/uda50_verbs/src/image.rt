@@ -58,7 +58,8 @@ impl<'w> NamedImage<'w> {
         }
     }
 
-    /// Reads consecutive blocks in one call, as many as `to` has room for. Returns whether it read all of them.
+    /// Reads consecutive blocks in one call, as many as `to` has room for. Returns whether it read all of
+    /// them.
     pub(crate) fn try_read_blocks(&mut self, start: u32, to: &mut [u8]) -> bool {
         let Ok(count) = u32::try_from(to.len() / 512) else {
             return false;

@@ -17,8 +17,9 @@ const MOST: usize = 17;
 /// The bytes of the blocks that are written at once: those of the buffer of standard output.
 const WRITTEN: usize = 8_192;
 
-/// Writes blocks of a plain file as they are. They are read in calls of 16 blocks, and written when one more is read than
-/// the buffer of the output holds. So they go out as if each were read by itself and went through that buffer.
+/// Writes blocks of a plain file as they are. They are read in calls of 16 blocks, and written when one more
+/// is read than the buffer of the output holds. So they go out as if each were read by itself and went
+/// through that buffer.
 pub(crate) fn write_blocks<'w, W: Write + Drop>(
     image: &mut NamedImage<'w>,
     blocks: Range<u32>,
@@ -65,7 +66,8 @@ impl HeldBlocks {
         MOST.saturating_sub(self.count) as u32
     }
 
-    // Reads the next blocks in one call. If that fails, reads each by itself up to the one that can't be read.
+    // Reads the next blocks in one call. If that fails, reads each by itself up to the one that can't be
+    // read.
     fn read<'w>(
         &mut self,
         image: &mut NamedImage<'w>,

@@ -14,15 +14,20 @@ begins block bytes = starts_with nat_eq block bytes
 abbrev pub is_vdi : List ℕ → Bool
 is_vdi block = begins block (codes "<<< ") && (long_at 64 block == 0xBEDA107F)
 
+-- the format of an image of VMware or VirtualBox
+abbrev pub desktop_format : List ℕ → Option ForeignFormat
+desktop_format block =
+    if begins block (codes "KDMV") then Some format.Vmdk
+    else if begins block (codes "# Disk DescriptorFile") then Some format.VmdkDescriptor
+    else if is_vdi block then Some format.Vdi
+    else None
+
 -- the format by the first block: a magic number, or the beginning of a text
 abbrev pub foreign_format : List ℕ → Option ForeignFormat
 foreign_format block =
     if begins block (0x1F ∷ 0x8B ∷ []) then Some format.Gzip
     else if begins block (0x51 ∷ 0x46 ∷ 0x49 ∷ 0xFB ∷ []) then Some format.Qcow2
-    else if begins block (codes "KDMV") then Some format.Vmdk
-    else if begins block (codes "# Disk DescriptorFile") then Some format.VmdkDescriptor
-    else if is_vdi block then Some format.Vdi
-    else None
+    else desktop_format block
 
 -- the name of a format's beginning
 abbrev pub format_kind : ForeignFormat → List ℕ

@@ -2,7 +2,7 @@
 //!
 //! RFC 1952: gzip. QEMU's qcow2.txt. VMware's Virtual Disk Format 1.1. VirtualBox's VDICore.h.
 ghost use Rattle.std.specs.Prelude.{◌≡◌};
-ghost use Rattle.uda50_show.specs.Foreign.{foreign_format, format_kind};
+ghost use Rattle.uda50_show.specs.Foreign.{desktop_format, foreign_format, format_kind, is_vdi};
 
 use crate::checksum::long_at;
 use crate::container::is_same;
@@ -35,14 +35,8 @@ impl ForeignFormat {
             Some(ForeignFormat::Gzip)
         } else if is_same(&block[..4], b"QFI\xfb") {
             Some(ForeignFormat::Qcow2)
-        } else if is_same(&block[..4], b"KDMV") {
-            Some(ForeignFormat::Vmdk)
-        } else if is_same(&block[..21], b"# Disk DescriptorFile") {
-            Some(ForeignFormat::VmdkDescriptor)
-        } else if is_same(&block[..4], b"<<< ") && long_at(block, 64) == VDI_SIGNATURE {
-            Some(ForeignFormat::Vdi)
         } else {
-            None
+            desktop_format(block)
         }
     }
 
@@ -58,6 +52,28 @@ impl ForeignFormat {
             ForeignFormat::Vdi => "header of a VDI image",
         }
     }
+}
+
+// Reads the first block of an image of VMware or VirtualBox.
+fn desktop_format(block: &[u8; 512]) -> Option<ForeignFormat>
+    ensures format { result ≡ desktop_format block.now }
+{
+    if is_same(&block[..4], b"KDMV") {
+        Some(ForeignFormat::Vmdk)
+    } else if is_same(&block[..21], b"# Disk DescriptorFile") {
+        Some(ForeignFormat::VmdkDescriptor)
+    } else if is_vdi(block) {
+        Some(ForeignFormat::Vdi)
+    } else {
+        None
+    }
+}
+
+// Returns whether a block is the header of an image of VirtualBox.
+fn is_vdi(block: &[u8; 512]) -> bool
+    ensures vdi { result ≡ is_vdi block.now }
+{
+    is_same(&block[..4], b"<<< ") && long_at(block, 64) == VDI_SIGNATURE
 }
 
 impl fmt::Display for ForeignFormat {

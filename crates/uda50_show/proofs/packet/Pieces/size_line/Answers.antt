@@ -3,4 +3,9 @@ use Rattle.uda50_show.proofs.packet.Pieces.size_line.Goals as goal
 
 pub returns-clause-text : goal.returns-clause-text
 returns-clause-text c =
-    rw (c.push-3.ensures.text, c.push-2.ensures.text, c.push.ensures.text) (simp append_assoc)
+    rw (
+      c.push-3.ensures.text,
+      c.size_end.ensures.end,
+      c.push-2.ensures.text,
+      c.push.ensures.text,
+    ) (simp append_assoc)

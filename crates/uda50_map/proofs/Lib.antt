@@ -1,1 +1,3 @@
 pub mod MapLaws
+pub mod Spans
+pub mod LastFinished

@@ -1,33 +1,37 @@
 //! Maps of blocks.
-ghost use Rattle.std.specs.Prelude.{◌≡◌, ℕ, ◌<◌, ◌≤◌, ◌⊎◌, true, false, [], ◌∷◌, ◌++◌, if◌then◌else◌, IfSome, IfNone, IfOk, OnOk, OnErr};
-ghost use Rattle.uda50_map.specs.Map.{is_within, statuses_at, changed, IsUntried, IsSet, IsFinishedFrom, AreForward};
+ghost use Rattle.std.specs.Prelude.{◌≡◌, ℕ, ◌<◌, ◌≤◌, ◌⊎◌, true, false, [], ◌∷◌, ◌++◌, if◌then◌else◌, IfSome, IfNone, IfOk, OnOk, OnErr, All, IsTrue, ◌↔◌, length, ◌≢◌, ◌-◌};
+ghost use Rattle.uda50_map.specs.Map.{is_within, statuses_at, changed, IsUntried, IsSet, IsFinishedFrom, IsFinishedAt, IsUnfinishedFrom, HasBlocks, AreForward, AreConsecutive, Spans, start_of, end_of};
 ghost use Rattle.uda50_map.specs.Status.{AreLater};
 
 use crate::entry::{BlockStatus, MapEntry};
 use std::alloc::{AllocError, Global};
+use std::collections::VecDeque;
 use std::fmt;
 use std::marker::Model;
 use std::ops::Range;
 
 /// The status of each block of a range: entries that follow each other, in rising order.
 ///
-/// Contracts see the entries.
+/// Contracts see the entries. A change costs little near the change before it, however many entries there are.
 #[derive(Debug, Drop)]
 pub struct BlockMap {
     alloc: Global,
-    entries: Vec<MapEntry>,
+    // The entries up to the last change.
+    before: Vec<MapEntry>,
+    // Those after it.
+    after: VecDeque<MapEntry>,
 }
 
 impl Model for BlockMap {
-    ghost use Rattle.std.specs.Prelude.{List};
+    ghost use Rattle.std.specs.Prelude.{List, ◌++◌};
     ghost use Rattle.uda50_map.specs.declared.entry.MapEntry.{MapEntry};
-    ghost use Rattle.uda50_map.specs.Map.{AreForward};
+    ghost use Rattle.uda50_map.specs.Map.{AreConsecutive};
 
     ghost Value = { List MapEntry };
 
-    ghost view = { λ map. map.entries.items };
+    ghost view = { λ map. map.before.items ++ map.after.items };
 
-    ghost invariant = { λ map. AreForward map.entries.items };
+    ghost invariant = { λ map. AreConsecutive (map.before.items ++ map.after.items) };
 }
 
 impl BlockMap {
@@ -35,17 +39,18 @@ impl BlockMap {
     pub fn new(alloc: Global, blocks: Range<u32>) -> Result<BlockMap, AllocError>
         ensures untried { IfOk result (IsUntried blocks.start blocks.end) }
     {
-        let mut map = BlockMap {
-            alloc,
-            entries: Vec::new(alloc),
-        };
         let Range { start, end } = blocks;
-        map.entries.push(MapEntry {
+        let mut before = Vec::new(alloc);
+        before.push(MapEntry {
             start,
             end: end.max(start),
             status: BlockStatus::NonTried,
         })?;
-        Ok(map)
+        Ok(BlockMap {
+            alloc,
+            before,
+            after: VecDeque::new(alloc),
+        })
     }
 
     /// Gives blocks a status. Those that the map doesn't have are left out.
@@ -53,32 +58,45 @@ impl BlockMap {
         ensures set { OnOk result (IsSet blocks.start blocks.end status self.old self.new) }
         ensures unchanged { OnErr result (self.new ≡ self.old) }
     {
+        // A map without blocks keeps no entry.
+        if self.has_no_blocks() {
+            self.before.clear();
+            self.after.clear();
+            return Ok(());
+        }
+        // The entries that change are the last ones before the place, with those that touch the blocks.
+        divide(&mut self.before, &mut self.after, blocks.end)?;
+        let first = self
+            .before
+            .partition_point(|entry| entry.end < blocks.start);
         let mut entries = Vec::new(self.alloc);
-        for entry in self.entries.iter() {
+        for entry in self.before[first..].iter() {
             append_set(&mut entries, *entry, &blocks, status)?;
         }
-        self.entries = entries;
-        Ok(())
-    }
-
-    /// Returns the entries.
-    pub fn entries(&self) -> &[MapEntry]
-        ensures value { result.now ≡ self.now }
-    {
-        &self.entries
+        self.before.reserve(entries.len())?;
+        self.before.truncate(first);
+        self.before.append(&mut entries)
     }
 
     /// Returns whether the map has all of these blocks.
-    pub fn covers(&self, blocks: &Range<u32>) -> bool {
-        match self.entries.first() {
-            Some(first) => first.start <= blocks.start && blocks.end <= self.end(),
-            None => false,
-        }
+    pub fn covers(&self, blocks: &Range<u32>) -> bool
+        ensures all { result ≡ true → HasBlocks blocks.now.start blocks.now.end self.now }
+        ensures others { result ≡ false → blocks.now.start < blocks.now.end
+            → ¬ HasBlocks blocks.now.start blocks.now.end self.now }
+    {
+        let start = self.start();
+        let end = self.end();
+        !self.is_empty() && start <= blocks.start && blocks.end <= end
     }
 
-    /// Returns the block after the last one.
-    pub fn end(&self) -> u32 {
-        match self.entries.last() {
+    /// Returns the block after the last one, or 0 if there are no entries.
+    pub fn end(&self) -> u32
+        ensures value { result ≡ end_of self.now }
+    {
+        if let Some(entry) = self.after.back() {
+            return entry.end;
+        }
+        match self.before.last() {
             Some(entry) => entry.end,
             None => 0,
         }
@@ -89,14 +107,78 @@ impl BlockMap {
         ensures later { IfSome result (λ blocks. AreLater from blocks.start blocks.end) }
         ensures all_finished { IfNone result (IsFinishedFrom from self.now) }
     {
-        for entry in self.entries.iter() {
-            let rest = entry.from(from);
-            if !is_finished(&rest) {
-                return Some(rest.start..rest.end);
-            }
-        }
-        None
+        let near = self.before.partition_point(|entry| entry.end <= from);
+        let far = self.after.partition_point(|entry| entry.end <= from);
+        let mut rest = self.before[near..].iter().chain(self.after.range(far..));
+        let entry = rest.find(|entry| !is_finished(&entry.from(from)))?;
+        Some(entry.start.max(from)..entry.end)
     }
+
+    /// Returns the block after the last one that is finished, or 0 if none is.
+    pub fn finished_end(&self) -> u32
+        ensures none_later { IsUnfinishedFrom result self.now }
+        ensures finished { 0 < result → IsFinishedAt (result - 1) self.now }
+    {
+        if let Some(entry) = self.after.iter().rfind(|entry| has_finished(entry)) {
+            return entry.end;
+        }
+        match self.before.iter().rfind(|entry| has_finished(entry)) {
+            Some(entry) => entry.end,
+            None => 0,
+        }
+    }
+
+    // Returns the first block, or 0 if there are no entries.
+    fn start(&self) -> u32
+        ensures value { result ≡ start_of self.now }
+        ensures consecutive { AreConsecutive self.now }
+    {
+        match self.before.first().or(self.after.front()) {
+            Some(entry) => entry.start,
+            None => 0,
+        }
+    }
+
+    // Returns whether there are no entries.
+    fn is_empty(&self) -> bool
+        ensures value { IsTrue result ↔ (length self.now ≡ 0) }
+    {
+        self.before.is_empty() && self.after.is_empty()
+    }
+
+    // Returns whether there are no blocks.
+    fn has_no_blocks(&self) -> bool
+        ensures none { result ≡ true → (block : ℕ) → statuses_at self.now block ≡ [] }
+    {
+        self.end() <= self.start()
+    }
+}
+
+// Moves entries from one list to the other, so that those that start after a block are in the second one.
+fn divide(
+    before: &mut Vec<MapEntry>,
+    after: &mut VecDeque<MapEntry>,
+    block: u32,
+) -> Result<(), AllocError>
+    requires consecutive { AreConsecutive (before.old.items ++ after.old.items) }
+    ensures same { before.new.items ++ after.new.items ≡ before.old.items ++ after.old.items }
+    ensures after { OnOk result (All (λ entry. block < entry.start) after.new.items) }
+{
+    while let Some(last) = before.last() {
+        if last.start <= block {
+            break;
+        }
+        after.push_front(*last)?;
+        before.pop();
+    }
+    while let Some(next) = after.front() {
+        if block < next.start {
+            break;
+        }
+        before.push(*next)?;
+        after.pop_front();
+    }
+    Ok(())
 }
 
 // Returns whether all blocks of an entry are finished.
@@ -105,6 +187,15 @@ fn is_finished(entry: &MapEntry) -> bool
     ensures other { result ≡ false → entry.now.start < entry.now.end }
 {
     entry.status == BlockStatus::Finished || entry.is_empty()
+}
+
+// Returns whether an entry has blocks that are finished.
+fn has_finished(entry: &MapEntry) -> bool
+    ensures finished { result ≡ true → entry.now.status ≡ BlockStatus.Finished }
+    ensures some { result ≡ true → entry.now.start < entry.now.end }
+    ensures none { result ≡ false → (entry.now.status ≢ BlockStatus.Finished) ⊎ (entry.now.end ≤ entry.now.start) }
+{
+    entry.status == BlockStatus::Finished && !entry.is_empty()
 }
 
 // Adds an entry after the others, and gives these blocks of it a status.
@@ -117,25 +208,27 @@ fn append_set(
     requires forward { entry.start ≤ entry.end }
     requires all_forward { AreForward entries.old.items }
     ensures all_forward { AreForward entries.new.items }
+    ensures spans { OnOk result ((start : ℕ) → Spans start entry.start entries.old.items
+        → Spans start entry.end entries.new.items) }
     ensures set { OnOk result ((block : ℕ) → statuses_at entries.new.items block
         ≡ statuses_at entries.old.items block
         ++ (if is_within blocks.now.start blocks.now.end block then changed status (statuses_at (entry ∷ []) block)
         else statuses_at (entry ∷ []) block)) }
 {
-    let Range { start, end } = *blocks;
-    let inside = MapEntry {
-        status,
-        ..entry.from(start).before(end)
-    };
+    let start = blocks.start.clamp(entry.start, entry.end);
+    let end = blocks.end.clamp(start, entry.end);
     append(entries, entry.before(start))?;
-    append(entries, inside)?;
-    append(entries, entry.from(end.max(start)))
+    append(entries, MapEntry { start, end, status })?;
+    append(entries, entry.from(end))
 }
 
 // Adds an entry after the others. One that is empty is left out, and one with the status of the last is joined to it.
 fn append(entries: &mut Vec<MapEntry>, entry: MapEntry) -> Result<(), AllocError>
+    requires forward { entry.start ≤ entry.end }
     requires all_forward { AreForward entries.old.items }
     ensures all_forward { AreForward entries.new.items }
+    ensures spans { OnOk result ((start : ℕ) → Spans start entry.start entries.old.items
+        → Spans start entry.end entries.new.items) }
     ensures added { OnOk result ((block : ℕ) → statuses_at entries.new.items block
         ≡ statuses_at entries.old.items block ++ statuses_at (entry ∷ []) block) }
 {
@@ -163,7 +256,7 @@ impl fmt::Display for BlockMap {
         };
         writeln!(f, "0x{position:08X}     {status}               1")?;
         f.write_str("#      pos        size  status\n")?;
-        for entry in self.entries.iter() {
+        for entry in self.before.iter().chain(self.after.iter()) {
             writeln!(f, "{entry}")?;
         }
         Ok(())

@@ -46,7 +46,8 @@ IsFinishedAt block entries = Contains (statuses_at entries block) Finished
 
 -- a map of which no block is finished, from this one on
 abbrev pub IsUnfinishedFrom : ℕ → List MapEntry → Type 0
-IsUnfinishedFrom from entries = (block : ℕ) → from ≤ block → All (λ status. status ≢ Finished) (statuses_at entries block)
+IsUnfinishedFrom from entries =
+    (block : ℕ) → from ≤ block → All (λ status. status ≢ Finished) (statuses_at entries block)
 
 -- entries of which none ends before it starts
 abbrev pub AreForward : List MapEntry → Type 0
@@ -60,7 +61,8 @@ AreConsecutive entries =
 -- entries that follow each other, from this block up to that one
 abbrev pub Spans : ℕ → ℕ → List MapEntry → Type 0
 Spans start end [] = start ≡ end
-Spans start end (entry ∷ entries) = (start ≡ entry.start) × (entry.start ≤ entry.end) × Spans entry.end end entries
+Spans start end (entry ∷ entries) =
+    (start ≡ entry.start) × (entry.start ≤ entry.end) × Spans entry.end end entries
 
 -- the first block of entries that follow each other, or 0 if there are none
 abbrev pub start_of : List MapEntry → ℕ

@@ -12,7 +12,7 @@ use std::ops::Range;
 
 /// The status of each block of a range: entries that follow each other, in rising order.
 ///
-/// Contracts see the entries. A change costs little near the change before it, however many entries there are.
+/// Contracts see the entries. A change near the one before it costs little, however many entries there are.
 #[derive(Debug, Drop)]
 pub struct BlockMap {
     alloc: Global,
@@ -193,7 +193,8 @@ fn is_finished(entry: &MapEntry) -> bool
 fn has_finished(entry: &MapEntry) -> bool
     ensures finished { result ≡ true → entry.now.status ≡ BlockStatus.Finished }
     ensures some { result ≡ true → entry.now.start < entry.now.end }
-    ensures none { result ≡ false → (entry.now.status ≢ BlockStatus.Finished) ⊎ (entry.now.end ≤ entry.now.start) }
+    ensures none { result ≡ false → (entry.now.status ≢ BlockStatus.Finished)
+        ⊎ (entry.now.end ≤ entry.now.start) }
 {
     entry.status == BlockStatus::Finished && !entry.is_empty()
 }

@@ -1,8 +1,7 @@
 //! The blocks of a file that have data.
-ghost use Rattle.std.specs.Prelude.{◌<◌, ◌≤◌, max};
+ghost use Rattle.std.specs.Prelude.{◌≡◌, ◌<◌, ◌≤◌, max};
 
 use crate::ahead::{AHEAD_BYTES, ReadAhead};
-use std::alloc::{AllocError, Global};
 use std::fs::File;
 use std::ops::Range;
 
@@ -10,7 +9,7 @@ use std::ops::Range;
 const AHEAD: u32 = (AHEAD_BYTES / 512) as u32;
 
 /// The blocks that are compared with zeros at once: those of one transfer.
-const PIECE: u32 = 32;
+pub(crate) const PIECE: u32 = 32;
 
 /// The blocks of an image that have data. The others are zeros.
 #[derive(Drop)]
@@ -21,15 +20,15 @@ pub struct DataBlocks {
 // The way in which data is found.
 #[derive(Drop)]
 enum Search {
-    // All blocks are data.
-    All,
     // No block is data.
     None,
-    // The file is read.
-    Reading(Reading),
+    // All blocks that are read are data.
+    All(Reading),
+    // The blocks that are read are searched.
+    Searched(Reading),
 }
 
-// A file that is searched for data, the part of it that was read last, and the blocks of that part.
+// A file that is read, the part of it that was read last, and the blocks of that part.
 #[derive(Drop)]
 struct Reading {
     file: File,
@@ -38,13 +37,6 @@ struct Reading {
 }
 
 impl DataBlocks {
-    /// Makes the data of an image in which all blocks are taken for data.
-    pub fn all() -> DataBlocks {
-        DataBlocks {
-            search: Search::All,
-        }
-    }
-
     /// Makes the data of an image that has none.
     pub fn none() -> DataBlocks {
         DataBlocks {
@@ -53,13 +45,19 @@ impl DataBlocks {
     }
 
     /// Makes the data of a file, which is read to find it. The image of the file has another handle of what is read.
-    pub(crate) fn in_file(file: File, ahead: ReadAhead) -> DataBlocks {
+    pub(crate) fn searched(file: File, ahead: ReadAhead) -> DataBlocks {
+        let reading = Reading::new(file, ahead);
         DataBlocks {
-            search: Search::Reading(Reading {
-                file,
-                ahead,
-                part: 0..0,
-            }),
+            search: Search::Searched(reading),
+        }
+    }
+
+    /// Makes the data of a file in which all blocks are taken for data. The image of the file has another handle of what
+    /// is read.
+    pub(crate) fn all(file: File, ahead: ReadAhead) -> DataBlocks {
+        let reading = Reading::new(file, ahead);
+        DataBlocks {
+            search: Search::All(reading),
         }
     }
 
@@ -77,21 +75,49 @@ impl DataBlocks {
             return start..start;
         }
         match &mut self.search {
-            Search::All => start..end,
             Search::None => end..end,
-            Search::Reading(reading) => reading.next(start..end),
+            Search::All(reading) => start..reading.read_from(start, end),
+            Search::Searched(reading) => reading.next(start..end),
+        }
+    }
+
+    /// Returns the first of these blocks, all of which count as data. It is for blocks that the target has to get even
+    /// if they are zeros.
+    pub fn first(&mut self, blocks: Range<u32>) -> Range<u32>
+        ensures start { result.start ≡ blocks.start }
+        ensures within { result.end ≤ max blocks.start blocks.end }
+        ensures some { blocks.start < blocks.end → blocks.start < result.end }
+        ensures none { blocks.end ≤ blocks.start → result.end ≡ blocks.start }
+    {
+        let Range { start, end } = blocks;
+        match &mut self.search {
+            _ if start >= end => start..start,
+            Search::None => start..end,
+            Search::All(reading) | Search::Searched(reading) => {
+                start..reading.read_from(start, end)
+            }
         }
     }
 
     /// Ends the search. The image of the file reads all blocks from the file again.
     pub fn end(self) {
-        if let Search::Reading(reading) = &self.search {
-            reading.ahead.forget();
+        match &self.search {
+            Search::None => {}
+            Search::All(reading) | Search::Searched(reading) => reading.ahead.forget(),
         }
     }
 }
 
 impl Reading {
+    // Makes a file of which nothing was read.
+    fn new(file: File, ahead: ReadAhead) -> Reading {
+        Reading {
+            file,
+            ahead,
+            part: 0..0,
+        }
+    }
+
     // Returns the next of these blocks that have data, as far as they are read at once.
     fn next(&mut self, blocks: Range<u32>) -> Range<u32>
         requires some { blocks.start < blocks.end }
@@ -140,12 +166,12 @@ impl Reading {
     }
 }
 
-// Returns the offset of a block in bytes.
-fn byte_of(block: u32) -> u64 {
+/// Returns the offset of a block in bytes.
+pub(crate) fn byte_of(block: u32) -> u64 {
     512 * u64::from(block)
 }
 
-// Returns the number of bytes of that many blocks.
-fn bytes_in(count: u32) -> usize {
+/// Returns the number of bytes of that many blocks.
+pub(crate) fn bytes_in(count: u32) -> usize {
     512 * count as usize
 }

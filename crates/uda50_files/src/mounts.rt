@@ -1,29 +1,53 @@
 //! File systems, by their devices.
 
+use crate::devices::Device;
 use std::fs;
+use std::os::unix::fs::{FileTypeExt, MetadataExt};
+
+/// The file in which Linux lists what is mounted.
+const MOUNTS: &str = "/proc/self/mountinfo";
 
 /// The file systems that count the blocks of a file exactly, also of one that was just written.
 const EXACT: [&str; 5] = ["ext2", "ext3", "ext4", "xfs", "tmpfs"];
 
 /// Returns whether the file system of a device counts the blocks of a file exactly.
 pub(crate) fn counts_exactly(rt: &HostRuntime, device: u64) -> bool {
-    match fs::read_to_string(rt, "/proc/self/mountinfo") {
+    match fs::read_to_string(rt, MOUNTS) {
         Ok(mounts) => mounts
             .as_str()
             .lines()
-            .any(|line| is_exact_mount(line, device)),
+            .any(|line| is_on_device(line, device) && is_exact_type(line)),
         Err(_error) => false,
     }
 }
 
-// Returns whether a line of `mountinfo` is of this device, and of such a file system.
-fn is_exact_mount(line: &str, device: u64) -> bool {
-    let mut words = line.split(' ');
-    let is_device = match words.nth(2) {
-        Some(numbers) => device_of(numbers) == Some(device),
+/// Returns whether a file system of a block device is mounted.
+pub(crate) fn is_mounted(rt: &HostRuntime, device: u64) -> bool {
+    match fs::read_to_string(rt, MOUNTS) {
+        Ok(mounts) => mounts.as_str().lines().any(|line| is_on_device(line, device)
+            || is_of_source(rt, line, device)),
+        Err(_error) => false,
+    }
+}
+
+// Returns whether a line of `mountinfo` is of this device.
+fn is_on_device(line: &str, device: u64) -> bool {
+    match line.split(' ').nth(2) {
+        Some(numbers) => Device::parse(numbers) == Some(Device::of(device)),
         None => false,
+    }
+}
+
+// Returns whether a line of `mountinfo` has the path of this device. A file system that has several devices has a
+// device number of its own.
+fn is_of_source(rt: &HostRuntime, line: &str, device: u64) -> bool {
+    let Some((_, rest)) = line.split_once(" - ") else {
+        return false;
     };
-    is_device && is_exact_type(line)
+    match rest.split(' ').nth(1) {
+        Some(path) => is_path_of(rt, path, device),
+        None => false,
+    }
 }
 
 // Returns whether a line of `mountinfo` has such a file system. Its type follows a word that is a hyphen.
@@ -37,12 +61,11 @@ fn is_exact_type(line: &str) -> bool {
     }
 }
 
-// Returns the device of two numbers as `8:1`, as Linux packs them.
-fn device_of(numbers: &str) -> Option<u64> {
-    let (major, minor) = numbers.split_once(':')?;
-    let major: u32 = major.parse().ok()?;
-    let minor: u32 = minor.parse().ok()?;
-    let (major, minor) = (u64::from(major), u64::from(minor));
-    let low = (minor & 0xFF) | ((major & 0xFFF) << 8);
-    Some(low | ((minor & 0xFFFF_FF00) << 12) | ((major & 0xFFFF_F000) << 32))
+/// Returns whether a path is that of a block device.
+pub(crate) fn is_path_of(rt: &HostRuntime, path: &str, device: u64) -> bool {
+    match fs::metadata(rt, path) {
+        _ if !path.starts_with("/dev/") => false,
+        Ok(metadata) => metadata.file_type().is_block_device() && metadata.rdev() == device,
+        Err(_error) => false,
+    }
 }

@@ -1,5 +1,5 @@
 //! Files that note their failures.
-ghost use Rattle.std.specs.Prelude.{None};
+ghost use Rattle.std.specs.Prelude.{◌≡◌, None, length};
 
 use crate::ahead::ReadAhead;
 use crate::failures::{Failure, Failures};
@@ -9,8 +9,8 @@ use std::os::unix::fs::FileExt;
 use uda_image::{RawFile, StoreError};
 
 /// A file that notes which calls on it failed, and why. It doesn't note a call of several blocks that failed, since
-/// calls of its single blocks follow. What was read ahead is taken
-/// from there.
+/// calls of its single blocks follow. What was read ahead is taken from there. A block that failed
+/// there fails with the same error, and the system isn't asked again.
 #[derive(Drop)]
 pub struct NotingFile {
     file: File,
@@ -37,11 +37,13 @@ impl NotingFile {
         }
     }
 
-    // Copies bytes that were read ahead. Returns whether all of them were.
-    fn copy_ahead(&self, to: &mut [u8], offset: u64) -> bool {
+    // Copies bytes of the part that is read ahead. Returns `None` if not all of them are in it.
+    fn copy_ahead(&self, to: &mut [u8], offset: u64) -> Option<io::Result<()>>
+        ensures long { length to.new ≡ length to.old }
+    {
         match &self.ahead {
-            Some(ahead) => ahead.copy_to(to, offset),
-            None => false,
+            Some(ahead) => ahead.copy_to(&self.file, to, offset),
+            None => None,
         }
     }
 
@@ -62,14 +64,11 @@ impl RawFile for NotingFile {
     ghost content = { λ _. None };
 
     fn read_exact(&mut self, to: &mut [u8], offset: u64) -> io::Result<()> {
-        if self.copy_ahead(to, offset) {
-            return Ok(());
-        }
-        self.noted(
-            offset,
-            StoreError::Read,
-            self.file.read_exact_at(to, offset),
-        )
+        let done = match self.copy_ahead(to, offset) {
+            Some(done) => done,
+            None => self.file.read_exact_at(to, offset),
+        };
+        self.noted(offset, StoreError::Read, done)
     }
 
     fn write_all(&mut self, from: &[u8], offset: u64) -> io::Result<()> {
@@ -82,10 +81,11 @@ impl RawFile for NotingFile {
     }
 
     fn read_once(&mut self, to: &mut [u8], offset: u64) -> io::Result<usize> {
-        if self.copy_ahead(to, offset) {
-            return Ok(to.len());
+        match self.copy_ahead(to, offset) {
+            Some(Ok(())) => Ok(to.len()),
+            Some(Err(error)) => Err(error),
+            None => self.file.read_at(to, offset),
         }
-        self.file.read_at(to, offset)
     }
 
     fn write_once(&mut self, from: &[u8], offset: u64) -> io::Result<usize> {

@@ -1,16 +1,19 @@
 //! Opening of files as images.
-ghost use Rattle.std.specs.Prelude.{◌≤◌};
+ghost use Rattle.std.specs.Prelude.{◌≡◌, ◌+◌, ◌*◌, ◌<◌, ◌≤◌, ◌⊎◌, true, min, IfOk, OnOk, OnErr};
 ghost use Rattle.uda_image.specs.Limits.{store_limit};
 
 use crate::ahead::ReadAhead;
 use crate::data::DataBlocks;
+use crate::devices::is_in_use;
 use crate::failures::Failures;
 use crate::mounts::counts_exactly;
 use crate::noting::NotingFile;
 use crate::sparse::SparseFile;
+use crate::target_zeros::TargetZeros;
 use std::alloc::AllocError;
 use std::fs::{File, Metadata, OpenFile, OpenOptions, TryLockError};
 use std::io::{Seek, SeekFrom};
+use std::marker::Model;
 use std::os::unix::fs::{FileTypeExt, MetadataExt};
 use std::{fs, io};
 use thiserror::Error;
@@ -37,6 +40,9 @@ pub enum OpenError {
     /// Somebody else holds the file's lock.
     #[error("in use")]
     InUse,
+    /// It is a block device that is mounted, or that the system uses in another way.
+    #[error("mounted or in use by the system")]
+    Mounted,
     /// Its length in bytes is not a multiple of 512.
     #[error("a length of {0} bytes")]
     Length(u64),
@@ -124,26 +130,31 @@ impl OpenImageFile {
     }
 
     /// Makes an image of the file, which is only read and notes its failures here, and finds its data. The image
-    /// takes what was read to find data.
+    /// takes what was read to find data. Unless it is to `search`, all blocks count as data, holes too.
     pub fn into_searched_image(
         self,
         rt: &HostRuntime,
         failures: &Failures,
+        search: bool,
     ) -> io::Result<SearchedImage> {
         let OpenImageFile { file, blocks, .. } = self;
         let failures = failures.share()?;
-        if is_one_hole(rt, &file.metadata()?) {
+        let metadata = file.metadata()?;
+        if search && is_one_hole(rt, &metadata) {
             return Ok(SearchedImage {
                 image: image_over(NotingFile::new(file, failures), blocks, false),
                 data: DataBlocks::none(),
             });
         }
         let ahead = ReadAhead::empty(rt.alloc())?;
-        let searched = file.try_clone()?;
+        let read = file.try_clone()?;
         let file = NotingFile::with_ahead(file, failures, ahead.share()?);
         Ok(SearchedImage {
             image: image_over(file, blocks, false),
-            data: DataBlocks::in_file(searched, ahead),
+            data: match search {
+                true => DataBlocks::searched(read, ahead),
+                false => DataBlocks::all(read, ahead),
+            },
         })
     }
 }
@@ -170,15 +181,28 @@ fn image_over(file: NotingFile, blocks: u32, writes: bool) -> Image {
 }
 
 /// A file that becomes an image, of any length, with its lock.
+///
+/// Contracts see its length, and the offset from which on it has only zeros that were added.
 #[derive(Drop)]
 pub struct TargetFile {
     file: File,
     bytes: u64,
+    zeros_from: u64,
+}
+
+impl Model for TargetFile {
+    ghost use Rattle.uda50_files.specs.Target.{TargetState};
+
+    ghost Value = { TargetState };
+
+    ghost view = { λ target. record { bytes = target.bytes; zeros_from = target.zeros_from } };
 }
 
 impl TargetFile {
     /// Makes a file. Fails if it exists already.
-    pub fn create(rt: &HostRuntime, path: &str) -> Result<TargetFile, OpenError> {
+    pub fn create(rt: &HostRuntime, path: &str) -> Result<TargetFile, OpenError>
+        ensures empty { IfOk result (λ target. target ≡ record { bytes = 0; zeros_from = 0 }) }
+    {
         let file = OpenOptions::new()
             .read(true)
             .write(true)
@@ -187,10 +211,16 @@ impl TargetFile {
         TargetFile::locked(file, 0)
     }
 
-    /// Opens an existing file.
-    pub fn open(rt: &HostRuntime, path: &str, access: Access) -> Result<TargetFile, OpenError> {
-        if !access.permits(&fs::metadata(rt, path)?) {
+    /// Opens an existing file. A block device may not be mounted or in use by the system, nor may a part of it.
+    pub fn open(rt: &HostRuntime, path: &str, access: Access) -> Result<TargetFile, OpenError>
+        ensures no_zeros_added { IfOk result (λ target. target.zeros_from ≡ target.bytes) }
+    {
+        let metadata = fs::metadata(rt, path)?;
+        if !access.permits(&metadata) {
             return Err(OpenError::NotPlain);
+        }
+        if metadata.file_type().is_block_device() && is_in_use(rt, metadata.rdev())? {
+            return Err(OpenError::Mounted);
         }
         let file = OpenOptions::new().read(true).write(true).open(rt, path)?;
         let metadata = file.metadata()?;
@@ -202,27 +232,65 @@ impl TargetFile {
     }
 
     // Takes the lock of a file of that many bytes.
-    fn locked(file: File, bytes: u64) -> Result<TargetFile, OpenError> {
+    fn locked(file: File, bytes: u64) -> Result<TargetFile, OpenError>
+        ensures target { IfOk result (λ target. target ≡ record { bytes = bytes; zeros_from = bytes }) }
+    {
         if is_locked(&file, true) {
             return Err(OpenError::InUse);
         }
-        Ok(TargetFile { file, bytes })
+        Ok(TargetFile {
+            file,
+            bytes,
+            zeros_from: bytes,
+        })
     }
 
     /// Removes all bytes of the file.
-    pub fn empty(&mut self) -> io::Result<()> {
-        self.file.set_len(0)?;
-        self.bytes = 0;
+    pub fn empty(&mut self) -> io::Result<()>
+        ensures empty { OnOk result (self.new ≡ record { bytes = 0; zeros_from = 0 }) }
+        ensures unchanged { OnErr result (self.new ≡ self.old) }
+    {
+        self.set_blocks(0)
+    }
+
+    /// Gives the file that many blocks. If it becomes longer, what is added are zeros, in a hole.
+    pub fn set_blocks(&mut self, blocks: u32) -> io::Result<()>
+        ensures bytes { OnOk result (self.new.bytes ≡ 512 * blocks) }
+        ensures zeros_added { OnOk result (self.new.zeros_from ≡ min self.old.zeros_from (512 * blocks)) }
+        ensures unchanged { OnErr result (self.new ≡ self.old) }
+    {
+        let bytes = 512 * u64::from(blocks);
+        self.file.set_len(bytes)?;
+        self.bytes = bytes;
+        self.zeros_from = self.zeros_from.min(bytes);
         Ok(())
     }
 
+    /// Returns the length in bytes.
+    pub fn bytes(&self) -> u64
+        ensures bytes { result ≡ self.now.bytes }
+    {
+        self.bytes
+    }
+
+    /// Returns the zeros that the file holds.
+    pub fn zeros(&self, rt: &HostRuntime) -> io::Result<TargetZeros> {
+        let ahead = ReadAhead::empty(rt.alloc())?;
+        Ok(TargetZeros::new(self.file.try_clone()?, ahead, self.blocks_begun()))
+    }
+
     /// Returns the number of blocks that the file has in part or as a whole.
-    pub fn blocks_begun(&self) -> u32 {
-        u32::try_from(self.bytes.div_ceil(512)).unwrap_or(u32::MAX)
+    pub fn blocks_begun(&self) -> u32
+        ensures begun { 512 * result < self.now.bytes + 512 }
+        ensures all { (result ≡ 4294967295) ⊎ (self.now.bytes ≤ 512 * result) }
+    {
+        blocks_begun(self.bytes)
     }
 
     /// Returns the number of blocks, if there is no part of one.
-    pub fn whole_blocks(&self) -> Result<u32, OpenError> {
+    pub fn whole_blocks(&self) -> Result<u32, OpenError>
+        ensures whole { IfOk result (λ blocks. 512 * blocks ≡ self.now.bytes) }
+    {
         blocks_in(self.bytes)
     }
 
@@ -232,14 +300,18 @@ impl TargetFile {
     }
 
     /// Makes an image of that many blocks, which notes its failures here. The file may become longer when blocks
-    /// are written. If it is `sparse`, blocks of zeros aren't written past the end that it has now.
+    /// are written. If it is `sparse`, blocks of zeros aren't written past the end that it has now. If
+    /// [`TargetFile::set_blocks`] made it longer, they aren't written past the end that it had before.
     pub fn into_image(
         self,
         blocks: u32,
         sparse: bool,
         failures: &Failures,
-    ) -> Result<Image, AllocError> {
-        let zeros_from = 512 * u64::from(self.blocks_begun());
+    ) -> Result<Image, AllocError>
+        ensures size { IfOk result (λ image. image.size ≡ min blocks store_limit) }
+        ensures writable { IfOk result (λ image. image.writable ≡ true) }
+    {
+        let zeros_from = 512 * u64::from(blocks_begun(self.zeros_from));
         let length = 512 * u64::from(blocks);
         let noting = NotingFile::new(self.file, failures.share()?);
         let file = if sparse {
@@ -270,8 +342,19 @@ fn length(file: &File, metadata: &Metadata) -> io::Result<u64> {
     at.seek(SeekFrom::End(0))
 }
 
+// Returns the number of blocks that these bytes have in part or as a whole.
+fn blocks_begun(bytes: u64) -> u32
+    ensures begun { 512 * result < bytes + 512 }
+    ensures all { (result ≡ 4294967295) ⊎ (bytes ≤ 512 * result) }
+{
+    u32::try_from(bytes.div_ceil(512)).unwrap_or(u32::MAX)
+}
+
 // Returns the number of blocks in that many bytes.
-fn blocks_in(bytes: u64) -> Result<u32, OpenError> {
+fn blocks_in(bytes: u64) -> Result<u32, OpenError>
+    ensures whole { IfOk result (λ blocks. 512 * blocks ≡ bytes) }
+    ensures within_limit { IfOk result (λ blocks. blocks ≤ store_limit) }
+{
     if bytes % 512 != 0 {
         return Err(OpenError::Length(bytes));
     }

@@ -8,7 +8,7 @@ use std::marker::Model;
 use uda_image::RawFile;
 
 /// The number of bytes of which all are looked at before the next, so that a processor looks at many at once.
-const CHUNK: usize = 512;
+const CHUNK: usize = 2048;
 
 /// A file in which zeros aren't written where it holds zeros already. So a new file has a hole there.
 ///

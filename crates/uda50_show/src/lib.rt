@@ -32,7 +32,7 @@ pub use home_block::{HomeBlock, VolumeFormat};
 pub use name::{EscapedBytes, EscapedName, is_control};
 pub use number::{Counted, Grouped};
 pub use packet::{PACKET_TEXT, Packet};
-pub use reached::Reached;
+pub use reached::{Reached, Taken};
 pub use reader::{PacketReader, TokenError};
 pub use row::{HexRow, OctalRow};
 pub use squeeze::{LeftOutBlocks, PrintedBlock, RowForm, Squeeze};

@@ -5,6 +5,7 @@ use crate::image::NamedImage;
 use std::fs;
 use std::fs::{File, OpenFile};
 use std::os::unix::fs::{FileExt, FileTypeExt};
+use uda50_arguments::Copy;
 use uda50_show::{ContainerRecord, ForeignFormat};
 
 /// Returns the record in the last block of an image. A block that can't be read has none.
@@ -71,4 +72,21 @@ fn record_before(rt: &HostRuntime, path: &str, end: u64) -> Option<ContainerReco
     let mut block = [0; 512];
     file.read_exact_at(&mut block, start).ok()?;
     ContainerRecord::read(&block)
+}
+
+/// Returns the number of blocks of a source of that many blocks that belong to its volume. With `--without-record` these
+/// are the blocks before the record, which is the last one.
+pub(crate) fn volume_blocks<'w>(
+    rt: &HostRuntime,
+    copy: &Copy<'w>,
+    blocks: u32,
+) -> Result<u32, Fault<'w>> {
+    if !copy.without_record {
+        return Ok(blocks);
+    }
+    let path = copy.from.path;
+    match record_before(rt, path, 512 * u64::from(blocks)) {
+        Some(_record) => Ok(blocks.saturating_sub(1)),
+        None => Err(Fault::new(path, Reason::NoRecord)),
+    }
 }

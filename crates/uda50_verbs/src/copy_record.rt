@@ -3,57 +3,53 @@ ghost use Rattle.std.specs.Prelude.{IfSome};
 ghost use Rattle.uda50_map.specs.Status.{AreLater};
 
 use crate::fault::Fault;
-use crate::map_file::{SavedMap, Saving};
 use crate::outcome::Outcome;
 use crate::progress::CopyProgress;
-use std::cell::Cell;
+use crate::target::CopyTarget;
 use std::mem;
 use std::ops::Range;
+use std::time::{Duration, Instant};
 use uda50_copy::Observer;
-use uda50_map::BlockStatus;
+use uda50_map::{BlockMap, BlockStatus};
 
-/// The number of blocks after which a map is saved. With those of the run that reaches it, at most 32,768 blocks
-/// aren't saved.
-const SAVED_BLOCKS: u32 = 30_720;
-
-/// The number of blocks after which it is saved, if some of them are lost: those of the longest run.
-const SAVED_WITH_LOST: u32 = 2_048;
+/// The least time between two saves of a map, in seconds. Before each save the target is synced.
+const SAVE_SECONDS: u64 = 10;
 
 /// What a copy has done: the map of its blocks, which it saves in a file, and the lines of its progress.
 #[derive(Drop)]
 pub(crate) struct CopyRecord<'r, 'w> {
     rt: &'r HostRuntime,
     progress: CopyProgress<'r, 'w>,
-    saved: SavedMap<'w>,
-    // The number of blocks that were copied.
-    copied: &'r Cell<u32>,
+    target: &'r CopyTarget<'r, 'w>,
+    map: BlockMap,
     // The current run: its first block, and its lost blocks.
     from: u32,
     lost: Vec<u32>,
-    // The number of blocks that the copy has done since the map was saved, and whether some of them are lost.
-    unsaved: u32,
-    has_lost: bool,
+    // The time of the last save, or of the start. `None` if the system has no clock.
+    saved: Option<Instant>,
+    // Whether the map is saved.
+    is_saved: bool,
     // What kept the record from noting a run.
     failed: Result<(), Fault<'w>>,
 }
 
 impl<'r, 'w> CopyRecord<'r, 'w> {
-    /// Makes the record of a copy that has done nothing. It counts the copied blocks.
+    /// Makes the record of a copy to a target, with its map. It counts the copied blocks there.
     pub(crate) fn new(
         rt: &'r HostRuntime,
         progress: CopyProgress<'r, 'w>,
-        saved: SavedMap<'w>,
-        copied: &'r Cell<u32>,
+        target: &'r CopyTarget<'r, 'w>,
+        map: BlockMap,
     ) -> Self {
         CopyRecord {
             rt,
             progress,
-            saved,
-            copied,
+            target,
+            map,
             from: 0,
             lost: Vec::new(rt.alloc()),
-            unsaved: 0,
-            has_lost: false,
+            saved: Instant::now(rt).ok(),
+            is_saved: target.saves_maps(),
             failed: Ok(()),
         }
     }
@@ -62,7 +58,7 @@ impl<'r, 'w> CopyRecord<'r, 'w> {
     pub(crate) fn next(&self, from: u32) -> Option<Range<u32>>
         ensures later { IfSome result (λ blocks. AreLater from blocks.start blocks.end) }
     {
-        self.saved.map.next_unfinished(from)
+        self.map.next_unfinished(from)
     }
 
     /// Notes that these blocks are zeros in both images, and that the copy goes on after them.
@@ -83,28 +79,35 @@ impl<'r, 'w> CopyRecord<'r, 'w> {
     }
 
     /// Ends the progress.
-    pub(crate) fn end(self) -> Result<EndedRecord<'w>, Fault<'w>> {
+    pub(crate) fn end(self) -> Result<EndedRecord<'r, 'w>, Fault<'w>> {
         let CopyRecord {
+            rt,
             progress,
-            saved,
+            target,
+            map,
             failed,
             ..
         } = self;
         let lost = progress.end();
         failed?;
-        Ok(EndedRecord { saved, lost })
+        Ok(EndedRecord {
+            rt,
+            target,
+            map,
+            lost,
+        })
     }
 
     // Notes the blocks of a run.
     fn note_run(&mut self, end: u32) -> Result<(), Fault<'w>> {
         let blocks = end.saturating_sub(self.from);
-        self.copied.set(self.copied.get().saturating_add(blocks));
+        let copied = &self.target.copied;
+        copied.set(copied.get().saturating_add(blocks));
         self.finish(end)?;
         let lost = mem::replace(&mut self.lost, Vec::new(self.rt.alloc()));
-        self.has_lost |= !lost.is_empty();
+        self.is_saved |= !lost.is_empty();
         for block in lost.iter() {
-            self.saved
-                .map
+            self.map
                 .set(*block..block.saturating_add(1), BlockStatus::Bad)?;
         }
         self.save_if_due()
@@ -112,28 +115,43 @@ impl<'r, 'w> CopyRecord<'r, 'w> {
 
     // Notes that the blocks up to `end` are done.
     fn finish(&mut self, end: u32) -> Result<(), Fault<'w>> {
-        let blocks = end.saturating_sub(self.from);
-        self.saved.map.set(self.from..end, BlockStatus::Finished)?;
-        self.unsaved = self.unsaved.saturating_add(blocks);
+        self.map.set(self.from..end, BlockStatus::Finished)?;
         self.from = end;
         Ok(())
     }
 
+    /// Saves the map of a copy that ends early, if that can be resumed. A fault of the map is none of the copy.
+    pub(crate) fn save_rest(&self) {
+        if self.is_saved && self.target.is_resumable() {
+            let _ = self.save();
+        }
+    }
+
     // Saves the map if it is time.
     fn save_if_due(&mut self) -> Result<(), Fault<'w>> {
-        let is_due = match self.saved.saving {
-            Saving::Never => false,
-            Saving::IfLost => self.has_lost,
-            Saving::Regularly if self.has_lost => self.unsaved >= SAVED_WITH_LOST,
-            Saving::Regularly => self.unsaved >= SAVED_BLOCKS,
-        };
-        if is_due {
-            self.unsaved = 0;
-            self.has_lost = false;
-            let SavedMap { map, file, .. } = &self.saved;
-            file.save(self.rt, map)?;
+        if self.is_saved && self.is_due() {
+            self.save()?;
+            self.saved = Instant::now(self.rt).ok();
         }
         Ok(())
+    }
+
+    // Saves the map. What it claims is on the disk before.
+    fn save(&self) -> Result<(), Fault<'w>> {
+        self.target.sync(self.map.finished_end())?;
+        self.target.sync_name()?;
+        self.target.map().save(self.rt, &self.map)
+    }
+
+    // Returns whether the time of the next save has come.
+    fn is_due(&self) -> bool {
+        let Some(saved) = &self.saved else {
+            return true;
+        };
+        match saved.elapsed(self.rt) {
+            Ok(elapsed) => elapsed >= Duration::from_secs(SAVE_SECONDS),
+            Err(_error) => true,
+        }
     }
 
     // Keeps the first thing that kept the record from noting a run.
@@ -163,19 +181,21 @@ impl Observer for CopyRecord<'_, '_> {
 
 /// The record of a copy whose blocks were copied, or lost.
 #[derive(Drop)]
-pub(crate) struct EndedRecord<'w> {
-    saved: SavedMap<'w>,
+pub(crate) struct EndedRecord<'r, 'w> {
+    rt: &'r HostRuntime,
+    target: &'r CopyTarget<'r, 'w>,
+    map: BlockMap,
     lost: u32,
 }
 
-impl<'w> EndedRecord<'w> {
-    /// Saves the map for later, if blocks were lost or if it is wanted. Removes that of the incomplete copy.
-    pub(crate) fn save(&self, rt: &HostRuntime, wanted: bool) -> Result<(), Fault<'w>> {
-        let SavedMap { map, file, .. } = &self.saved;
+impl<'r, 'w> EndedRecord<'r, 'w> {
+    /// Saves the map of a target that is synced, if blocks were lost or if it is wanted.
+    pub(crate) fn save(&self, wanted: bool) -> Result<(), Fault<'w>> {
         if self.lost > 0 || wanted {
-            file.finish(rt, map)?;
+            self.target.sync_name()?;
+            self.target.map().finish(self.rt, &self.map)?;
         }
-        file.remove(rt)
+        Ok(())
     }
 
     /// Returns the outcome of the copy.

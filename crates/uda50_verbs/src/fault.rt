@@ -54,6 +54,8 @@ pub enum CopyOption {
     Resume,
     /// `--map`
     Map,
+    /// `--without-record`
+    WithoutRecord,
 }
 
 impl fmt::Display for CopyOption {
@@ -63,6 +65,7 @@ impl fmt::Display for CopyOption {
             CopyOption::Verify => "--verify",
             CopyOption::Resume => "--resume",
             CopyOption::Map => "--map",
+            CopyOption::WithoutRecord => "--without-record",
         })
     }
 }
@@ -96,6 +99,12 @@ pub enum Suffix {
     Map,
     /// The file is the map of an incomplete copy.
     PartMap,
+    /// A map that was named is written to the file first.
+    New,
+    /// The map of a copy is written to the file first.
+    MapNew,
+    /// The map of an incomplete copy is written to the file first.
+    PartMapNew,
 }
 
 impl Suffix {
@@ -106,6 +115,18 @@ impl Suffix {
             Suffix::Part => ".part",
             Suffix::Map => ".map",
             Suffix::PartMap => ".part.map",
+            Suffix::New => ".new",
+            Suffix::MapNew => ".map.new",
+            Suffix::PartMapNew => ".part.map.new",
+        }
+    }
+
+    /// Returns the suffix of the file to which a map with this one is written first.
+    pub fn of_new(self) -> Suffix {
+        match self {
+            Suffix::Map | Suffix::MapNew => Suffix::MapNew,
+            Suffix::PartMap | Suffix::PartMapNew => Suffix::PartMapNew,
+            Suffix::None | Suffix::Part | Suffix::New => Suffix::New,
         }
     }
 }
@@ -163,6 +184,9 @@ pub enum Reason {
     /// Another process or unit holds the file's lock.
     #[error("in use by another process")]
     InUse,
+    /// The device to write is mounted, or in use in another way.
+    #[error("is mounted or in use by the system")]
+    Mounted,
     /// The length is not a multiple of 512.
     #[error("{} is not a multiple of 512{}", Counted::bytes(*.0), length_guess(*.0))]
     Length(u64),
@@ -231,9 +255,44 @@ pub enum Reason {
     /// A copy that ended early left this file.
     #[error("exists already; --resume goes on with it, --force begins anew")]
     PartExists,
+    /// A copy that ended early, and can't be resumed, left this file.
+    #[error("exists already; --force begins anew")]
+    PartWithoutMap,
     /// There is no copy to go on with.
     #[error("no copy to resume: there is no map of one")]
     NothingToResume,
+    /// There is the map of a copy, and not its target.
+    #[error("no copy to resume: there is only a map of one")]
+    OnlyMap,
+    /// The target of a copy is as it was before that.
+    #[error("no copy to resume: the last one ended before it wrote anything")]
+    NotBegun,
+    /// The incomplete copy has fewer blocks than its map says.
+    #[error("has only {} of the {} bytes that its map says are copied", Grouped(*.bytes), Grouped(512 * u64::from(*.blocks)))]
+    ShorterThanMap {
+        /// The length.
+        bytes: u64,
+        /// The number of blocks up to the last one that is finished by the map.
+        blocks: u32,
+    },
+    /// The source of a copy became shorter.
+    #[error("ended before block {0}; it was longer when the copy began")]
+    SourceEnded(u32),
+    /// A name that is made from the target's is that of a link.
+    #[error("is a link, which a copy doesn't follow")]
+    Link,
+    /// The target is a link, and there is no file.
+    #[error("is a link to a file that doesn't exist")]
+    LinkToNowhere,
+    /// Links lead to each other.
+    #[error("is a link that leads to no file")]
+    LinksInCircle,
+    /// The target has no name.
+    #[error("has an empty name")]
+    EmptyName,
+    /// No program put a record after the blocks of the source.
+    #[error("has no record after its blocks")]
+    NoRecord,
     /// A map of blocks can't be read.
     #[error("{0}")]
     Map(MapError),

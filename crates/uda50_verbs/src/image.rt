@@ -92,6 +92,7 @@ pub(crate) fn reason(error: OpenError) -> Reason {
         OpenError::System(error) => Reason::of(error),
         OpenError::NotPlain => Reason::NotPlain,
         OpenError::InUse => Reason::InUse,
+        OpenError::Mounted => Reason::Mounted,
         OpenError::Length(bytes) => Reason::Length(bytes),
         OpenError::TooLarge(blocks) => Reason::TooLarge(blocks),
     }

@@ -4,7 +4,7 @@ use std::io::IsTerminal;
 use std::ops::Range;
 use std::time::Instant;
 use uda50_copy::Observer;
-use uda50_show::{EscapedName, Reached};
+use uda50_show::{EscapedName, Reached, Taken};
 
 /// The least time between two lines of progress, in milliseconds.
 const INTERVAL: u64 = 200;
@@ -30,21 +30,78 @@ struct ProgressLine {
     next: u64,
 }
 
-impl<'r, 'w> CopyProgress<'r, 'w> {
-    /// Starts the progress of these blocks of a file.
-    pub(crate) fn start(rt: &'r HostRuntime, name: &'w str, blocks: Range<u32>) -> Self {
-        let line = match Instant::now(rt) {
+impl ProgressLine {
+    // Starts the line, if standard error is a terminal.
+    fn start(rt: &HostRuntime) -> Option<ProgressLine> {
+        match Instant::now(rt) {
             Ok(start) if rt.stderr().is_terminal() => Some(ProgressLine {
                 start,
                 next: INTERVAL,
             }),
             _ => None,
-        };
+        }
+    }
+
+    // Returns the milliseconds since the start, if it is time for the next line.
+    fn due(&mut self, rt: &HostRuntime) -> Option<u64> {
+        let elapsed = self.start.elapsed(rt).ok()?;
+        let elapsed = u64::try_from(elapsed.as_millis()).unwrap_or(u64::MAX);
+        if elapsed < self.next {
+            return None;
+        }
+        self.next = elapsed.saturating_add(INTERVAL);
+        Some(elapsed)
+    }
+}
+
+/// Prints the word for a sync, which may take long, if standard error is a terminal.
+pub(crate) fn print_syncing(rt: &HostRuntime) {
+    if rt.stderr().is_terminal() {
+        let _ = eprint!(rt; "{CLEAR}syncing");
+    }
+}
+
+/// Clears the line of progress, if standard error is a terminal.
+pub(crate) fn clear_line(rt: &HostRuntime) {
+    if rt.stderr().is_terminal() {
+        let _ = eprint!(rt; "{CLEAR}");
+    }
+}
+
+/// Prints the progress of a copy whose source is a stream, if standard error is a terminal.
+#[derive(Drop)]
+pub(crate) struct StreamProgress<'r> {
+    rt: &'r HostRuntime,
+    line: Option<ProgressLine>,
+}
+
+impl<'r> StreamProgress<'r> {
+    /// Starts the progress.
+    pub(crate) fn start(rt: &'r HostRuntime) -> StreamProgress<'r> {
+        StreamProgress {
+            rt,
+            line: ProgressLine::start(rt),
+        }
+    }
+
+    /// Prints the line of progress after that many blocks, if it is time.
+    pub(crate) fn reached(&mut self, blocks: u32) {
+        if let Some(line) = &mut self.line {
+            if let Some(elapsed) = line.due(self.rt) {
+                let _ = eprint!(self.rt; "{CLEAR}{}", Taken { blocks, elapsed });
+            }
+        }
+    }
+}
+
+impl<'r, 'w> CopyProgress<'r, 'w> {
+    /// Starts the progress of these blocks of a file.
+    pub(crate) fn start(rt: &'r HostRuntime, name: &'w str, blocks: Range<u32>) -> Self {
         CopyProgress {
             rt,
             name,
             blocks,
-            line,
+            line: ProgressLine::start(rt),
             run: 0..0,
             lost: 0,
         }
@@ -83,18 +140,10 @@ impl<'r, 'w> CopyProgress<'r, 'w> {
 
 impl Observer for CopyProgress<'_, '_> {
     fn reached(&mut self, end: u32) {
-        let Some(line) = self.line else {
+        let Some(line) = &mut self.line else {
             return;
         };
-        let Ok(elapsed) = line.start.elapsed(self.rt) else {
-            return;
-        };
-        let elapsed = u64::try_from(elapsed.as_millis()).unwrap_or(u64::MAX);
-        if elapsed >= line.next {
-            self.line = Some(ProgressLine {
-                next: elapsed.saturating_add(INTERVAL),
-                ..line
-            });
+        if let Some(elapsed) = line.due(self.rt) {
             let done = end.saturating_sub(self.blocks.start);
             let all = self.blocks.end.saturating_sub(self.blocks.start);
             let _ = eprint!(self.rt; "{CLEAR}{}", Reached { done, all, elapsed });

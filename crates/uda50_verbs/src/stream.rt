@@ -1,13 +1,13 @@
 //! Copies from a stream to an image, and from an image to standard output. They don't go through the controller.
 ghost use Rattle.std.specs.Prelude.{◌≤◌};
 
+use crate::container::volume_blocks;
 use crate::copy::blocks_to_copy;
 use crate::fault::{CopyOption, Fault, Reason, STANDARD_INPUT, STANDARD_OUTPUT, StreamLength};
 use crate::image::{NamedImage, block_fault};
-use crate::map_file::MapFile;
 use crate::outcome::Outcome;
-use crate::progress::CopyProgress;
-use crate::target::{PartName, Plan};
+use crate::progress::{CopyProgress, StreamProgress, clear_line, print_syncing};
+use crate::target::{BegunCopy, CheckedTarget, CopyTarget, Resumption};
 use std::fs::{File, OpenFile};
 use std::io::{BufWriter, ErrorKind, IsTerminal, Read, Write};
 use std::ops::Range;
@@ -48,6 +48,10 @@ pub(crate) fn copy_from_stream<'w>(
         let option = Reason::NeedsImages(CopyOption::Continue);
         return Err(Fault::new(name, option));
     }
+    if copy.without_record {
+        let option = Reason::NeedsImages(CopyOption::WithoutRecord);
+        return Err(Fault::new(name, option));
+    }
     check_options(copy, name)?;
     if copy.from.is_stream() {
         return take_stream(rt, copy, name, rt.stdin());
@@ -85,57 +89,53 @@ fn take_stream<'w, R: Read + Drop>(
     name: &'w str,
     stream: R,
 ) -> Result<Outcome, Fault<'w>> {
-    let plan = Plan::of(rt, copy)?;
     let end = match copy.blocks {
         Some(range) => range.end,
         None => 0,
     };
-    let target = plan.open(rt, copy, end)?;
-    let file = Fault::of_call(copy.to.path, target.handle())?;
-    let part = PartName::of(copy, plan);
-    MapFile::of(copy, plan).remove(rt)?;
-    if plan == Plan::Overwrite {
-        part.take(rt)?;
-    }
-    let failures = Failures::none(rt.alloc())?;
-    let image = target.into_image(STORE_LIMIT, copy.sparse && plan.has_part(), &failures)?;
+    let begun = CheckedTarget::open(rt, copy, end)?.begin_unmapped(rt)?;
+    let BegunCopy { target, file, .. } = begun;
+    target.announce(false)?;
+    let is_sparse = copy.sparse && target.kind().is_whole();
+    let image = file.into_image(STORE_LIMIT, is_sparse, &target.failures)?;
     let mut taken = StreamCopy {
         copy,
         name,
         stream,
         image,
-        failures: failures.share()?,
+        failures: target.failures.share()?,
         at: 0,
+        progress: StreamProgress::start(rt),
     };
     let done = taken.run();
     let blocks = taken.at;
     drop(taken);
-    let length = if plan.has_part() { Some(blocks) } else { None };
-    match complete(rt, &part, &file, done.map(|_done| length)) {
+    clear_line(rt);
+    target.copied.set(blocks);
+    match complete(rt, &target, blocks, done) {
         Ok(()) => Ok(Outcome::Done),
         Err(fault) => {
             fault.print(rt);
-            if plan.is_untouched(blocks, &failures) {
-                part.undo(rt, plan)?;
-            } else {
-                part.tell(rt, false, &failures)?;
-            }
+            target.abandon(0..blocks, Resumption::Impossible)?;
             Ok(Outcome::FaultReported)
         }
     }
 }
 
-// Completes a target, which has this length in blocks if it doesn't keep its own.
+// Completes a target of that many blocks.
 fn complete<'w>(
     rt: &HostRuntime,
-    part: &PartName<'w>,
-    file: &File,
-    done: Result<Option<u32>, Fault<'w>>,
+    target: &CopyTarget<'_, 'w>,
+    blocks: u32,
+    done: Result<(), Fault<'w>>,
 ) -> Result<(), Fault<'w>> {
-    if let Some(blocks) = done? {
-        part.set_blocks(file, blocks)?;
-    }
-    part.complete(rt, file)
+    done?;
+    target.set_length(blocks)?;
+    print_syncing(rt);
+    let synced = target.sync(0);
+    clear_line(rt);
+    synced?;
+    target.give_name()
 }
 
 // A copy of a stream to an image.
@@ -148,6 +148,7 @@ struct StreamCopy<'a, 'w, R> {
     failures: Failures,
     // The next block of the stream.
     at: u32,
+    progress: StreamProgress<'a>,
 }
 
 impl<'a, 'w, R: Read> StreamCopy<'a, 'w, R> {
@@ -162,6 +163,7 @@ impl<'a, 'w, R: Read> StreamCopy<'a, 'w, R> {
             let bytes = wanted * BLOCK;
             let read = self.fill(&mut piece[..bytes])?.min(bytes);
             self.write_blocks(&piece[..read / BLOCK * BLOCK])?;
+            self.progress.reached(self.at);
             if read < bytes {
                 return self.end(read % BLOCK);
             }
@@ -261,7 +263,8 @@ pub(crate) fn copy_to_output<'w, W: Write + Drop>(
     out: &mut BufWriter<W>,
 ) -> Result<Outcome, Fault<'w>> {
     let mut image = NamedImage::open(rt, copy.from)?;
-    let blocks = blocks_to_copy(copy, image.size())?;
+    let size = volume_blocks(rt, copy, image.size())?;
+    let blocks = blocks_to_copy(copy, size)?;
     check_options(copy, STANDARD_OUTPUT)?;
     if copy.device.is_some() {
         return Err(Fault::new(STANDARD_OUTPUT, Reason::OtherDevice));

@@ -1,0 +1,354 @@
+//! The copy of an image to another one, through the controller.
+
+use crate::container::{explain_length, volume_blocks};
+use crate::copy::blocks_to_copy;
+use crate::copy_record::{CopyRecord, EndedRecord};
+use crate::fault::{Fault, Reason};
+use crate::image::{block_reason, open_file};
+use crate::outcome::Outcome;
+use crate::progress::{CopyProgress, clear_line, print_syncing};
+use crate::script::Drives;
+use crate::target::{BegunCopy, CheckedTarget, CopyTarget, Resumption, TargetKind};
+use std::io::ErrorKind;
+use std::ops::Range;
+use uda_driver::Driver;
+use uda_image::{BlockStore, Drive, StoreError};
+use uda50_arguments::Copy;
+use uda50_copy::{Copier, CopyError, Side};
+use uda50_files::{
+    Access, DataBlocks, Failures, Image, OpenImageFile, SearchedImage, TargetFile, TargetZeros,
+};
+use uda50_map::BlockMap;
+use uda50_show::{EscapedName, ForeignFormat};
+
+// A copy of an image to another one.
+#[derive(Drop)]
+struct ImageCopy<'a, 'w> {
+    rt: &'a HostRuntime,
+    copy: &'a Copy<'w>,
+    // The number of blocks of the source.
+    size: u32,
+    // The blocks to copy.
+    blocks: Range<u32>,
+    target: &'a CopyTarget<'a, 'w>,
+    // The failures of the source.
+    failures: Failures,
+}
+
+/// Copies an image to another one.
+pub(crate) fn copy_image<'w>(rt: &HostRuntime, copy: &Copy<'w>) -> Result<Outcome, Fault<'w>> {
+    let source = match open_file(rt, copy.from.path, Access::Read) {
+        Ok(source) => source,
+        Err(fault) => return Err(explain_length(rt, fault)),
+    };
+    let size = volume_blocks(rt, copy, source.blocks())?;
+    let blocks = blocks_to_copy(copy, size)?;
+    let failures = Failures::none(rt.alloc())?;
+    let checked = CheckedTarget::open(rt, copy, blocks.end)?;
+    let begun = if checked.resumes() {
+        checked.resume(rt, &blocks, size)?
+    } else {
+        checked.begin(rt, &blocks)?
+    };
+    let BegunCopy { target, file, map } = begun;
+    if copy.resumes && target.kind() == TargetKind::New {
+        let name = EscapedName(copy.to.path);
+        let _ = eprintln!(rt; "uda50: {name}: there is no copy to resume, so it begins");
+    }
+    let job = ImageCopy {
+        rt,
+        copy,
+        size,
+        blocks,
+        target: &target,
+        failures,
+    };
+    job.run_or_abandon(source, file, map)
+}
+
+impl<'a, 'w> ImageCopy<'a, 'w> {
+    // Copies, and completes the target. If that fails, it prints the fault, and what is left of the target.
+    fn run_or_abandon(
+        &self,
+        source: OpenImageFile,
+        file: TargetFile,
+        map: BlockMap,
+    ) -> Result<Outcome, Fault<'w>> {
+        match self.run(source, file, map) {
+            Ok(outcome) => Ok(outcome),
+            Err(fault) => {
+                fault.print(self.rt);
+                let blocks = self.blocks.start..self.blocks.end;
+                self.target.abandon(blocks, self.resumption(&fault))?;
+                Ok(Outcome::FaultReported)
+            }
+        }
+    }
+
+    // Returns what can be done after a fault.
+    fn resumption(&self, fault: &Fault<'_>) -> Resumption {
+        match fault.reason {
+            Reason::SourceEnded(_) => Resumption::Impossible,
+            Reason::Block {
+                error: StoreError::Read,
+                ..
+            }
+            | Reason::BlockCause {
+                error: StoreError::Read,
+                ..
+            } if !self.copy.skips_lost => Resumption::Continuing,
+            _ => Resumption::Possible,
+        }
+    }
+
+    // Copies the blocks of an open file to another one. Before that gets its own name, the list of lost blocks is on the
+    // disk.
+    fn run(
+        &self,
+        source: OpenImageFile,
+        file: TargetFile,
+        map: BlockMap,
+    ) -> Result<Outcome, Fault<'w>> {
+        self.target.announce(true)?;
+        let ended = self.copy_files(source, file, map)?;
+        print_syncing(self.rt);
+        let synced = self.target.sync(self.blocks.end);
+        clear_line(self.rt);
+        synced?;
+        self.target.note_checked();
+        let wanted = self.copy.map.is_some() || self.target.kind() == TargetKind::LostBlocks;
+        ended.save(wanted)?;
+        self.target.give_name()?;
+        self.target.map().discard(self.rt)?;
+        Ok(ended.outcome())
+    }
+
+    // Copies the blocks of an open file to another one, and compares them if that is asked for.
+    fn copy_files(
+        &self,
+        source: OpenImageFile,
+        file: TargetFile,
+        map: BlockMap,
+    ) -> Result<EndedRecord<'a, 'w>, Fault<'w>> {
+        let copy = self.copy;
+        let zeroed = self.zeroed_blocks(&file)?;
+        let leaves_zeros = !matches!(zeroed, ZeroedBlocks::None);
+        let searched = source.into_searched_image(self.rt, &self.failures, leaves_zeros);
+        let mut searched = Fault::of_call(copy.from.path, searched)?;
+        self.warn(&mut searched, &map);
+        let target = file.into_image(self.size, false, &self.target.failures)?;
+        let mut copier = self.copier(searched.image, target)?;
+        let ended = self.copy_blocks(
+            &mut copier,
+            map,
+            UncopiedData {
+                data: searched.data,
+                target: zeroed,
+            },
+        )?;
+        self.target.set_length(self.size)?;
+        self.verify(&mut copier)?;
+        Ok(ended)
+    }
+
+    // Returns which blocks of the target are zeros already.
+    fn zeroed_blocks(&self, file: &TargetFile) -> Result<ZeroedBlocks, Fault<'w>> {
+        let copy = self.copy;
+        match self.target.kind() {
+            kind if !copy.sparse || !kind.is_whole() => Ok(ZeroedBlocks::None),
+            TargetKind::Resume => {
+                let zeros = Fault::of_call(copy.to.path, file.zeros(self.rt))?;
+                Ok(ZeroedBlocks::Held(zeros))
+            }
+            _ => Ok(ZeroedBlocks::From(file.blocks_begun())),
+        }
+    }
+
+    // Prints a line if the source begins as a file of another format, whose bytes aren't the blocks of a disk. Its first
+    // block is read with those that are copied first.
+    fn warn(&self, source: &mut SearchedImage, map: &BlockMap) {
+        let blocks = match map.next_unfinished(self.blocks.start) {
+            Some(blocks) if blocks.start == 0 => blocks,
+            _ => return,
+        };
+        source
+            .data
+            .first(blocks.start..blocks.end.min(self.blocks.end));
+        let mut block = [0; 512];
+        if source.image.size() == 0 || source.image.read(0, &mut block).is_err() {
+            return;
+        }
+        if let Some(format) = ForeignFormat::read(&block) {
+            let copy = self.copy;
+            let name = EscapedName(copy.from.path);
+            let _ = eprintln!(self.rt;
+                "uda50: {name}: begins with the {format}, and is copied as it is"
+            );
+        }
+    }
+
+    // Copies the blocks that the map doesn't have, and ends the record.
+    fn copy_blocks(
+        &self,
+        copier: &mut Copier<Image>,
+        map: BlockMap,
+        mut data: UncopiedData,
+    ) -> Result<EndedRecord<'a, 'w>, Fault<'w>> {
+        let copy = self.copy;
+        let blocks = self.blocks.start..self.blocks.end;
+        let progress = CopyProgress::start(self.rt, copy.from.path, blocks);
+        let mut record = CopyRecord::new(self.rt, progress, self.target, map);
+        let copied = self.copy_unfinished(copier, &mut record, &mut data);
+        data.data.end();
+        if copied.is_err() {
+            record.save_rest();
+        }
+        let ended = record.end();
+        copied?;
+        ended
+    }
+
+    // Starts a driver over both images, and brings them online.
+    fn copier(&self, source: Image, target: Image) -> Result<Copier<Image>, Fault<'w>> {
+        let Ok(driver) = Driver::start(self.rt.alloc(), drives_of(source, target)) else {
+            return Err(Fault::no_memory());
+        };
+        Copier::new(self.rt.alloc(), driver, self.copy.skips_lost).map_err(|error| self.fault(
+            error,
+        ))
+    }
+
+    // Copies the blocks that the record doesn't have, and skips those that are zeros in both images.
+    fn copy_unfinished(
+        &self,
+        copier: &mut Copier<Image>,
+        record: &mut CopyRecord<'a, 'w>,
+        data: &mut UncopiedData,
+    ) -> Result<(), Fault<'w>> {
+        let last = self.blocks.end;
+        let mut at = self.blocks.start;
+        for _ in 0..u32::MAX {
+            let blocks = match record.next(at) {
+                Some(blocks) if blocks.start < last => blocks.start..blocks.end.min(last),
+                _ => return Ok(()),
+            };
+            let from = blocks.start;
+            let Range { start, end } = data.next(blocks);
+            record.skip(from..start)?;
+            if start < end {
+                self.copy_data(copier, record, start..end)?;
+            }
+            at = end;
+        }
+        Ok(())
+    }
+
+    // Copies blocks.
+    fn copy_data(
+        &self,
+        copier: &mut Copier<Image>,
+        record: &mut CopyRecord<'a, 'w>,
+        blocks: Range<u32>,
+    ) -> Result<(), Fault<'w>> {
+        let copied = copier.copy(blocks, record);
+        record.check()?;
+        copied.map_err(|error| self.fault(error))
+    }
+
+    // Compares the blocks of both images, if that is asked for.
+    fn verify(&self, copier: &mut Copier<Image>) -> Result<(), Fault<'w>> {
+        let copy = self.copy;
+        if !copy.verify {
+            return Ok(());
+        }
+        let Range { start, end } = self.blocks;
+        let mut progress = CopyProgress::start(self.rt, copy.to.path, start..end);
+        let compared = copier.compare(start..end, &mut progress);
+        progress.end();
+        compared.map_err(|error| self.fault(error))
+    }
+
+    // Returns the fault for an error, with the file that it concerns.
+    fn fault(&self, error: CopyError) -> Fault<'w> {
+        let (copy, target) = (self.copy, self.target);
+        match error.side() {
+            Some(Side::Source) => Fault::new(copy.from.path, reason(error, &self.failures)),
+            Some(Side::Target) => Fault::new(copy.to.path, reason(error, &target.failures)),
+            None => Fault::new("uda50", reason(error, &target.failures)),
+        }
+    }
+}
+
+// The data of the source, and the zeros of the target.
+#[derive(Drop)]
+struct UncopiedData {
+    data: DataBlocks,
+    target: ZeroedBlocks,
+}
+
+// Which blocks of the target are zeros before the copy writes them.
+#[derive(Drop)]
+enum ZeroedBlocks {
+    // None is known to be. All blocks are written.
+    None,
+    // Those from this block on.
+    From(u32),
+    // Those that the file of an earlier copy holds.
+    Held(TargetZeros),
+}
+
+impl UncopiedData {
+    // Returns the next of these blocks to copy. The others before the end of the result are zeros in both images.
+    fn next(&mut self, blocks: Range<u32>) -> Range<u32> {
+        match &mut self.target {
+            ZeroedBlocks::None => self.data.first(blocks),
+            ZeroedBlocks::From(block) if blocks.start < *block => {
+                self.data.first(blocks.start..blocks.end.min(*block))
+            }
+            ZeroedBlocks::From(_) => self.data.next(blocks),
+            ZeroedBlocks::Held(zeros) => {
+                let from = blocks.start;
+                let data = self.data.next(blocks);
+                let other = zeros.first_other(from..data.start);
+                if other.start < other.end { other } else { data }
+            }
+        }
+    }
+}
+
+// Returns the reason for an error, which may be one of the failures of its file.
+fn reason(error: CopyError, failures: &Failures) -> Reason {
+    match error {
+        CopyError::NoMemory => Reason::NoMemory,
+        CopyError::Read(Side::Source, block) if ends_at(failures, block) => {
+            Reason::SourceEnded(block)
+        }
+        CopyError::Read(_, block) => block_reason(block, StoreError::Read, failures),
+        CopyError::Write(block) => block_reason(block, StoreError::Write, failures),
+        CopyError::Differs(block) => Reason::Differs(block),
+        CopyError::Rejected(_, status) => Reason::Rejected(status),
+    }
+}
+
+// Returns whether a block could not be read since the file ends there.
+fn ends_at(failures: &Failures, block: u32) -> bool {
+    match failures.lowest() {
+        Some(failure) => {
+            failure.block == block && failure.cause.kind() == ErrorKind::UnexpectedEof
+        }
+        None => false,
+    }
+}
+
+// Returns the drives of a copy: unit 0 with the source, and unit 1 with the target.
+fn drives_of(source: Image, target: Image) -> Drives {
+    let source = Drive {
+        store: source,
+        hard: true,
+    };
+    let target = Drive {
+        store: target,
+        hard: false,
+    };
+    [Some(source), Some(target), None, None]
+}

@@ -44,7 +44,7 @@ IsFinishedFrom from entries = (block : ℕ) → from ≤ block → All (λ statu
 abbrev pub IsFinishedAt : ℕ → List MapEntry → Type 0
 IsFinishedAt block entries = Contains (statuses_at entries block) Finished
 
--- a map of which no block is finished, from this one on
+-- a map whose blocks from this one on are all unfinished
 abbrev pub IsUnfinishedFrom : ℕ → List MapEntry → Type 0
 IsUnfinishedFrom from entries =
     (block : ℕ) → from ≤ block → All (λ status. status ≢ Finished) (statuses_at entries block)

@@ -128,8 +128,8 @@ impl BlockMap {
         }
     }
 
-    // Returns the first block, or 0 if there are no entries.
-    fn start(&self) -> u32
+    /// Returns the first block, or 0 if there are no entries.
+    pub fn start(&self) -> u32
         ensures value { result ≡ start_of self.now }
         ensures consecutive { AreConsecutive self.now }
     {

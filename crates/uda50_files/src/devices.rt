@@ -82,7 +82,7 @@ fn partition_in(rt: &HostRuntime, folder: &str) -> io::Result<Option<Device>> {
 // Returns whether the system uses a block device itself.
 fn is_used(rt: &HostRuntime, device: Device) -> io::Result<bool> {
     let packed = device.packed();
-    Ok(is_mounted(rt, packed) || is_swapped_to(rt, packed) || is_held(rt, device)?)
+    Ok(is_mounted(rt, packed)? || is_swapped_to(rt, packed) || is_held(rt, device)?)
 }
 
 // Returns whether the system swaps to a device.

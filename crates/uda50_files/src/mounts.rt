@@ -1,10 +1,13 @@
 //! File systems, by their devices.
 
 use crate::devices::Device;
-use std::fs;
 use std::os::unix::fs::{FileTypeExt, MetadataExt};
+use std::{fs, io};
 
-/// The file in which Linux lists what is mounted.
+/// The folder with a folder for each process.
+const PROCESSES: &str = "/proc";
+
+/// The file in which Linux lists what is mounted for this process.
 const MOUNTS: &str = "/proc/self/mountinfo";
 
 /// The file systems that count the blocks of a file exactly, also of one that was just written.
@@ -21,9 +24,26 @@ pub(crate) fn counts_exactly(rt: &HostRuntime, device: u64) -> bool {
     }
 }
 
-/// Returns whether a file system of a block device is mounted.
-pub(crate) fn is_mounted(rt: &HostRuntime, device: u64) -> bool {
-    match fs::read_to_string(rt, MOUNTS) {
+/// Returns whether a file system of a block device is mounted, for this process or for another one that can be looked at.
+pub(crate) fn is_mounted(rt: &HostRuntime, device: u64) -> io::Result<bool> {
+    if is_mounted_in(rt, MOUNTS, device) {
+        return Ok(true);
+    }
+    let Ok(processes) = fs::read_dir(rt, PROCESSES) else {
+        return Ok(false);
+    };
+    for process in processes {
+        let mounts = format!(in rt.alloc(); "{}/mountinfo", process?.path().as_str())?;
+        if is_mounted_in(rt, mounts.as_str(), device) {
+            return Ok(true);
+        }
+    }
+    Ok(false)
+}
+
+// Returns whether a list of what is mounted has a file system of a block device. There may be no such list.
+fn is_mounted_in(rt: &HostRuntime, mounts: &str, device: u64) -> bool {
+    match fs::read_to_string(rt, mounts) {
         Ok(mounts) => mounts.as_str().lines().any(|line| is_on_device(line, device)
             || is_of_source(rt, line, device)),
         Err(_error) => false,

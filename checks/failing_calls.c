@@ -12,8 +12,10 @@
 #include <unistd.h>
 /* System calls on files that fail. These variables have lists of paths or file names, separated by colons:
      OPEN    paths that can't be opened
+     UNLINK  paths that can't be removed
      READ    files that can't be read, because the kernel has no memory
      SYNC    files that can't be synced
+     MAKES   the path of a file that somebody else makes before the first sync
      BAD     blocks that can't be read or written, such as image0@3
      HANG    blocks whose read doesn't end
      CUT     blocks at whose read the file loses all but 100 bytes of the block, and what follows it
@@ -54,6 +56,10 @@ static int opened(int at, const char *path, int flags, int mode) {
     if (!is_in("OPEN", path)) return syscall(SYS_openat, at, path, flags, mode);
     tell("open", path);
     return fails(EACCES);
+}
+int unlink(const char *path) { return is_in("UNLINK", path) ? fails(EACCES) : (int)syscall(SYS_unlink, path); }
+int unlinkat(int at, const char *path, int flags) {
+    return is_in("UNLINK", path) ? fails(EACCES) : (int)syscall(SYS_unlinkat, at, path, flags);
 }
 #define MODE va_list rest; va_start(rest, flags); int mode = va_arg(rest, int); va_end(rest)
 int open(const char *path, int flags, ...) { MODE; return opened(AT_FDCWD, path, flags, mode); }
@@ -119,6 +125,7 @@ ssize_t pwrite(int fd, const void *from, size_t n, off_t at) { return put(fd, fr
 ssize_t pwrite64(int fd, const void *from, size_t n, off_t at) { return put(fd, from, n, at); }
 static int synced(int fd, int call) {
     tell("sync", name_of(fd));
+    if (getenv("MAKES")) close((int)syscall(SYS_openat, AT_FDCWD, getenv("MAKES"), O_CREAT | O_EXCL | O_WRONLY, 0644));
     return is_in("SYNC", name_of(fd)) ? fails(EIO) : syscall(call, fd);
 }
 int fsync(int fd) { return synced(fd, SYS_fsync); }

@@ -6,7 +6,7 @@ use std::fs;
 use std::fs::{File, OpenFile};
 use std::os::unix::fs::{FileExt, FileTypeExt};
 use uda50_arguments::Copy;
-use uda50_show::{ContainerRecord, ForeignFormat};
+use uda50_show::{ContainerRecord, EscapedName, ForeignFormat};
 
 /// Returns the record in the last block of an image. A block that can't be read has none.
 pub(crate) fn last_record(image: &mut NamedImage<'_>) -> Option<ContainerRecord> {
@@ -30,6 +30,15 @@ pub(crate) fn format_of(rt: &HostRuntime, path: &str) -> Option<ForeignFormat> {
     let mut block = [0; 512];
     file.read_exact_at(&mut block[..length], 0).ok()?;
     ForeignFormat::read(&block)
+}
+
+/// Prints a line if the first block of a copy is that of a file of another format, whose bytes aren't the blocks of a
+/// disk.
+pub(crate) fn warn_of_format(rt: &HostRuntime, name: &str, block: &[u8; 512]) {
+    if let Some(format) = ForeignFormat::read(block) {
+        let name = EscapedName(name);
+        let _ = eprintln!(rt; "uda50: {name}: begins with the {format}, and is copied as it is");
+    }
 }
 
 /// Returns a fault. If it is that of a length, and the file has a record or the format of another program,

@@ -64,6 +64,9 @@ fn end_of_target<'w>(rt: &HostRuntime, copy: &Copy<'w>) -> Result<String, Fault<
     if path.is_empty() {
         return Err(Fault::new("TO", Reason::EmptyName));
     }
+    if copy.map == Some("") {
+        return Err(Fault::new("--map", Reason::EmptyName));
+    }
     if copy.device.is_some() || !is_link(rt, path) {
         return Ok(String::from_str(rt.alloc(), path)?);
     }

@@ -189,13 +189,19 @@ pub(crate) struct EndedRecord<'r, 'w> {
 }
 
 impl<'r, 'w> EndedRecord<'r, 'w> {
-    /// Saves the map of a target that is synced, if blocks were lost or if it is wanted.
-    pub(crate) fn save(&self, wanted: bool) -> Result<(), Fault<'w>> {
-        if self.lost > 0 || wanted {
+    /// Saves the map of a target that is synced, if blocks were lost or if it is wanted. Returns whether it is saved.
+    pub(crate) fn save(&self, wanted: bool) -> Result<bool, Fault<'w>> {
+        let is_saved = self.lost > 0 || wanted;
+        if is_saved {
             self.target.sync_name()?;
             self.target.map().finish(self.rt, &self.map)?;
         }
-        Ok(())
+        Ok(is_saved)
+    }
+
+    /// Returns the next blocks that were lost, of those from `from` on.
+    pub(crate) fn next_lost(&self, from: u32) -> Option<Range<u32>> {
+        self.map.next_unfinished(from)
     }
 
     /// Returns the outcome of the copy.

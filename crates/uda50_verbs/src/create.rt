@@ -1,12 +1,13 @@
 //! `uda50 create`: new images.
 
 use crate::fault::{Fault, Reason};
+use crate::map_file::{check_no_map_of, remove_map_of};
 use crate::outcome::Outcome;
 use std::fs;
 use std::fs::{File, Metadata, OpenFile, OpenOptions, TryLockError};
 use uda50_arguments::Create;
 
-/// Makes an image of zeros. With `--force`, an existing file becomes one.
+/// Makes an image of zeros. With `--force`, an existing file becomes one, and a map of what it was is removed.
 pub(crate) fn create<'w>(rt: &HostRuntime, create: &Create<'w>) -> Result<Outcome, Fault<'w>> {
     let path = create.image.path;
     if create.image.protected {
@@ -29,14 +30,21 @@ fn overwrite<'w>(
 ) -> Result<Outcome, Fault<'w>> {
     let path = create.image.path;
     check_existing(path, create.force, metadata)?;
-    let file = emptied(rt, path)?;
+    let file = locked(rt, path)?;
+    remove_map_of(rt, path)?;
+    Fault::of_call(path, file.set_len(0))?;
     set_blocks(path, &file, create.blocks)?;
     Ok(Outcome::Done)
 }
 
-// Makes an image of zeros in a new file. Removes the file if its length can't be set.
+// Makes an image of zeros in a new file. Removes the file if its length can't be set. Without `--force`, there may be no map
+// of what had its name.
 fn create_new<'w>(rt: &HostRuntime, create: &Create<'w>) -> Result<Outcome, Fault<'w>> {
     let path = create.image.path;
+    if !create.force {
+        check_no_map_of(rt, path)?;
+    }
+    remove_map_of(rt, path)?;
     let file = new_file(rt, path)?;
     let done = set_blocks(path, &file, create.blocks);
     if done.is_err() {
@@ -73,13 +81,6 @@ fn new_file<'w>(rt: &HostRuntime, path: &'w str) -> Result<File, Fault<'w>> {
         .create_new(true)
         .open(rt, path);
     Fault::of_call(path, made)
-}
-
-// Opens and locks a file, and empties it.
-fn emptied<'w>(rt: &HostRuntime, path: &'w str) -> Result<File, Fault<'w>> {
-    let file = locked(rt, path)?;
-    Fault::of_call(path, file.set_len(0))?;
-    Ok(file)
 }
 
 // Opens and locks a file. Fails if somebody else holds its lock. A file that has no locks is only opened.

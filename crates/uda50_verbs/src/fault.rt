@@ -267,6 +267,26 @@ pub enum Reason {
     /// The target of a copy is as it was before that.
     #[error("no copy to resume: the last one ended before it wrote anything")]
     NotBegun,
+    /// The target of a copy and its incomplete copy exist already.
+    #[error("exists already, and so does its incomplete copy; --force overwrites both")]
+    BothExist,
+    /// There is a file with the name of the incomplete copy, and no map of it.
+    #[error("exists already, and is no incomplete copy with a map; remove it, or give it another name")]
+    NoPart,
+    /// The incomplete copy would be the target.
+    #[error("is another name of the target")]
+    PartIsTarget,
+    /// There is a file in the place of a map.
+    #[error("is no map, and a copy would replace it")]
+    NoMap,
+    /// The complete copy has more blocks than its source.
+    #[error("has {} bytes, and its map only {}", Grouped(*.bytes), Counted::blocks(*.blocks))]
+    LongerThanMap {
+        /// The length.
+        bytes: u64,
+        /// The number of blocks of the map.
+        blocks: u32,
+    },
     /// The incomplete copy has fewer blocks than its map says.
     #[error("has only {} of the {} bytes that its map says are copied", Grouped(*.bytes), Grouped(512 * u64::from(*.blocks)))]
     ShorterThanMap {
@@ -308,6 +328,9 @@ pub enum Reason {
     /// The target is a device.
     #[error("is a device; --device writes to it")]
     Device,
+    /// The target that `--device` names is none.
+    #[error("is no device, and --device is for devices")]
+    NoDevice,
     /// The reader of the blocks that are copied to standard output has gone.
     #[error("{0}")]
     Output(io::Error),
@@ -418,6 +441,18 @@ impl<'w> Fault<'w> {
         match called {
             Ok(value) => Ok(value),
             Err(error) => Err(Fault::system(name, error)),
+        }
+    }
+
+    /// Returns whether the fault is that a folder permits no new name in it.
+    pub(crate) fn forbids_names(&self) -> bool {
+        match &self.reason {
+            Reason::PermissionDenied => true,
+            Reason::System(error) => matches!(
+                error.kind(),
+                ErrorKind::ReadOnlyFilesystem | ErrorKind::ResourceBusy | ErrorKind::CrossesDevices
+            ),
+            _ => false,
         }
     }
 

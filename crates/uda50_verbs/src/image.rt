@@ -71,6 +71,11 @@ impl<'w> NamedImage<'w> {
         on_image && to.len() % 512 == 0 && self.image.try_read_blocks(start, count, to)
     }
 
+    /// Returns the fault of a copy for a block that can't be read.
+    pub(crate) fn copy_fault(&self, block: u32) -> Fault<'w> {
+        Fault::new(self.path, source_reason(block, &self.failures))
+    }
+
     // Returns the fault of a block that can't be read.
     fn fault_of(&self, block: u32) -> Fault<'w> {
         block_fault(self.path, block, StoreError::Read, &self.failures)
@@ -113,6 +118,17 @@ pub(crate) fn block_reason(block: u32, error: StoreError, failures: &Failures) -
     match failures.lowest() {
         Some(failure) if failure.block == block && is_told(&failure.cause) => cause_of(&failure),
         _ => Reason::Block { block, error },
+    }
+}
+
+/// Returns the reason why a block of a copy's source can't be read: the file became shorter, or that of any block.
+pub(crate) fn source_reason(block: u32, failures: &Failures) -> Reason {
+    match failures.lowest() {
+        Some(failure)
+            if failure.block == block && failure.cause.kind() == ErrorKind::UnexpectedEof => {
+            Reason::SourceEnded(block)
+        }
+        _ => block_reason(block, StoreError::Read, failures),
     }
 }
 

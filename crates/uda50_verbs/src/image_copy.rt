@@ -1,15 +1,14 @@
 //! The copy of an image to another one, through the controller.
 
-use crate::container::{explain_length, volume_blocks};
+use crate::container::{explain_length, volume_blocks, warn_of_format};
 use crate::copy::blocks_to_copy;
 use crate::copy_record::{CopyRecord, EndedRecord};
 use crate::fault::{Fault, Reason};
-use crate::image::{block_reason, open_file};
+use crate::image::{block_reason, open_file, source_reason};
 use crate::outcome::Outcome;
 use crate::progress::{CopyProgress, clear_line, print_syncing};
 use crate::script::Drives;
 use crate::target::{BegunCopy, CheckedTarget, CopyTarget, Resumption, TargetKind};
-use std::io::ErrorKind;
 use std::ops::Range;
 use uda_driver::Driver;
 use uda_image::{BlockStore, Drive, StoreError};
@@ -19,7 +18,7 @@ use uda50_files::{
     Access, DataBlocks, Failures, Image, OpenImageFile, SearchedImage, TargetFile, TargetZeros,
 };
 use uda50_map::BlockMap;
-use uda50_show::{EscapedName, ForeignFormat};
+use uda50_show::EscapedName;
 
 // A copy of an image to another one.
 #[derive(Drop)]
@@ -44,7 +43,7 @@ pub(crate) fn copy_image<'w>(rt: &HostRuntime, copy: &Copy<'w>) -> Result<Outcom
     let size = volume_blocks(rt, copy, source.blocks())?;
     let blocks = blocks_to_copy(copy, size)?;
     let failures = Failures::none(rt.alloc())?;
-    let checked = CheckedTarget::open(rt, copy, blocks.end)?;
+    let checked = CheckedTarget::open(rt, copy, &blocks)?;
     let begun = if checked.resumes() {
         checked.resume(rt, &blocks, size)?
     } else {
@@ -89,6 +88,7 @@ impl<'a, 'w> ImageCopy<'a, 'w> {
     fn resumption(&self, fault: &Fault<'_>) -> Resumption {
         match fault.reason {
             Reason::SourceEnded(_) => Resumption::Impossible,
+            Reason::Exists => Resumption::Forced,
             Reason::Block {
                 error: StoreError::Read,
                 ..
@@ -116,10 +116,9 @@ impl<'a, 'w> ImageCopy<'a, 'w> {
         clear_line(self.rt);
         synced?;
         self.target.note_checked();
-        let wanted = self.copy.map.is_some() || self.target.kind() == TargetKind::LostBlocks;
-        ended.save(wanted)?;
-        self.target.give_name()?;
-        self.target.map().discard(self.rt)?;
+        let saved = ended.save(self.target.leaves_map())?;
+        self.target.complete(saved)?;
+        self.target.discard_part_map()?;
         Ok(ended.outcome())
     }
 
@@ -147,7 +146,7 @@ impl<'a, 'w> ImageCopy<'a, 'w> {
             },
         )?;
         self.target.set_length(self.size)?;
-        self.verify(&mut copier)?;
+        self.verify(&mut copier, &ended)?;
         Ok(ended)
     }
 
@@ -178,13 +177,8 @@ impl<'a, 'w> ImageCopy<'a, 'w> {
         if source.image.size() == 0 || source.image.read(0, &mut block).is_err() {
             return;
         }
-        if let Some(format) = ForeignFormat::read(&block) {
-            let copy = self.copy;
-            let name = EscapedName(copy.from.path);
-            let _ = eprintln!(self.rt;
-                "uda50: {name}: begins with the {format}, and is copied as it is"
-            );
-        }
+        let copy = self.copy;
+        warn_of_format(self.rt, copy.from.path, &block);
     }
 
     // Copies the blocks that the map doesn't have, and ends the record.
@@ -256,16 +250,40 @@ impl<'a, 'w> ImageCopy<'a, 'w> {
     }
 
     // Compares the blocks of both images, if that is asked for.
-    fn verify(&self, copier: &mut Copier<Image>) -> Result<(), Fault<'w>> {
+    fn verify(
+        &self,
+        copier: &mut Copier<Image>,
+        ended: &EndedRecord<'a, 'w>,
+    ) -> Result<(), Fault<'w>> {
         let copy = self.copy;
         if !copy.verify {
             return Ok(());
         }
-        let Range { start, end } = self.blocks;
-        let mut progress = CopyProgress::start(self.rt, copy.to.path, start..end);
-        let compared = copier.compare(start..end, &mut progress);
+        let blocks = self.blocks.start..self.blocks.end;
+        let mut progress = CopyProgress::start(self.rt, copy.to.path, blocks);
+        let compared = self.compare_finished(copier, ended, &mut progress);
         progress.end();
         compared.map_err(|error| self.fault(error))
+    }
+
+    // Compares the blocks that were copied. Lost blocks are not read once more.
+    fn compare_finished(
+        &self,
+        copier: &mut Copier<Image>,
+        ended: &EndedRecord<'a, 'w>,
+        progress: &mut CopyProgress<'a, 'w>,
+    ) -> Result<(), CopyError> {
+        let last = self.blocks.end;
+        let mut at = self.blocks.start;
+        for _ in 0..u32::MAX {
+            let lost = ended.next_lost(at).unwrap_or(last..last);
+            copier.compare(at..lost.start.min(last), progress)?;
+            if lost.end >= last {
+                break;
+            }
+            at = lost.end;
+        }
+        Ok(())
     }
 
     // Returns the fault for an error, with the file that it concerns.
@@ -320,23 +338,11 @@ impl UncopiedData {
 fn reason(error: CopyError, failures: &Failures) -> Reason {
     match error {
         CopyError::NoMemory => Reason::NoMemory,
-        CopyError::Read(Side::Source, block) if ends_at(failures, block) => {
-            Reason::SourceEnded(block)
-        }
-        CopyError::Read(_, block) => block_reason(block, StoreError::Read, failures),
+        CopyError::Read(Side::Source, block) => source_reason(block, failures),
+        CopyError::Read(Side::Target, block) => block_reason(block, StoreError::Read, failures),
         CopyError::Write(block) => block_reason(block, StoreError::Write, failures),
         CopyError::Differs(block) => Reason::Differs(block),
         CopyError::Rejected(_, status) => Reason::Rejected(status),
-    }
-}
-
-// Returns whether a block could not be read since the file ends there.
-fn ends_at(failures: &Failures, block: u32) -> bool {
-    match failures.lowest() {
-        Some(failure) => {
-            failure.block == block && failure.cause.kind() == ErrorKind::UnexpectedEof
-        }
-        None => false,
     }
 }
 

@@ -7,10 +7,10 @@ use crate::fault::{Fault, Reason, Suffix};
 use crate::lasting;
 use crate::names::CopyName;
 use crate::target::TargetKind;
+use std::fs;
 use std::fs::{File, OpenFile};
 use std::io::{ErrorKind, Read};
 use std::ops::Range;
-use std::{fs, io};
 use uda50_arguments::Copy;
 use uda50_map::{BlockMap, BlockStatus};
 
@@ -28,26 +28,35 @@ pub(crate) struct MapFile<'w> {
 impl<'w> MapFile<'w> {
     /// Returns the names of the map of a copy, whose target may have another name during the copy.
     pub(crate) fn of(copy: &Copy<'w>, kind: TargetKind) -> MapFile<'w> {
-        let Some(path) = copy.map else {
-            return MapFile::derived(copy, kind);
-        };
-        let named = CopyName::argument(path);
-        MapFile {
-            during: named,
-            afterwards: named,
+        if kind.has_part() {
+            MapFile::of_incomplete(copy)
+        } else {
+            MapFile::of_target(copy)
         }
     }
 
-    // Returns the names of a map that aren't named, but made from that of the target.
-    fn derived(copy: &Copy<'w>, kind: TargetKind) -> MapFile<'w> {
-        let suffix = if kind.has_part() {
-            Suffix::PartMap
-        } else {
-            Suffix::Map
-        };
-        MapFile {
-            during: CopyName::derived(copy.to.path, suffix),
-            afterwards: CopyName::derived(copy.to.path, Suffix::Map),
+    /// Returns the names of the map of an incomplete copy, which has another name than the target.
+    pub(crate) fn of_incomplete(copy: &Copy<'w>) -> MapFile<'w> {
+        MapFile::named_or(copy, part_map_of(copy))
+    }
+
+    /// Returns the name of the map of a target that has its own name.
+    pub(crate) fn of_target(copy: &Copy<'w>) -> MapFile<'w> {
+        MapFile::named_or(copy, map_of(copy))
+    }
+
+    // Returns the name that `--map` gives to the map, or the names that are made from that of the target: this one during
+    // the copy.
+    fn named_or(copy: &Copy<'w>, during: CopyName<'w>) -> MapFile<'w> {
+        match copy.map {
+            Some(path) => MapFile {
+                during: CopyName::argument(path),
+                afterwards: CopyName::argument(path),
+            },
+            None => MapFile {
+                during,
+                afterwards: map_of(copy),
+            },
         }
     }
 
@@ -67,13 +76,22 @@ impl<'w> MapFile<'w> {
         self.check_names(rt, copy)?;
         let leaves_map = copy.skips_lost || copy.map.is_some();
         if kind.has_part() {
-            check_replaceable(rt, &MapFile::derived(copy, kind).during)?;
+            check_replaceable(rt, &part_map_of(copy))?;
+        }
+        if leaves_map && copy.resumes || kind == TargetKind::LostBlocks {
+            read_map(rt, &self.afterwards)?;
         }
         if leaves_map || kind == TargetKind::LostBlocks {
             check_replaceable(rt, &self.afterwards)?;
         }
-        if leaves_map && !copy.force && !copy.resumes && self.afterwards.found(rt)?.is_some() {
+        if copy.force {
+            return Ok(());
+        }
+        if leaves_map && !copy.resumes && self.afterwards.found(rt)?.is_some() {
             return Err(self.afterwards.fault(Reason::Exists));
+        }
+        if kind == TargetKind::New {
+            check_no_map_of(rt, copy.to.path)?;
         }
         Ok(())
     }
@@ -85,16 +103,17 @@ impl<'w> MapFile<'w> {
             CopyName::argument(copy.to.path),
             CopyName::derived(copy.to.path, Suffix::Part),
         ];
-        let maps = [
+        for map in [
             self.during,
-            new_of(&self.during),
             self.afterwards,
-            new_of(&self.afterwards),
-        ];
-        for map in maps {
-            for image in images {
-                if map.is_same(rt, &image)? {
-                    return Err(map.fault(Reason::MapIsImage));
+            part_map_of(copy),
+            map_of(copy),
+        ] {
+            for name in [map, new_of(&map)] {
+                for image in images {
+                    if name.is_same(rt, &image)? {
+                        return Err(name.fault(Reason::MapIsImage));
+                    }
                 }
             }
         }
@@ -102,36 +121,30 @@ impl<'w> MapFile<'w> {
     }
 
     /// Saves the first map of a copy that begins: no block is copied. So none on the disk claims a block any more. If there
-    /// was none, the first one need not last.
+    /// was none, also of a target with its own name, the first one need not last.
     pub(crate) fn begin(
         &self,
         rt: &HostRuntime,
         blocks: Range<u32>,
     ) -> Result<BlockMap, Fault<'w>> {
         let map = BlockMap::new(rt.alloc(), blocks)?;
-        let lasts = self.during.found(rt)?.is_some();
+        let lasts = self.during.found(rt)?.is_some() || self.read_afterwards(rt)?.is_some();
         write_map(rt, &self.during, &map, lasts)?;
         Ok(map)
     }
 
-    /// Lets no map of the target's own name claim any of these blocks, which will be written. Returns the map of a target
-    /// that keeps its name, if there is one.
+    /// Lets the map claim none of these blocks, which will be written or may not be right. Returns the map, if there is
+    /// one.
     pub(crate) fn disclaim(
+        &self,
         rt: &HostRuntime,
-        copy: &Copy<'w>,
-        kind: TargetKind,
         blocks: Range<u32>,
     ) -> Result<Option<BlockMap>, Fault<'w>> {
-        let file = MapFile::derived(copy, kind);
-        if kind.has_part() {
-            file.remove(rt)?;
-            return Ok(None);
-        }
-        let Ok(Some(mut map)) = file.read(rt) else {
+        let Some(mut map) = read_if_map(rt, &self.during)? else {
             return Ok(None);
         };
         map.set(blocks, BlockStatus::NonTried)?;
-        file.save(rt, &map)?;
+        self.save(rt, &map)?;
         Ok(Some(map))
     }
 
@@ -140,46 +153,139 @@ impl<'w> MapFile<'w> {
         read_map(rt, &self.during)
     }
 
+    // Reads the map that the target has under its own name. Returns `None` if there is none.
+    fn read_afterwards(&self, rt: &HostRuntime) -> Result<Option<BlockMap>, Fault<'w>> {
+        read_if_map(rt, &self.afterwards)
+    }
+
+    /// Reads the map that a copy will replace. Returns `None` if there is none.
+    pub(crate) fn read_old(&self, rt: &HostRuntime) -> Result<Option<BlockMap>, Fault<'w>> {
+        read_if_map(rt, &self.during)
+    }
+
     /// Writes the map during a copy.
     pub(crate) fn save(&self, rt: &HostRuntime, map: &BlockMap) -> Result<(), Fault<'w>> {
         write_map(rt, &self.during, map, true)
     }
 
-    /// Writes the map after a copy.
+    /// Writes the map after a copy. That of the incomplete copy gets the same content before, so that it tells that the
+    /// copy was complete if it outlasts the copy.
     pub(crate) fn finish(&self, rt: &HostRuntime, map: &BlockMap) -> Result<(), Fault<'w>> {
+        if self.is_moved() {
+            self.save(rt, map)?;
+        }
         write_map(rt, &self.afterwards, map, true)
     }
 
-    /// Forgets which blocks are copied, since they may not be right.
+    /// Forgets that these blocks are copied, since they may not be right.
     pub(crate) fn forget(&self, rt: &HostRuntime, blocks: Range<u32>) -> Result<(), Fault<'w>> {
-        if self.is_named() {
-            self.save(rt, &BlockMap::new(rt.alloc(), blocks)?)
-        } else {
-            self.remove(rt)
+        if self.is_moved() {
+            return remove(rt, &self.during);
+        }
+        self.disclaim(rt, blocks)?;
+        Ok(())
+    }
+
+    /// Lets the map be as it was before a copy that is undone.
+    pub(crate) fn restore(&self, rt: &HostRuntime, former: &FormerMap) -> Result<(), Fault<'w>> {
+        match former {
+            FormerMap::Kept(map) => self.save(rt, map),
+            FormerMap::None if self.is_named() || self.is_moved() => remove(rt, &self.during),
+            FormerMap::Void if self.is_moved() => remove(rt, &self.during),
+            FormerMap::None | FormerMap::Void => Ok(()),
         }
     }
 
-    /// Removes the map that the copy had while it was incomplete, if that has another name than the one afterwards.
-    pub(crate) fn remove(&self, rt: &HostRuntime) -> Result<(), Fault<'w>> {
-        if self.during.suffix == self.afterwards.suffix {
-            return Ok(());
-        }
-        let path = self.during.path(rt.alloc())?;
-        self.during.of_call(lasting::remove(rt, path.as_str()))
+    // Returns whether the map has one name during the copy, and another one afterwards.
+    fn is_moved(&self) -> bool {
+        self.during.suffix != self.afterwards.suffix
     }
 
-    /// Removes the map of the incomplete copy after the target got its own name. It need not be gone after a loss of power.
+    /// Removes the map of the incomplete copy, after the target got its own name. It need not be gone after a loss of power.
     pub(crate) fn discard(&self, rt: &HostRuntime) -> Result<(), Fault<'w>> {
-        if self.during.suffix != self.afterwards.suffix {
+        if self.is_moved() {
             let path = self.during.path(rt.alloc())?;
             let _ = fs::remove_file(rt, path.as_str());
         }
         Ok(())
     }
 
+    /// Removes the map with the target's name, unless it is this map. It tells of what the target was.
+    pub(crate) fn retire(&self, rt: &HostRuntime, copy: &Copy<'w>) -> Result<(), Fault<'w>> {
+        let name = map_of(copy);
+        if self.is_named() && self.afterwards.is_same(rt, &name)? {
+            return Ok(());
+        }
+        remove_if_map(rt, &name)
+    }
+
     /// Returns the fault of a map with blocks that the source doesn't have.
     pub(crate) fn fault_of_size(&self) -> Fault<'w> {
         self.during.fault(Reason::MapOfOther)
+    }
+}
+
+/// What the file of a map held before a copy that can be undone.
+#[derive(Drop)]
+pub(crate) enum FormerMap {
+    /// It was no map, or there was none.
+    None,
+    /// It was this map.
+    Kept(BlockMap),
+    /// It was a map that may tell of an incomplete copy, and that isn't there any more.
+    Void,
+}
+
+/// Removes the map of a file that won't be what it was.
+pub(crate) fn remove_map_of<'w>(rt: &HostRuntime, path: &'w str) -> Result<(), Fault<'w>> {
+    remove_if_map(rt, &CopyName::derived(path, Suffix::Map))
+}
+
+/// Removes the map of an incomplete copy that begins anew without a map of that name.
+pub(crate) fn remove_part_map<'w>(rt: &HostRuntime, copy: &Copy<'w>) -> Result<(), Fault<'w>> {
+    remove(rt, &part_map_of(copy))
+}
+
+/// Removes the map of an incomplete copy that isn't there any more.
+pub(crate) fn remove_old_part_map<'w>(rt: &HostRuntime, copy: &Copy<'w>) -> Result<(), Fault<'w>> {
+    remove_if_map(rt, &part_map_of(copy))
+}
+
+/// Returns whether there is a map of the incomplete copy whose name is made from that of the target.
+pub(crate) fn has_part_map<'w>(rt: &HostRuntime, copy: &Copy<'w>) -> Result<bool, Fault<'w>> {
+    Ok(read_if_map(rt, &part_map_of(copy))?.is_some())
+}
+
+// Removes a file if it is a map.
+fn remove_if_map<'w>(rt: &HostRuntime, name: &CopyName<'w>) -> Result<(), Fault<'w>> {
+    match read_if_map(rt, name)? {
+        Some(_map) => remove(rt, name),
+        None => Ok(()),
+    }
+}
+
+// Removes a file, and syncs its folder. There may be none.
+fn remove<'w>(rt: &HostRuntime, name: &CopyName<'w>) -> Result<(), Fault<'w>> {
+    let path = name.path(rt.alloc())?;
+    name.of_call(lasting::remove(rt, path.as_str()))
+}
+
+// Returns the name of the map of an incomplete copy, made from that of the target.
+fn part_map_of<'w>(copy: &Copy<'w>) -> CopyName<'w> {
+    CopyName::derived(copy.to.path, Suffix::PartMap)
+}
+
+// Returns the name of the map of a target, made from its own.
+fn map_of<'w>(copy: &Copy<'w>) -> CopyName<'w> {
+    CopyName::derived(copy.to.path, Suffix::Map)
+}
+
+/// Fails if there is a map of a file that isn't there, and says that blocks of it are copied.
+pub(crate) fn check_no_map_of<'w>(rt: &HostRuntime, path: &'w str) -> Result<(), Fault<'w>> {
+    let name = CopyName::derived(path, Suffix::Map);
+    match read_if_map(rt, &name)? {
+        Some(map) if map.finished_end() > 0 => Err(name.fault(Reason::Exists)),
+        _ => Ok(()),
     }
 }
 
@@ -196,8 +302,8 @@ fn check_replaceable<'w>(rt: &HostRuntime, name: &CopyName<'w>) -> Result<(), Fa
             Some(found) if !found.is_file() => return Err(name.fault(Reason::NotPlain)),
             Some(found) => found.len() == 0 || is_begun(rt, &name)?,
         };
-        if !is_whole {
-            read_map(rt, &name)?;
+        if !is_whole && read_if_map(rt, &name)?.is_none() {
+            return Err(name.fault(Reason::NoMap));
         }
     }
     Ok(())
@@ -226,6 +332,19 @@ fn read_map<'w>(rt: &HostRuntime, name: &CopyName<'w>) -> Result<Option<BlockMap
     match BlockMap::parse(rt.alloc(), text.as_str()) {
         Ok(map) => Ok(Some(map)),
         Err(error) => Err(name.fault(Reason::Map(error))),
+    }
+}
+
+// Reads a file if it is a map. Returns `None` if there is none, or if it is a link or another file.
+fn read_if_map<'w>(rt: &HostRuntime, name: &CopyName<'w>) -> Result<Option<BlockMap>, Fault<'w>> {
+    match read_map(rt, name) {
+        Err(
+            Fault {
+                reason: Reason::Link | Reason::NotPlain | Reason::Map(_) | Reason::MapIsNoText,
+                ..
+            },
+        ) => Ok(None),
+        read => read,
     }
 }
 

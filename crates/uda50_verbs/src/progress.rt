@@ -1,5 +1,6 @@
 //! The progress of a copy, on standard error.
 
+use crate::container::warn_of_format;
 use std::io::IsTerminal;
 use std::ops::Range;
 use std::time::Instant;
@@ -104,6 +105,13 @@ impl<'r, 'w> CopyProgress<'r, 'w> {
             line: ProgressLine::start(rt),
             run: 0..0,
             lost: 0,
+        }
+    }
+
+    /// Prints a line if a block is the first one, and that of a file of another format.
+    pub(crate) fn read(&self, block: u32, bytes: &[u8; 512]) {
+        if block == 0 {
+            warn_of_format(self.rt, self.name, bytes);
         }
     }
 

@@ -1,7 +1,7 @@
 //! Copies from a stream to an image, and from an image to standard output. They don't go through the controller.
 ghost use Rattle.std.specs.Prelude.{◌≤◌};
 
-use crate::container::volume_blocks;
+use crate::container::{volume_blocks, warn_of_format};
 use crate::copy::blocks_to_copy;
 use crate::fault::{CopyOption, Fault, Reason, STANDARD_INPUT, STANDARD_OUTPUT, StreamLength};
 use crate::image::{NamedImage, block_fault};
@@ -93,12 +93,13 @@ fn take_stream<'w, R: Read + Drop>(
         Some(range) => range.end,
         None => 0,
     };
-    let begun = CheckedTarget::open(rt, copy, end)?.begin_unmapped(rt)?;
+    let begun = CheckedTarget::open(rt, copy, &(0..end))?.begin_unmapped(rt)?;
     let BegunCopy { target, file, .. } = begun;
     target.announce(false)?;
     let is_sparse = copy.sparse && target.kind().is_whole();
     let image = file.into_image(STORE_LIMIT, is_sparse, &target.failures)?;
     let mut taken = StreamCopy {
+        rt,
         copy,
         name,
         stream,
@@ -135,12 +136,13 @@ fn complete<'w>(
     let synced = target.sync(0);
     clear_line(rt);
     synced?;
-    target.give_name()
+    target.complete(false)
 }
 
 // A copy of a stream to an image.
 #[derive(Drop)]
 struct StreamCopy<'a, 'w, R> {
+    rt: &'a HostRuntime,
     copy: &'a Copy<'w>,
     name: &'w str,
     stream: R,
@@ -235,6 +237,9 @@ impl<'a, 'w, R: Read> StreamCopy<'a, 'w, R> {
             return Err(Fault::new(self.name, Reason::TooLarge(u64::from(block))));
         }
         from.copy_from_slice(bytes);
+        if block == 0 {
+            warn_of_format(self.rt, self.name, &from);
+        }
         match self.image.write(block, &from) {
             Ok(()) => Ok(()),
             Err(error) => Err(block_fault(copy.to.path, block, error, &self.failures)),
@@ -304,12 +309,15 @@ fn write_all<'w, W: Write + Drop>(
     let mut bytes = [0; BLOCK];
     for block in blocks {
         match image.read_block(block, &mut bytes) {
-            Ok(()) => to_output(out.write_all(&bytes))?,
+            Ok(()) => {
+                progress.read(block, &bytes);
+                to_output(out.write_all(&bytes))?;
+            }
             Err(_fault) if skips_lost => {
                 progress.lost(block);
                 to_output(out.write_all(&[0; BLOCK]))?;
             }
-            Err(fault) => return Err(fault),
+            Err(_fault) => return Err(image.copy_fault(block)),
         }
         progress.reached(block.saturating_add(1));
     }

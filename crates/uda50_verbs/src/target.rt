@@ -4,7 +4,7 @@ use crate::create::{check_existing, set_blocks};
 use crate::fault::{Fault, Reason, Suffix};
 use crate::image::reason;
 use crate::lasting;
-use crate::map_file::MapFile;
+use crate::map_file::{FormerMap, MapFile, has_part_map, remove_old_part_map, remove_part_map};
 use crate::names::{CopyName, is_link};
 use std::cell::Cell;
 use std::fs;
@@ -67,6 +67,9 @@ impl TargetKind {
         if let Ok(metadata) = fs::metadata(rt, path) {
             return TargetKind::of_existing(rt, copy, &metadata);
         }
+        if copy.device.is_some() {
+            return Err(Fault::new(path, Reason::NoSuchFile));
+        }
         if is_link(rt, path) {
             return Err(Fault::new(path, Reason::LinkToNowhere));
         }
@@ -84,17 +87,19 @@ impl TargetKind {
         metadata: &Metadata,
     ) -> Result<TargetKind, Fault<'w>> {
         let path = copy.to.path;
-        let is_block_device = metadata.file_type().is_block_device();
-        let is_device = copy.device.is_some() && is_block_device;
+        let is_device = metadata.file_type().is_block_device();
         let has_part = copy.resumes && part_of(copy).found(rt)?.is_some();
         let tries_lost = copy.resumes && !has_part;
+        match (is_device, copy.device) {
+            (true, None) => return Err(Fault::new(path, Reason::Device)),
+            (false, Some(_)) => return Err(Fault::new(path, Reason::NoDevice)),
+            _ => {}
+        }
         if tries_lost {
             check_begun(rt, copy)?;
         }
-        if is_block_device && !is_device {
-            return Err(Fault::new(path, Reason::Device));
-        }
         if !is_device {
+            check_part(rt, copy, metadata)?;
             check_existing(path, copy.force || tries_lost, metadata)?;
         }
         check_source(rt, copy)?;
@@ -112,12 +117,9 @@ impl TargetKind {
         if part_of(copy).found(rt)?.is_some() {
             return Ok(TargetKind::Resume);
         }
-        let claims = match MapFile::of(copy, TargetKind::Resume).read(rt)? {
+        let claims = match MapFile::of_incomplete(copy).read(rt)? {
             Some(map) => map.finished_end() > 0,
-            None => copy.map.is_none()
-                && MapFile::of(copy, TargetKind::LostBlocks)
-                    .read(rt)?
-                    .is_some(),
+            None => copy.map.is_none() && MapFile::of_target(copy).read(rt)?.is_some(),
         };
         if claims {
             return Err(Fault::new(copy.to.path, Reason::OnlyMap));
@@ -132,26 +134,35 @@ pub(crate) struct CheckedTarget<'w> {
     copy: Copy<'w>,
     kind: TargetKind,
     map: MapFile<'w>,
+    // What the file of the map held before.
+    former: FormerMap,
+    // Whether the map is one of the whole target, and tells of other blocks too.
+    keeps_map: bool,
     // The file, unless it will be made.
     existing: Option<TargetFile>,
 }
 
 impl<'w> CheckedTarget<'w> {
-    /// Opens the target of a copy. If it keeps its length, it must have all blocks before `end`. Fails if something may
+    /// Opens the target of a copy of these blocks. If it keeps its length, it must have all of them. Fails if something may
     /// not be written or replaced.
     pub(crate) fn open(
         rt: &HostRuntime,
         copy: &Copy<'w>,
-        end: u32,
+        blocks: &Range<u32>,
     ) -> Result<CheckedTarget<'w>, Fault<'w>> {
         let kind = TargetKind::choose(rt, copy)?;
         let map = MapFile::of(copy, kind);
         map.check(rt, copy, kind)?;
+        if kind.has_part() && part_of(copy).is_same(rt, &CopyName::argument(copy.to.path))? {
+            return Err(part_of(copy).fault(Reason::PartIsTarget));
+        }
         Ok(CheckedTarget {
             copy: *copy,
             kind,
             map,
-            existing: open_existing(rt, copy, kind, end)?,
+            former: FormerMap::Void,
+            keeps_map: false,
+            existing: open_existing(rt, copy, kind, blocks)?,
         })
     }
 
@@ -160,41 +171,66 @@ impl<'w> CheckedTarget<'w> {
         self.kind.resumes()
     }
 
-    /// Goes on with a copy that ended early. Its map must have all these blocks, and none that a source of `size` blocks
-    /// doesn't have. Its target must have all blocks that are finished by the map.
+    /// Goes on with a copy that ended early. The map of an incomplete copy must be one of just these blocks. That of a
+    /// target with its own name must have all of them, and none that a source of `size` blocks doesn't have. The target
+    /// must have all blocks that are finished by the map.
     pub(crate) fn resume<'r>(
         self,
         rt: &'r HostRuntime,
         blocks: &Range<u32>,
         size: u32,
     ) -> Result<BegunCopy<'r, 'w>, Fault<'w>> {
-        let map = match self.map.read(rt)? {
-            Some(map) if map.covers(blocks) && map.end() <= size => map,
-            Some(_map) => return Err(self.map.fault_of_size()),
-            None => return Err(Fault::new(self.copy.to.path, Reason::NothingToResume)),
+        let Some(map) = self.map.read(rt)? else {
+            return Err(Fault::new(self.copy.to.path, Reason::NothingToResume));
         };
+        let is_of_copy = match self.kind {
+            TargetKind::LostBlocks => map.covers(blocks) && map.end() <= size,
+            _ => is_of(&map, blocks),
+        };
+        if !is_of_copy {
+            return Err(self.map.fault_of_size());
+        }
         self.check_length(&map, size)?;
         self.into_begun(rt, map)
     }
 
-    // Fails if the target is shorter than its map says, or if it is one that a copy was to overwrite. That has saved its
-    // first map, and not yet changed the target.
+    // Fails if the target isn't as long as its map says. Without `--force`, a named map that claims no block doesn't permit
+    // to overwrite a file.
     fn check_length(&self, map: &BlockMap, size: u32) -> Result<(), Fault<'w>> {
         let Some(file) = &self.existing else {
             return Ok(());
         };
-        let blocks = map.finished_end();
+        let path = self.copy.to.path;
         let bytes = file.bytes();
-        if bytes < 512 * u64::from(blocks) {
+        let blocks = map.finished_end();
+        if !self.holds(map) {
             let name = name_of(&self.copy, self.kind);
             return Err(name.fault(Reason::ShorterThanMap { bytes, blocks }));
         }
-        let is_whole = self.copy.blocks.is_none() && self.copy.device.is_none();
-        let is_other = self.kind == TargetKind::LostBlocks && bytes > 512 * u64::from(size);
-        if blocks == 0 && is_whole && is_other {
-            return Err(Fault::new(self.copy.to.path, Reason::NotBegun));
+        if self.kind != TargetKind::LostBlocks || self.copy.device.is_some() {
+            return Ok(());
+        }
+        if self.copy.blocks.is_none() && bytes > 512 * u64::from(size) {
+            return Err(Fault::new(
+                path,
+                Reason::LongerThanMap {
+                    bytes,
+                    blocks: size,
+                },
+            ));
+        }
+        if blocks == 0 && bytes > 0 && self.map.is_named() && !self.copy.force {
+            return Err(Fault::new(path, Reason::Exists));
         }
         Ok(())
+    }
+
+    // Returns whether the target has all blocks that are finished by a map.
+    fn holds(&self, map: &BlockMap) -> bool {
+        match &self.existing {
+            Some(file) => 512 * u64::from(map.finished_end()) <= file.bytes(),
+            None => false,
+        }
     }
 
     /// Begins a copy of blocks. Before anything else is changed, no map on the disk claims one of them any more.
@@ -211,19 +247,52 @@ impl<'w> CheckedTarget<'w> {
     fn begun_map(&mut self, rt: &HostRuntime, blocks: &Range<u32>) -> Result<BlockMap, Fault<'w>> {
         let Range { start, end } = *blocks;
         if self.map.is_named() {
-            MapFile::disclaim(rt, &self.copy, self.kind, start..end)?;
-            return self.map.begin(rt, start..end);
-        }
-        if self.kind.has_part() {
+            self.disclaim_unnamed(rt, start..end)?;
+        } else if self.kind.has_part() {
             match self.map.begin(rt, start..end) {
-                Err(_fault) if self.kind == TargetKind::Overwrite => self.stay_in_place(),
-                begun => return begun,
+                Err(fault) if self.kind == TargetKind::Overwrite && fault.forbids_names() => {
+                    self.stay_in_place()
+                }
+                Err(fault) => return Err(of_folder(&self.copy, fault)),
+                Ok(map) => return Ok(map),
             }
         }
-        match MapFile::disclaim(rt, &self.copy, self.kind, start..end)? {
-            Some(map) if map.covers(blocks) => Ok(map),
-            _ => Ok(BlockMap::new(rt.alloc(), start..end)?),
+        self.former = self.former_map(rt)?;
+        if !self.kind.has_part() {
+            match self.map.disclaim(rt, start..end)? {
+                Some(map) if map.covers(blocks) && self.holds(&map) => {
+                    self.keeps_map = true;
+                    return Ok(map);
+                }
+                _ if self.map.is_named() => {}
+                _ => return Ok(BlockMap::new(rt.alloc(), start..end)?),
+            }
         }
+        self.map.begin(rt, start..end)
+    }
+
+    // Returns what the file of the map holds. A named one may tell of an incomplete copy that will be replaced.
+    fn former_map(&self, rt: &HostRuntime) -> Result<FormerMap, Fault<'w>> {
+        if self.kind.has_part() && part_of(&self.copy).found(rt)?.is_some() {
+            return Ok(FormerMap::Void);
+        }
+        Ok(match self.map.read_old(rt)? {
+            Some(map) => FormerMap::Kept(map),
+            None => FormerMap::None,
+        })
+    }
+
+    // Lets no map that isn't named claim one of these blocks.
+    fn disclaim_unnamed(&self, rt: &HostRuntime, blocks: Range<u32>) -> Result<(), Fault<'w>> {
+        if self.kind.has_part() {
+            return remove_part_map(rt, &self.copy);
+        }
+        let unnamed = Copy {
+            map: None,
+            ..self.copy
+        };
+        MapFile::of_target(&unnamed).disclaim(rt, blocks)?;
+        Ok(())
     }
 
     /// Begins a copy that has no map and can't be resumed. Before anything else is changed, no map on the disk claims one
@@ -236,12 +305,12 @@ impl<'w> CheckedTarget<'w> {
             Some(range) => (range.start, range.end),
             None => (0, u32::MAX),
         };
-        match MapFile::disclaim(rt, &self.copy, self.kind, start..end) {
-            Err(_fault) if self.kind == TargetKind::Overwrite => {
+        match self.disclaim_unnamed(rt, start..end) {
+            Err(fault) if self.kind == TargetKind::Overwrite && fault.forbids_names() => {
                 self.stay_in_place();
-                MapFile::disclaim(rt, &self.copy, self.kind, start..end)?;
+                self.disclaim_unnamed(rt, start..end)?;
             }
-            disclaimed => drop(disclaimed?),
+            disclaimed => disclaimed?,
         }
         let map = BlockMap::new(rt.alloc(), start..end)?;
         self.into_begun(rt, map)
@@ -262,7 +331,7 @@ impl<'w> CheckedTarget<'w> {
         let failures = Failures::none(rt.alloc())?;
         let made = self.make(rt);
         if made.is_err() && !self.kind.resumes() {
-            self.map.remove(rt)?;
+            self.map.restore(rt, &self.former)?;
         }
         let file = made?;
         let target = CopyTarget {
@@ -270,6 +339,8 @@ impl<'w> CheckedTarget<'w> {
             copy: self.copy,
             kind: self.kind,
             map: self.map,
+            former: self.former,
+            keeps_map: self.keeps_map,
             file: Fault::of_call(self.copy.to.path, file.handle())?,
             failures,
             copied: Cell::new(0),
@@ -291,19 +362,30 @@ impl<'w> CheckedTarget<'w> {
         };
         match self.kind {
             TargetKind::New => Fault::of_call(to, file.empty())?,
-            TargetKind::Overwrite => {
-                if fs::rename(rt, to, part.as_str()).is_err() {
-                    self.map.remove(rt)?;
-                    self.stay_in_place();
-                    MapFile::disclaim(rt, &self.copy, self.kind, 0..u32::MAX)?;
-                } else if let Err(error) = lasting::sync_folder(rt, to) {
-                    let _ = fs::rename(rt, part.as_str(), to);
-                    return Err(Fault::system(to, error));
-                }
-            }
+            TargetKind::Overwrite => self.give_part_name(rt, part.as_str())?,
             _ => {}
         }
         Ok(file)
+    }
+
+    // Gives an existing target its other name. It keeps its own one if its folder permits no other.
+    fn give_part_name(&mut self, rt: &HostRuntime, part: &str) -> Result<(), Fault<'w>> {
+        let to = self.copy.to.path;
+        match Fault::of_call(to, fs::rename(rt, to, part)) {
+            Err(fault) if fault.forbids_names() => {
+                if !self.map.is_named() {
+                    remove_old_part_map(rt, &self.copy)?;
+                }
+                self.stay_in_place();
+                return self.disclaim_unnamed(rt, 0..u32::MAX);
+            }
+            renamed => renamed?,
+        }
+        let synced = lasting::sync_folder(rt, to);
+        if synced.is_err() {
+            let _ = fs::rename(rt, part, to);
+        }
+        Fault::of_call(to, synced)
     }
 }
 
@@ -325,13 +407,15 @@ pub(crate) struct CopyTarget<'r, 'w> {
     copy: Copy<'w>,
     kind: TargetKind,
     map: MapFile<'w>,
+    former: FormerMap,
+    keeps_map: bool,
     file: File,
     /// The failures of the file.
     pub(crate) failures: Failures,
     /// The number of blocks that were copied.
     pub(crate) copied: Cell<u32>,
     stage: Cell<Stage>,
-    // Whether the name of the file is on the disk.
+    // Whether the name of the file is on the disk. It is before the first map that claims a block.
     lasts: Cell<bool>,
 }
 
@@ -355,6 +439,8 @@ pub(crate) enum Resumption {
     Possible,
     /// It can be resumed, but ends at the same block again unless it continues after blocks that can't be read.
     Continuing,
+    /// It can be resumed, but overwrites the target only with `--force`.
+    Forced,
 }
 
 impl Resumption {
@@ -365,6 +451,7 @@ impl Resumption {
             Resumption::Possible => "; --resume goes on with it",
             Resumption::Continuing =>
                 "; --resume goes on with it, and --continue skips blocks that can't be read",
+            Resumption::Forced => "; --resume --force goes on with it",
         }
     }
 }
@@ -385,6 +472,11 @@ impl<'r, 'w> CopyTarget<'r, 'w> {
         self.kind.has_part() || self.map.is_named()
     }
 
+    /// Returns whether the map is saved when the copy ends: if it was named, or if it tells of other blocks too.
+    pub(crate) fn leaves_map(&self) -> bool {
+        self.map.is_named() || self.keeps_map || self.kind == TargetKind::LostBlocks
+    }
+
     /// Prints what an interrupt leaves of the copy, if standard error is a terminal.
     pub(crate) fn announce(&self, is_resumable: bool) -> Result<(), Fault<'w>> {
         if !self.rt.stderr().is_terminal() {
@@ -394,6 +486,8 @@ impl<'r, 'w> CopyTarget<'r, 'w> {
         let name = EscapedName(path.as_str());
         let again = if is_resumable && (self.saves_maps() || self.kind.resumes()) {
             "; then the same command with --resume goes on"
+        } else if self.copy.device.is_some() {
+            "; then the copy has to begin anew"
         } else {
             "; then the copy has to begin anew, with --force"
         };
@@ -439,12 +533,22 @@ impl<'r, 'w> CopyTarget<'r, 'w> {
         self.stage.set(Stage::Copying);
     }
 
-    /// Gives a complete target its own name.
-    pub(crate) fn give_name(&self) -> Result<(), Fault<'w>> {
+    /// Gives a complete target its own name. Before that no map tells of what had this name, unless this copy saved it.
+    pub(crate) fn complete(&self, saved_map: bool) -> Result<(), Fault<'w>> {
         let path = self.copy.to.path;
-        if self.kind == TargetKind::New && fs::symlink_metadata(self.rt, path).is_ok() {
+        let is_new = matches!(self.kind, TargetKind::New | TargetKind::Resume);
+        if is_new && !self.copy.force && fs::symlink_metadata(self.rt, path).is_ok() {
             return Err(Fault::new(path, Reason::Exists));
         }
+        if self.kind.has_part() && (self.map.is_named() || !saved_map) {
+            self.map.retire(self.rt, &self.copy)?;
+        }
+        self.give_name()
+    }
+
+    // Gives the target its own name.
+    fn give_name(&self) -> Result<(), Fault<'w>> {
+        let path = self.copy.to.path;
         if self.has_part_name() {
             let part = part_of(&self.copy).path(self.rt.alloc())?;
             Fault::of_call(path, fs::rename(self.rt, part.as_str(), path))?;
@@ -453,6 +557,14 @@ impl<'r, 'w> CopyTarget<'r, 'w> {
         }
         self.stage.set(Stage::Named);
         Ok(())
+    }
+
+    /// Removes the map of the incomplete copy, after the target got its own name.
+    pub(crate) fn discard_part_map(&self) -> Result<(), Fault<'w>> {
+        if self.kind == TargetKind::LostBlocks {
+            return remove_old_part_map(self.rt, &self.copy);
+        }
+        self.map.discard(self.rt)
     }
 
     // Returns whether the target has its other name.
@@ -505,14 +617,18 @@ impl<'r, 'w> CopyTarget<'r, 'w> {
             TargetKind::New => drop(fs::remove_file(self.rt, part.as_str())),
             _ => self.give_name()?,
         }
-        self.map.remove(self.rt)
+        self.map.restore(self.rt, &self.former)
     }
 
-    // Prints a line that names the incomplete copy, if it has its other name or is a device that was written.
+    // Prints a line that names the incomplete copy, or how lost blocks can be skipped.
     fn print_rest(&self, resumption: Resumption) -> Result<(), Fault<'w>> {
-        if self.copy.device.is_some() && self.failures.was_written() {
-            let device = EscapedName(self.copy.to.path);
-            let _ = eprintln!(self.rt; "uda50: {device}: is the incomplete copy");
+        let path = EscapedName(self.copy.to.path);
+        let is_in_place = self.copy.device.is_some() || self.kind == TargetKind::InPlace;
+        if is_in_place && self.failures.was_written() {
+            let _ = eprintln!(self.rt; "uda50: {path}: is the incomplete copy");
+        }
+        if self.kind == TargetKind::LostBlocks && resumption == Resumption::Continuing {
+            let _ = eprintln!(self.rt; "uda50: {path}: --continue skips blocks that can't be read");
         }
         if self.has_part_name() {
             let part = part_of(&self.copy).path(self.rt.alloc())?;
@@ -559,16 +675,48 @@ fn check_source<'w>(rt: &HostRuntime, copy: &Copy<'w>) -> Result<(), Fault<'w>> 
 }
 
 // Fails if a copy over an existing target saved its first map, and ended before that got its other name. The target is
-// then one of an earlier copy, and so is another map of it.
+// then one of an earlier copy, and so is its map.
 fn check_begun<'w>(rt: &HostRuntime, copy: &Copy<'w>) -> Result<(), Fault<'w>> {
-    if copy.map.is_some() {
+    if copy.map.is_some() || MapFile::of_target(copy).read(rt)?.is_none() {
         return Ok(());
     }
-    match MapFile::of(copy, TargetKind::Resume).read(rt) {
+    match MapFile::of_incomplete(copy).read(rt) {
         Ok(Some(map)) if map.finished_end() == 0 => {
             Err(Fault::new(copy.to.path, Reason::NotBegun))
         }
         _ => Ok(()),
+    }
+}
+
+// Fails if a copy over a whole target would replace a file with its other name that isn't an incomplete copy. Without
+// `--force` it replaces none.
+fn check_part<'w>(rt: &HostRuntime, copy: &Copy<'w>, metadata: &Metadata) -> Result<(), Fault<'w>> {
+    let is_overwritten = copy.blocks.is_none() && !copy.resumes && metadata.is_file();
+    if !is_overwritten || part_of(copy).found(rt)?.is_none() {
+        return Ok(());
+    }
+    if !has_part_map(rt, copy)? && MapFile::of_incomplete(copy).read_old(rt)?.is_none() {
+        return Err(part_of(copy).fault(Reason::NoPart));
+    }
+    match copy.force {
+        true => Ok(()),
+        false => Err(Fault::new(copy.to.path, Reason::BothExist)),
+    }
+}
+
+// Returns whether a map has these blocks, and no others.
+fn is_of(map: &BlockMap, blocks: &Range<u32>) -> bool {
+    map.covers(blocks) && map.start() == blocks.start && map.end() == blocks.end
+}
+
+// Returns the fault of the first map of a new target. If the system doesn't make files in its folder, it is a fault of
+// the target.
+fn of_folder<'w>(copy: &Copy<'w>, fault: Fault<'w>) -> Fault<'w> {
+    match fault.reason {
+        Reason::NoSuchFile | Reason::PermissionDenied | Reason::System(_) => {
+            Fault::new(copy.to.path, fault.reason)
+        }
+        reason => Fault::of_derived(fault.name, fault.suffix, reason),
     }
 }
 
@@ -577,10 +725,10 @@ fn open_existing<'w>(
     rt: &HostRuntime,
     copy: &Copy<'w>,
     kind: TargetKind,
-    end: u32,
+    blocks: &Range<u32>,
 ) -> Result<Option<TargetFile>, Fault<'w>> {
     match kind {
-        TargetKind::New => part_to_empty(rt, copy),
+        TargetKind::New => part_to_empty(rt, copy, blocks),
         TargetKind::Resume => Ok(Some(open_part(rt, copy)?)),
         TargetKind::Overwrite | TargetKind::InPlace => {
             if part_of(copy).found(rt)?.is_some() {
@@ -590,21 +738,26 @@ fn open_existing<'w>(
             Ok(Some(opened(&CopyName::argument(copy.to.path), file)?))
         }
         TargetKind::Blocks | TargetKind::LostBlocks | TargetKind::Device => {
-            Ok(Some(open_with_blocks(rt, copy, kind, end)?))
+            Ok(Some(open_with_blocks(rt, copy, kind, blocks.end)?))
         }
     }
 }
 
-// Opens what an earlier copy left of a new target. It will be emptied, and that needs `--force`.
-fn part_to_empty<'w>(rt: &HostRuntime, copy: &Copy<'w>) -> Result<Option<TargetFile>, Fault<'w>> {
+// Opens what an earlier copy left of a new target. It will be emptied, and that needs `--force`. If it is one of the same
+// blocks, it can be resumed.
+fn part_to_empty<'w>(
+    rt: &HostRuntime,
+    copy: &Copy<'w>,
+    blocks: &Range<u32>,
+) -> Result<Option<TargetFile>, Fault<'w>> {
     if part_of(copy).found(rt)?.is_none() {
         return Ok(None);
     }
     if copy.force {
         return Ok(Some(open_part(rt, copy)?));
     }
-    let reason = match MapFile::of(copy, TargetKind::New).read(rt) {
-        Ok(Some(_map)) if !copy.from.is_stream() => Reason::PartExists,
+    let reason = match MapFile::of_incomplete(copy).read(rt) {
+        Ok(Some(map)) if is_of(&map, blocks) && !copy.from.is_stream() => Reason::PartExists,
         _ => Reason::PartWithoutMap,
     };
     Err(part_of(copy).fault(reason))

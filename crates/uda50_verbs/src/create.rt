@@ -1,7 +1,8 @@
 //! `uda50 create`: new images.
 
 use crate::fault::{Fault, Reason};
-use crate::map_file::{check_no_map_of, remove_map_of};
+use crate::map_file::{check_no_map_of, remove_map_of, restore_map_of};
+use crate::names::end_of_links;
 use crate::outcome::Outcome;
 use std::fs;
 use std::fs::{File, Metadata, OpenFile, OpenOptions, TryLockError};
@@ -31,20 +32,41 @@ fn overwrite<'w>(
     let path = create.image.path;
     check_existing(path, create.force, metadata)?;
     let file = locked(rt, path)?;
-    remove_map_of(rt, path)?;
+    remove_map_at_end(rt, path)?;
     Fault::of_call(path, file.set_len(0))?;
     set_blocks(path, &file, create.blocks)?;
     Ok(Outcome::Done)
 }
 
-// Makes an image of zeros in a new file. Removes the file if its length can't be set. Without `--force`, there may be no map
-// of what had its name.
+// Removes the map of an existing file. If the name is that of a link, the map is that of the file to which it leads.
+fn remove_map_at_end<'w>(rt: &HostRuntime, path: &'w str) -> Result<(), Fault<'w>> {
+    let end = end_of_links(rt, path)?;
+    match remove_map_of(rt, end.as_str()) {
+        Ok(_map) => Ok(()),
+        Err(fault) => Err(Fault::of_derived(path, fault.suffix, fault.reason)),
+    }
+}
+
+// Makes an image of zeros in a new file. Without `--force`, there may be no map of what had its name. If no file is made,
+// the map is as it was.
 fn create_new<'w>(rt: &HostRuntime, create: &Create<'w>) -> Result<Outcome, Fault<'w>> {
     let path = create.image.path;
     if !create.force {
         check_no_map_of(rt, path)?;
     }
-    remove_map_of(rt, path)?;
+    let map = remove_map_of(rt, path)?;
+    let made = make_zeros(rt, create);
+    if made.is_err() {
+        if let Some(map) = &map {
+            restore_map_of(rt, path, map)?;
+        }
+    }
+    made
+}
+
+// Makes a new file of zeros. Removes it if its length can't be set.
+fn make_zeros<'w>(rt: &HostRuntime, create: &Create<'w>) -> Result<Outcome, Fault<'w>> {
+    let path = create.image.path;
     let file = new_file(rt, path)?;
     let done = set_blocks(path, &file, create.blocks);
     if done.is_err() {

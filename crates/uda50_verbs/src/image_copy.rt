@@ -116,6 +116,7 @@ impl<'a, 'w> ImageCopy<'a, 'w> {
         clear_line(self.rt);
         synced?;
         self.target.note_checked();
+        self.target.check_name()?;
         let saved = ended.save(self.target.leaves_map())?;
         self.target.complete(saved)?;
         self.target.discard_part_map()?;

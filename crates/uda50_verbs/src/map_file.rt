@@ -7,6 +7,7 @@ use crate::fault::{Fault, Reason, Suffix};
 use crate::lasting;
 use crate::names::CopyName;
 use crate::target::TargetKind;
+use std::alloc::AllocError;
 use std::fs;
 use std::fs::{File, OpenFile};
 use std::io::{ErrorKind, Read};
@@ -78,7 +79,7 @@ impl<'w> MapFile<'w> {
         if kind.has_part() {
             check_replaceable(rt, &part_map_of(copy))?;
         }
-        if leaves_map && copy.resumes || kind == TargetKind::LostBlocks {
+        if copy.resumes && self.is_named() || kind == TargetKind::LostBlocks {
             read_map(rt, &self.afterwards)?;
         }
         if leaves_map || kind == TargetKind::LostBlocks {
@@ -158,8 +159,8 @@ impl<'w> MapFile<'w> {
         read_if_map(rt, &self.afterwards)
     }
 
-    /// Reads the map that a copy will replace. Returns `None` if there is none.
-    pub(crate) fn read_old(&self, rt: &HostRuntime) -> Result<Option<BlockMap>, Fault<'w>> {
+    /// Reads the map that a copy will replace. Returns `None` if there is none, or another file.
+    pub(crate) fn read_if_map(&self, rt: &HostRuntime) -> Result<Option<BlockMap>, Fault<'w>> {
         read_if_map(rt, &self.during)
     }
 
@@ -186,14 +187,26 @@ impl<'w> MapFile<'w> {
         Ok(())
     }
 
-    /// Lets the map be as it was before a copy that is undone.
+    /// Undoes the map of a copy that is undone. The old one has its unfinished blocks again, but claims none: if the copy
+    /// is resumed, it begins. So the first map of a copy over a target that has a map of its own stays.
     pub(crate) fn restore(&self, rt: &HostRuntime, former: &FormerMap) -> Result<(), Fault<'w>> {
         match former {
-            FormerMap::Kept(map) => self.save(rt, map),
-            FormerMap::None if self.is_named() || self.is_moved() => remove(rt, &self.during),
-            FormerMap::Void if self.is_moved() => remove(rt, &self.during),
+            FormerMap::Kept(map) => self.save(rt, &without_claims(rt, map)?),
+            FormerMap::None if self.is_named() => remove(rt, &self.during),
+            FormerMap::Void if self.is_moved() && self.read_afterwards(rt)?.is_none() => {
+                remove(rt, &self.during)
+            }
             FormerMap::None | FormerMap::Void => Ok(()),
         }
+    }
+
+    /// Returns whether the map has the name of another one, during the copy.
+    pub(crate) fn is_same(
+        &self,
+        rt: &HostRuntime,
+        other: &MapFile<'_>,
+    ) -> Result<bool, AllocError> {
+        self.during.is_same(rt, &other.during)
     }
 
     // Returns whether the map has one name during the copy, and another one afterwards.
@@ -232,13 +245,30 @@ pub(crate) enum FormerMap {
     None,
     /// It was this map.
     Kept(BlockMap),
-    /// It was a map that may tell of an incomplete copy, and that isn't there any more.
+    /// It may have been a map of an incomplete copy that isn't there any more. So it isn't restored.
     Void,
 }
 
-/// Removes the map of a file that won't be what it was.
-pub(crate) fn remove_map_of<'w>(rt: &HostRuntime, path: &'w str) -> Result<(), Fault<'w>> {
-    remove_if_map(rt, &CopyName::derived(path, Suffix::Map))
+/// Removes the map of a file that won't be what it was. Returns the map.
+pub(crate) fn remove_map_of<'w>(
+    rt: &HostRuntime,
+    path: &'w str,
+) -> Result<Option<BlockMap>, Fault<'w>> {
+    let name = CopyName::derived(path, Suffix::Map);
+    let map = read_if_map(rt, &name)?;
+    if map.is_some() {
+        remove(rt, &name)?;
+    }
+    Ok(map)
+}
+
+/// Saves the map of a file that is as it was.
+pub(crate) fn restore_map_of<'w>(
+    rt: &HostRuntime,
+    path: &'w str,
+    map: &BlockMap,
+) -> Result<(), Fault<'w>> {
+    write_map(rt, &CopyName::derived(path, Suffix::Map), map, true)
 }
 
 /// Removes the map of an incomplete copy that begins anew without a map of that name.
@@ -251,9 +281,28 @@ pub(crate) fn remove_old_part_map<'w>(rt: &HostRuntime, copy: &Copy<'w>) -> Resu
     remove_if_map(rt, &part_map_of(copy))
 }
 
-/// Returns whether there is a map of the incomplete copy whose name is made from that of the target.
+/// Returns whether there is a map of the incomplete copy with the name that is made from that of the target.
 pub(crate) fn has_part_map<'w>(rt: &HostRuntime, copy: &Copy<'w>) -> Result<bool, Fault<'w>> {
     Ok(read_if_map(rt, &part_map_of(copy))?.is_some())
+}
+
+/// Returns whether a first map of an incomplete copy was begun, and not saved.
+pub(crate) fn has_new_part_map<'w>(rt: &HostRuntime, copy: &Copy<'w>) -> Result<bool, Fault<'w>> {
+    Ok(new_of(&part_map_of(copy)).found(rt)?.is_some())
+}
+
+// Returns a map in which those blocks are lost that aren't finished, and the others are not tried.
+fn without_claims<'w>(rt: &HostRuntime, map: &BlockMap) -> Result<BlockMap, Fault<'w>> {
+    let mut rest = BlockMap::new(rt.alloc(), map.start()..map.end())?;
+    let mut at = map.start();
+    for _ in 0..u32::MAX {
+        let Some(lost) = map.next_unfinished(at) else {
+            break;
+        };
+        at = lost.end;
+        rest.set(lost, BlockStatus::Bad)?;
+    }
+    Ok(rest)
 }
 
 // Removes a file if it is a map.

@@ -108,8 +108,8 @@ impl<'r, 'w> CopyProgress<'r, 'w> {
         }
     }
 
-    /// Prints a line if a block is the first one, and that of a file of another format.
-    pub(crate) fn read(&self, block: u32, bytes: &[u8; 512]) {
+    /// Prints a line if a block of the copy is the first one, and that of a file of another format.
+    pub(crate) fn warn_of_format(&self, block: u32, bytes: &[u8; 512]) {
         if block == 0 {
             warn_of_format(self.rt, self.name, bytes);
         }

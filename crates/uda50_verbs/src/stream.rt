@@ -310,7 +310,7 @@ fn write_all<'w, W: Write + Drop>(
     for block in blocks {
         match image.read_block(block, &mut bytes) {
             Ok(()) => {
-                progress.read(block, &bytes);
+                progress.warn_of_format(block, &bytes);
                 to_output(out.write_all(&bytes))?;
             }
             Err(_fault) if skips_lost => {

@@ -4,7 +4,9 @@ use crate::create::{check_existing, set_blocks};
 use crate::fault::{Fault, Reason, Suffix};
 use crate::image::reason;
 use crate::lasting;
-use crate::map_file::{FormerMap, MapFile, has_part_map, remove_old_part_map, remove_part_map};
+use crate::map_file::{
+    FormerMap, MapFile, has_new_part_map, has_part_map, remove_old_part_map, remove_part_map,
+};
 use crate::names::{CopyName, is_link};
 use std::cell::Cell;
 use std::fs;
@@ -74,6 +76,7 @@ impl TargetKind {
             return Err(Fault::new(path, Reason::LinkToNowhere));
         }
         check_source(rt, copy)?;
+        check_folder(rt, path)?;
         if copy.resumes {
             return TargetKind::of_resumed(rt, copy);
         }
@@ -136,7 +139,7 @@ pub(crate) struct CheckedTarget<'w> {
     map: MapFile<'w>,
     // What the file of the map held before.
     former: FormerMap,
-    // Whether the map is one of the whole target, and tells of other blocks too.
+    // Whether the map was there before, and may tell of other blocks of the target too.
     keeps_map: bool,
     // The file, unless it will be made.
     existing: Option<TargetFile>,
@@ -191,11 +194,14 @@ impl<'w> CheckedTarget<'w> {
             return Err(self.map.fault_of_size());
         }
         self.check_length(&map, size)?;
+        if self.map.is_named() {
+            self.disclaim_unnamed(rt, blocks.start..blocks.end)?;
+        }
         self.into_begun(rt, map)
     }
 
-    // Fails if the target isn't as long as its map says. Without `--force`, a named map that claims no block doesn't permit
-    // to overwrite a file.
+    // Fails if the target isn't as long as its map says. Without `--force`, a map that claims no block doesn't permit to
+    // overwrite a file.
     fn check_length(&self, map: &BlockMap, size: u32) -> Result<(), Fault<'w>> {
         let Some(file) = &self.existing else {
             return Ok(());
@@ -219,7 +225,7 @@ impl<'w> CheckedTarget<'w> {
                 },
             ));
         }
-        if blocks == 0 && bytes > 0 && self.map.is_named() && !self.copy.force {
+        if blocks == 0 && bytes > 0 && !self.copy.force {
             return Err(Fault::new(path, Reason::Exists));
         }
         Ok(())
@@ -259,8 +265,9 @@ impl<'w> CheckedTarget<'w> {
         }
         self.former = self.former_map(rt)?;
         if !self.kind.has_part() {
+            let is_whole = self.kind.is_whole();
             match self.map.disclaim(rt, start..end)? {
-                Some(map) if map.covers(blocks) && self.holds(&map) => {
+                Some(map) if !is_whole && map.covers(blocks) && self.holds(&map) => {
                     self.keeps_map = true;
                     return Ok(map);
                 }
@@ -276,22 +283,26 @@ impl<'w> CheckedTarget<'w> {
         if self.kind.has_part() && part_of(&self.copy).found(rt)?.is_some() {
             return Ok(FormerMap::Void);
         }
-        Ok(match self.map.read_old(rt)? {
+        Ok(match self.map.read_if_map(rt)? {
             Some(map) => FormerMap::Kept(map),
             None => FormerMap::None,
         })
     }
 
-    // Lets no map that isn't named claim one of these blocks.
+    // Lets no map that isn't named claim one of these blocks, which will be written.
     fn disclaim_unnamed(&self, rt: &HostRuntime, blocks: Range<u32>) -> Result<(), Fault<'w>> {
-        if self.kind.has_part() {
-            return remove_part_map(rt, &self.copy);
-        }
         let unnamed = Copy {
             map: None,
             ..self.copy
         };
-        MapFile::of_target(&unnamed).disclaim(rt, blocks)?;
+        let map = MapFile::of(&unnamed, self.kind);
+        if self.map.is_named() && self.map.is_same(rt, &map)? {
+            return Ok(());
+        }
+        if self.kind.has_part() {
+            return remove_part_map(rt, &self.copy);
+        }
+        map.disclaim(rt, blocks)?;
         Ok(())
     }
 
@@ -377,6 +388,9 @@ impl<'w> CheckedTarget<'w> {
                     remove_old_part_map(rt, &self.copy)?;
                 }
                 self.stay_in_place();
+                if !self.map.is_named() {
+                    self.former = self.former_map(rt)?;
+                }
                 return self.disclaim_unnamed(rt, 0..u32::MAX);
             }
             renamed => renamed?,
@@ -533,14 +547,20 @@ impl<'r, 'w> CopyTarget<'r, 'w> {
         self.stage.set(Stage::Copying);
     }
 
-    /// Gives a complete target its own name. Before that no map tells of what had this name, unless this copy saved it.
-    pub(crate) fn complete(&self, saved_map: bool) -> Result<(), Fault<'w>> {
+    /// Fails if somebody else has made a file with the target's own name. It is overwritten only with `--force`.
+    pub(crate) fn check_name(&self) -> Result<(), Fault<'w>> {
         let path = self.copy.to.path;
         let is_new = matches!(self.kind, TargetKind::New | TargetKind::Resume);
         if is_new && !self.copy.force && fs::symlink_metadata(self.rt, path).is_ok() {
             return Err(Fault::new(path, Reason::Exists));
         }
-        if self.kind.has_part() && (self.map.is_named() || !saved_map) {
+        Ok(())
+    }
+
+    /// Gives a complete target its own name. Before that no map tells of what had this name, unless this copy saved it.
+    pub(crate) fn complete(&self, saved_map: bool) -> Result<(), Fault<'w>> {
+        self.check_name()?;
+        if self.kind.is_whole() && (self.map.is_named() || !saved_map) {
             self.map.retire(self.rt, &self.copy)?;
         }
         self.give_name()
@@ -561,10 +581,11 @@ impl<'r, 'w> CopyTarget<'r, 'w> {
 
     /// Removes the map of the incomplete copy, after the target got its own name.
     pub(crate) fn discard_part_map(&self) -> Result<(), Fault<'w>> {
-        if self.kind == TargetKind::LostBlocks {
-            return remove_old_part_map(self.rt, &self.copy);
+        match self.kind {
+            TargetKind::LostBlocks if self.map.is_named() => Ok(()),
+            TargetKind::LostBlocks => remove_old_part_map(self.rt, &self.copy),
+            _ => self.map.discard(self.rt),
         }
-        self.map.discard(self.rt)
     }
 
     // Returns whether the target has its other name.
@@ -610,7 +631,7 @@ impl<'r, 'w> CopyTarget<'r, 'w> {
         }
     }
 
-    // Removes a new target, or gives an existing one its own name, and removes the map.
+    // Removes a new target, or gives an existing one its own name, and lets the map be as it was.
     fn undo(&self) -> Result<(), Fault<'w>> {
         let part = part_of(&self.copy).path(self.rt.alloc())?;
         match self.kind {
@@ -674,17 +695,19 @@ fn check_source<'w>(rt: &HostRuntime, copy: &Copy<'w>) -> Result<(), Fault<'w>> 
     Ok(())
 }
 
-// Fails if a copy over an existing target saved its first map, and ended before that got its other name. The target is
-// then one of an earlier copy, and so is its map.
+// Fails if a copy over an existing target saved its first map, or began to, and ended before that got its other name. The
+// target is then one of an earlier copy, and so is its map.
 fn check_begun<'w>(rt: &HostRuntime, copy: &Copy<'w>) -> Result<(), Fault<'w>> {
     if copy.map.is_some() || MapFile::of_target(copy).read(rt)?.is_none() {
         return Ok(());
     }
-    match MapFile::of_incomplete(copy).read(rt) {
-        Ok(Some(map)) if map.finished_end() == 0 => {
-            Err(Fault::new(copy.to.path, Reason::NotBegun))
-        }
-        _ => Ok(()),
+    let is_begun = match MapFile::of_incomplete(copy).read(rt) {
+        Ok(Some(map)) => map.finished_end() == 0,
+        _ => has_new_part_map(rt, copy)?,
+    };
+    match is_begun {
+        true => Err(Fault::new(copy.to.path, Reason::NotBegun)),
+        false => Ok(()),
     }
 }
 
@@ -695,7 +718,7 @@ fn check_part<'w>(rt: &HostRuntime, copy: &Copy<'w>, metadata: &Metadata) -> Res
     if !is_overwritten || part_of(copy).found(rt)?.is_none() {
         return Ok(());
     }
-    if !has_part_map(rt, copy)? && MapFile::of_incomplete(copy).read_old(rt)?.is_none() {
+    if !has_part_map(rt, copy)? {
         return Err(part_of(copy).fault(Reason::NoPart));
     }
     match copy.force {
@@ -704,18 +727,25 @@ fn check_part<'w>(rt: &HostRuntime, copy: &Copy<'w>, metadata: &Metadata) -> Res
     }
 }
 
+// Fails if the folder of a new target isn't there.
+fn check_folder<'w>(rt: &HostRuntime, path: &'w str) -> Result<(), Fault<'w>> {
+    let folder = Fault::of_call(path, fs::metadata(rt, lasting::folder_of(path)))?;
+    match folder.is_dir() {
+        true => Ok(()),
+        false => Err(Fault::new(path, Reason::NoSuchFile)),
+    }
+}
+
 // Returns whether a map has these blocks, and no others.
 fn is_of(map: &BlockMap, blocks: &Range<u32>) -> bool {
     map.covers(blocks) && map.start() == blocks.start && map.end() == blocks.end
 }
 
-// Returns the fault of the first map of a new target. If the system doesn't make files in its folder, it is a fault of
-// the target.
+// Returns the fault of the first map of a new target. If the system doesn't make that file, it is a fault of the target.
 fn of_folder<'w>(copy: &Copy<'w>, fault: Fault<'w>) -> Fault<'w> {
     match fault.reason {
-        Reason::NoSuchFile | Reason::PermissionDenied | Reason::System(_) => {
-            Fault::new(copy.to.path, fault.reason)
-        }
+        Reason::NoSuchFile | Reason::PermissionDenied | Reason::System(_)
+            if fault.suffix == Suffix::PartMap => { Fault::new(copy.to.path, fault.reason) }
         reason => Fault::of_derived(fault.name, fault.suffix, reason),
     }
 }

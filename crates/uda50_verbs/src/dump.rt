@@ -6,7 +6,6 @@ use crate::input_blocks::dump_input;
 use crate::outcome::Outcome;
 use crate::printer::BlockPrinter;
 use crate::raw_blocks::write_blocks;
-use std::fs;
 use std::io::{BufWriter, IsTerminal, Write};
 use std::ops::Range;
 use uda50_arguments::{Dump, DumpFormat};
@@ -24,18 +23,10 @@ pub(crate) fn dump<'w, W: Write + Drop>(
     let mut image = NamedImage::open(rt, dump.image)?;
     check_terminal(rt, dump.format)?;
     let blocks = blocks_to_dump(dump, image.size())?;
-    if matches!(dump.format, DumpFormat::Raw { .. }) && is_plain(rt, dump.image.path) {
+    if matches!(dump.format, DumpFormat::Raw { .. }) && image.is_plain(rt) {
         return write_blocks(&mut image, blocks, out);
     }
     dump_blocks(&mut image, dump, blocks, out)
-}
-
-// Returns whether an image is a plain file.
-fn is_plain(rt: &HostRuntime, path: &str) -> bool {
-    match fs::metadata(rt, path) {
-        Ok(metadata) => metadata.is_file(),
-        Err(_) => false,
-    }
 }
 
 // Checks that no raw blocks go to a terminal.

@@ -273,6 +273,9 @@ pub enum Reason {
     /// There is a file with the name of the incomplete copy, and no map of it.
     #[error("exists already, and is no incomplete copy with a map; remove it, or give it another name")]
     NoPart,
+    /// A named map isn't said to be that of the incomplete copy.
+    #[error("the map isn't said to be that of this file; --resume goes on once it has another name")]
+    PartOfOther,
     /// The incomplete copy would be the target.
     #[error("is another name of the target")]
     PartIsTarget,

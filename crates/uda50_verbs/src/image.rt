@@ -2,8 +2,8 @@
 
 use crate::fault::{Fault, Reason};
 use std::fs::{OpenFile, OpenOptions};
-use std::io;
 use std::io::ErrorKind;
+use std::{fs, io};
 use uda_image::{BlockStore, StoreError};
 use uda50_arguments::ImageName;
 use uda50_files::{Access, Failure, Failures, Image, OpenError, OpenImageFile};
@@ -36,6 +36,14 @@ impl<'w> NamedImage<'w> {
     /// Returns the number of blocks.
     pub(crate) fn size(&self) -> u32 {
         self.image.size()
+    }
+
+    /// Returns whether the image is a plain file.
+    pub(crate) fn is_plain(&self, rt: &HostRuntime) -> bool {
+        match fs::metadata(rt, self.path) {
+            Ok(metadata) => metadata.is_file(),
+            Err(_error) => false,
+        }
     }
 
     /// Reads a block. Returns zeros if the image doesn't have it.

@@ -18,12 +18,17 @@ use uda50_map::{BlockMap, BlockStatus};
 /// The beginning of each map that `uda50` writes.
 const BEGINNING: &str = "# Mapfile. Created by uda50\n";
 
+/// The end of a named map, while its blocks are those of the incomplete copy.
+const OF_PART: &str = "# These are the blocks of the incomplete copy, whose name ends in .part.\n";
+
 /// The names of the map of a copy.
 #[derive(Clone, Copy, Debug)]
 pub(crate) struct MapFile<'w> {
     // The name during the copy, and afterwards.
     during: CopyName<'w>,
     afterwards: CopyName<'w>,
+    // Whether the file has another name during the copy, which ends in `.part`.
+    is_of_part: bool,
 }
 
 impl<'w> MapFile<'w> {
@@ -38,7 +43,10 @@ impl<'w> MapFile<'w> {
 
     /// Returns the names of the map of an incomplete copy, which has another name than the target.
     pub(crate) fn of_incomplete(copy: &Copy<'w>) -> MapFile<'w> {
-        MapFile::named_or(copy, part_map_of(copy))
+        MapFile {
+            is_of_part: true,
+            ..MapFile::named_or(copy, part_map_of(copy))
+        }
     }
 
     /// Returns the name of the map of a target that has its own name.
@@ -53,10 +61,12 @@ impl<'w> MapFile<'w> {
             Some(path) => MapFile {
                 during: CopyName::argument(path),
                 afterwards: CopyName::argument(path),
+                is_of_part: false,
             },
             None => MapFile {
                 during,
                 afterwards: map_of(copy),
+                is_of_part: false,
             },
         }
     }
@@ -130,7 +140,8 @@ impl<'w> MapFile<'w> {
     ) -> Result<BlockMap, Fault<'w>> {
         let map = BlockMap::new(rt.alloc(), blocks)?;
         let lasts = self.during.found(rt)?.is_some() || self.read_afterwards(rt)?.is_some();
-        write_map(rt, &self.during, &map, lasts)?;
+        let text = self.text(rt, &map)?;
+        write_map(rt, &self.during, text.as_str(), lasts)?;
         Ok(map)
     }
 
@@ -164,9 +175,30 @@ impl<'w> MapFile<'w> {
         read_if_map(rt, &self.during)
     }
 
+    /// Returns whether the map is said to be that of the incomplete copy: by its name, or by its text if it was named.
+    pub(crate) fn is_of_part(&self, rt: &HostRuntime, copy: &Copy<'w>) -> Result<bool, Fault<'w>> {
+        if !self.is_named() || self.during.is_same(rt, &part_map_of(copy))? {
+            return Ok(true);
+        }
+        let path = self.during.path(rt.alloc())?;
+        let text = self.during.of_call(fs::read_to_string(rt, path.as_str()))?;
+        Ok(text.as_str().ends_with(OF_PART))
+    }
+
+    // Returns the text of the map during the copy.
+    fn text(&self, rt: &HostRuntime, map: &BlockMap) -> Result<String, AllocError> {
+        let end = if self.is_named() && self.is_of_part {
+            OF_PART
+        } else {
+            ""
+        };
+        format!(in rt.alloc(); "{map}{end}")
+    }
+
     /// Writes the map during a copy.
     pub(crate) fn save(&self, rt: &HostRuntime, map: &BlockMap) -> Result<(), Fault<'w>> {
-        write_map(rt, &self.during, map, true)
+        let text = self.text(rt, map)?;
+        write_map(rt, &self.during, text.as_str(), true)
     }
 
     /// Writes the map after a copy. That of the incomplete copy gets the same content before, so that it tells that the
@@ -175,7 +207,8 @@ impl<'w> MapFile<'w> {
         if self.is_moved() {
             self.save(rt, map)?;
         }
-        write_map(rt, &self.afterwards, map, true)
+        let text = self.text(rt, map)?;
+        write_map(rt, &self.afterwards, text.as_str(), true)
     }
 
     /// Forgets that these blocks are copied, since they may not be right.
@@ -191,7 +224,11 @@ impl<'w> MapFile<'w> {
     /// is resumed, it begins. So the first map of a copy over a target that has a map of its own stays.
     pub(crate) fn restore(&self, rt: &HostRuntime, former: &FormerMap) -> Result<(), Fault<'w>> {
         match former {
-            FormerMap::Kept(map) => self.save(rt, &without_claims(rt, map)?),
+            FormerMap::Kept(map) => {
+                let map = without_claims(rt, map)?;
+                let text = format!(in rt.alloc(); "{map}")?;
+                write_map(rt, &self.during, text.as_str(), true)
+            }
             FormerMap::None if self.is_named() => remove(rt, &self.during),
             FormerMap::Void if self.is_moved() && self.read_afterwards(rt)?.is_none() => {
                 remove(rt, &self.during)
@@ -214,11 +251,17 @@ impl<'w> MapFile<'w> {
         self.during.suffix != self.afterwards.suffix
     }
 
-    /// Removes the map of the incomplete copy, after the target got its own name. It need not be gone after a loss of power.
+    /// Lets no map be that of the incomplete copy, after the target got its own name: a named one becomes the target's, and
+    /// another one is removed. It need not be so after a loss of power, or if the system fails it.
     pub(crate) fn discard(&self, rt: &HostRuntime) -> Result<(), Fault<'w>> {
         if self.is_moved() {
             let path = self.during.path(rt.alloc())?;
             let _ = fs::remove_file(rt, path.as_str());
+        } else if self.is_of_part {
+            if let Some(map) = self.read_if_map(rt)? {
+                let text = format!(in rt.alloc(); "{map}")?;
+                let _ = write_map(rt, &self.during, text.as_str(), true);
+            }
         }
         Ok(())
     }
@@ -268,7 +311,13 @@ pub(crate) fn restore_map_of<'w>(
     path: &'w str,
     map: &BlockMap,
 ) -> Result<(), Fault<'w>> {
-    write_map(rt, &CopyName::derived(path, Suffix::Map), map, true)
+    let text = format!(in rt.alloc(); "{map}")?;
+    write_map(
+        rt,
+        &CopyName::derived(path, Suffix::Map),
+        text.as_str(),
+        true,
+    )
 }
 
 /// Removes the map of an incomplete copy that begins anew without a map of that name.
@@ -397,15 +446,14 @@ fn read_if_map<'w>(rt: &HostRuntime, name: &CopyName<'w>) -> Result<Option<Block
     }
 }
 
-// Writes a map to a new file, which then takes the place of the old one. What an interrupted copy left of such a file is
+// Writes the text of a map to a new file, which then takes the place of the old one. What an interrupted copy left of such a file is
 // removed. If the map is to last, the new file and its folder are synced.
 fn write_map<'w>(
     rt: &HostRuntime,
     name: &CopyName<'w>,
-    map: &BlockMap,
+    text: &str,
     lasts: bool,
 ) -> Result<(), Fault<'w>> {
-    let text = format!(in rt.alloc(); "{map}")?;
     let path = name.path(rt.alloc())?;
     let new = new_of(name);
     let new_path = new.path(rt.alloc())?;
@@ -413,7 +461,7 @@ fn write_map<'w>(
         check_replaceable(rt, name)?;
         new.of_call(fs::remove_file(rt, new_path.as_str()))?;
     }
-    let replaced = lasting::write_new(rt, new_path.as_str(), text.as_str(), lasts);
+    let replaced = lasting::write_new(rt, new_path.as_str(), text, lasts);
     name.of_call(replaced)?;
     let renamed = fs::rename(rt, new_path.as_str(), path.as_str());
     if renamed.is_err() {

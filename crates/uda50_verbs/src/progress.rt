@@ -108,11 +108,9 @@ impl<'r, 'w> CopyProgress<'r, 'w> {
         }
     }
 
-    /// Prints a line if a block of the copy is the first one, and that of a file of another format.
-    pub(crate) fn warn_of_format(&self, block: u32, bytes: &[u8; 512]) {
-        if block == 0 {
-            warn_of_format(self.rt, self.name, bytes);
-        }
+    /// Prints a line if the first block of the copy is that of a file of another format.
+    pub(crate) fn warn_of_format(&self, first: &[u8; 512]) {
+        warn_of_format(self.rt, self.name, first);
     }
 
     /// Clears the line of progress, lists the last lost blocks, and returns the number of all lost blocks.

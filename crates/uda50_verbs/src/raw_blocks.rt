@@ -1,4 +1,4 @@
-//! Raw blocks of plain files.
+//! Raw blocks of images, for standard output.
 ghost use Rattle.std.specs.Prelude.{◌≤◌};
 
 use crate::fault::Fault;
@@ -43,32 +43,48 @@ pub(crate) fn write_blocks<'w, W: Write + Drop>(
     Ok(Outcome::Done)
 }
 
-// Blocks that were read, and are not written yet.
+/// Blocks that were read, and are not written yet.
 #[derive(Drop)]
-struct HeldBlocks {
+pub(crate) struct HeldBlocks {
     bytes: [u8; BLOCK * MOST],
     count: usize,
 }
 
 impl HeldBlocks {
-    // Makes no blocks.
-    fn none() -> HeldBlocks {
+    /// Makes no blocks.
+    pub(crate) fn none() -> HeldBlocks {
         HeldBlocks {
             bytes: [0; BLOCK * MOST],
             count: 0,
         }
     }
 
-    // Returns for how many more blocks there is room.
-    fn room(&self) -> u32
+    /// Returns the number of blocks.
+    pub(crate) fn count(&self) -> u32
+        ensures few { result ≤ 17 }
+    {
+        self.count.min(MOST) as u32
+    }
+
+    /// Returns the first block, or zeros if there is none.
+    pub(crate) fn first(&self) -> [u8; BLOCK] {
+        let mut first = [0; BLOCK];
+        if self.count > 0 {
+            first.copy_from_slice(&self.bytes[..BLOCK]);
+        }
+        first
+    }
+
+    /// Returns for how many more blocks there is room.
+    pub(crate) fn room(&self) -> u32
         ensures few { result ≤ 17 }
     {
         MOST.saturating_sub(self.count) as u32
     }
 
-    // Reads the next blocks in one call. If that fails, reads each by itself up to the one that can't be
-    // read.
-    fn read<'w>(
+    /// Reads the next blocks in one call. If that fails, reads each by itself up to the one that can't be
+    /// read.
+    pub(crate) fn read<'w>(
         &mut self,
         image: &mut NamedImage<'w>,
         blocks: Range<u32>,
@@ -92,14 +108,19 @@ impl HeldBlocks {
     fn read_one<'w>(&mut self, image: &mut NamedImage<'w>, block: u32) -> Result<(), Fault<'w>> {
         let mut bytes = [0; BLOCK];
         image.read_block(block, &mut bytes)?;
-        let at = BLOCK * self.count.min(MOST - 1);
-        self.bytes[at..at + BLOCK].copy_from_slice(&bytes);
-        self.count = self.count.saturating_add(1);
+        self.push(&bytes);
         Ok(())
     }
 
-    // Writes all blocks but the last, if no more can be held.
-    fn write_full<W: Write + Drop>(&mut self, out: &mut BufWriter<W>) -> io::Result<()> {
+    /// Holds a block after the others.
+    pub(crate) fn push(&mut self, block: &[u8; BLOCK]) {
+        let at = BLOCK * self.count.min(MOST - 1);
+        self.bytes[at..at + BLOCK].copy_from_slice(block);
+        self.count = self.count.saturating_add(1);
+    }
+
+    /// Writes all blocks but the last, if no more can be held.
+    pub(crate) fn write_full<W: Write + Drop>(&mut self, out: &mut BufWriter<W>) -> io::Result<()> {
         if self.count >= MOST {
             out.write_all(&self.bytes[..WRITTEN])?;
             self.bytes.copy_within(WRITTEN.., 0);
@@ -108,8 +129,8 @@ impl HeldBlocks {
         Ok(())
     }
 
-    // Writes all blocks.
-    fn write_all<W: Write + Drop>(&self, out: &mut BufWriter<W>) -> io::Result<()> {
+    /// Writes all blocks.
+    pub(crate) fn write_all<W: Write + Drop>(&self, out: &mut BufWriter<W>) -> io::Result<()> {
         out.write_all(&self.bytes[..BLOCK * self.count.min(MOST)])
     }
 }

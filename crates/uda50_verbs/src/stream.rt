@@ -7,6 +7,7 @@ use crate::fault::{CopyOption, Fault, Reason, STANDARD_INPUT, STANDARD_OUTPUT, S
 use crate::image::{NamedImage, block_fault};
 use crate::outcome::Outcome;
 use crate::progress::{CopyProgress, StreamProgress, clear_line, print_syncing};
+use crate::raw_blocks::HeldBlocks;
 use crate::target::{BegunCopy, CheckedTarget, CopyTarget, Resumption};
 use std::fs::{File, OpenFile};
 use std::io::{BufWriter, ErrorKind, IsTerminal, Read, Write};
@@ -267,7 +268,7 @@ pub(crate) fn copy_to_output<'w, W: Write + Drop>(
     copy: &Copy<'w>,
     out: &mut BufWriter<W>,
 ) -> Result<Outcome, Fault<'w>> {
-    let mut image = NamedImage::open(rt, copy.from)?;
+    let image = NamedImage::open(rt, copy.from)?;
     let size = volume_blocks(rt, copy, image.size())?;
     let blocks = blocks_to_copy(copy, size)?;
     check_options(copy, STANDARD_OUTPUT)?;
@@ -278,9 +279,15 @@ pub(crate) fn copy_to_output<'w, W: Write + Drop>(
         return Err(Fault::new(STANDARD_OUTPUT, Reason::Terminal));
     }
     let Range { start, end } = blocks;
-    let mut progress = CopyProgress::start(rt, copy.from.path, start..end);
-    let done = write_all(&mut image, copy.skips_lost, start..end, &mut progress, out);
-    let lost = progress.end();
+    let mut copied = OutputCopy {
+        most: if image.is_plain(rt) { u32::MAX } else { 1 },
+        image,
+        skips_lost: copy.skips_lost,
+        progress: CopyProgress::start(rt, copy.from.path, start..end),
+        held: HeldBlocks::none(),
+    };
+    let done = copied.run(start..end, out);
+    let lost = copied.progress.end();
     done?;
     to_output(out.flush())?;
     Ok(if lost > 0 {
@@ -298,28 +305,59 @@ fn to_output<'w>(written: io::Result<()>) -> Result<(), Fault<'w>> {
     }
 }
 
-// Writes blocks of an image. Lost blocks that are skipped are zeros.
-fn write_all<'w, W: Write + Drop>(
-    image: &mut NamedImage<'w>,
+// A copy of blocks of an image to standard output.
+#[derive(Drop)]
+struct OutputCopy<'a, 'w> {
+    image: NamedImage<'w>,
+    // The most blocks that are read at once.
+    most: u32,
+    // Whether lost blocks are skipped. They are zeros.
     skips_lost: bool,
-    blocks: Range<u32>,
-    progress: &mut CopyProgress<'_, 'w>,
-    out: &mut BufWriter<W>,
-) -> Result<(), Fault<'w>> {
-    let mut bytes = [0; BLOCK];
-    for block in blocks {
-        match image.read_block(block, &mut bytes) {
-            Ok(()) => {
-                progress.warn_of_format(block, &bytes);
-                to_output(out.write_all(&bytes))?;
+    progress: CopyProgress<'a, 'w>,
+    held: HeldBlocks,
+}
+
+impl<'a, 'w> OutputCopy<'a, 'w> {
+    // Writes blocks of the image.
+    fn run<W: Write + Drop>(
+        &mut self,
+        blocks: Range<u32>,
+        out: &mut BufWriter<W>,
+    ) -> Result<(), Fault<'w>> {
+        let Range { mut start, end } = blocks;
+        for _ in 0..u32::MAX {
+            let room = self.held.room().min(self.most);
+            let next = start.saturating_add(room).min(end);
+            if next <= start {
+                break;
             }
-            Err(_fault) if skips_lost => {
-                progress.lost(block);
-                to_output(out.write_all(&[0; BLOCK]))?;
+            let read = self.read(start..next);
+            if start == 0 {
+                self.progress.warn_of_format(&self.held.first());
             }
-            Err(_fault) => return Err(image.copy_fault(block)),
+            if read.is_err() {
+                let _ = self.held.write_all(out);
+            }
+            start = read?;
+            self.progress.reached(start);
+            to_output(self.held.write_full(out))?;
         }
-        progress.reached(block.saturating_add(1));
+        to_output(self.held.write_all(out))
     }
-    Ok(())
+
+    // Reads these blocks up to one that is lost. Returns the block that follows.
+    fn read(&mut self, blocks: Range<u32>) -> Result<u32, Fault<'w>> {
+        let Range { start, end } = blocks;
+        let before = self.held.count();
+        if self.held.read(&mut self.image, start..end).is_ok() {
+            return Ok(end);
+        }
+        let block = start.saturating_add(self.held.count().saturating_sub(before));
+        if !self.skips_lost {
+            return Err(self.image.copy_fault(block));
+        }
+        self.progress.lost(block);
+        self.held.push(&[0; BLOCK]);
+        Ok(block.saturating_add(1))
+    }
 }

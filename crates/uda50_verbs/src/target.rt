@@ -193,6 +193,9 @@ impl<'w> CheckedTarget<'w> {
         if !is_of_copy {
             return Err(self.map.fault_of_size());
         }
+        if self.kind == TargetKind::Resume && !self.map.is_of_part(rt, &self.copy)? {
+            return Err(part_of(&self.copy).fault(Reason::PartOfOther));
+        }
         self.check_length(&map, size)?;
         if self.map.is_named() {
             self.disclaim_unnamed(rt, blocks.start..blocks.end)?;

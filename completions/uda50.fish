@@ -25,7 +25,7 @@ complete -c uda50 -n '__fish_seen_subcommand_from copy' -l resume -d 'Goes on wi
 complete -c uda50 -n '__fish_seen_subcommand_from copy' -l no-sparse -d 'Writes blocks of zeros too'
 complete -c uda50 -n '__fish_seen_subcommand_from copy' -l without-record -d 'Leaves out the record that another program put after the blocks'
 complete -c uda50 -n '__fish_seen_subcommand_from copy' -l force -d 'Writes to TO even if it exists'
-complete -c uda50 -n '__fish_seen_subcommand_from copy' -l device -r -d 'Writes to TO even if it is a device: name it again'
+complete -c uda50 -n '__fish_seen_subcommand_from copy' -l device -r -d 'Writes to the device TO: name it again'
 complete -c uda50 -n '__fish_seen_subcommand_from copy' -s h -l help -d 'Print help'
 #: info
 complete -c uda50 -n '__fish_seen_subcommand_from info' -l json -d 'Prints a JSON object for each image'

@@ -183,7 +183,7 @@ pub(crate) static COPY: Verb = Verb {
         Argument {
             name: "device",
             form: Form::Option("TO", OptionValue::Text),
-            help: "Writes to TO even if it is a device: name it again",
+            help: "Writes to the device TO: name it again",
         },
     ],
     needs_size: false,

@@ -258,10 +258,16 @@ impl<'w> MapFile<'w> {
             let path = self.during.path(rt.alloc())?;
             let _ = fs::remove_file(rt, path.as_str());
         } else if self.is_of_part {
-            if let Some(map) = self.read_if_map(rt)? {
-                let text = format!(in rt.alloc(); "{map}")?;
-                let _ = write_map(rt, &self.during, text.as_str(), true);
-            }
+            let _ = self.settle(rt);
+        }
+        Ok(())
+    }
+
+    // Lets the map be that of the target.
+    fn settle(&self, rt: &HostRuntime) -> Result<(), Fault<'w>> {
+        if let Some(map) = self.read_if_map(rt)? {
+            let text = format!(in rt.alloc(); "{map}")?;
+            write_map(rt, &self.during, text.as_str(), true)?;
         }
         Ok(())
     }

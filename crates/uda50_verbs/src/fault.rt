@@ -274,8 +274,11 @@ pub enum Reason {
     #[error("exists already, and is no incomplete copy with a map; remove it, or give it another name")]
     NoPart,
     /// A named map isn't said to be that of the incomplete copy.
-    #[error("the map isn't said to be that of this file; --resume goes on once it has another name")]
+    #[error("the map doesn't say that it is of this file; if it is, give the file the name of the target")]
     PartOfOther,
+    /// A map tells of the incomplete copy, and not of the target.
+    #[error("is the map of an incomplete copy")]
+    MapOfPart,
     /// The incomplete copy would be the target.
     #[error("is another name of the target")]
     PartIsTarget,

@@ -5,7 +5,7 @@
 
 use crate::fault::{Fault, Reason, Suffix};
 use crate::lasting;
-use crate::names::CopyName;
+use crate::names::{CopyName, last_of};
 use crate::target::TargetKind;
 use std::alloc::AllocError;
 use std::fs;
@@ -14,12 +14,39 @@ use std::io::{ErrorKind, Read};
 use std::ops::Range;
 use uda50_arguments::Copy;
 use uda50_map::{BlockMap, BlockStatus};
+use uda50_show::EscapedName;
 
 /// The beginning of each map that `uda50` writes.
 const BEGINNING: &str = "# Mapfile. Created by uda50\n";
 
-/// The end of a named map, while its blocks are those of the incomplete copy.
-const OF_PART: &str = "# These are the blocks of the incomplete copy, whose name ends in .part.\n";
+/// The beginning of the last line of a named map that tells of a file whose name ends in `.part`.
+const OF_PART: &str = "# Blocks of the ";
+
+/// What a map tells of.
+#[derive(Clone, Copy, Debug, PartialEq, Eq)]
+enum Subject {
+    // The target with its own name. No line of the map says otherwise.
+    Target,
+    // The incomplete copy.
+    Incomplete,
+    // The complete copy, before it got its own name.
+    Complete,
+    // The copy of another target.
+    Other,
+}
+
+impl Subject {
+    // Returns the last line of a map of a target, or an empty text.
+    fn line(self, rt: &HostRuntime, target: &str) -> Result<String, AllocError> {
+        let state = match self {
+            Subject::Incomplete => "incomplete",
+            Subject::Complete => "complete",
+            Subject::Target | Subject::Other => return Ok(String::new(rt.alloc())),
+        };
+        let name = EscapedName(last_of(target));
+        format!(in rt.alloc(); "{OF_PART}{state} copy {name}.part\n")
+    }
+}
 
 /// The names of the map of a copy.
 #[derive(Clone, Copy, Debug)]
@@ -27,7 +54,8 @@ pub(crate) struct MapFile<'w> {
     // The name during the copy, and afterwards.
     during: CopyName<'w>,
     afterwards: CopyName<'w>,
-    // Whether the file has another name during the copy, which ends in `.part`.
+    // The target, and whether it has another name during the copy, which ends in `.part`.
+    target: &'w str,
     is_of_part: bool,
 }
 
@@ -61,11 +89,13 @@ impl<'w> MapFile<'w> {
             Some(path) => MapFile {
                 during: CopyName::argument(path),
                 afterwards: CopyName::argument(path),
+                target: copy.to.path,
                 is_of_part: false,
             },
             None => MapFile {
                 during,
                 afterwards: map_of(copy),
+                target: copy.to.path,
                 is_of_part: false,
             },
         }
@@ -85,6 +115,9 @@ impl<'w> MapFile<'w> {
         kind: TargetKind,
     ) -> Result<(), Fault<'w>> {
         self.check_names(rt, copy)?;
+        if self.is_named() && self.during.is_same_place(rt, &part_map_of(copy))? {
+            return Err(self.fault(Reason::MapOfPart));
+        }
         let leaves_map = copy.skips_lost || copy.map.is_some();
         if kind.has_part() {
             check_replaceable(rt, &part_map_of(copy))?;
@@ -140,13 +173,13 @@ impl<'w> MapFile<'w> {
     ) -> Result<BlockMap, Fault<'w>> {
         let map = BlockMap::new(rt.alloc(), blocks)?;
         let lasts = self.during.found(rt)?.is_some() || self.read_afterwards(rt)?.is_some();
-        let text = self.text(rt, &map)?;
+        let text = self.text(rt, &map, Subject::Incomplete)?;
         write_map(rt, &self.during, text.as_str(), lasts)?;
         Ok(map)
     }
 
     /// Lets the map claim none of these blocks, which will be written or may not be right. Returns the map, if there is
-    /// one.
+    /// one of this file.
     pub(crate) fn disclaim(
         &self,
         rt: &HostRuntime,
@@ -155,6 +188,9 @@ impl<'w> MapFile<'w> {
         let Some(mut map) = read_if_map(rt, &self.during)? else {
             return Ok(None);
         };
+        if !self.is_of_part && !self.tells_of_target(rt)? {
+            return Ok(None);
+        }
         map.set(blocks, BlockStatus::NonTried)?;
         self.save(rt, &map)?;
         Ok(Some(map))
@@ -175,29 +211,57 @@ impl<'w> MapFile<'w> {
         read_if_map(rt, &self.during)
     }
 
-    /// Returns whether the map is said to be that of the incomplete copy: by its name, or by its text if it was named.
-    pub(crate) fn is_of_part(&self, rt: &HostRuntime, copy: &Copy<'w>) -> Result<bool, Fault<'w>> {
-        if !self.is_named() || self.during.is_same(rt, &part_map_of(copy))? {
-            return Ok(true);
-        }
-        let path = self.during.path(rt.alloc())?;
-        let text = self.during.of_call(fs::read_to_string(rt, path.as_str()))?;
-        Ok(text.as_str().ends_with(OF_PART))
+    /// Returns whether the map tells of the file whose name ends in `.part`. A named map says so.
+    pub(crate) fn tells_of_part(&self, rt: &HostRuntime) -> Result<bool, Fault<'w>> {
+        Ok(!self.is_named() || matches!(self.subject(rt)?, Subject::Incomplete | Subject::Complete))
     }
 
-    // Returns the text of the map during the copy.
-    fn text(&self, rt: &HostRuntime, map: &BlockMap) -> Result<String, AllocError> {
-        let end = if self.is_named() && self.is_of_part {
-            OF_PART
-        } else {
-            ""
+    /// Returns whether the map tells of the target with its own name. If it is one of the complete copy, that has this
+    /// name unless it still has the other one.
+    pub(crate) fn tells_of_target(&self, rt: &HostRuntime) -> Result<bool, Fault<'w>> {
+        let part = CopyName::derived(self.target, Suffix::Part);
+        Ok(match self.subject(rt)? {
+            Subject::Target => true,
+            Subject::Complete => part.found(rt)?.is_none(),
+            Subject::Incomplete | Subject::Other => false,
+        })
+    }
+
+    // Returns what the map tells of, by its text.
+    fn subject(&self, rt: &HostRuntime) -> Result<Subject, Fault<'w>> {
+        let path = self.during.path(rt.alloc())?;
+        let text = self.during.of_call(fs::read_to_string(rt, path.as_str()))?;
+        let incomplete = Subject::Incomplete.line(rt, self.target)?;
+        let complete = Subject::Complete.line(rt, self.target)?;
+        let Some(line) = text.as_str().lines().find(|line| line.starts_with(OF_PART)) else {
+            return Ok(Subject::Target);
         };
-        format!(in rt.alloc(); "{map}{end}")
+        if line.trim_end() == incomplete.as_str().trim_end() {
+            return Ok(Subject::Incomplete);
+        }
+        if line.trim_end() == complete.as_str().trim_end() {
+            return Ok(Subject::Complete);
+        }
+        Ok(Subject::Other)
+    }
+
+    // Returns the text of a map that tells of this. Only a named one says so.
+    fn text(
+        &self,
+        rt: &HostRuntime,
+        map: &BlockMap,
+        subject: Subject,
+    ) -> Result<String, AllocError> {
+        if !self.is_named() || !self.is_of_part {
+            return format!(in rt.alloc(); "{map}");
+        }
+        let line = subject.line(rt, self.target)?;
+        format!(in rt.alloc(); "{map}{line}")
     }
 
     /// Writes the map during a copy.
     pub(crate) fn save(&self, rt: &HostRuntime, map: &BlockMap) -> Result<(), Fault<'w>> {
-        let text = self.text(rt, map)?;
+        let text = self.text(rt, map, Subject::Incomplete)?;
         write_map(rt, &self.during, text.as_str(), true)
     }
 
@@ -207,7 +271,7 @@ impl<'w> MapFile<'w> {
         if self.is_moved() {
             self.save(rt, map)?;
         }
-        let text = self.text(rt, map)?;
+        let text = self.text(rt, map, Subject::Complete)?;
         write_map(rt, &self.afterwards, text.as_str(), true)
     }
 
@@ -229,7 +293,7 @@ impl<'w> MapFile<'w> {
                 let text = format!(in rt.alloc(); "{map}")?;
                 write_map(rt, &self.during, text.as_str(), true)
             }
-            FormerMap::None if self.is_named() => remove(rt, &self.during),
+            FormerMap::None | FormerMap::Void if self.is_named() => remove(rt, &self.during),
             FormerMap::Void if self.is_moved() && self.read_afterwards(rt)?.is_none() => {
                 remove(rt, &self.during)
             }
@@ -237,13 +301,14 @@ impl<'w> MapFile<'w> {
         }
     }
 
-    /// Returns whether the map has the name of another one, during the copy.
+    /// Returns whether the map has the name of another one, during the copy. Another name of the same file is none, since
+    /// a map that is saved takes the place of one name.
     pub(crate) fn is_same(
         &self,
         rt: &HostRuntime,
         other: &MapFile<'_>,
     ) -> Result<bool, AllocError> {
-        self.during.is_same(rt, &other.during)
+        self.during.is_same_place(rt, &other.during)
     }
 
     // Returns whether the map has one name during the copy, and another one afterwards.
@@ -275,15 +340,15 @@ impl<'w> MapFile<'w> {
     /// Removes the map with the target's name, unless it is this map. It tells of what the target was.
     pub(crate) fn retire(&self, rt: &HostRuntime, copy: &Copy<'w>) -> Result<(), Fault<'w>> {
         let name = map_of(copy);
-        if self.is_named() && self.afterwards.is_same(rt, &name)? {
+        if self.is_named() && self.afterwards.is_same_place(rt, &name)? {
             return Ok(());
         }
         remove_if_map(rt, &name)
     }
 
-    /// Returns the fault of a map with blocks that the source doesn't have.
-    pub(crate) fn fault_of_size(&self) -> Fault<'w> {
-        self.during.fault(Reason::MapOfOther)
+    /// Returns the fault of the map.
+    pub(crate) fn fault(&self, reason: Reason) -> Fault<'w> {
+        self.during.fault(reason)
     }
 }
 
@@ -339,6 +404,15 @@ pub(crate) fn remove_old_part_map<'w>(rt: &HostRuntime, copy: &Copy<'w>) -> Resu
 /// Returns whether there is a map of the incomplete copy with the name that is made from that of the target.
 pub(crate) fn has_part_map<'w>(rt: &HostRuntime, copy: &Copy<'w>) -> Result<bool, Fault<'w>> {
     Ok(read_if_map(rt, &part_map_of(copy))?.is_some())
+}
+
+/// Fails if there is a map of the incomplete copy with the name that is made from that of the target. A copy with a named
+/// map would have removed it, so the named one is older.
+pub(crate) fn check_no_part_map<'w>(rt: &HostRuntime, copy: &Copy<'w>) -> Result<(), Fault<'w>> {
+    match has_part_map(rt, copy)? {
+        true => Err(part_map_of(copy).fault(Reason::MapOfPart)),
+        false => Ok(()),
+    }
 }
 
 /// Returns whether a first map of an incomplete copy was begun, and not saved.
@@ -452,7 +526,7 @@ fn read_if_map<'w>(rt: &HostRuntime, name: &CopyName<'w>) -> Result<Option<Block
     }
 }
 
-// Writes the text of a map to a new file, which then takes the place of the old one. What an interrupted copy left of such a file is
+// Writes the text of a map to a new file, which then takes the place of the old one. What an interrupted copy left of such
 // removed. If the map is to last, the new file and its folder are synced.
 fn write_map<'w>(
     rt: &HostRuntime,

@@ -75,6 +75,16 @@ impl<'w> CopyName<'w> {
                 || is_same_place(rt, one.as_str(), other.as_str()),
         )
     }
+
+    /// Returns whether both are one name in one folder.
+    pub(crate) fn is_same_place(
+        &self,
+        rt: &HostRuntime,
+        other: &CopyName<'_>,
+    ) -> Result<bool, AllocError> {
+        let (one, other) = (self.path(rt.alloc())?, other.path(rt.alloc())?);
+        Ok(is_same_place(rt, one.as_str(), other.as_str()))
+    }
 }
 
 // Returns whether two paths are of one file that exists.
@@ -90,8 +100,8 @@ fn is_same_place(rt: &HostRuntime, one: &str, other: &str) -> bool {
     last_of(one) == last_of(other) && is_same_file(rt, folder_of(one), folder_of(other))
 }
 
-// Returns the last name of a path.
-fn last_of(path: &str) -> &str {
+/// Returns the last name of a path.
+pub(crate) fn last_of(path: &str) -> &str {
     match path.rsplit_once('/') {
         Some((_, last)) => last,
         None => path,

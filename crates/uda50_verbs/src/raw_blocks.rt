@@ -82,8 +82,8 @@ impl HeldBlocks {
         MOST.saturating_sub(self.count) as u32
     }
 
-    /// Reads the next blocks in one call. If that fails, reads each by itself up to the one that can't be
-    /// read.
+    /// Reads the next blocks in one call, if there are several. If that fails, reads each by itself up to the
+    /// one that can't be read.
     pub(crate) fn read<'w>(
         &mut self,
         image: &mut NamedImage<'w>,
@@ -93,7 +93,7 @@ impl HeldBlocks {
         let count = end.saturating_sub(start) as usize;
         let at = BLOCK * self.count.min(MOST);
         if let Some(to) = self.bytes.get_mut(at..at + BLOCK * count) {
-            if image.try_read_blocks(start, to) {
+            if count > 1 && image.try_read_blocks(start, to) {
                 self.count = self.count.saturating_add(count);
                 return Ok(());
             }
@@ -119,9 +119,10 @@ impl HeldBlocks {
         self.count = self.count.saturating_add(1);
     }
 
-    /// Writes all blocks but the last, if no more can be held.
+    /// Writes all blocks but the last, if no more can be held. If that fails, none is held any more.
     pub(crate) fn write_full<W: Write + Drop>(&mut self, out: &mut BufWriter<W>) -> io::Result<()> {
         if self.count >= MOST {
+            self.count = 0;
             out.write_all(&self.bytes[..WRITTEN])?;
             self.bytes.copy_within(WRITTEN.., 0);
             self.count = 1;

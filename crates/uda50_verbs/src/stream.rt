@@ -285,10 +285,14 @@ pub(crate) fn copy_to_output<'w, W: Write + Drop>(
         skips_lost: copy.skips_lost,
         progress: CopyProgress::start(rt, copy.from.path, start..end),
         held: HeldBlocks::none(),
+        singly: 1,
     };
     let done = copied.run(start..end, out);
-    let lost = copied.progress.end();
+    let OutputCopy { progress, held, .. } = copied;
+    let lost = progress.end();
+    let written = held.write_all(out);
     done?;
+    to_output(written)?;
     to_output(out.flush())?;
     Ok(if lost > 0 {
         Outcome::Failed
@@ -315,10 +319,12 @@ struct OutputCopy<'a, 'w> {
     skips_lost: bool,
     progress: CopyProgress<'a, 'w>,
     held: HeldBlocks,
+    // The first block after those that are read singly: the first of the image, and those of a call that failed.
+    singly: u32,
 }
 
 impl<'a, 'w> OutputCopy<'a, 'w> {
-    // Writes blocks of the image.
+    // Reads blocks of the image, and writes them but for those that are still held.
     fn run<W: Write + Drop>(
         &mut self,
         blocks: Range<u32>,
@@ -326,23 +332,20 @@ impl<'a, 'w> OutputCopy<'a, 'w> {
     ) -> Result<(), Fault<'w>> {
         let Range { mut start, end } = blocks;
         for _ in 0..u32::MAX {
-            let room = self.held.room().min(self.most);
-            let next = start.saturating_add(room).min(end);
+            let most = if start < self.singly { 1 } else { self.most };
+            let next = start.saturating_add(self.held.room().min(most)).min(end);
             if next <= start {
                 break;
             }
-            let read = self.read(start..next);
+            let reached = self.read(start..next)?;
             if start == 0 {
                 self.progress.warn_of_format(&self.held.first());
             }
-            if read.is_err() {
-                let _ = self.held.write_all(out);
-            }
-            start = read?;
-            self.progress.reached(start);
+            self.progress.reached(reached);
             to_output(self.held.write_full(out))?;
+            start = reached;
         }
-        to_output(self.held.write_all(out))
+        Ok(())
     }
 
     // Reads these blocks up to one that is lost. Returns the block that follows.
@@ -352,6 +355,7 @@ impl<'a, 'w> OutputCopy<'a, 'w> {
         if self.held.read(&mut self.image, start..end).is_ok() {
             return Ok(end);
         }
+        self.singly = end;
         let block = start.saturating_add(self.held.count().saturating_sub(before));
         if !self.skips_lost {
             return Err(self.image.copy_fault(block));

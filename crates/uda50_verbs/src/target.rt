@@ -5,7 +5,8 @@ use crate::fault::{Fault, Reason, Suffix};
 use crate::image::reason;
 use crate::lasting;
 use crate::map_file::{
-    FormerMap, MapFile, has_new_part_map, has_part_map, remove_old_part_map, remove_part_map,
+    FormerMap, MapFile, check_no_part_map, has_new_part_map, has_part_map, remove_old_part_map,
+    remove_part_map,
 };
 use crate::names::{CopyName, is_link};
 use std::cell::Cell;
@@ -191,16 +192,32 @@ impl<'w> CheckedTarget<'w> {
             _ => is_of(&map, blocks),
         };
         if !is_of_copy {
-            return Err(self.map.fault_of_size());
+            return Err(self.map.fault(Reason::MapOfOther));
         }
-        if self.kind == TargetKind::Resume && !self.map.is_of_part(rt, &self.copy)? {
-            return Err(part_of(&self.copy).fault(Reason::PartOfOther));
-        }
+        self.check_subject(rt)?;
         self.check_length(&map, size)?;
         if self.map.is_named() {
             self.disclaim_unnamed(rt, blocks.start..blocks.end)?;
         }
         self.into_begun(rt, map)
+    }
+
+    // Fails if the map isn't one of the file that will be written.
+    fn check_subject(&self, rt: &HostRuntime) -> Result<(), Fault<'w>> {
+        let copy = &self.copy;
+        if self.kind == TargetKind::LostBlocks {
+            return match self.map.tells_of_target(rt)? {
+                true => Ok(()),
+                false => Err(self.map.fault(Reason::MapOfPart)),
+            };
+        }
+        if !self.map.tells_of_part(rt)? {
+            return Err(part_of(copy).fault(Reason::PartOfOther));
+        }
+        match self.map.is_named() {
+            true => check_no_part_map(rt, copy),
+            false => Ok(()),
+        }
     }
 
     // Fails if the target isn't as long as its map says. Without `--force`, a map that claims no block doesn't permit to
@@ -721,13 +738,19 @@ fn check_part<'w>(rt: &HostRuntime, copy: &Copy<'w>, metadata: &Metadata) -> Res
     if !is_overwritten || part_of(copy).found(rt)?.is_none() {
         return Ok(());
     }
-    if !has_part_map(rt, copy)? {
+    if !has_part_map(rt, copy)? && !has_named_part_map(rt, copy)? {
         return Err(part_of(copy).fault(Reason::NoPart));
     }
     match copy.force {
         true => Ok(()),
         false => Err(Fault::new(copy.to.path, Reason::BothExist)),
     }
+}
+
+// Returns whether there is a named map that tells of the incomplete copy.
+fn has_named_part_map<'w>(rt: &HostRuntime, copy: &Copy<'w>) -> Result<bool, Fault<'w>> {
+    let map = MapFile::of_incomplete(copy);
+    Ok(copy.map.is_some() && map.read_if_map(rt)?.is_some() && map.tells_of_part(rt)?)
 }
 
 // Fails if the folder of a new target isn't there.

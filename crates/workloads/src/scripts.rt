@@ -30,37 +30,76 @@ pub fn run(alloc: Global, draw: &mut Draw, rounds: u32, digest: &mut Digest) -> 
     let mut data = vec![in alloc; 0u8; DATA]?;
     draw.fill(&mut data);
     let mut text = Vec::with_capacity(alloc, 262_144)?;
-    let (mut out, mut report) = (Vec::new(alloc), Vec::new(alloc));
+    let mut outputs = Outputs {
+        blocks: Vec::new(alloc),
+        report: Vec::new(alloc),
+    };
     for _ in 0..rounds {
         write_text(&mut text, draw)?;
-        let mut channels = Channels {
-            input: data.as_slice(),
-            out: BufWriter::with_capacity(alloc, BUFFER, out)?,
-            report: BufWriter::with_capacity(alloc, BUFFER, report)?,
-            watch: Unwatched,
+        let round = Round {
+            style: style(draw),
+            text: text.as_slice(),
+            data: data.as_slice(),
         };
-        let style = ReportStyle {
-            names: draw.once_in(2),
-            failures_only: draw.once_in(4),
-        };
-        let source = BufReader::new(alloc, text.as_slice())?;
-        let done = run_text(alloc, style, source, &mut channels, &mut driver);
-        let Channels {
-            out: blocks,
-            report: lines,
-            ..
-        } = channels;
-        out = blocks.into_parts().0;
-        report = lines.into_parts().0;
-        digest.add(outcome(done));
-        digest.add_bytes(&out);
-        digest.add_bytes(&report);
-        out.clear();
-        report.clear();
+        outputs = execute(alloc, round, outputs, &mut driver, digest)?;
         text.clear();
     }
     digest.add_disks(&driver.into_stores());
     Ok(())
+}
+
+// The text of a round, its style, and the data of its `write` lines.
+#[derive(Clone, Copy)]
+struct Round<'a> {
+    style: ReportStyle,
+    text: &'a [u8],
+    data: &'a [u8],
+}
+
+// The room for what a text prints.
+#[derive(Drop)]
+struct Outputs {
+    blocks: Vec<u8>,
+    report: Vec<u8>,
+}
+
+// Draws a style.
+fn style(draw: &mut Draw) -> ReportStyle {
+    ReportStyle {
+        names: draw.once_in(2),
+        failures_only: draw.once_in(4),
+    }
+}
+
+// Executes a text, and returns the room for what it printed.
+fn execute(
+    alloc: Global,
+    round: Round<'_>,
+    outputs: Outputs,
+    driver: &mut Driver<MemImage>,
+    digest: &mut Digest,
+) -> Result<Outputs> {
+    let mut channels = Channels {
+        input: round.data,
+        out: BufWriter::with_capacity(alloc, BUFFER, outputs.blocks)?,
+        report: BufWriter::with_capacity(alloc, BUFFER, outputs.report)?,
+        watch: Unwatched,
+    };
+    let source = BufReader::new(alloc, round.text)?;
+    let done = run_text(alloc, round.style, source, &mut channels, driver);
+    let Channels { out, report, .. } = channels;
+    digest.add(outcome(done));
+    Ok(Outputs {
+        blocks: printed(out.into_parts().0, digest),
+        report: printed(report.into_parts().0, digest),
+    })
+}
+
+// Adds what was printed to the digest, and empties it.
+fn printed(mut bytes: Vec<u8>, digest: &mut Digest) -> Vec<u8> {
+    digest.add_bytes(&bytes);
+    bytes.clear();
+    bytes
 }
 
 // Returns the number of an outcome. Each line of a fault has its own.

@@ -33,12 +33,7 @@ const COMMANDS: u32 = 4_096;
 /// Runs the commands of each round by four guests: strict and compatible ports, with rings of eight and of
 /// one.
 pub fn run(alloc: Global, draw: &mut Draw, rounds: u32, digest: &mut Digest) -> Result<()> {
-    let mut guests = [
-        Guest::new(alloc, draw, Port::new(alloc, units(alloc)?)?, 3)?,
-        Guest::new(alloc, draw, Port::compatible(alloc, units(alloc)?)?, 3)?,
-        Guest::new(alloc, draw, Port::new(alloc, units(alloc)?)?, 0)?,
-        Guest::new(alloc, draw, Port::compatible(alloc, units(alloc)?)?, 0)?,
-    ];
+    let mut guests = guests(alloc, draw)?;
     for _ in 0..rounds {
         for guest in guests.iter_mut() {
             guest.run_round(draw, digest)?;
@@ -50,6 +45,26 @@ pub fn run(alloc: Global, draw: &mut Draw, rounds: u32, digest: &mut Digest) -> 
         }
     }
     Ok(())
+}
+
+// Makes the guests.
+fn guests(alloc: Global, draw: &mut Draw) -> Result<Vec<Guest>> {
+    let mut guests = Vec::with_capacity(alloc, 4)?;
+    for exponent in [3, 0] {
+        guests.push(strict(alloc, draw, exponent)?)?;
+        guests.push(compatible(alloc, draw, exponent)?)?;
+    }
+    Ok(guests)
+}
+
+// Makes a guest of a strict port.
+fn strict(alloc: Global, draw: &mut Draw, exponent: u32) -> Result<Guest> {
+    Guest::new(alloc, draw, Port::new(alloc, units(alloc)?)?, exponent)
+}
+
+// Makes a guest of a compatible port.
+fn compatible(alloc: Global, draw: &mut Draw, exponent: u32) -> Result<Guest> {
+    Guest::new(alloc, draw, Port::compatible(alloc, units(alloc)?)?, exponent)
 }
 
 // A guest: its port, its memory, and the next descriptor of its rings of `slots` descriptors.

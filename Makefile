@@ -8,7 +8,7 @@
 #   make install-library
 #                   installs that library, its headers and uda50.pc below PREFIX and DESTDIR
 #   make test       the tests, without proofs; make check is the same
-#   make proofs     the full check: every proof from nothing, tests, must-fail edits, library for C
+#   make proofs     the full check: every proof from nothing, tests, all must-fail edits, library for C
 #   make clean      removes out/
 # `make -C c` builds the proved library for C. All of it needs the command rt of the Rattle toolchain on the path.
 top := .
@@ -56,7 +56,7 @@ test check:
 	checks/tests
 
 proofs:
-	.ci/run
+	.ci/run --all
 
 clean:
 	rm -rf out

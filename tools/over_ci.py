@@ -2,12 +2,15 @@
 """Runs the prover over the libraries that `rt ci` built.
 
     tools/over_ci.py archive CRATE FILE      proves the static library of crates/CRATE, and builds it as FILE
+    tools/over_ci.py sums                    prints a checksum of the files of each crate
 
 `rt ci` leaves each library that it proved in crates/NAME/out/rlib. `rt check` and `rt lib` don't use it, and prove each
 library once more. This script does, so it must run right after an `rt ci` that passed, on the same files. checks/edits
 and checks/c use it with --after-ci. Where `rt check` has built libraries in this checkout, `rt ci` puts those back in
-place of its own. Then this script does nothing, and says so.
+place of its own. Then this script does nothing, and says so. It does so too unless the files have the checksums of those
+that `.ci/run` noted in out/ci-sources, when its `rt ci` passed.
 """
+import hashlib
 import re
 import shutil
 import subprocess
@@ -15,6 +18,8 @@ import sys
 from pathlib import Path
 
 TOP = Path(__file__).resolve().parent.parent
+# The checksums of the files that the last `rt ci` of `.ci/run` proved.
+PROVED = TOP / "out/ci-sources"
 
 
 class NotBuilt(Exception):
@@ -49,8 +54,24 @@ class Crates:
         return TOP / f"crates/{crate}/out/rlib/{crate}.rlib"
 
     def are_of_ci(self):
-        """Returns whether no library here is one that `rt check` built: it leaves a stamp beside those."""
-        return not any((self.library(it).parent / "stamp").exists() for it in self.uses)
+        """Returns whether the libraries are those that the last `rt ci` built of these files. `rt check` leaves a stamp
+        beside a library that it built."""
+        if any((self.library(it).parent / "stamp").exists() for it in self.uses):
+            return False
+        return PROVED.is_file() and PROVED.read_text(encoding="utf-8") == self.sums()
+
+    def sum(self, crate):
+        """Returns a checksum of the crate's line in crates.txt and of its files."""
+        sum = hashlib.sha256(self.lines[crate].encode())
+        for part in ("src", "specs", "proofs"):
+            for path in sorted((TOP / "crates" / crate / part).rglob("*")):
+                if path.is_file():
+                    sum.update(f"{path.relative_to(TOP)}\0".encode() + path.read_bytes())
+        return sum.hexdigest()
+
+    def sums(self):
+        """Returns a line with the checksum of each crate."""
+        return "".join(f"{it} {self.sum(it)}\n" for it in sorted(self.uses))
 
     def words(self, crate):
         """Returns the words for `rattle check`, in a folder with the crate's src/, specs/ and proofs/."""
@@ -72,9 +93,13 @@ class Crates:
 
 
 def main():
+    crates = Crates()
+    if sys.argv[1:] == ["sums"]:
+        print(crates.sums(), end="")
+        return 0
     if len(sys.argv) != 4 or sys.argv[1] != "archive":
         sys.exit(__doc__)
-    crate, archive, crates = sys.argv[2], Path(sys.argv[3]).resolve(), Crates()
+    crate, archive = sys.argv[2], Path(sys.argv[3]).resolve()
     if not crates.are_of_ci():
         print("tools/over_ci.py: not built: the libraries here are not those of `rt ci`")
         return 0

@@ -64,7 +64,12 @@ fn strict(alloc: Global, draw: &mut Draw, exponent: u32) -> Result<Guest> {
 
 // Makes a guest of a compatible port.
 fn compatible(alloc: Global, draw: &mut Draw, exponent: u32) -> Result<Guest> {
-    Guest::new(alloc, draw, Port::compatible(alloc, units(alloc)?)?, exponent)
+    Guest::new(
+        alloc,
+        draw,
+        Port::compatible(alloc, units(alloc)?)?,
+        exponent,
+    )
 }
 
 // A guest: its port, its memory, and the next descriptor of its rings of `slots` descriptors.

@@ -5,8 +5,10 @@
 
 It ends at SIGTERM, or when PID has ended, and then prints a table: for each crate the seconds of its library, of its
 tests, of its program or archive, of the proofs that its must-fail edits begin with, and of the rounds of edits. It
-reads /proc four times a second, so up to a quarter of a second of each prover is missing.
+looks four times a second, so up to a quarter of a second of each prover is missing. Of a process that isn't new it reads
+only what it needs.
 """
+import contextlib
 import os
 import re
 import signal
@@ -49,27 +51,32 @@ class Watch:
 
     def __init__(self, top):
         self.top, self.known, self.seconds = top, {}, {}
+        # The parent of each process that is there, and when it began. The others are not below the top one.
+        self.found, self.others = {}, set()
 
     def look(self):
         """Reads the seconds of each prover, and returns whether the top process is there."""
-        found = {}
-        for name in os.listdir("/proc"):
-            if name.isdigit():
-                try:
-                    found[int(name)] = times_of(name)
-                except (OSError, IndexError, ValueError):
-                    pass
-        for pid, (_, begun, seconds) in found.items():
-            if self.is_below(pid, found) and self.key(pid, begun):
-                self.seconds[pid, begun, self.key(pid, begun)] = seconds
-        return self.top in found
+        there = {int(it) for it in os.listdir("/proc") if it.isdigit()}
+        self.found = {pid: it for pid, it in self.found.items() if pid in there}
+        self.others &= there
+        for pid in there - self.found.keys():
+            with contextlib.suppress(OSError, IndexError, ValueError):
+                self.found[pid] = times_of(pid)[:2]
+        for pid in self.found.keys() - self.others:
+            with contextlib.suppress(OSError, IndexError, ValueError):
+                begun = self.found[pid][1]
+                if not self.is_below(pid):
+                    self.others.add(pid)
+                elif self.key(pid, begun):
+                    self.seconds[pid, begun, self.key(pid, begun)] = times_of(pid)[2]
+        return self.top in there
 
-    def is_below(self, pid, found):
+    def is_below(self, pid):
         """Returns whether the process is one of those to watch: below the top one, and itself not below a prover."""
         is_prover = False
-        while pid in found and pid != self.top:
-            pid = found[pid][0]
-            is_prover = is_prover or pid in found and (pid, found[pid][1]) in self.known
+        while pid in self.found and pid != self.top:
+            pid = self.found[pid][0]
+            is_prover = is_prover or pid in self.found and (pid, self.found[pid][1]) in self.known
         return pid == self.top and not is_prover
 
     def key(self, pid, begun):

@@ -264,7 +264,6 @@ def read():
 # each crate with its column, its row and what it is
 CRATES = {
     "uda_mem": (1, 0, "host memory"),
-    "uda_trace": (0, 0, "calls on a file"),
     "uda_image": (1, 1, "stores of blocks"),
     "uda_disk": (1, 2, "requests and answers"),
     "uda_packet": (1, 3, "messages"),

@@ -5,7 +5,7 @@ use denote.Struct.Struct.{exits_of}
 use denote.Struct.Owning.{shape, fields, to}
 use denote.Param.Send.{IsSend, AllSend, owning_send, struct_send, array_send, sendable}
 use Rattle.std_alloc.proofs.SendSync.{quiet, lies}
-use Rattle.uda_trace.specs.contracts.trace.FileTrace as trace
+use Rattle.uda_image.specs.contracts.trace.FileTrace as trace
 use Rattle.uda_c.specs.contracts.lent.BorrowedBytes.{the_row, the_type}
 
 pub lent_send : IsSend the_row

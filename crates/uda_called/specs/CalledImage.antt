@@ -7,7 +7,7 @@ use Rattle.uda_mem.specs.Put.{put, part}
 use Rattle.uda_image.specs.Image.{block_count_of, blocks_of}
 use Rattle.uda_image.specs.File.{Holding, holding_after}
 use Rattle.uda_image.specs.Store.{StoreState}
-use Rattle.uda_trace.specs.declared.trace.FileTrace.{FileTrace}
+use Rattle.uda_image.specs.declared.trace.FileTrace.{FileTrace}
 use Rattle.uda_called.specs.declared.image.Ready.{Ready}
 
 -- such an image: the bytes of its blocks, one after another, how many of its calls have failed, and which blocks are

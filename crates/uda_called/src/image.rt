@@ -13,8 +13,7 @@ ghost use Rattle.uda_called.specs.CalledImage.{with_failure, with_used, with_wri
 
 use std::alloc::Global;
 use std::marker::Model;
-use uda_image::{BlockStore, STORE_LIMIT, StoreError};
-use uda_trace::{Call, FileTrace, Supposition};
+use uda_image::{BlockStore, Call, FileTrace, STORE_LIMIT, StoreError, Supposition};
 
 /// Which blocks of an image are ready for the next command, counted from one block on.
 #[derive(Clone, Copy, Debug, PartialEq, Eq)]

@@ -138,7 +138,7 @@ impl<S: BlockStore> Exec<S> {
 
     /// Queues a command of the compatible profile after the pending ones, with its additional operation.
     /// Otherwise it is as [`accept`](Exec::accept). The end message comes from
-    /// [`execute_next_in`](Exec::execute_next_in).
+    /// [`execute_at_in`](Exec::execute_at_in).
     #[inline(always)]
     pub fn accept_guest(&mut self, asked: GuestCommand)
         requires room { length self.old.pending < PENDING_LIMIT }
@@ -316,40 +316,7 @@ impl<S: BlockStore> Exec<S> {
         Some(execute(&mut self.units, command, memory))
     }
 
-    /// Executes one eligible pending command with its additional operation, removes it, and returns its end
-    /// message. Otherwise it is as [`execute_one_in`](Exec::execute_one_in). Returns None if nothing is
-    /// pending, and then nothing changes.
-    ///
-    /// A Set Unit Characteristics sets the software write protection of a unit with a drive, if the command
-    /// asks for it. The unit remains available or online.
-    ///
-    /// A Compare Host Data passes the checks of a Read, and changes neither blocks nor memory. It calls
-    /// `read` once for each block, in rising order, up to the first byte that differs. Its status is then
-    /// 0x0007, and its byte count is the number of bytes before the difference. If a call fails, the status
-    /// is 0x000B with the byte count of the blocks before.
-    ///
-    /// MSCP Basic Disk Functions Manual: Set Unit Characteristics, Compare Host Data.
-    pub fn execute_next_in(&mut self, memory: &mut [u8]) -> Option<Reply>
-        requires memory { IsMemory memory.old }
-        ensures none_iff_empty { IsNone result ↔ (self.old.pending ≡ []) }
-        ensures unchanged { IfNone result ((self.new ≡ self.old) × (memory.new ≡ memory.old)) }
-        ensures fewer { IfSome result (λ _. length self.new.pending + 1 ≡ length self.old.pending) }
-        ensures four_units { length self.new.units ≡ 4 }
-        ensures well_formed { AreWellFormed self.new.units }
-        ensures length { length memory.new ≡ length memory.old }
-        ensures faithful { (u : ℕ) → is_faithful (slice_get self.new.units u)
-            ≡ is_faithful (slice_get self.old.units u) }
-        ensures infallible { (u : ℕ) → is_infallible (slice_get self.new.units u)
-            ≡ is_infallible (slice_get self.old.units u) }
-        ensures executes { IfSome result (λ end.
-            (j : ℕ) × ExecutesGuestAt j self.old memory.old end self.new memory.new) }
-    {
-        let _ = &self.units;
-        let place = self.next()?;
-        Some(self.execute_at_in(place, memory))
-    }
-
-    /// Returns the index of the pending command that [`execute_next_in`](Exec::execute_next_in) executes, or
+    /// Returns the index of the pending command that [`execute_one_in`](Exec::execute_one_in) executes next, or
     /// None if nothing is pending. The oldest pending command has index 0.
     #[inline(always)]
     pub fn next(&self) -> Option<usize>
@@ -438,8 +405,19 @@ impl<S: BlockStore> Exec<S> {
         self.transfer_used_at(place, uda_mem::len(memory))
     }
 
-    /// Executes the pending command at this index, which is eligible ([`may_execute`](Exec::may_execute)). It is
-    /// otherwise as [`execute_next_in`](Exec::execute_next_in).
+    /// Executes the pending command at this index with its additional operation, removes it, and returns its end
+    /// message. The command must be eligible ([`may_execute`](Exec::may_execute)). Otherwise it is as
+    /// [`execute_one_in`](Exec::execute_one_in).
+    ///
+    /// A Set Unit Characteristics sets the software write protection of a unit with a drive, if the command
+    /// asks for it. The unit remains available or online.
+    ///
+    /// A Compare Host Data passes the checks of a Read, and changes neither blocks nor memory. It calls
+    /// `read` once for each block, in rising order, up to the first byte that differs. Its status is then
+    /// 0x0007, and its byte count is the number of bytes before the difference. If a call fails, the status
+    /// is 0x000B with the byte count of the blocks before.
+    ///
+    /// MSCP Basic Disk Functions Manual: Set Unit Characteristics, Compare Host Data.
     #[inline(always)]
     pub fn execute_at_in(&mut self, place: usize, memory: &mut [u8]) -> Reply
         requires memory { IsMemory memory.old }

@@ -7,7 +7,7 @@ use Rattle.std.proofs.lemmas.List.{take_all, set-get_or}
 use Rattle.std.proofs.lemmas.Option.{get_or_from_slice_get}
 use Rattle.std.proofs.lemmas.Slice.Eq.{bytes_eq-Decides}
 use Rattle.uda_mem.specs.Put.{part, put}
-use Rattle.uda_trace.specs.FileCall.{FileCall, read, written, asked, declined, failed, failed_write}
+use Rattle.uda_image.specs.FileCall.{FileCall, read, written, asked, declined, failed, failed_write}
 use Rattle.uda_image.specs.Store.{KeepsAttributes, ReadsBlock, WritesBlock, FailsToRead, FailsToWrite}
 use Rattle.uda_image.specs.AtOnce.{ReadsBlocks, ReadsNone, WritesBlocks}
 use Rattle.uda_image.specs.File.{block_left, ReadsAt, WritesAt}

@@ -1,3 +1,4 @@
+mod Walks
 pub mod Chunk
 pub mod ImageLaws
 pub mod AtOnceLaws

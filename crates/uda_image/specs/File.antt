@@ -3,7 +3,7 @@
 use Rattle.std.specs.Prelude.{◌≡◌, ℕ, ◌+◌, ◌*◌, ◌≤◌, Bool, true, ◌&&◌, List, [], ◌∷◌, ◌++◌, length, take, drop, replicate, bytes_eq}
 use Rattle.std.specs.Prelude.{Option, Some, IfSome}
 use Rattle.uda_mem.specs.Put.{part, put}
-use Rattle.uda_trace.specs.FileCall.{FileCall, read, written, asked, declined, failed, failed_write}
+use Rattle.uda_image.specs.FileCall.{FileCall, read, written, asked, declined, failed, failed_write}
 
 -- What follows from the calls on a file: the bytes that it holds, if it is honest; whether it is. How many calls
 -- failed, and how many of those were writes. The bytes that were in the buffer of the last read of several blocks.

@@ -2,7 +2,7 @@
 use Rattle.std.proofs.Common.{◌≡◌, ◌*◌, ℕ, List, [], ◌∷◌, ◌++◌, ◌∙◌, length, replicate, Some, true, refl, subst, arith, length-append}
 use Rattle.std.proofs.lemmas.List.{length-take-le, length-replicate, take-append-le, take_all}
 use Rattle.uda_mem.proofs.PutLaws.{length-put}
-use Rattle.uda_trace.specs.FileCall.{FileCall, read, written, asked, declined, failed, failed_write}
+use Rattle.uda_image.specs.FileCall.{FileCall, read, written, asked, declined, failed, failed_write}
 use Rattle.uda_image.specs.Store.{HasWholeBlocks}
 use Rattle.uda_image.specs.File.{fitted, block_left, holding_after}
 use Rattle.uda_image.specs.Image.{block_count_of, blocks_of, OpenImage, file_block_count, holding, IsAsKnown}

@@ -6,7 +6,7 @@ use Rattle.std.specs.Simd.{first_chunks}
 use Rattle.uda_image.specs.Limits.{store_limit}
 use Rattle.uda_image.specs.Store.{StoreState}
 use Rattle.uda_image.specs.File.{Holding, holding_after}
-use Rattle.uda_trace.specs.FileCall.{FileCall}
+use Rattle.uda_image.specs.FileCall.{FileCall}
 
 -- the number of whole blocks in the bytes of an image, at most as many as a store has
 unfoldable pub block_count_of : List ℕ → ℕ

@@ -1,3 +1,5 @@
+pub mod FileCall
+pub mod StoredCalls
 pub mod Store
 pub mod Limits
 pub mod File

@@ -1,8 +1,8 @@
 //! Images in files.
 ghost use Rattle.std.specs.Prelude.{length, ◌≡◌, ◌≢◌, ◌+◌, ◌*◌, ◌<◌, ◌≤◌, ◌↔◌, ◌||◌, true, false, [], ◌∷◌, Some, Ok, IsOk};
 ghost use Rattle.std.specs.Prelude.{OnOk, OnErr, IfOk, IfErr, is_ok, if◌then◌else◌};
-ghost use Rattle.uda_trace.specs.FileCall.{call_of};
-ghost use Rattle.uda_trace.specs.FileCall as call;
+ghost use Rattle.uda_image.specs.FileCall.{call_of};
+ghost use Rattle.uda_image.specs.FileCall as call;
 ghost use Rattle.uda_image.specs.Limits.{block_limit, store_limit};
 ghost use Rattle.uda_image.specs.Store.{KeepsAttributes, Reads, Writes, is_sound};
 ghost use Rattle.uda_image.specs.AtOnce.{TriesToRead, TriesToWrite};
@@ -14,10 +14,10 @@ use crate::error::ImageError;
 use crate::length::count_blocks;
 use crate::raw_file::RawFile;
 use crate::store::{BLOCK_LIMIT, BlockStore, STORE_LIMIT, StoreError};
+use crate::trace::{Call, FileTrace, Supposition};
 use std::fs::{File, OpenFile, OpenOptions, TryLockError};
 use std::marker::Model;
 use std::{fmt, fs, io};
-use uda_trace::{Call, FileTrace, Supposition};
 
 /// An image in a file: the logical blocks of a unit, one after another (MSCP Basic Disk Functions Manual:
 /// logical blocks).

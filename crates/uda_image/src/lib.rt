@@ -12,6 +12,7 @@ mod length;
 mod memory;
 mod raw_file;
 mod store;
+mod trace;
 
 pub use error::ImageError;
 pub use failing::FailingImage;
@@ -19,4 +20,4 @@ pub use file::FileImage;
 pub use memory::MemImage;
 pub use raw_file::RawFile;
 pub use store::{BLOCK_LIMIT, BlockStore, Drive, STORE_LIMIT, StoreError};
-pub use uda_trace::Supposition;
+pub use trace::{Call, FileTrace, Supposition};

@@ -14,8 +14,8 @@ use uda_image::BlockStore;
 
 impl<S: BlockStore> Port<S> {
     /// Returns the blocks that the next turn uses, if it executes the pending command at index `place`
-    /// ([`turn_at`](Port::turn_at)). Returns None if it executes none, if a check of the command fails, or if the
-    /// command uses no blocks. Of memory only what the turn reads matters.
+    /// ([`turn_traced_at`](Port::turn_traced_at)). Returns None if it executes none, if a check of the command
+    /// fails, or if the command uses no blocks. Of memory only what the turn reads matters.
     ///
     /// A caller that reads and writes its images by calls of its own makes these blocks ready before the turn.
     pub fn blocks_at(&self, memory: &[u8], place: usize, missing: Missing) -> Option<BlockUse>

@@ -71,8 +71,8 @@ pub(crate) const NONE_WRITTEN: [ByteRange; 4] = [
 
 impl<S: BlockStore> Port<S> {
     /// Returns the index of the pending command that the next turn executes, if it executes one. It is for
-    /// [`memory_use`](Port::memory_use) and [`turn_at`](Port::turn_at), and remains valid until something else
-    /// is done with the port.
+    /// [`memory_use`](Port::memory_use) and [`turn_traced_at`](Port::turn_traced_at), and remains valid until
+    /// something else is done with the port.
     pub fn next_place(&self) -> usize
         ensures place { IsPlace self.now.exec.pending result }
         ensures within { result < PENDING_LIMIT }

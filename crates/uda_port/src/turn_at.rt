@@ -58,9 +58,9 @@ struct TurnPlan {
 }
 
 impl<S: BlockStore> Port<S> {
-    /// Runs one turn over memory behind a map ([`turn_in`](Port::turn_in)). `memory` is a window as long as the
-    /// bus. `place` is the index of [`next_place`](Port::next_place), and the turn executes the command there when
-    /// it executes one.
+    /// Runs one turn over memory behind a map ([`turn_in`](Port::turn_in)), and stores its trace record. `memory`
+    /// is a window as long as the bus. `place` is the index of [`next_place`](Port::next_place), and the turn
+    /// executes the command there when it executes one.
     ///
     /// Before the turn the caller copies [`descriptor_ranges`](Port::descriptor_ranges) into the window, and then
     /// the body of [`memory_use`](Port::memory_use). Nothing else in the window matters. After the turn the
@@ -77,25 +77,6 @@ impl<S: BlockStore> Port<S> {
     /// any 512 bytes. This holds of each unit whose store is sound after the turn.
     ///
     /// UDA50 Programmer's Documentation Kit: command ring polling, UNIBUS addresses, fatal errors.
-    pub fn turn_at(&mut self, memory: &mut [u8], place: usize, missing: Missing) -> TurnTaken
-        requires memory { IsMemory memory.old }
-        requires place { IsPlace self.old.exec.pending place }
-        ensures effect { EffectWithout missing place (self.old, memory.old) result.turn (self.new, memory.new) }
-        ensures local { IsLocal missing place (self.old, memory.old) result (self.new, memory.new) }
-        ensures within { All (LiesIn memory.old) result.written }
-        ensures written { (other : List ℕ) → Agrees self.old place memory.old other
-            → result.written ≡ written_of missing self.old other place }
-        ensures used_blocks { ChangesOnly (blocks_of missing self.old memory.old place)
-            (block_bytes_of missing self.old memory.old place) self.old.exec.units self.new.exec.units }
-        ensures credits { CreditsAgree self.new }
-        ensures four_units { length self.new.exec.units ≡ 4 }
-        ensures well_formed { AreWellFormed self.new.exec.units }
-    {
-        let mut trace = Trace::Idle;
-        self.turn_traced_at(memory, place, missing, &mut trace)
-    }
-
-    /// Does the same and stores the trace record of the turn ([`turn_at`](Port::turn_at)).
     pub fn turn_traced_at(
         &mut self,
         memory: &mut [u8],

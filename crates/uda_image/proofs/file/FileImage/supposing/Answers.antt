@@ -1,5 +1,5 @@
 use Rattle.std.proofs.Common.{Some, length, sym, ap, ◌∙◌}
-use Rattle.uda_trace.specs.declared.trace.FileTrace.{FileTrace}
+use Rattle.uda_image.specs.declared.trace.FileTrace.{FileTrace}
 use Rattle.uda_image.specs.Image.{OpenImage}
 use Rattle.uda_image.specs.FileLaws.{known_at_first}
 use Rattle.uda_image.proofs.file.FileImage.supposing.Goals as goal

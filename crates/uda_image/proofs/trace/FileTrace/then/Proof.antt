@@ -25,14 +25,14 @@ use denote.Triple.Entry.{alive}
 use denote.Triple.Spec.{Meets, triple_of}
 use denote.Triple.Table.{entered}
 use denote.Triple.Walked.{says, Stays, stay_dropped, walk_of, ends_at, walk_Meets, Goes-dropped}
-use Rattle.uda_trace.proofs.Walks.{none, none_made}
-use Rattle.uda_trace.specs.contracts.trace.FileTrace as FileTrace
-use Rattle.uda_trace.specs.contracts.trace.Call as Call
-use Rattle.uda_trace.specs.FileCall.{call_of}
-use Rattle.uda_trace.specs.contracts.trace.FileTrace.then as F
-use Rattle.uda_trace.specs.contracts.trace.FileTrace.then.Key.{name as #self}
-use Rattle.uda_trace.proofs.trace.FileTrace.then.Statement as stated
-use Rattle.uda_trace.proofs.trace.FileTrace.then.Code as code
+use Rattle.uda_image.proofs.Walks.{none, none_made}
+use Rattle.uda_image.specs.contracts.trace.FileTrace as FileTrace
+use Rattle.uda_image.specs.contracts.trace.Call as Call
+use Rattle.uda_image.specs.FileCall.{call_of}
+use Rattle.uda_image.specs.contracts.trace.FileTrace.then as F
+use Rattle.uda_image.specs.contracts.trace.FileTrace.then.Key.{name as #self}
+use Rattle.uda_image.proofs.trace.FileTrace.then.Statement as stated
+use Rattle.uda_image.proofs.trace.FileTrace.then.Code as code
 
 abbrev function : Fn
 function = code.function

@@ -1,7 +1,7 @@
 -- The calls on an image file, and what came of them.
 use Rattle.std.specs.Prelude.{ℕ, List}
-use Rattle.uda_trace.specs.declared.trace.Call.{Call}
-use Rattle.uda_trace.specs.declared.trace.Call.TheVariants as call
+use Rattle.uda_image.specs.declared.trace.Call.{Call}
+use Rattle.uda_image.specs.declared.trace.Call.TheVariants as call
 
 -- A read or a write of these bytes, from this block on. A read of several blocks that is asked for, and one that
 -- is declined, with the bytes of its buffer then. A failed call that changed no block. A failed write of this block.

@@ -1,7 +1,7 @@
 -- How the logic stores the calls on a file.
 use Rattle.std.specs.Prelude.{◌≡◌, ℕ, List, [], cond, ◌==◌, refl}
 use Rattle.std.specs.Coded.{Coded, code_by, coded×, coded_ℕ, coded_list}
-use Rattle.uda_trace.specs.FileCall.{FileCall, read, written, asked, declined, failed, failed_write}
+use Rattle.uda_image.specs.FileCall.{FileCall, read, written, asked, declined, failed, failed_write}
 
 -- a number for the kind of the call, its block, and its bytes
 abbrev Parts : Type 0

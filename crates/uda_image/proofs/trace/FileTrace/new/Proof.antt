@@ -27,12 +27,12 @@ use denote.Triple.Entry.{on_entry, alive, Args}
 use denote.Triple.Spec.{Meets, triple_of}
 use denote.Triple.Table.{entered}
 use denote.Triple.Walked.{says, stay_none_ref, Stays, walk_of, Walks, ends_at, walked, Goes-none_ref, walk_Meets}
-use Rattle.uda_trace.specs.contracts.trace.FileTrace.new.Key.{name as key}
-use Rattle.uda_trace.specs.contracts.trace.FileTrace.new as f
-use Rattle.uda_trace.proofs.trace.FileTrace.new.Statement as stated
-use Rattle.uda_trace.proofs.trace.FileTrace.new.Code as code
-use Rattle.uda_trace.specs.contracts.trace.FileTrace as trace
-use Rattle.uda_trace.specs.contracts.trace.Supposition as supposition
+use Rattle.uda_image.specs.contracts.trace.FileTrace.new.Key.{name as key}
+use Rattle.uda_image.specs.contracts.trace.FileTrace.new as f
+use Rattle.uda_image.proofs.trace.FileTrace.new.Statement as stated
+use Rattle.uda_image.proofs.trace.FileTrace.new.Code as code
+use Rattle.uda_image.specs.contracts.trace.FileTrace as trace
+use Rattle.uda_image.specs.contracts.trace.Supposition as supposition
 
 abbrev stayed : Stays (f.ended).signature.params (f.ended).kept
 stayed = (stay_none_ref (0 ∷ []) tt (plain (λ _. supposition.the_row)) yes, tt)

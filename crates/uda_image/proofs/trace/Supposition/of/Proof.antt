@@ -29,11 +29,11 @@ use denote.Triple.Entry.{on_entry, alive, Args}
 use denote.Triple.Spec.{Meets, triple_of}
 use denote.Triple.Table.{entered}
 use denote.Triple.Walked.{says, stay_none_slice, Stays, walk_of, Walks, ends_at, walked, Goes-none_slice, walk_Meets}
-use Rattle.uda_trace.specs.contracts.trace.Supposition.of.Key.{name as key}
-use Rattle.uda_trace.specs.contracts.trace.Supposition.of as f
-use Rattle.uda_trace.proofs.trace.Supposition.of.Statement as stated
-use Rattle.uda_trace.proofs.trace.Supposition.of.Code as code
-use Rattle.uda_trace.specs.contracts.trace.Supposition as supposition
+use Rattle.uda_image.specs.contracts.trace.Supposition.of.Key.{name as key}
+use Rattle.uda_image.specs.contracts.trace.Supposition.of as f
+use Rattle.uda_image.proofs.trace.Supposition.of.Statement as stated
+use Rattle.uda_image.proofs.trace.Supposition.of.Code as code
+use Rattle.uda_image.specs.contracts.trace.Supposition as supposition
 
 abbrev stayed : Stays (f.ended).signature.params (f.ended).kept
 stayed = (stay_none_slice (0 ∷ []) tt (plain (λ _. u8)) yes, (stay_none_slice (1 ∷ []) tt (plain (λ _. u8)) yes, tt))

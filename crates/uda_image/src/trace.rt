@@ -1,8 +1,8 @@
-//! The trace of an image file: its calls and what came of them.
+//! The trace of an image file: its calls and what came of them, which only contracts read.
 ghost use Rattle.std.specs.Prelude.{◌≡◌, ℕ, List, [], ◌∷◌};
 ghost use Rattle.std.specs.Borrow.{ftrue};
-ghost use Rattle.uda_trace.specs.FileCall.{FileCall, call_of};
-ghost use Rattle.uda_trace.specs.StoredCalls.{calls_code};
+ghost use Rattle.uda_image.specs.FileCall.{FileCall, call_of};
+ghost use Rattle.uda_image.specs.StoredCalls.{calls_code};
 
 use std::fmt;
 use std::marker::Model;

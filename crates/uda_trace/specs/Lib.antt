@@ -1,2 +1,0 @@
-pub mod FileCall
-pub mod StoredCalls

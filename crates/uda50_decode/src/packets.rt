@@ -9,7 +9,7 @@ use std::io::{BufRead, BufReader, BufWriter, ErrorKind, Read, Write};
 use std::marker::Model;
 use uda50_show::{COMPATIBLE_TEXT, CompatibleMessage, Packet, PacketReader};
 
-/// The most bytes that are kept for the next line. The memory of a longer line is given back.
+/// The most bytes that are kept for the next line. The memory of a longer line is freed.
 pub const LINE_ROOM: usize = 4_096;
 
 /// The bytes of the longest text before a packet, `packet 18446744073709551615, `.

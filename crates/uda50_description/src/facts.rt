@@ -73,7 +73,7 @@ pub struct ImageFacts<'w> {
 }
 
 impl ImageFacts<'_> {
-    /// Returns the number of blocks of the volume: all but that of a record.
+    /// Returns the number of blocks of the volume, which are all except that of a record.
     pub fn volume_blocks(&self) -> u32
         ensures volume { result ≡ (if is_some self.now.record then self.now.blocks - 1 else self.now.blocks) }
     {

@@ -122,7 +122,7 @@ command_text c modifiers =
 
 -- ---- invalid commands
 
--- what stands before the fault in the title of an invalid command of this name
+-- the title of an invalid command of this name, up to the fault
 abbrev pub bad_title : BadKind → List ℕ → List ℕ
 bad_title fault.Opcode name = codes "neither a command nor an end message: "
 bad_title fault.Modifiers name = codes "invalid command, " ++ name ++ codes ": "

@@ -337,7 +337,7 @@ impl Pieces {
         }
     }
 
-    // Adds what stands before the fault in the title of an invalid command of this name.
+    // Adds the title of an invalid command of this name, up to the fault.
     fn title(&mut self, kind: BadKind, name: &'static str)
         requires room { array_vec_len self.old.0 + 3 ≤ 24 }
         ensures text { pieces_text self.new.0.items

@@ -324,7 +324,7 @@ struct OutputCopy<'a, 'w> {
 }
 
 impl<'a, 'w> OutputCopy<'a, 'w> {
-    // Reads blocks of the image, and writes them but for those that are still held.
+    // Reads blocks of the image, and writes all except those that are still held.
     fn run<W: Write + Drop>(
         &mut self,
         blocks: Range<u32>,

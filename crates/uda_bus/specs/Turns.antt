@@ -1,4 +1,4 @@
--- Turns of a port whose guest's memory is behind a map, and words that are written to its SA.
+-- Turns of a port over memory through map registers, and words that are written to its SA.
 -- PDP-11 UNIBUS map, VAX UNIBUS adapter, Q-bus map: map registers. UDA50 Programmer's Documentation Kit:
 -- UNIBUS addresses.
 use Rattle.std.specs.Prelude.{◌≡◌, ◌↔◌, ℕ, Bool, false, List, [], ◌∷◌}
@@ -38,8 +38,8 @@ pub record IsMissing (map : BusMap) (size : ℕ) (before : PortState × List ℕ
   pub body : TellsMissing map before.1 (use_of before.0 (bus_memory map size before.1) place).body
       missing.body
 
--- One turn over guest memory behind a map is a turn on what the bus shows. If it executes a command, that is the
--- pending command at this index. Then what the turn wrote is stored, in this order, and nothing else changes.
+-- One turn over memory through map registers is a turn on what the bus shows. If it executes a command, that is
+-- the pending command at this index. Then what the turn wrote is stored, in this order, and nothing else changes.
 pub record TurnsBehind (map : BusMap) (size : ℕ) (before : PortState × List ℕ) (turn : Turn)
     (after : PortState × List ℕ) : Type 0 where
   pub place : ℕ

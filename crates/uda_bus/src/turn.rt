@@ -1,4 +1,4 @@
-//! Turns of a port whose guest's memory is behind a map, and words that are written to its SA.
+//! Turns of a port over memory through map registers, and words that are written to its SA.
 ghost use Rattle.std.specs.Prelude.{◌≡◌, ◌↔◌, ◌%◌, ◌^◌, ◌≤◌, [], ◌∷◌, All, length, IsTrue};
 ghost use Rattle.std.specs.Prelude.{IsOk, IfOk, IfErr};
 ghost use Rattle.uda_mem.specs.Put.{part};
@@ -67,7 +67,7 @@ impl Window {
 }
 
 impl BusMap<'_> {
-    /// Runs one turn of a port whose guest's memory is behind the map. The bus has as many addresses as the
+    /// Runs one turn of a port over memory through these map registers. The bus has as many addresses as the
     /// window has bytes, and nothing else in the window matters.
     ///
     /// What the turn reads is read from the bus first, and what it wrote is then written to the bus in its
@@ -120,7 +120,7 @@ impl BusMap<'_> {
         taken.turn
     }
 
-    /// Writes `word` to SA of a port whose guest's memory is behind the map. The bus has as many addresses as
+    /// Writes `word` to SA of a port over memory through these map registers. The bus has as many addresses as
     /// the window has bytes, and nothing else in the window matters.
     ///
     /// The communication area that the word zeroes is then written to the bus. An area with an address that

@@ -143,7 +143,7 @@ pub turn_faithful : (turn : Turn) (old : PortState) (memory : List ℕ) (new : P
 turn_faithful turn old memory new after goes =
     along old new (turn_natures old.phase turn old memory new after goes)
 
--- ---- a turn over memory behind a map
+-- ---- a turn over memory through map registers
 
 pub effect_natures : (fate : Fate) (place : ℕ) (before : PortState × List ℕ) (turn : Turn) (after : PortState × List ℕ)
     → EffectBy fate place before turn after → all_attributes after.0 ≡ all_attributes before.0

@@ -356,7 +356,7 @@ turn_fits turn old memory new after goes is =
     fits_by old new (turn_profile old.phase turn old memory new after refl goes same)
     (turn_by old.phase turn old memory new after refl goes same is.units) is
 
--- a turn over memory behind a map
+-- a turn over memory through map registers
 failing_keeps : (cause : Fatal) (old new : PortState) → is_of_turn cause ≡ true
     → new ≡ failed_port old cause → Keeps old new
 failing_keeps cause old new of_turn died = record {

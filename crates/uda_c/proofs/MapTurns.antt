@@ -1,4 +1,4 @@
--- A turn over memory behind a map, as the controller reports it.
+-- A turn over memory through map registers, as the controller reports it.
 use Rattle.std.proofs.Common.{◌≡◌, ℕ, List, Some, refl, ap, subst, ◌∙◌}
 use Rattle.std.specs.Prelude.{All}
 use Rattle.uda_mem.specs.Ranges.{LiesIn}

@@ -25,7 +25,7 @@ run_over limit k before old turn next h over takes =
     let left : limit - k ≡ suc (limit - (k + 1)) = omega (arith, h) in
     rw left (turn, next, takes, rw over (refl, refl))
 
--- the same of turns over guest memory behind a map
+-- the same of turns over memory through map registers
 module _ (bus : MappedBus) (limit k : ℕ) (before : CallStatus) (old : Machine) (turn : Turn) (next : Machine)
     (below : k < limit) (takes : TakesTurnBehind bus old (RanTurn turn) next) where
   pub run_on_behind : (after : CallStatus × Machine) → does_nothing turn ≡ false

@@ -63,8 +63,7 @@ told_end kind e = record {
 }
 
 -- The record of a turn, by its kind. Kinds 0 to 5 are the statuses of a turn. Kind 6 is an invalid command,
--- and 7 no turn yet. Kind 8 is a command that was answered at once, and 9 an Abort that removed a pending
--- command.
+-- and 7 no turn yet. Kind 8 is a command that was ended at once, and 9 an Abort that removed a pending command.
 abbrev pub turn_record : Option Trace → TurnRecord
 turn_record (Some Idle) = told_number 0 0
 turn_record (Some (Fetched command)) = told_command command

@@ -1,4 +1,4 @@
--- Map registers that C passes, and turns over guest memory behind them.
+-- Map registers that C passes, and turns over memory through map registers.
 -- PDP-11 UNIBUS map, VAX UNIBUS adapter, Q-bus map: map registers.
 use Rattle.std.specs.Prelude.{◌≡◌, ◌≢◌, ◌↔◌, ℕ, List, ◌*◌, ◌%◌, ◌^◌, ◌==◌, ◌||◌, zero, suc, length, nat_lt, if◌then◌else◌, ◌⊎◌, Some}
 use Rattle.uda_bus.specs.declared.map.MapForm.{MapForm}
@@ -26,7 +26,7 @@ register_count m = if m.in_memory == 0 then length m.registers.now else m.in_mem
 abbrev pub form_of : MapRegisters → MapForm
 form_of m = record { page = m.page; frame = m.frame; valid = m.valid; scale = m.scale }
 
--- the status of a bus with so many registers, each for a page: it has at most as many addresses as a Q-bus, and an
+-- the status of a bus with this many registers, each for a page: it has at most as many addresses as a Q-bus, and an
 -- even number of them
 abbrev pub bus_answer : ℕ → ℕ → CallStatus
 bus_answer count page =
@@ -43,7 +43,7 @@ pub record IsBusOf (m : MapRegisters) (bus : MappedBus) : Type 0 where
   pub form : bus.map.form ≡ form_of m
   pub size : bus.size ≡ register_count m * 2 ^ m.page
 
--- one turn over guest memory behind a map, whose record is stored as the last
+-- one turn over memory through map registers, whose record is stored as the last
 pub record TakesTurnBehind (bus : MappedBus) (before : Machine) (answer : CallStatus) (after : Machine)
     : Type 0 where
   pub trace : Trace
@@ -67,7 +67,7 @@ pub record OverMap (m : MapRegisters) (before : Machine) (answer : CallStatus) (
       → ((bus : MappedBus) × IsBusOf m bus × Does bus) ⊎ ((answer ≡ NoMemory) × (after ≡ before))
   pub refuses : map_answer m ≢ Done → (answer ≡ map_answer m) × (after ≡ before)
 
--- a word written to SA over guest memory behind a map
+-- a word written to SA over memory through map registers
 pub record WritesSaOver (bus : MappedBus) (before : Machine) (word : ℕ) (answer : CallStatus) (after : Machine)
     : Type 0 where
   pub answer_is : answer ≡ Done

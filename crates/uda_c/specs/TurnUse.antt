@@ -1,4 +1,4 @@
--- Turns over guest memory behind a map, for C.
+-- Turns over memory through map registers, for C.
 -- UDA50 Programmer's Documentation Kit: command ring polling, UNIBUS addresses.
 use Rattle.std.specs.Prelude.{◌≡◌, ℕ, ◌/◌, ◌%◌, ◌==◌, Bool, List, Some, All}
 use Rattle.uda_mem.specs.declared.range.ByteRange.{ByteRange}
@@ -37,7 +37,7 @@ GetsDescriptors c memory before answer after =
     FillsWhereMemory memory before answer after
     (λ filled. filled ≡ record before { descriptors = descriptor_ranges c.port memory })
 
--- the command that the next turn executes, if it executes one, and what the turn uses beside the descriptors
+-- the command that the next turn executes, if it executes one, and what the turn uses besides the descriptors
 abbrev pub GetsBody : ControllerState → List ℕ → TurnUse → CallStatus → TurnUse → Type 0
 GetsBody c memory before answer after =
     FillsWhereMemory memory before answer after

@@ -373,7 +373,7 @@ impl Controller {
         }
     }
 
-    /// Fills in the command that the next turn executes, and what the turn uses beside the descriptors.
+    /// Fills in the command that the next turn executes, and what the turn uses besides the descriptors.
     pub fn get_body(&self, memory: &[u8], turn: &mut TurnUse) -> CallStatus
         ensures gets { GetsBody self.now memory.now turn.old result turn.new }
     {
@@ -433,7 +433,7 @@ impl Controller {
         self.port.write_sa_at(word, memory, missing)
     }
 
-    /// Runs one turn of the port over guest memory behind a map.
+    /// Runs one turn of the port over memory through map registers.
     pub fn turn_mapped(&mut self, memory: &mut [u8], map: &MapRegisters<'_>) -> CallStatus
         ensures effect { OverMap map.now (self.old, memory.old) result (self.new, memory.new)
             (λ bus. TakesTurnBehind bus (self.old, memory.old) result (self.new, memory.new)) }
@@ -449,7 +449,7 @@ impl Controller {
         }
     }
 
-    /// Runs up to `limit` turns over guest memory behind a map, and stops after the first that does nothing.
+    /// Runs up to `limit` turns over memory through map registers, and stops after the first that does nothing.
     pub fn run_mapped(
         &mut self,
         limit: u32,
@@ -470,7 +470,7 @@ impl Controller {
         }
     }
 
-    /// Writes SA for the guest over its memory behind a map.
+    /// Writes SA for the guest over memory through map registers.
     pub fn write_sa_mapped(
         &mut self,
         word: u16,
@@ -561,7 +561,7 @@ impl Controller {
     }
 }
 
-// A bus behind a map, and a window with as many bytes as it has addresses.
+// A bus with map registers, and a window with as many bytes as it has addresses.
 struct ReadyBus<'a> {
     bus: MappedBus<'a>,
     window: Window,

@@ -378,7 +378,7 @@ pub extern "C" fn uda50_get_descriptors(
     }
 }
 
-/// Fills in the command that the next turn executes, and what the turn uses beside the descriptors.
+/// Fills in the command that the next turn executes, and what the turn uses besides the descriptors.
 #[unsafe(no_mangle)]
 pub extern "C" fn uda50_get_body(handle: &mut Handle, window: &[u8], turn: &mut TurnUse) -> u32
     ensures gets { OnHandle handle.old.value handle.new.value
@@ -466,7 +466,7 @@ pub extern "C" fn uda50_write_sa_at(
     }
 }
 
-/// Runs one turn of the port over guest memory behind a map.
+/// Runs one turn of the port over memory through map registers.
 #[unsafe(no_mangle)]
 pub extern "C" fn uda50_turn_mapped(
     handle: &mut Handle,
@@ -491,7 +491,7 @@ pub extern "C" fn uda50_turn_mapped(
     }
 }
 
-/// Runs up to `turns` turns over guest memory behind a map, and stops after the first that does nothing.
+/// Runs up to `turns` turns over memory through map registers, and stops after the first that does nothing.
 #[unsafe(no_mangle)]
 pub extern "C" fn uda50_run_mapped(
     handle: &mut Handle,
@@ -517,7 +517,7 @@ pub extern "C" fn uda50_run_mapped(
     }
 }
 
-/// Writes SA for the guest over its memory behind a map.
+/// Writes SA for the guest over memory through map registers.
 #[unsafe(no_mangle)]
 pub extern "C" fn uda50_write_sa_mapped(
     handle: &mut Handle,

@@ -90,7 +90,7 @@ impl<'a> MapRegisters<'a> {
     }
 }
 
-// Returns the number of addresses of a bus with so many registers, each for a page, or the status of a bus that
+// Returns the number of addresses of a bus with this many registers, each for a page, or the status of a bus that
 // can't be.
 fn bus_size(count: usize, page: u32) -> Result<u32, CallStatus>
     requires page { page ≤ 31 }

@@ -1,4 +1,4 @@
-//! What the next turn uses of guest memory behind a map, for C.
+//! What the next turn uses of memory through map registers, for C.
 ghost use Rattle.std.specs.Prelude.{◌≡◌};
 ghost use Rattle.uda_c.specs.TurnUse.{missing_of};
 

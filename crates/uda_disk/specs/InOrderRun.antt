@@ -73,7 +73,7 @@ pub record InOrderWithFailures (disks : Disks) (requests : List Request) (answer
   pub fit : All FitsRequest fixed
   pub gives : run_in_order_as disks fixed ≡ (answers, left)
 
--- the number of requests of a unit that are answered with a drive error
+-- the number of requests of a unit whose answer is a drive error
 abbrev pub tells_error : ℕ → Request → Answer → ℕ
 tells_error unit r answer = if nat_eq r.unit unit && nat_eq (status_of answer) DRIVE_ERROR then 1 else 0
 

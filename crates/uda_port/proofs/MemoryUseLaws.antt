@@ -752,7 +752,7 @@ idle_quiet old memory j idle nothing = go (next_text old) refl
         (λ (b : Bool). if b then delivery_use old memory (text_range old f.next (length text)) else no_use Wait)
         f.not_owned)
 
--- the settings of a delivery with so many credits
+-- the settings of a delivery with this many credits
 abbrev delivery_with : PortState → ℕ → Option ℕ → Delivery
 delivery_with port credits indicator =
     record { profile = port.profile; credits = credits; indicator = indicator }

@@ -39,7 +39,7 @@ strict_text : (guest : Guest) (units : Units) (e : End) → text_by Strict guest
     ≡ written_end e
 strict_text guest units e = refl
 
--- no command is answered at once
+-- no command is ended at once
 strict_replies : (r : Reply) (exec : ExecState) → replies_at_once Strict r exec ≡ r ∷ []
 strict_replies r exec = refl
 

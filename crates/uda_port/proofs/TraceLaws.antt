@@ -30,7 +30,7 @@ traces_from old other new Notified exec waiting it = sym waiting ∙ it
 traces_from old other new Idle exec waiting it = tt
 traces_from old other new (Dead cause) exec waiting it = it
 
--- a command that is answered at once was fetched
+-- a command that is ended at once was fetched
 pub traces_answer : (old new : PortState) (trace : Trace) → TracesAnswer trace old.waiting new.waiting
     → Reports turn.Fetched trace old new
 traces_answer old new (Fetched g) it = absurd it

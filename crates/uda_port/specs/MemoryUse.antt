@@ -1,4 +1,4 @@
--- What a turn reads and writes of host memory. A caller whose memory is behind a map copies only that.
+-- What a turn reads and writes of host memory. A caller with memory through map registers copies only that.
 -- UDA50 Programmer's Documentation Kit: command ring polling, message envelopes, UNIBUS addresses.
 use Rattle.std.specs.Prelude.{◌≡◌, ◌≤◌, ◌<◌, ℕ, ◌+◌, ◌-◌, ◌%◌, Bool, true, false, ◌&&◌, nat_eq, nat_le, List, [], ◌∷◌, length}
 use Rattle.std.specs.Prelude.{Option, Some, None, option_map, if◌then◌else◌, All, ⊤}

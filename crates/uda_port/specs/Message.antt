@@ -50,7 +50,7 @@ abbrev pub is_length : Profile → ℕ → Bool
 is_length Strict n = n == 48
 is_length (Compatible identity) n = nat_le 12 n
 
--- the command of a text, or its end message; the compatible profile has commands that are answered at once,
+-- the command of a text, or its end message; the compatible profile has commands that are ended at once,
 -- and ignores some modifiers
 abbrev pub text_asks : Profile → List ℕ → Result GuestCommand Reply
 text_asks Strict text = asked_as guest.Basic (reply_to_bad (read_command text))
@@ -64,7 +64,7 @@ length_reply (Compatible identity) text =
     record (basic_reply end) { unit = drive_number identity end.unit }
 
 -- A command to execute, or an end message. An end message comes from a packet of invalid length, from an
--- invalid command, or from a command that is answered at once.
+-- invalid command, or from a command that is ended at once.
 abbrev pub mscp_message : Profile → Fetched → Result GuestCommand Reply
 mscp_message profile p =
     let text = text_read profile p in

@@ -1,5 +1,5 @@
--- What a word that the host writes to SA writes to host memory. A caller whose memory is behind a map copies only
--- that.
+-- What a word that the host writes to SA writes to host memory. A caller with memory through map registers copies
+-- only that.
 -- UDA50 Programmer's Documentation Kit: initialization, communication area.
 use Rattle.std.specs.Prelude.{◌≡◌, ℕ, ◌+◌, ◌-◌, Bool, true, false, List, [], ◌∷◌, length, if◌then◌else◌}
 use Rattle.uda_mem.specs.declared.range.ByteRange.{ByteRange}

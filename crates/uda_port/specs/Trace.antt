@@ -42,14 +42,14 @@ abbrev pub IsBasic : ReplyBody → Type 0
 IsBasic (Basic body) = Unit
 IsBasic _ = ⊥
 
--- the end message of a command that is answered at once
+-- the end message of a command that is ended at once
 abbrev pub IsAtOnce : ReplyBody → Type 0
 IsAtOnce (Basic body) = ⊥
 IsAtOnce _ = Unit
 
 -- The record matches what happened:
 -- - A fetched command is the last pending one.
--- - The end message of an invalid command, of a command that is answered at once, or of an executed one is
+-- - The end message of an invalid command, of a command that is ended at once, or of an executed one is
 --   the last in the queue.
 -- - The end message of an Abort follows that of the command that it removed.
 -- - A delivered end message was the first in the queue.
@@ -76,7 +76,7 @@ abbrev pub ReportsIf : Bool → Turn → Trace → PortState × PortState → Ty
 ReportsIf true taken trace ports = Reports taken trace ports.0 ports.1
 ReportsIf false taken trace ports = Unit
 
--- the end messages that a command answered at once adds to the queued ones
+-- the end messages that a command ended at once adds to the queued ones
 abbrev pub TracesAnswer : Trace → List Reply → List Reply → Type 0
 TracesAnswer (InvalidCommand end) old new = IsBasic end.body × (new ≡ old ++ end ∷ [])
 TracesAnswer (Answered end) old new = IsAtOnce end.body × (new ≡ old ++ end ∷ [])

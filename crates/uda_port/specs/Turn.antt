@@ -50,7 +50,7 @@ pub record Unchanged (old : PortState) (memory : List ℕ) (new : PortState)
 -- ---- rule 1: a command is fetched
 
 -- A command is appended to the pending commands. The end message of an invalid command is queued. A command
--- that is answered at once is executed, and then its end message is queued.
+-- that is ended at once is executed, and then its end message is queued.
 abbrev pub port_with_message : PortState → Result GuestCommand Reply → PortState
 port_with_message old (Ok c) = record old { exec = with_accepted old.exec c }
 port_with_message old (Err r) = record old {

@@ -14,7 +14,7 @@ use uda_exec::Exec;
 use uda_image::BlockStore;
 use uda_packet::{Reply, ReplyBody};
 
-// Queues the end message of an invalid command, and reports it in `trace`. For a command that is answered at once,
+// Queues the end message of an invalid command, and reports it in `trace`. For a command that is ended at once,
 // executes it and queues its end message. The strict profile has no such commands. All these are rare, so the
 // function isn't inlined.
 #[cold]

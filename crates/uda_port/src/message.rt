@@ -22,7 +22,7 @@ const DUP: u8 = 2;
 const HEAD: u16 = 12;
 
 /// Returns the command of a packet. Returns an end message instead if the packet is an invalid command or a
-/// command that is answered at once. Returns None if the envelope has an invalid connection or message type.
+/// command that is ended at once. Returns None if the envelope has an invalid connection or message type.
 pub(crate) fn message_in(profile: Profile, packet: &Fetched) -> Option<Result<GuestCommand, Reply>>
     ensures { MatchOption result (IsSequential profile packet.now → ⊥)
         (λ message. IsSequential profile packet.now × (message ≡ message_in profile packet.now)) }

@@ -1,4 +1,4 @@
-//! Words of initialization, with memory behind a map.
+//! Words of initialization, over memory through map registers.
 //!
 //! UDA50 Programmer's Documentation Kit: initialization, communication area.
 ghost use Rattle.std.specs.Prelude.{◌≡◌, length};
@@ -46,9 +46,9 @@ impl<S: BlockStore> Port<S> {
         }
     }
 
-    /// Writes `word` to SA ([`write_sa_in`](Port::write_sa_in)) over a window into memory behind a map. Nothing in
-    /// the window matters. If [`range_zeroed`](Port::range_zeroed) leads nowhere (`missing`), the port fails as at
-    /// the end of memory. Returns the range that the caller then copies out of the window.
+    /// Writes `word` to SA ([`write_sa_in`](Port::write_sa_in)) over a window into memory through map registers.
+    /// Nothing in the window matters. If [`range_zeroed`](Port::range_zeroed) leads nowhere (`missing`), the port
+    /// fails as at the end of memory. Returns the range that the caller then copies out of the window.
     ///
     /// UDA50 Programmer's Documentation Kit: initialization, communication area.
     pub fn write_sa_at(&mut self, word: u16, memory: &mut [u8], missing: bool) -> ByteRange

@@ -23,7 +23,7 @@ pub enum Trace {
     Fetched(GuestCommand),
     /// The port fetched an invalid command, and queued this end message.
     InvalidCommand(Reply),
-    /// The port fetched a command that is answered at once, and queued this end message.
+    /// The port fetched a command that is ended at once, and queued this end message.
     Answered(Reply),
     /// The port fetched an Abort, which removed a pending command. The end message of that command is queued,
     /// and this one follows it.

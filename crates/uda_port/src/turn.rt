@@ -96,7 +96,7 @@ impl<S: BlockStore> Port<S> {
     /// - It reads a text by its length word. In a shorter text the bytes past its length count as 0; of a
     ///   longer one it reads 48. A length under 12 makes the end message of status 0x0001.
     /// - Connection 2, DUP, isn't fatal: each of its commands is invalid.
-    /// - Some commands are answered at once: the fetch queues their end messages.
+    /// - Some commands are ended at once: the fetch queues their end messages.
     /// - It ignores a response buffer's length word, and writes as many bytes as the kind of end message has.
     /// - At a ring transition with the flag set, it first writes 1 to an interrupt indicator. The command
     ///   indicator is 4 bytes below the ring base, the response indicator 2 bytes. The port also raises an

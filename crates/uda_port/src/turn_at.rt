@@ -1,4 +1,4 @@
-//! Turns over memory behind a map.
+//! Turns over memory through map registers.
 //!
 //! UDA50 Programmer's Documentation Kit: command ring polling, message envelopes, UNIBUS addresses.
 ghost use Rattle.std.specs.Prelude.{◌≡◌, ◌↔◌, ℕ, List, All, IsTrue, length};
@@ -58,9 +58,9 @@ struct TurnPlan {
 }
 
 impl<S: BlockStore> Port<S> {
-    /// Runs one turn over memory behind a map ([`turn_in`](Port::turn_in)), and stores its trace record. `memory`
-    /// is a window as long as the bus. `place` is the index of [`next_place`](Port::next_place), and the turn
-    /// executes the command there when it executes one.
+    /// Runs one turn over memory through map registers ([`turn_in`](Port::turn_in)), and stores its trace record.
+    /// `memory` is a window as long as the bus. `place` is the index of [`next_place`](Port::next_place), and the
+    /// turn executes the command there when it executes one.
     ///
     /// Before the turn the caller copies [`descriptor_ranges`](Port::descriptor_ranges) into the window, and then
     /// the body of [`memory_use`](Port::memory_use). Nothing else in the window matters. After the turn the

@@ -44,7 +44,7 @@ pub record DriverRunHolds (asked : List Request) (told : List Answer)
   pub turn_counts : HasTurnCounts asked driver driver_after
   pub rest : IsAtRest driver_after
 
--- the lines' data is exactly these bytes, and the driver answered the requests made of it, whatever data
+-- the lines' data is exactly these bytes, and the driver executed the requests made of it, whatever data
 -- follows
 pub record Runs (lines : List Line) (input input_after : Option (List ℕ)) (bytes : List ℕ)
     (told : List Answer) (driver driver_after : DriverState) : Type 0 where

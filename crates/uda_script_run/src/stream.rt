@@ -28,7 +28,7 @@ const MOST_BATCHES: u64 = 1 << 56;
 /// for the same requests. Answers and disks are related to the in-order run of all requests as those of
 /// [`Driver::run`](uda_driver::Driver::run) are.
 ///
-/// `watch` receives each turn of the port. The text is read byte by byte, so its reader loses nothing behind
+/// `watch` receives each turn of the port. The text is read byte by byte, so its reader loses nothing after
 /// the lines that were read. [`run_buffered_text`] is faster.
 ///
 /// # Errors

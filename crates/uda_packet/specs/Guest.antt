@@ -109,7 +109,7 @@ asked_by identity bytes (Some answer) =
 asked_by identity bytes None = read_plain identity bytes
 
 -- the command of a text that the strict profile knows, or the end message of one that is invalid or
--- executed at once; its unit is the drive that the guest means
+-- ended at once; its unit is the drive that the guest means
 abbrev pub read_resembled : Identity → List ℕ → Result Command Reply
 read_resembled identity bytes = asked_by identity bytes (body_at_once (number_in code_field bytes) bytes)
 
@@ -126,6 +126,6 @@ abbrev pub read_as : GuestOp → Identity → List ℕ → Result GuestCommand R
 read_as guest.Basic identity bytes = asked_as guest.Basic (read_resembled identity bytes)
 read_as op identity bytes = asked_as op (read_resembled identity (resembled_text bytes))
 
--- a command to be executed, or the end message of one that is invalid or executed at once
+-- a command to be executed, or the end message of one that is invalid or ended at once
 abbrev pub read_guest : Identity → List ℕ → Result GuestCommand Reply
 read_guest identity bytes = read_as (guest_op (number_in code_field bytes)) identity bytes

@@ -281,7 +281,6 @@ CRATES = {
     "loose": (3, 4.5, "box as its pointer"),
     "uda_probe": (2, 7, "one Get Unit Status"),
     "uda_posting": (2, 4.4, "requests by commands"),
-    "uda_model": (2, 3, "order law of requests"),
     "uda_grammar": (3, 2, "parser of scripts"),
     "uda50": (3, 10, "program"),
     "uda50_verbs": (3, 9, "its verbs"),

@@ -15,7 +15,7 @@ use Rattle.uda_posting.specs.Posting.{Posted, posted_command, answer_of, buffer_
 use Rattle.uda_disk.specs.Values.{request_value}
 use Rattle.uda_disk.specs.Units.{Units}
 use Rattle.uda_posting.specs.Outstanding.{AvoidsBuffer, BuffersDisjoint, AreSeparate, UnexecutedInvariant, Ended, answer_now, outstanding_of, OutstandingInvariant}
-use Rattle.uda_model.specs.Ledger.{NoneToCome}
+use Rattle.uda_posting.specs.Ledger.{NoneToCome}
 use Rattle.uda_posting.proofs.Posts.{buffer-at, bytes_fit, ready-put}
 use Rattle.uda_posting.proofs.Owing.{clash_turned}
 use Rattle.uda_posting.proofs.Ending.{keeps_start, keeps_put, keeps_skip, keeps_post, Ends, keeps_execute, keeps_deliver, keeps_end}

@@ -14,7 +14,7 @@ use Rattle.uda_disk.specs.InOrderRun.{too_long, posted_count}
 use Rattle.uda_disk.specs.Answer.{TooLong}
 use Rattle.uda_disk.specs.Order.{lead, lead_from}
 use Rattle.uda_posting.specs.Posting.{posted_command, answer_of, buffer_of}
-use Rattle.uda_model.specs.Ledger.{NoneToCome}
+use Rattle.uda_posting.specs.Ledger.{NoneToCome}
 use Rattle.uda_posting.specs.Outstanding.{UnexecutedInvariant}
 use Rattle.uda_disk.specs.Values.{request_value, answer_value, request_values, answer_values}
 use Rattle.uda_disk.specs.declared.request.Request.{Request as CodeRequest}

@@ -5,7 +5,7 @@ use Rattle.uda_disk.specs.Request.{Request}
 use Rattle.uda_disk.specs.Values.{request_values, answer_values}
 use Rattle.uda_disk.specs.declared.request.Request.{Request as CodeRequest}
 use Rattle.uda_disk.specs.declared.answer.Answer.{Answer as CodeAnswer}
-use Rattle.uda_model.specs.Ledger.{NoneToCome}
+use Rattle.uda_posting.specs.Ledger.{NoneToCome}
 use Rattle.uda_posting.specs.Outstanding.{UnexecutedInvariant}
 use Rattle.uda_host.specs.Host.{HostState}
 use Rattle.uda_driver.specs.Run.{HasTurnCounts}

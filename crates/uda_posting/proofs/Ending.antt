@@ -23,7 +23,7 @@ use Rattle.uda_disk.specs.InOrderRun.{too_long}
 use Rattle.uda_disk.proofs.Slots.{slice_get-set_same, slice_get-set_other}
 use Rattle.uda_disk.proofs.Lists.{map-remove, All-remove, All-at, All-front, slice_get-last, pairs_first, pairs_rest}
 use Rattle.uda_disk.specs.Units.{Units}
-use Rattle.uda_model.specs.Ledger.{untold, NoneToCome}
+use Rattle.uda_posting.specs.Ledger.{untold, NoneToCome}
 use Rattle.uda_posting.specs.Posting.{answer_of, Posted, posted_command, commands_in, buffer_of, Ready}
 use Rattle.uda_posting.specs.Outstanding.{AvoidsBuffer, BuffersDisjoint, IsReadyIn, IsNotAt, AreSeparate, UnexecutedInvariant, Ended, answer_now, Tells, EndedNotAt, outstanding_of, OutstandingInvariant}
 use Rattle.uda_posting.proofs.Owing.{separate_others, is_told, due_start, due_skip, due_post, due_before, due_back, due_done, due_none, owes_start, owes_done}

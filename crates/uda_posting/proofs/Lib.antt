@@ -1,3 +1,4 @@
+pub mod LedgerSteps
 pub mod Serving
 pub mod Seemings
 pub mod Posts

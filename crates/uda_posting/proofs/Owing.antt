@@ -24,8 +24,8 @@ use Rattle.uda_disk.specs.Units.{disks_of, failures_at, Units, AllSound, is_infa
 use Rattle.uda_exec.specs.Execution.{Executes}
 use Rattle.uda_exec.specs.Order.{IsEligible}
 use Rattle.uda_exec.proofs.Units.{sure_stays, all_sound}
-use Rattle.uda_model.specs.Ledger.{untold, told_by, IsToCome, NoneToCome, MayExecuteBefore}
-use Rattle.uda_model.proofs.LedgerSteps.{ledger_opens, ledger_carries_out, ledger_closes}
+use Rattle.uda_posting.specs.Ledger.{untold, told_by, IsToCome, NoneToCome, MayExecuteBefore}
+use Rattle.uda_posting.proofs.LedgerSteps.{ledger_opens, ledger_carries_out, ledger_closes}
 use Rattle.uda_posting.specs.Posting.{answer_of, Posted, posted_command, commands_in, buffer_of, Ready}
 use Rattle.uda_posting.specs.Outstanding.{IsEarlier, IsNotAt, IsUnexecuted, AreUnexecuted, AreSeparate, IsExact, UnexecutedInvariant}
 use Rattle.uda_posting.specs.UpToData.{bares, is_done, has_begun, outline, outlines, ReportsTransfer, AnswerMatches, AllAnswersMatch, MatchesUpToData}

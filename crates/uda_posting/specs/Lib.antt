@@ -1,3 +1,4 @@
+pub mod Ledger
 pub mod Posting
 pub mod UpToData
 pub mod Outstanding

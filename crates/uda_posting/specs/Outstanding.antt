@@ -14,7 +14,7 @@ use Rattle.uda_disk.specs.Order.{NoClash}
 use Rattle.uda_disk.specs.InOrderRun.{drive_errors}
 use Rattle.uda_posting.specs.Posting.{Posted, posted_command, answer_of, buffer_of, Ready}
 use Rattle.uda_posting.specs.UpToData.{outlines, AllTell}
-use Rattle.uda_model.specs.Ledger.{IsToCome, Ledger}
+use Rattle.uda_posting.specs.Ledger.{IsToCome, Ledger}
 
 -- ---- memory
 

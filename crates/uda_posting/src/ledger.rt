@@ -1,5 +1,5 @@
 //! The laws of the ledger.
-ghost use Rattle.uda_model.specs.Ledger.{Opens, CarriesOut, Closes};
+ghost use Rattle.uda_posting.specs.Ledger.{Opens, CarriesOut, Closes};
 
 /// States that the ledger holds at the start, when no answer is written.
 pub fn opens()

@@ -12,7 +12,7 @@ use Rattle.uda_disk.specs.InOrderRun.{FixedRequest, requests_of, too_long, step_
 use Rattle.uda_disk.specs.Runs.{runs_first}
 use Rattle.uda_disk.proofs.OrderLaw.{request_order_is_irrelevant}
 use Rattle.uda_disk.proofs.Slots.{set-itself}
-use Rattle.uda_model.specs.Ledger.{is_to_come, untold, finish, NoneToCome, MayExecuteBefore, Opens, Closes, CarriesOut}
+use Rattle.uda_posting.specs.Ledger.{is_to_come, untold, finish, NoneToCome, MayExecuteBefore, Opens, Closes, CarriesOut}
 
 -- ---- an eligible one is executed first
 

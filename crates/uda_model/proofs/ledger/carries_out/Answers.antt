@@ -1,5 +1,0 @@
-use Rattle.uda_model.proofs.LedgerSteps.{ledger_carries_out}
-use Rattle.uda_model.proofs.ledger.carries_out.Goals as goal
-
-pub returns : goal.returns
-returns c = record { law = ledger_carries_out }

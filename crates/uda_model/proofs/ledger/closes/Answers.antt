@@ -1,5 +1,0 @@
-use Rattle.uda_model.proofs.LedgerSteps.{ledger_closes}
-use Rattle.uda_model.proofs.ledger.closes.Goals as goal
-
-pub returns : goal.returns
-returns c = record { law = ledger_closes }

@@ -1,5 +1,0 @@
-use Rattle.uda_model.proofs.LedgerSteps.{ledger_opens}
-use Rattle.uda_model.proofs.ledger.opens.Goals as goal
-
-pub returns : goal.returns
-returns c = record { law = ledger_opens }

@@ -2,8 +2,8 @@
 //!
 //! MSCP Basic Disk Functions Manual: media type identifiers, unit identifiers, Get Unit Status.
 
-ghost use Rattle.std.specs.Prelude.{◌≡◌, true, false, Some};
-ghost use Rattle.uda_packet.specs.DriveTypes.{drive_traits, drive_name, type_number, type_numbered};
+ghost use Rattle.std.specs.Prelude.{◌≡◌, Some};
+ghost use Rattle.uda_packet.specs.DriveTypes.{cdrom, drive_name, drive_traits, fixed, geometry, removable, type_number, type_numbered};
 
 use std::fmt;
 
@@ -75,7 +75,7 @@ pub struct Geometry {
 }
 
 impl DriveType {
-    /// Every drive type.
+    /// Every drive type, in the order of their numbers.
     pub const ALL: [DriveType; 15] = [
         DriveType::Rx50,
         DriveType::Rx33,
@@ -94,27 +94,37 @@ impl DriveType {
         DriveType::Rrd40,
     ];
 
+    // Returns the row of the drive type: its number, its name, its usual size in blocks, its model, its media
+    // type, and its geometry.
+    fn row(self) -> DriveRow
+        ensures number { result.number ≡ type_number self }
+        ensures name { result.name.now ≡ drive_name self }
+        ensures traits { result.traits ≡ drive_traits self }
+    {
+        match self {
+            DriveType::Rx50 => row(0, "RX50", removable(800, 7, 0x2565_8032, (10, 5, 16))),
+            DriveType::Rx33 => row(1, "RX33", removable(2_400, 10, 0x2565_8021, (15, 2, 1))),
+            DriveType::Rd51 => row(2, "RD51", fixed(21_600, 6, 0x2564_4033, (18, 4, 1))),
+            DriveType::Rd31 => row(3, "RD31", fixed(41_560, 12, 0x2564_401f, (17, 4, 1))),
+            DriveType::Rd52 => row(4, "RD52", fixed(60_480, 8, 0x2564_4034, (17, 8, 1))),
+            DriveType::Rd53 => row(5, "RD53", fixed(138_672, 9, 0x2564_4035, (17, 8, 1))),
+            DriveType::Rd54 => row(6, "RD54", fixed(311_200, 13, 0x2564_4036, (17, 15, 1))),
+            DriveType::Ra60 => row(7, "RA60", removable(400_176, 4, 0x22a4_103c, (42, 6, 1))),
+            DriveType::Ra81 => row(8, "RA81", fixed(891_072, 5, 0x2564_1051, (51, 14, 1))),
+            DriveType::Ra82 => row(9, "RA82", fixed(1_216_665, 11, 0x2564_1052, (57, 15, 1))),
+            DriveType::Ra71 => row(10, "RA71", fixed(1_367_310, 40, 0x2564_1047, (51, 14, 1))),
+            DriveType::Ra72 => row(11, "RA72", fixed(1_953_300, 37, 0x2564_1048, (51, 20, 1))),
+            DriveType::Ra90 => row(12, "RA90", fixed(2_376_153, 19, 0x2564_105a, (69, 13, 1))),
+            DriveType::Ra92 => row(13, "RA92", fixed(2_940_951, 29, 0x2564_105c, (73, 13, 1))),
+            DriveType::Rrd40 => row(14, "RRD40", cdrom(1_331_200, 26, 0x2565_2228, (128, 1, 1))),
+        }
+    }
+
     /// Returns the name, such as `RA81`.
     pub fn name(self) -> &'static str
         ensures name { result.now ≡ drive_name self }
     {
-        match self {
-            DriveType::Rx50 => "RX50",
-            DriveType::Rx33 => "RX33",
-            DriveType::Rd51 => "RD51",
-            DriveType::Rd31 => "RD31",
-            DriveType::Rd52 => "RD52",
-            DriveType::Rd53 => "RD53",
-            DriveType::Rd54 => "RD54",
-            DriveType::Ra60 => "RA60",
-            DriveType::Ra81 => "RA81",
-            DriveType::Ra82 => "RA82",
-            DriveType::Ra71 => "RA71",
-            DriveType::Ra72 => "RA72",
-            DriveType::Ra90 => "RA90",
-            DriveType::Ra92 => "RA92",
-            DriveType::Rrd40 => "RRD40",
-        }
+        self.row().name
     }
 
     /// Returns the number of the drive type, for programs that store it or pass it on.
@@ -122,47 +132,14 @@ impl DriveType {
         ensures number { result ≡ type_number self }
         ensures back { type_numbered result ≡ Some self }
     {
-        match self {
-            DriveType::Rx50 => 0,
-            DriveType::Rx33 => 1,
-            DriveType::Rd51 => 2,
-            DriveType::Rd31 => 3,
-            DriveType::Rd52 => 4,
-            DriveType::Rd53 => 5,
-            DriveType::Rd54 => 6,
-            DriveType::Ra60 => 7,
-            DriveType::Ra81 => 8,
-            DriveType::Ra82 => 9,
-            DriveType::Ra71 => 10,
-            DriveType::Ra72 => 11,
-            DriveType::Ra90 => 12,
-            DriveType::Ra92 => 13,
-            DriveType::Rrd40 => 14,
-        }
+        self.row().number
     }
 
     /// Returns the drive type of a number, or `None` if there is none.
     pub fn of_number(number: u32) -> Option<DriveType>
         ensures type_is { result ≡ type_numbered number }
     {
-        Some(match number {
-            0 => DriveType::Rx50,
-            1 => DriveType::Rx33,
-            2 => DriveType::Rd51,
-            3 => DriveType::Rd31,
-            4 => DriveType::Rd52,
-            5 => DriveType::Rd53,
-            6 => DriveType::Rd54,
-            7 => DriveType::Ra60,
-            8 => DriveType::Ra81,
-            9 => DriveType::Ra82,
-            10 => DriveType::Ra71,
-            11 => DriveType::Ra72,
-            12 => DriveType::Ra90,
-            13 => DriveType::Ra92,
-            14 => DriveType::Rrd40,
-            _ => return None,
-        })
+        DriveType::ALL.get(number as usize).copied()
     }
 
     /// Returns the facts of the drive type that a host can read.
@@ -171,40 +148,34 @@ impl DriveType {
     pub fn traits(self) -> DriveTraits
         ensures traits { result ≡ drive_traits self }
     {
-        match self {
-            DriveType::Rx50 => fixed(800, 7, 0x2565_8032, (10, 5, 16)).removable(),
-            DriveType::Rx33 => fixed(2_400, 10, 0x2565_8021, (15, 2, 1)).removable(),
-            DriveType::Rd51 => fixed(21_600, 6, 0x2564_4033, (18, 4, 1)),
-            DriveType::Rd31 => fixed(41_560, 12, 0x2564_401f, (17, 4, 1)),
-            DriveType::Rd52 => fixed(60_480, 8, 0x2564_4034, (17, 8, 1)),
-            DriveType::Rd53 => fixed(138_672, 9, 0x2564_4035, (17, 8, 1)),
-            DriveType::Rd54 => fixed(311_200, 13, 0x2564_4036, (17, 15, 1)),
-            DriveType::Ra60 => fixed(400_176, 4, 0x22a4_103c, (42, 6, 1)).removable(),
-            DriveType::Ra81 => fixed(891_072, 5, 0x2564_1051, (51, 14, 1)),
-            DriveType::Ra82 => fixed(1_216_665, 11, 0x2564_1052, (57, 15, 1)),
-            DriveType::Ra71 => fixed(1_367_310, 40, 0x2564_1047, (51, 14, 1)),
-            DriveType::Ra72 => fixed(1_953_300, 37, 0x2564_1048, (51, 20, 1)),
-            DriveType::Ra90 => fixed(2_376_153, 19, 0x2564_105a, (69, 13, 1)),
-            DriveType::Ra92 => fixed(2_940_951, 29, 0x2564_105c, (73, 13, 1)),
-            DriveType::Rrd40 => DriveTraits {
-                is_read_only: true,
-                ..fixed(1_331_200, 26, 0x2565_2228, (128, 1, 1)).removable()
-            },
-        }
+        self.row().traits
+    }
+}
+
+// A row of the table of drive types.
+#[derive(Clone, Copy)]
+struct DriveRow {
+    number: u8,
+    name: &'static str,
+    traits: DriveTraits,
+}
+
+fn row(number: u8, name: &'static str, traits: DriveTraits) -> DriveRow
+    ensures number { result.number ≡ number }
+    ensures name { result.name.now ≡ name.now }
+    ensures traits { result.traits ≡ traits }
+{
+    DriveRow {
+        number,
+        name,
+        traits,
     }
 }
 
 // Makes the facts of a drive with a fixed, writable medium. The shape is sectors per track, tracks per
 // group and groups per cylinder.
 fn fixed(blocks: u32, model: u8, media: u32, shape: (u16, u16, u16)) -> DriveTraits
-    ensures value { result ≡ record {
-      blocks = blocks;
-      model = model;
-      media = media;
-      geometry = record { sectors = shape.0; tracks = shape.1; groups = shape.2 };
-      is_removable = false;
-      is_read_only = false;
-    } }
+    ensures value { result ≡ fixed blocks model media (geometry shape.0 shape.1 shape.2) }
 {
     let (sectors, tracks, groups) = shape;
     DriveTraits {
@@ -221,17 +192,46 @@ fn fixed(blocks: u32, model: u8, media: u32, shape: (u16, u16, u16)) -> DriveTra
     }
 }
 
-impl DriveTraits {
-    // Returns the same facts with a removable medium.
-    fn removable(self) -> DriveTraits
-        ensures value { result ≡ record self { is_removable = true } }
-    {
-        DriveTraits {
-            is_removable: true,
-            ..self
-        }
+// Makes the facts of a drive with a removable, writable medium.
+fn removable(blocks: u32, model: u8, media: u32, shape: (u16, u16, u16)) -> DriveTraits
+    ensures value { result ≡ removable blocks model media (geometry shape.0 shape.1 shape.2) }
+{
+    DriveTraits {
+        is_removable: true,
+        ..fixed(blocks, model, media, shape)
     }
 }
+
+// Makes the facts of a drive with a removable medium that it can't write.
+fn cdrom(blocks: u32, model: u8, media: u32, shape: (u16, u16, u16)) -> DriveTraits
+    ensures value { result ≡ cdrom blocks model media (geometry shape.0 shape.1 shape.2) }
+{
+    DriveTraits {
+        is_read_only: true,
+        ..removable(blocks, model, media, shape)
+    }
+}
+
+/// A drive type that no unit reports. An image can have its size.
+#[derive(Clone, Copy, Debug)]
+pub struct UnreportedType {
+    /// The name, such as `RA80`.
+    pub name: &'static str,
+    /// The usual size in blocks.
+    pub blocks: u32,
+}
+
+/// The drive types that no unit reports.
+pub static UNREPORTED_TYPES: [UnreportedType; 2] = [
+    UnreportedType {
+        name: "RA80",
+        blocks: 237_212,
+    },
+    UnreportedType {
+        name: "RA70",
+        blocks: 547_041,
+    },
+];
 
 impl fmt::Display for DriveType {
     ghost output = { λ kind. Some (drive_name kind) };

@@ -31,7 +31,7 @@ pub use bad::{Bad, BadKind};
 pub use bitflags::Flags;
 pub use command::{Command, Op};
 pub use decoding::{decode_command, decode_end};
-pub use drive_type::{DriveTraits, DriveType, Geometry};
+pub use drive_type::{DriveTraits, DriveType, Geometry, UNREPORTED_TYPES, UnreportedType};
 pub use encoding::{encode_command, encode_end};
 pub use end::{End, EndBody, Kind};
 pub use envelope::Envelope;

@@ -293,10 +293,8 @@ CRATES = {
     "uda50_show": (4, 7, "what it prints"),
     "uda50_script_text": (4, 3, "text of scripts"),
     "uda_plain": (0, 2, "in-order run"),
-    "mem_packet_image_tests": (0, 3.1, ""),
-    "exec_tests": (0, 4.08, ""),
     "disk_example": (0, 3.72, ""),
-    "port_tests": (0, 5.14, ""),
+    "test_low": (0, 5.14, ""),
     "port_example": (0, 4.78, ""),
     "scenarios": (0, 5.5, ""),
     "driver_tests": (0, 7.36, ""),
@@ -317,7 +315,7 @@ LANES = {("uda_driver", "uda_posting"): 500, ("uda_script_run", "uda_grammar"): 
 # the arrows that go over the top and down at the right, each with the x where it goes up, its y, and the x where it goes down
 OVER = {("workloads", "uda50_show"): (270, 85, 1169)}
 PROGRAMS = {"uda", "uda50", "uda_c"}
-AROUND = re.compile(r"_tests$|_example$|^bench$|^workloads$|^scenarios$|^refused_growths$|^uda_agreement$")
+AROUND = re.compile(r"^test_|_tests$|_example$|^bench$|^workloads$|^scenarios$|^refused_growths$|^uda_agreement$")
 
 
 def uses():

@@ -1,8 +1,11 @@
-//! The lowest crates: memory and slices, packets, and images, also over a file in memory.
+//! Memory and slices, packets, images, also over a file in memory, the executor over files, and the port over any
+//! stores.
+mod files;
 mod images;
 mod mem_file;
 mod memory;
 mod slices;
+mod stores;
 mod texts;
 
 use std::alloc::{AllocError, Global};

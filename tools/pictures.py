@@ -279,7 +279,6 @@ CRATES = {
     "uda_bus": (2, 6.2, "memory behind a map"),
     "uda_called": (3, 1, "images behind calls"),
     "loose": (3, 4.5, "box as its pointer"),
-    "uda_probe": (2, 7, "one Get Unit Status"),
     "uda_posting": (2, 4.4, "requests by commands"),
     "uda_grammar": (3, 2, "parser of scripts"),
     "uda50": (3, 10, "program"),

@@ -3,18 +3,18 @@
 ghost use Rattle.std.specs.Prelude.{◌≡◌, ◌≢◌, ◌≤◌, OnOk};
 ghost use Rattle.std.specs.Io.KnownBytes.{Appends};
 ghost use Rattle.uda_script.specs.Hexadecimal.{bytes_from};
-ghost use Rattle.uda_probe.specs.Probe.{probe_text};
+ghost use Rattle.uda_script.specs.Probe.{probe_text};
 ghost use Rattle.std.specs.IoError.{error_kind};
 ghost use Rattle.uda_script.specs.Statuses.{exit_status_of};
 
 use crate::fault::Fault;
 use crate::hexadecimal::hexadecimal;
+use crate::probe::probe;
 use crate::run::{StandardStreams, run};
 use crate::words::{Task, read_words};
 use std::alloc::Global;
 use std::io;
 use std::io::{ErrorKind, Read, Write};
-use uda_probe::probe;
 
 /// Executes the task of the arguments, which follow the program's name, with these three as the standard
 /// streams.

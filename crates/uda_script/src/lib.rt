@@ -7,6 +7,7 @@ mod entry;
 mod fault;
 mod files;
 mod hexadecimal;
+pub mod probe;
 mod run;
 mod words;
 

@@ -1,8 +1,6 @@
 //! A probe: one Get Unit Status by a host.
-#![tactic(auto)]
-
 ghost use Rattle.std.specs.Prelude.{◌≡◌, IfOk};
-ghost use Rattle.uda_probe.specs.Probe.{probe_text};
+ghost use Rattle.uda_script.specs.Probe.{probe_text};
 
 use std::alloc::Global;
 use uda_exec::Exec;

@@ -1,2 +1,5 @@
 mod Pairs
 pub mod Pieces
+pub mod MapLaws
+pub mod Spans
+pub mod LastFinished

@@ -3,11 +3,15 @@
 //! The source is unit 0 and the target unit 1. After a copy the target holds the blocks of the source, if it
 //! succeeds, lost blocks aren't to be skipped, units are well formed, and each store is sound afterwards
 //! (`specs/Copy.antt`).
+//!
+//! A `BlockMap` has the status of each block of a copy.
 #![tactic(auto)]
 
 mod copier;
 mod error;
+mod map;
 mod requests;
 
 pub use copier::{Copier, Observer};
 pub use error::{CopyError, Side};
+pub use map::{BlockMap, BlockStatus, MapEntry, MapError};

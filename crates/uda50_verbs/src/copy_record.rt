@@ -1,6 +1,6 @@
 //! The record of a copy: its map, and its progress.
 ghost use Rattle.std.specs.Prelude.{IfSome};
-ghost use Rattle.uda50_map.specs.Status.{AreLater};
+ghost use Rattle.uda50_copy.specs.Status.{AreLater};
 
 use crate::fault::Fault;
 use crate::outcome::Outcome;
@@ -9,8 +9,7 @@ use crate::target::CopyTarget;
 use std::mem;
 use std::ops::Range;
 use std::time::{Duration, Instant};
-use uda50_copy::Observer;
-use uda50_map::{BlockMap, BlockStatus};
+use uda50_copy::{BlockMap, BlockStatus, Observer};
 
 /// The least time between two saves of a map, in seconds. Before each save the target is synced.
 const SAVE_SECONDS: u64 = 10;

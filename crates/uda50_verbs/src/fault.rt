@@ -6,7 +6,7 @@ use std::{fmt, io};
 use thiserror::Error;
 use uda_image::StoreError;
 use uda50_arguments::BlockRange;
-use uda50_map::MapError;
+use uda50_copy::MapError;
 use uda50_script_text::{ByteOrderMark, Mistake};
 use uda50_show::{
     ContainerRecord, Counted, DRIVE_TYPES, EscapedName, ForeignFormat, Grouped, TokenError,

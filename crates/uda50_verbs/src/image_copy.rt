@@ -13,11 +13,10 @@ use std::ops::Range;
 use uda_driver::Driver;
 use uda_image::{BlockStore, Drive, StoreError};
 use uda50_arguments::Copy;
-use uda50_copy::{Copier, CopyError, Side};
+use uda50_copy::{BlockMap, Copier, CopyError, Side};
 use uda50_files::{
     Access, DataBlocks, Failures, Image, OpenImageFile, SearchedImage, TargetFile, TargetZeros,
 };
-use uda50_map::BlockMap;
 use uda50_show::EscapedName;
 
 // A copy of an image to another one.

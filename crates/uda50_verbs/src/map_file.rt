@@ -13,7 +13,7 @@ use std::fs::{File, OpenFile};
 use std::io::{ErrorKind, Read};
 use std::ops::Range;
 use uda50_arguments::Copy;
-use uda50_map::{BlockMap, BlockStatus};
+use uda50_copy::{BlockMap, BlockStatus};
 use uda50_show::EscapedName;
 
 /// The beginning of each map that `uda50` writes.

@@ -1,3 +1,0 @@
-pub mod MapLaws
-pub mod Spans
-pub mod LastFinished

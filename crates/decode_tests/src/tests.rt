@@ -6,7 +6,7 @@ use std::io;
 use std::io::{BufRead, BufReader, BufWriter, ErrorKind, Write};
 use std::process::Abort;
 use std::test::Fail;
-use uda50_decode::{DecodeError, Decoded, LINE_ROOM, decode};
+use uda50_show::decode::{DecodeError, Decoded, LINE_ROOM, decode};
 use uda50_show::{CompatibleMessage, Packet, PacketReader};
 
 /// The state of the slower form.

@@ -14,3 +14,4 @@ pub mod Container
 pub mod Counts
 pub mod DriveTypes
 pub mod Foreign
+pub mod DecodeErrors

@@ -4,7 +4,7 @@ use crate::fault::{Fault, Reason, STANDARD_INPUT};
 use crate::outcome::Outcome;
 use crate::streams::open_text;
 use std::io::{BufReader, BufWriter, Write};
-use uda50_decode::{DecodeError, Decoded};
+use uda50_show::decode::{DecodeError, Decoded};
 
 /// Prints the packets of a file, or of standard input.
 pub(crate) fn decode<'w, W: Write + Drop>(
@@ -16,7 +16,7 @@ pub(crate) fn decode<'w, W: Write + Drop>(
         return decode_input(rt, out);
     }
     let input = open_text(rt, path)?;
-    outcome(path, uda50_decode::decode(rt.alloc(), input, out))
+    outcome(path, uda50_show::decode::decode(rt.alloc(), input, out))
 }
 
 // Prints the packets of standard input.
@@ -25,7 +25,7 @@ fn decode_input<'w, W: Write + Drop>(
     out: &mut BufWriter<W>,
 ) -> Result<Outcome, Fault<'w>> {
     let input = BufReader::new(rt.alloc(), rt.stdin())?;
-    outcome(STANDARD_INPUT, uda50_decode::decode(rt.alloc(), input, out))
+    outcome(STANDARD_INPUT, uda50_show::decode::decode(rt.alloc(), input, out))
 }
 
 // Returns the outcome of a text, which has this name.

@@ -8,8 +8,10 @@ use std::fmt::Display;
 use std::io;
 use std::io::Write;
 use uda50_arguments::ImageName;
-use uda50_description::{Contents, ImageFacts, StructureBlocks, error_json, image_json};
-use uda50_show::{ContainerRecord, Counted, EscapedName, TypesOfSize};
+use uda50_show::{
+    ContainerRecord, Contents, Counted, EscapedName, ImageFacts, StructureBlocks, TypesOfSize,
+    error_json, image_json,
+};
 
 /// Describes each image. If one has a fault, it prints the fault's line and continues with the others.
 pub(crate) fn info<'w, W: Write>(

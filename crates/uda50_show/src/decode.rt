@@ -1,13 +1,16 @@
-//! Reading of the lines of a text, and printing of the packets that they complete.
+//! The loop of `uda50 decode`: it reads the lines of a text, and prints the packets that they complete by their fields.
 ghost use Rattle.std.specs.Prelude.{◌≡◌, ◌<◌, true, IfOk, IfErr};
-ghost use Rattle.uda50_decode.specs.Errors.{IsCounted};
+ghost use Rattle.uda50_show.specs.DecodeErrors.{IsCounted};
 
-use crate::error::DecodeError;
+use crate::{COMPATIBLE_TEXT, CompatibleMessage, Packet, PacketReader};
 use std::alloc::Global;
 use std::io;
 use std::io::{BufRead, BufReader, BufWriter, ErrorKind, Read, Write};
 use std::marker::Model;
-use uda50_show::{COMPATIBLE_TEXT, CompatibleMessage, Packet, PacketReader};
+
+mod error;
+
+pub use error::DecodeError;
 
 /// The most bytes that are kept for the next line. The memory of a longer line is freed.
 pub const LINE_ROOM: usize = 4_096;

@@ -1,7 +1,7 @@
 //! The errors of a text of packets.
 
+use crate::TokenError;
 use std::io;
-use uda50_show::TokenError;
 
 /// The reason why the packets of a text were not all printed.
 #[derive(Debug, Drop)]
@@ -30,7 +30,7 @@ pub enum DecodeError {
 /// Makes the error of a failed write. That of a failed read is made as `DecodeError::Read`.
 impl From<io::Error> for DecodeError {
     ghost use Rattle.std.specs.Prelude.{◌≡◌};
-    ghost use Rattle.uda50_decode.specs.declared.error.DecodeError.TheVariants as error;
+    ghost use Rattle.uda50_show.specs.declared.decode.error.DecodeError.TheVariants as error;
 
     ghost from_gives = { λ given made. made ≡ error.Write given };
 

@@ -5,7 +5,7 @@ use serde::Serialize;
 use serde_json::Error;
 use std::alloc::{AllocError, Global};
 use std::fmt;
-use uda50_show::{
+use crate::{
     BootBlock, Checksum, ContainerRecord, DRIVE_TYPES, DiskLabel, DriveTypeEntry, FixedText,
     HomeBlock, SimhRecord, is_control,
 };

@@ -1,7 +1,7 @@
 //! The facts of an image.
 ghost use Rattle.std.specs.Prelude.{◌≡◌, ◌-◌, is_some, if◌then◌else◌};
 
-use uda50_show::{BootBlock, ContainerRecord, DiskLabel, ForeignFormat, HomeBlock};
+use crate::{BootBlock, ContainerRecord, DiskLabel, ForeignFormat, HomeBlock};
 
 /// The blocks that can hold a structure.
 #[derive(Drop)]

@@ -1,7 +1,7 @@
 -- The numbers in the errors of a text.
 use Rattle.std.specs.Prelude.{◌<◌}
-use Rattle.uda50_decode.specs.declared.error.DecodeError.{DecodeError}
-use Rattle.uda50_decode.specs.declared.error.DecodeError.TheVariants as error
+use Rattle.uda50_show.specs.declared.decode.error.DecodeError.{DecodeError}
+use Rattle.uda50_show.specs.declared.decode.error.DecodeError.TheVariants as error
 
 -- The lines and the token of an error are numbers from 1. A packet that is not whole has 1 to 47 of its 48
 -- bytes.

@@ -285,10 +285,7 @@ CRATES = {
     "uda50_verbs": (3, 9, "its verbs"),
     "uda50_copy": (3, 8, "copies a drive"),
     "uda50_files": (2, 8, "files as images"),
-    "uda50_map": (2, 9, "maps of blocks"),
     "uda50_arguments": (4, 8, "its command line"),
-    "uda50_decode": (4, 9, "prints packets"),
-    "uda50_description": (4, 8.5, "facts of an image"),
     "uda50_show": (4, 7, "what it prints"),
     "uda50_script_text": (4, 3, "text of scripts"),
     "uda_plain": (0, 2, "in-order run"),
@@ -304,12 +301,11 @@ CRATES = {
     "uda_agreement": (0, 8.18, ""),
     "script_tests": (0, 9, ""),
     "workloads": (0, 8.54, ""),
-    "show_tests": (3, 7.2, ""),
-    "decode_tests": (4, 9.6, ""),
+    "test_show": (4, 7.6, ""),
 }
 # the arrows that leave by the right side and go down between two columns, each with its x
 LANES = {("uda_driver", "uda_posting"): 500, ("uda_script_run", "uda_grammar"): 740,
-         ("uda50_verbs", "uda50_arguments"): 948, ("uda50_decode", "uda50_show"): 1158,
+         ("uda50_verbs", "uda50_arguments"): 948,
          ("uda50_verbs", "uda50_script_text"): 960, ("uda_c", "uda_called"): 951}
 # the arrows that go over the top and down at the right, each with the x where it goes up, its y, and the x where it goes down
 OVER = {("workloads", "uda50_show"): (270, 85, 1169)}

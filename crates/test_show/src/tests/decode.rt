@@ -1,6 +1,6 @@
 //! The packets of texts, compared with a form that flushes after each packet and has memory of its own for
 //! each line. Each write of that form is a packet.
-use crate::test_streams::{Bits, Sink};
+use super::streams::{Bits, Sink};
 use std::alloc::{AllocError, Global};
 use std::io;
 use std::io::{BufRead, BufReader, BufWriter, ErrorKind, Write};

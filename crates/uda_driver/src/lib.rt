@@ -1,7 +1,7 @@
 //! The class driver. It executes a list of requests by commands, of which up to fifteen are outstanding at
 //! once.
 //!
-//! The tests of this crate are in `driver_tests`.
+//! The tests of this crate are in `test_driver`.
 #![tactic(auto)]
 
 mod answers;

@@ -4,7 +4,7 @@
 //! Each command corresponds to a request of `uda_disk`, whose effect defines that of the command
 //! (`specs/Effect.antt`). `specs/Execution.antt` defines the effect of one execution. The module `scheduler`
 //! chooses the next pending command, and no contract depends on the choice. The module `order` has the laws
-//! of execution in another order. Tests are in the crate `exec_tests`.
+//! of execution in another order. Tests are in the crate `test_low`.
 //!
 //! MSCP Basic Disk Functions Manual: unit states, commands and end messages, command ordering.
 #![tactic(auto)]

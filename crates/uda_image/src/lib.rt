@@ -1,7 +1,7 @@
 //! Stores of the blocks of a disk unit: images in memory, images of which one call fails, and files. The calls on
 //! a file tell whether it has been honest, so contracts reach files too.
 //!
-//! The tests of this crate are in `mem_packet_image_tests`.
+//! The tests of this crate are in `test_low`.
 #![tactic(auto)]
 
 pub mod blocks;

@@ -3,7 +3,7 @@
 //!
 //! The bytes are those of a slice that somebody else owns, or of a [`HostMemory`], which owns them.
 //!
-//! The tests of this crate are in `mem_packet_image_tests`.
+//! The tests of this crate are in `test_low`.
 #![tactic(auto)]
 
 mod block;

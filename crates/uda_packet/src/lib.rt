@@ -8,7 +8,7 @@
 //! MSCP Basic Disk Functions Manual: command and end messages. UDA50 Programmer's Documentation Kit:
 //! message envelopes.
 //!
-//! The tests of this crate are in `mem_packet_image_tests`.
+//! The tests of this crate are in `test_low`.
 
 #![tactic(auto)]
 

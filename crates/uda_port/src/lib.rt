@@ -1,6 +1,6 @@
 //! The port of a UDA50 disk controller.
 //!
-//! Its tests are in the crate `port_tests`.
+//! Its tests are in the crate `test_low`.
 #![tactic(auto)]
 
 mod alloc_error;

@@ -1,6 +1,6 @@
 //! The program `uda`: scripts of block requests over disk images, and a probe of the controller.
 //!
-//! The tests of this crate are in `script_tests`.
+//! The tests of this crate are in `test_script`.
 #![tactic(auto)]
 
 mod entry;

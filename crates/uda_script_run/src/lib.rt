@@ -1,6 +1,6 @@
 //! Scripts of block requests, run by a driver.
 //!
-//! The tests of this crate are in `script_tests`.
+//! The tests of this crate are in `test_script`.
 #![tactic(auto)]
 
 mod batch;

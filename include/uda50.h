@@ -1,8 +1,8 @@
 /* uda50.h: a simulated UDA50 disk controller, for an emulator of a PDP-11 or a VAX.
 
-   The functions are in groups: lifecycle, drives, registers, turns, memory behind map registers, memory behind calls,
-   images behind calls, inspection, save and restore, and failures for tests. The project's docs/C.md shows how an
-   emulator uses them, and docs/PORT.md says what the controller does.
+   The functions are in groups: lifecycle, drives, registers, turns, memory through map registers, memory by calls,
+   images by calls, inspection, save and restore, and failures for tests. The project's docs/C.md shows how an emulator
+   uses them, and docs/PORT.md says what the controller does.
 
    A `uda50` is the handle of one controller. Set it to zero before its first use, pass its address, and neither copy
    it nor write into it. Every function accepts every handle. On a handle without a controller, each function except
@@ -50,7 +50,7 @@ enum { UDA50_UNITS = 4, UDA50_MAX_BLOCKS = 2147483647 };
    is empty, as one that is set to zero.
 
    The struct says who has the bytes. uda50_attach takes them and leaves the struct empty. uda50_detach and uda50_free
-   put them into an empty struct. While a unit has the bytes, nothing else reads, writes or frees them. An image behind
+   put them into an empty struct. While a unit has the bytes, nothing else reads, writes or frees them. An image by
    calls has no bytes in memory, and no struct. */
 typedef struct {
     uint8_t *at;
@@ -79,8 +79,8 @@ enum {
     UDA50_OTHER_IMAGES = 77,     /* the images aren't as many and as long as the saved ones, or not as protected */
     UDA50_BAD_FIRST_UNIT = 78,   /* first_unit is above 65,532: the last unit's would be above 65,535 */
     UDA50_BAD_MAP = 79,          /* `page` or `scale` of a map is above 31 */
-    UDA50_OTHER_KIND = 80,       /* the unit's image is in memory and the call needs one behind calls, or the reverse; or
-                                    a use of blocks is another one */
+    UDA50_OTHER_KIND = 80,       /* the unit's image is in memory and the call needs one by calls, or the reverse; or a use
+                                    of blocks is another one */
     UDA50_NOWHERE = 81           /* an address leads nowhere; all others were copied */
 };
 
@@ -98,7 +98,7 @@ enum {
 enum {
     UDA50_INVALID_COMMAND = 6, /* it fetched an invalid command, and queued its end message */
     UDA50_NO_TURN = 7,         /* there was no turn yet */
-    UDA50_ANSWERED = 8,        /* it fetched a command that is answered at once, and queued its end message */
+    UDA50_ANSWERED = 8,        /* it fetched a command that is ended at once, and queued its end message */
     UDA50_ABORTED = 9          /* it fetched an Abort that removed a pending command: both end messages are queued */
 };
 
@@ -155,8 +155,8 @@ uint32_t uda50_new(uda50 *handle, bool compatible);
 uint32_t uda50_new_as(uda50 *handle, uint32_t bus, uint16_t first_unit);
 
 /* Frees the controller and returns its images. images[n], which must be empty, is then the image of unit n, as the
-   commands left it. It stays empty if the unit has none, or one behind calls. Returns UDA50_OK, or the first that holds
-   of UDA50_NO_CONTROLLER and UDA50_NOT_EMPTY. */
+   commands left it. It stays empty if the unit has none, or one by calls. Returns UDA50_OK, or the first that holds of
+   UDA50_NO_CONTROLLER and UDA50_NOT_EMPTY. */
 uint32_t uda50_free(uda50 *handle, uda50_image images[UDA50_UNITS]);
 
 /* ---- Drives ---- */
@@ -174,7 +174,7 @@ uint32_t uda50_attach(uda50 *handle, uint32_t unit, uda50_image *image, bool wri
 uint32_t uda50_set_type(uda50 *handle, uint32_t unit, uint32_t drive_type);
 
 /* Detaches a unit's image. *image, which must be empty, is then that image, as the commands left it. It stays empty if
-   the image was behind calls. Returns UDA50_OK, or the first that holds of UDA50_NO_CONTROLLER, UDA50_NO_SUCH_UNIT,
+   the image is one by calls. Returns UDA50_OK, or the first that holds of UDA50_NO_CONTROLLER, UDA50_NO_SUCH_UNIT,
    UDA50_NOT_ATTACHED and UDA50_NOT_EMPTY. */
 uint32_t uda50_detach(uda50 *handle, uint32_t unit, uda50_image *image);
 
@@ -221,7 +221,7 @@ uint32_t uda50_turn(uda50 *handle, uint8_t *memory, size_t length);
    `attentions` of uda50_get_state isn't 0. */
 uint32_t uda50_run(uda50 *handle, uint32_t turns, uint8_t *memory, size_t length);
 
-/* ---- Memory behind map registers ---- */
+/* ---- Memory through map registers ---- */
 
 /* Map registers, through which a bus reaches the guest's memory. Bus address a leads to byte
        ((registers[a >> page] & frame) << scale) + (a & ((1 << page) - 1))
@@ -245,15 +245,15 @@ typedef struct {
     uint32_t in_memory;
 } uda50_map;
 
-/* These do what uda50_turn, uda50_run and uda50_write_sa do, in memory of any length behind map registers. A turn first
+/* These do what uda50_turn, uda50_run and uda50_write_sa do, in memory of any length through map registers. A turn first
    reads from the bus what it may need: four descriptors, and a packet or a buffer. Then it writes the ranges that it may
    have changed, in the order of a controller's writes, and the bytes of each by rising address. Of the rest of memory it
    reads only registers that lie there.
 
-   What has an address that leads nowhere is answered as at the end of memory. A command ends with status 0x0069 because
-   of its buffer, unless an earlier check fails. These are fatal: a packet, the buffer of a message, the communication
-   area, and the next descriptor of a ring when a turn needs it. A descriptor before the next one counts as the host's,
-   and an interrupt indicator isn't written. Nothing else is affected.
+   An address that leads nowhere is as one past the end of memory. A command ends with status 0x0069 because of its
+   buffer, unless an earlier check fails. These are fatal: a packet, the buffer of a message, the communication area,
+   and the next descriptor of a ring when a turn needs it. A descriptor before the next one counts as the host's, and an
+   interrupt indicator isn't written. Nothing else is affected.
 
    The first call, and one for a bus with another number of addresses, allocates a window of that many bytes. Each
    returns the first that holds of UDA50_NO_CONTROLLER, UDA50_BAD_MAP, UDA50_TOO_LARGE, UDA50_BAD_LENGTH and
@@ -274,7 +274,7 @@ uint32_t uda50_read_mapped(const uint8_t *memory, size_t length, const uda50_map
 uint32_t uda50_write_mapped(uint8_t *memory, size_t length, const uda50_map *map, uint32_t address,
                             const uint8_t *from, size_t bytes);
 
-/* ---- Memory behind calls ---- */
+/* ---- Memory by calls ---- */
 
 /* For guest memory that the emulator reaches by calls of its own. uda50_bus.h makes the calls of this group in their
    order; most emulators use that, and not these.
@@ -317,8 +317,8 @@ uint32_t uda50_get_descriptors(uda50 *handle, const uint8_t *window, size_t leng
 /* Fills the body and the place of *turn. Returns as uda50_get_descriptors does. */
 uint32_t uda50_get_body(uda50 *handle, const uint8_t *window, size_t length, uda50_turn_use *turn);
 
-/* Runs one turn, and fills the written ranges of *turn. Returns as uda50_turn does. What has a missing address is
-   answered as by the calls over map registers. */
+/* Runs one turn, and fills the written ranges of *turn. Returns as uda50_turn does. A missing address is treated
+   as by the calls over map registers. */
 uint32_t uda50_turn_at(uda50 *handle, uint8_t *window, size_t length, uda50_turn_use *turn);
 
 /* Fills *area with the range that the word sets to zero if it is written to SA. Returns UDA50_OK or
@@ -330,14 +330,14 @@ uint32_t uda50_get_zeroed(uda50 *handle, uint16_t word, const uint8_t *window, s
 uint32_t uda50_write_sa_at(uda50 *handle, uint16_t word, uint8_t *window, size_t length, bool missing,
                            uda50_range *area);
 
-/* ---- Images behind calls ---- */
+/* ---- Images by calls ---- */
 
 /* For images that the emulator reads and writes by calls of its own, such as overlays, compressed files, and files whose
    blocks may fail. uda50_blocks.h makes the calls of this group in their order; most emulators use that, and not these.
 
    Such an image has a size and no bytes. Before each turn the emulator reads or writes the blocks that the turn uses, and
    says which it could. For a turn:
-     1. it does the steps 1 and 2 of memory behind calls, and sets `missing`. Memory that is one array is its own window,
+     1. it does the steps 1 and 2 of memory by calls, and sets `missing`. Memory that is one array is its own window,
         and of these steps only uda50_get_body is left, with `missing` = 0;
      2. it calls uda50_get_blocks. If `count` isn't 0, it goes through these blocks in rising order, in pieces of any size.
         It ends at the first block that it can't read or write:
@@ -361,7 +361,7 @@ enum {
     UDA50_WRITES = 3  /* a Write or an Erase */
 };
 
-/* The blocks that a turn uses of an image behind calls. If there are none, `use` is UDA50_NO_BLOCKS and all else 0. */
+/* The blocks that a turn uses of an image by calls. If there are none, `use` is UDA50_NO_BLOCKS and all else 0. */
 typedef struct {
     uint32_t use;   /* UDA50_NO_BLOCKS to UDA50_WRITES */
     uint32_t unit;  /* 0 to 3 */
@@ -375,8 +375,8 @@ typedef struct {
    than UDA50_MAX_BLOCKS. */
 uint32_t uda50_attach_called(uda50 *handle, uint32_t unit, uint32_t blocks, bool write_protected);
 
-/* Fills *blocks with what the next turn uses of an image behind calls, if it executes the command at `place` of *turn
-   with these bits of `missing`. From then on no block of that unit is ready. Returns UDA50_OK, or the first that holds of
+/* Fills *blocks with what the next turn uses of an image by calls, if it executes the command at `place` of *turn with
+   these bits of `missing`. From then on no block of that unit is ready. Returns UDA50_OK, or the first that holds of
    UDA50_NO_CONTROLLER, UDA50_BAD_LENGTH and UDA50_TOO_LARGE. */
 uint32_t uda50_get_blocks(uda50 *handle, const uint8_t *window, size_t length, const uda50_turn_use *turn,
                           uda50_blocks *blocks);
@@ -477,8 +477,8 @@ uint32_t uda50_restore(uda50 *handle, const uint8_t *state, size_t length);
    or writes one block; reads and writes are counted together, from 1. A transfer that meets the failure ends with
    status 0x000B, a drive error, and the byte count of the blocks before. If it is a Write or an Erase, the first 256
    bytes of that block are then new and the last 256 are old. A Read leaves that block's part of the buffer as it was.
-   The unit's mode doesn't change. A later call replaces an earlier one, and uda50_detach ends it. An image behind calls
-   is UDA50_OTHER_KIND: there the emulator says itself which blocks fail. Returns UDA50_OK, or the first that holds of
+   The unit's mode doesn't change. A later call replaces an earlier one, and uda50_detach ends it. An image by calls is
+   UDA50_OTHER_KIND: there the emulator says itself which blocks fail. Returns UDA50_OK, or the first that holds of
    UDA50_NO_CONTROLLER, UDA50_NO_SUCH_UNIT, UDA50_NOT_ATTACHED and UDA50_OTHER_KIND. */
 uint32_t uda50_inject_failure(uda50 *handle, uint32_t unit, uint32_t call);
 

@@ -1,6 +1,6 @@
 /* uda50_bus.h: turns of a controller whose guest's memory an emulator reaches by calls of its own. If that memory is one
-   array behind map registers, and all images are in memory, uda50_turn_mapped of uda50.h is simpler. docs/C.md has an
-   example of each. */
+   array, reached through map registers, and all images are in memory, uda50_turn_mapped of uda50.h is simpler. docs/C.md
+   has an example of each. */
 #ifndef UDA50_BUS_H
 #define UDA50_BUS_H
 
@@ -30,7 +30,7 @@ typedef struct {
    what it may need: four descriptors, and a packet or a buffer. Then it writes the ranges that it may have changed, in the
    order of a controller's writes.
 
-   An address that leads nowhere is answered as by the calls over map registers. */
+   An address that leads nowhere is treated as by the calls over map registers. */
 uint32_t uda50_bus_turn(uda50 *handle, const uda50_bus *bus);
 uint32_t uda50_bus_run(uda50 *handle, uint32_t turns, const uda50_bus *bus);
 void uda50_bus_write_sa(uda50 *handle, uint16_t word, const uda50_bus *bus);
@@ -42,7 +42,7 @@ void uda50_bus_write_sa(uda50 *handle, uint16_t word, const uda50_bus *bus);
 uint32_t uda50_bus_begin_turn(uda50 *handle, const uda50_bus *bus, uda50_turn_use *turn);
 uint32_t uda50_bus_end_turn(uda50 *handle, const uda50_bus *bus, uda50_turn_use *turn);
 
-/* A machine's memory behind map registers, as the context of a bus whose functions are the next two. The registers of a
+/* A machine's memory through map registers, as the context of a bus whose functions are the next two. The registers of a
    bus like that may change between two calls. */
 typedef struct {
     uint8_t *memory;

@@ -42,7 +42,7 @@ class Crates:
         self.uses = {name: line.partition(":")[2].split() for name, line in self.lines.items()}
 
     def below(self, crate):
-        """Returns the crates of this repository that the crate stands on."""
+        """Returns the crates of this repository that the crate uses."""
         own = [it for it in self.uses[crate] if it in self.uses]
         return set(own).union(*map(self.below, own))
 
@@ -55,7 +55,7 @@ class Crates:
 
     def are_of_ci(self):
         """Returns whether the libraries are those that the last `rt ci` built of these files. `rt check` leaves a stamp
-        beside a library that it built."""
+        next to a library that it built."""
         if any((self.library(it).parent / "stamp").exists() for it in self.uses):
             return False
         return PROVED.is_file() and PROVED.read_text(encoding="utf-8") == self.sums()

@@ -1,7 +1,7 @@
 #!/usr/bin/env python3
 """Notes the processor seconds that the prover takes for each crate, while another process runs.
 
-    tools/prover_times.py PID        until it is told to end, it watches the provers that PID and its children start
+    tools/prover_times.py PID        until it is stopped, it watches the provers that PID and its children start
 
 It ends at SIGTERM, or when PID has ended, and then prints a table: for each crate the seconds of its library, of its
 tests, of its program or archive, of the proofs that its must-fail edits begin with, and of the rounds of edits. It

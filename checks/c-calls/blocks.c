@@ -1,7 +1,8 @@
-/* blocks.c: turns with images that are read and written by calls, beside a controller with the same images in memory.
+/* blocks.c: turns with images by calls, compared with those of a controller with the same images in memory.
    First each command with each of its blocks failing; what must write nothing; blocks that aren't ready; large commands,
-   and missing memory. Then random guests of both profiles, with memory that is one array, by calls or behind a map. Any
-   block may fail. Both controllers must do the same. What the calls moved must be what the end messages say.
+   and missing memory. Then random guests of both profiles, with memory that is one array, by calls or through map
+   registers. Any block may fail. Both controllers must do the same. What the calls moved must be what the end messages
+   say.
    Usage: blocks [GUESTS [ROUNDS]] */
 #include <stdint.h>
 
@@ -188,7 +189,7 @@ static void attach(machine *it, uint32_t unit)
         EXPECT(uda50_attach(&it->uda, unit, &image, unit == 2), UDA50_OK);
 }
 
-/* A struct gets the bytes of an image in memory, and stays empty for one behind calls. */
+/* A struct gets the bytes of an image in memory, and stays empty for one by calls. */
 static void expect_image(const machine *it, uint32_t unit, uda50_image image)
 {
     bool empty = it == &called && unit < 3;
@@ -238,7 +239,8 @@ static uint32_t plain_turn(machine *it)
                               : uda50_turn_mapped(&it->uda, it->physical, PHYSICAL, &it->map);
 }
 
-/* A turn of the controller with images in memory. Of each unit that is behind calls elsewhere the same block fails. */
+/* A turn of the controller with images in memory. Of a unit whose other image is one by calls the same block
+   fails. */
 static uint32_t held_turn(void)
 {
     uint32_t result;
@@ -273,7 +275,7 @@ static void expect_told(uint32_t result)
         EXPECT(told.status == 0 && (told.bytes + BLOCK - 1) / BLOCK == count, true);
 }
 
-/* A turn of the controller with images behind calls. Whatever is in a window has no influence. */
+/* A turn of the controller with images by calls. Whatever is in a window has no influence. */
 static uint32_t called_turn(void)
 {
     uint32_t result;
@@ -844,7 +846,7 @@ static void lead_anywhere(void)
     memcpy(held.registers, called.registers, sizeof held.registers);
 }
 
-/* Copies behind a map are those of the pages. */
+/* Copies through map registers are those of the pages. */
 static void copies(void)
 {
     static uint8_t one[MEMORY], two[MEMORY];

@@ -1,4 +1,4 @@
-/* guest.h: what the programs beside it share: a line for each value that isn't the wanted one, and a guest with rings
+/* guest.h: what the programs of this folder share: a line for each value that isn't the wanted one, and a guest with rings
    of four responses and two commands in a memory of its own. A program with threads defines PER_THREAD as __thread: then
    each thread has a count of failures and a guest. A program that has a `memory` already defines HAS_MEMORY. */
 #ifndef GUEST_H

@@ -1,4 +1,4 @@
-/* maps.c: turns over guest memory behind map registers. First what a hole does, by what it hits; registers that lead to
+/* maps.c: turns over memory through map registers. First what a hole does, by what it hits; registers that lead to
    one page, or lie in memory; and the end of memory. Then random guests. Over a map without holes a controller does what
    it does over one array. Over any map uda50_turn_mapped does what uda50_bus_turn does by calls that go byte by byte,
    whatever is in the window of those.
@@ -13,7 +13,7 @@ enum { FRAME = 0x0fffffff, PHYSICAL = FRAMES * BLOCK };
 
 static const uint32_t VALID = 0x80000000;
 
-/* A controller with an image, and the memory of its guest behind a map. The bus has calls that go byte by byte. */
+/* A controller with an image, and its guest's memory through map registers. The bus has calls that go byte by byte. */
 typedef struct {
     uda50 uda;
     uint8_t disk[DISK], physical[PHYSICAL], window[SIZE];
@@ -255,7 +255,7 @@ static void missing_response_ring(machine *it)
     EXPECT(uda50_read_sa(&it->uda), 0x8006);
 }
 
-/* The third word sets the area to zero, and nothing beside it. */
+/* The third word sets the area to zero, and nothing else. */
 static void zeroed_area(machine *it)
 {
     enum { FIRST = BASE - 4, END = BASE + 4 * (RESPONSES + COMMANDS) };
@@ -544,7 +544,7 @@ static bool same(machine *it, uda50 *uda, const uint8_t *disk)
     return memcmp(one, two, sizeof one) == 0 && memcmp(it->disk, disk, DISK) == 0;
 }
 
-/* A map without holes, beside one array. */
+/* A map without holes, compared with one array. */
 static void beside_an_array(uint32_t events)
 {
     static uint8_t seen[SIZE], changed[SIZE];

@@ -1,4 +1,4 @@
-/* meanings.c: the meaning of each field and argument of uda50.h that another of its type could stand for. */
+/* meanings.c: the meaning of each field and argument of uda50.h that could be confused with another of its type. */
 #include "guest.h"
 
 static uint8_t disks[3][16 * BLOCK];

@@ -1,4 +1,4 @@
-/* device.c: tests examples/simh/pdp11_uda50.c without SIMH, of which pdp11_defs.h beside it has what that file uses:
+/* device.c: tests examples/simh/pdp11_uda50.c without SIMH, of which pdp11_defs.h here has what that file uses:
    which unit is booted, a state that doesn't fit, a change of the bus, files that are locked or have no room, and files
    whose blocks fail, with the UNIBUS map off and on.
    Usage: device [full]    with `full`, ./small is a tmpfs of 2 MB, and ./bare a ramfs */

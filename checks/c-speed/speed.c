@@ -62,7 +62,7 @@ static void post(errand of, uint32_t n, uint32_t block)
     give(RINGS + 4 * (COUNT + n), COMMANDS, n);
 }
 
-/* So many of them at once, and their turns; false where one failed. */
+/* That many of them at once, and their turns; false where one failed. */
 static bool done(errand of, uint32_t block, uint32_t count)
 {
     uint32_t turn, failed = 0;

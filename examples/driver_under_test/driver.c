@@ -56,7 +56,7 @@ static void give(driver *driver)
     bus->read_ip(bus);
 }
 
-/* Has one command done. */
+/* Executes one command. */
 static unsigned ask(driver *driver, uint8_t opcode, uint32_t bytes, uint32_t block)
 {
     bus *bus = driver->bus;

@@ -18,12 +18,12 @@ typedef struct bus {
     void (*wait)(struct bus *bus); /* until the controller has nothing more to do */
 } bus;
 
-/* A rule that the driver may be told to break. */
+/* A rule that the driver can be made to break. */
 typedef enum {
     RULE_NONE,
     RULE_CREDITS,  /* posts a command for which it has no credit */
     RULE_ADDRESS,  /* points a command's descriptor to an odd address */
-    RULE_RESPONSE, /* gives a response buffer of fewer bytes than an end has */
+    RULE_RESPONSE, /* gives a response buffer of fewer bytes than an end message has */
     RULE_COUNT
 } rule;
 

@@ -43,7 +43,7 @@ static void write_sa(uint16_t word)
     printf("SA <- %04x, then reads %04x\n", word, uda50_read_sa(&uda));
 }
 
-/* Has one command done; false where the port died of it. */
+/* Executes one command; false if the port died of it. */
 static bool post(const char *name, uint8_t opcode, uint16_t unit, uint32_t bytes, uint32_t block)
 {
     static uint32_t reference;

@@ -427,7 +427,7 @@ static uint32 traced_turns(controller *it)
     return kind;
 }
 
-/* An event: some turns; and the next one later, while something is left to do or an end waits for a descriptor. A file's
+/* An event: some turns; and the next one later, while something is left to do or a message waits for a descriptor. A file's
    I/O error stops the simulator, and so does missing memory. When the user continues, the turns go on. */
 t_stat rq_turn(UNIT *unit)
 {

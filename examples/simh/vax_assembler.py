@@ -1,4 +1,4 @@
-"""Assembles programs for the VAX: of MACRO-32's language the part that the programs beside this file use.
+"""Assembles programs for the VAX: of MACRO-32's language the part that the programs of this folder use.
 
 Numbers are decimal, or hexadecimal after `^x`. A name as an operand is relative to the PC. A program begins at a page
 of memory that it doesn't know, so `.` and its labels count from there."""

@@ -276,9 +276,9 @@ CRATES = {
     "uda": (1, 10, "program"),
     "uda_c": (3, 6.6, "library for C"),
     "uda_saved": (2, 5.5, "saved state as bytes"),
-    "uda_bus": (2, 6.2, "map registers of a bus"),
+    "uda_bus": (2, 6.2, "memory through map registers"),
     "uda_called": (3, 1, "images by calls"),
-    "loose": (3, 4.5, "box as its pointer"),
+    "c_box": (3, 4.5, "box as its pointer"),
     "uda_posting": (2, 4.4, "requests by commands"),
     "uda_grammar": (3, 2, "parser of scripts"),
     "uda50": (3, 10, "program"),
@@ -289,28 +289,28 @@ CRATES = {
     "uda50_show": (4, 7, "what it prints"),
     "uda50_script_text": (4, 3, "text of scripts"),
     "uda_plain": (0, 2, "in-order run"),
-    "disk_example": (0, 3.72, ""),
+    "example_disk": (0, 3.72, ""),
     "test_low": (0, 5.14, ""),
-    "port_example": (0, 4.78, ""),
+    "example_port": (0, 4.78, ""),
     "scenarios": (0, 5.5, ""),
-    "driver_tests": (0, 7.36, ""),
-    "driver_example": (0, 7, ""),
-    "file_example": (0, 6.28, ""),
-    "bench": (0, 6.64, ""),
-    "refused_growths": (0, 7.82, ""),
-    "uda_agreement": (0, 8.18, ""),
-    "script_tests": (0, 9, ""),
+    "test_driver": (0, 7.36, ""),
+    "example_driver": (0, 7, ""),
+    "example_file": (0, 6.28, ""),
+    "layers": (0, 6.64, ""),
+    "test_growths": (0, 7.82, ""),
+    "test_agreement": (0, 8.18, ""),
+    "test_script": (0, 9, ""),
     "workloads": (0, 8.54, ""),
-    "test_show": (4, 7.6, ""),
+    "test_show": (3, 7.2, ""),
 }
 # the arrows that leave by the right side and go down between two columns, each with its x
 LANES = {("uda_driver", "uda_posting"): 500, ("uda_script_run", "uda_grammar"): 740,
-         ("uda50_verbs", "uda50_arguments"): 948,
-         ("uda50_verbs", "uda50_script_text"): 960, ("uda_c", "uda_called"): 951}
+         ("uda50_verbs", "uda50_arguments"): 948, ("uda50_verbs", "uda50_script_text"): 960,
+         ("uda_c", "uda_called"): 951}
 # the arrows that go over the top and down at the right, each with the x where it goes up, its y, and the x where it goes down
 OVER = {("workloads", "uda50_show"): (270, 85, 1169)}
 PROGRAMS = {"uda", "uda50", "uda_c"}
-AROUND = re.compile(r"^test_|_tests$|_example$|^bench$|^workloads$|^scenarios$|^refused_growths$|^uda_agreement$")
+AROUND = re.compile(r"^test_|^example_|^layers$|^workloads$|^scenarios$")
 
 
 def uses():
@@ -387,7 +387,7 @@ def crates():
         fill = AMBER if AROUND.search(name) else GREEN if name in PROGRAMS else BLUE
         height = 40 if about else 25
         p.box(x - width / 2, y - height / 2, width, height, fill)
-        p.text(x, y - 3 if about else y + 4.5, name, 13 if len(name) < 20 else 11.5, bold=bool(about))
+        p.text(x, y - 3 if about else y + 4.5, name, 13, bold=bool(about))
         if about:
             p.text(x, y + 13, about, 11, colour="#30363d")
     for n, (fill, words) in enumerate([(BLUE, "library"), (GREEN, "program, library for C"),

@@ -32,7 +32,7 @@ use crate::slot::Slot;
 use crate::snapshot::PortSnapshot;
 use crate::turn_use::TurnUse;
 use crate::unit_images::UnitImages;
-use loose::Loose;
+use c_box::Loose;
 use std::alloc::Global;
 use uda_mem::ByteRange;
 use uda_packet::{DriveType, Identity};

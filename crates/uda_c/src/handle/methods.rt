@@ -8,7 +8,7 @@ ghost use Rattle.uda_c.specs.contracts.handle.Handle.{the_row};
 
 use super::Handle;
 use crate::controller::Controller;
-use loose::Loose;
+use c_box::Loose;
 use std::alloc::Global;
 use std::ptr::null_mut;
 

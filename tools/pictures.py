@@ -276,7 +276,7 @@ CRATES = {
     "uda": (1, 10, "program"),
     "uda_c": (3, 6.6, "library for C"),
     "uda_saved": (2, 5.5, "saved state as bytes"),
-    "uda_bus": (2, 6.2, "memory through map registers"),
+    "uda_bus": (2, 6.2, "map registers of a bus"),
     "uda_called": (3, 1, "images by calls"),
     "c_box": (3, 4.5, "box as its pointer"),
     "uda_posting": (2, 4.4, "requests by commands"),

@@ -1,14 +1,13 @@
 //! JSON objects of images.
 
-use crate::facts::ImageFacts;
+use crate::{
+    BootBlock, Checksum, ContainerRecord, DRIVE_TYPES, DiskLabel, DriveTypeEntry, FixedText,
+    HomeBlock, ImageFacts, SimhRecord, is_control,
+};
 use serde::Serialize;
 use serde_json::Error;
 use std::alloc::{AllocError, Global};
 use std::fmt;
-use crate::{
-    BootBlock, Checksum, ContainerRecord, DRIVE_TYPES, DiskLabel, DriveTypeEntry, FixedText,
-    HomeBlock, SimhRecord, is_control,
-};
 
 // The object of an image.
 #[derive(Drop, Serialize)]

@@ -1,4 +1,7 @@
 //! The printed forms of packets, blocks and images for the program `uda50`: values with their texts.
+//!
+//! `decode::decode` prints the packets of a text. `ImageFacts` has the facts of an image, and `image_json` returns their
+//! JSON object.
 #![tactic(auto)]
 
 mod boot_block;

@@ -25,7 +25,10 @@ fn decode_input<'w, W: Write + Drop>(
     out: &mut BufWriter<W>,
 ) -> Result<Outcome, Fault<'w>> {
     let input = BufReader::new(rt.alloc(), rt.stdin())?;
-    outcome(STANDARD_INPUT, uda50_show::decode::decode(rt.alloc(), input, out))
+    outcome(
+        STANDARD_INPUT,
+        uda50_show::decode::decode(rt.alloc(), input, out),
+    )
 }
 
 // Returns the outcome of a text, which has this name.

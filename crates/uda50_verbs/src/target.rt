@@ -16,8 +16,8 @@ use std::io::IsTerminal;
 use std::ops::Range;
 use std::os::unix::fs::FileTypeExt;
 use uda50_arguments::{BlockRange, Copy};
-use uda50_files::{Access, Failures, OpenError, TargetFile};
 use uda50_copy::BlockMap;
+use uda50_files::{Access, Failures, OpenError, TargetFile};
 use uda50_show::EscapedName;
 
 /// What a copy does with its target.

@@ -1,7 +1,7 @@
 //! Reading of mapfiles.
 
-use crate::map::entry::{BlockStatus, MapEntry};
 use crate::map::BlockMap;
+use crate::map::entry::{BlockStatus, MapEntry};
 use std::alloc::{AllocError, Global};
 use thiserror::Error;
 

@@ -73,7 +73,7 @@ enum {
     UDA50_NOT_EMPTY = 71,        /* a struct that an image is to be put into isn't empty */
     UDA50_HAS_CONTROLLER = 72,   /* the handle has a controller */
     UDA50_NO_SUCH_BUS = 73,      /* the bus isn't UDA50_UNIBUS or UDA50_QBUS */
-    UDA50_NO_SUCH_TYPE = 74,     /* the drive type isn't UDA50_RX50 to UDA50_RRD40 */
+    UDA50_NO_SUCH_TYPE = 74,     /* the drive type isn't below UDA50_DRIVE_TYPE_COUNT */
     UDA50_OTHER_VERSION = 75,    /* a saved state has another version */
     UDA50_BAD_STATE = 76,        /* no controller has the saved state */
     UDA50_OTHER_IMAGES = 77,     /* the images aren't as many and as long as the saved ones, or not as protected */
@@ -105,24 +105,28 @@ enum {
 /* The buses of a compatible controller: a UDA50's, with addresses of 18 bits, and an RQDX3's, with 22. */
 enum { UDA50_UNIBUS = 0, UDA50_QBUS = 1 };
 
-/* The drive types that a compatible controller reports. */
-enum {
-    UDA50_RX50 = 0,
-    UDA50_RX33 = 1,
-    UDA50_RD51 = 2,
-    UDA50_RD31 = 3,
-    UDA50_RD52 = 4,
-    UDA50_RD53 = 5,
-    UDA50_RD54 = 6,
-    UDA50_RA60 = 7,
-    UDA50_RA81 = 8,
-    UDA50_RA82 = 9,
-    UDA50_RA71 = 10,
-    UDA50_RA72 = 11,
-    UDA50_RA90 = 12,
-    UDA50_RA92 = 13,
-    UDA50_RRD40 = 14
-};
+/* The drive types that a compatible controller reports: the name of each, its number, and its usual size in blocks. An
+   emulator makes a table of them by a macro X of its own. The numbers are UDA50_RX50 to UDA50_DRIVE_TYPE_COUNT - 1. */
+#define UDA50_DRIVE_TYPES(X) \
+    X(RX50, 0, 800)          \
+    X(RX33, 1, 2400)         \
+    X(RD51, 2, 21600)        \
+    X(RD31, 3, 41560)        \
+    X(RD52, 4, 60480)        \
+    X(RD53, 5, 138672)       \
+    X(RD54, 6, 311200)       \
+    X(RA60, 7, 400176)       \
+    X(RA81, 8, 891072)       \
+    X(RA82, 9, 1216665)      \
+    X(RA71, 10, 1367310)     \
+    X(RA72, 11, 1953300)     \
+    X(RA90, 12, 2376153)     \
+    X(RA92, 13, 2940951)     \
+    X(RRD40, 14, 1331200)
+
+#define UDA50_NUMBER_OF(name, number, blocks) UDA50_##name = number,
+enum { UDA50_DRIVE_TYPES(UDA50_NUMBER_OF) UDA50_DRIVE_TYPE_COUNT };
+#undef UDA50_NUMBER_OF
 
 /* The port's phases. */
 enum {
@@ -167,7 +171,7 @@ uint32_t uda50_free(uda50 *handle, uda50_image images[UDA50_UNITS]);
    UDA50_BAD_LENGTH and UDA50_TOO_LARGE. */
 uint32_t uda50_attach(uda50 *handle, uint32_t unit, uda50_image *image, bool write_protected);
 
-/* Sets the drive type of a unit without an image: UDA50_RX50 to UDA50_RRD40, at first UDA50_RA81. A compatible
+/* Sets the drive type of a unit without an image: a number of UDA50_DRIVE_TYPES, at first UDA50_RA81. A compatible
    controller reports it, with an image or without, and write-protects an image that is attached to an RRD40. The size
    of a unit is that of its image, whatever the type. Returns UDA50_OK, or the first that holds of UDA50_NO_CONTROLLER,
    UDA50_NO_SUCH_UNIT, UDA50_NO_SUCH_TYPE and UDA50_ALREADY_ATTACHED. */

@@ -184,7 +184,7 @@ static void identity(void)
     EXPECT(uda50_new_as(&other, UDA50_UNIBUS, 65533), UDA50_HAS_CONTROLLER);
     EXPECT(uda50_read_sa(&other), 0x0b40);
     EXPECT(uda50_set_type(&other, 4, UDA50_RX50), UDA50_NO_SUCH_UNIT);
-    EXPECT(uda50_set_type(&other, 1, UDA50_RRD40 + 1), UDA50_NO_SUCH_TYPE);
+    EXPECT(uda50_set_type(&other, 1, UDA50_DRIVE_TYPE_COUNT), UDA50_NO_SUCH_TYPE);
     EXPECT(uda50_set_type(&other, 1, UDA50_RX50), UDA50_OK);
     EXPECT(uda50_set_type(&other, 2, UDA50_RRD40), UDA50_OK);
     EXPECT(uda50_attach(&other, 2, &image, false), UDA50_OK);
@@ -208,6 +208,44 @@ static void identity(void)
     EXPECT(uda50_free(&other, images), UDA50_OK);
 }
 
+/* The name in a media type identifier: two or three letters of 5 bits, and a number of 7. */
+static const char *name_in(uint32_t media)
+{
+    static char name[8];
+    int length = 0;
+
+    for (int at = 17; at >= 7; at -= 5)
+        if ((media >> at & 31) != 0)
+            name[length++] = (char)('A' - 1 + (media >> at & 31));
+    snprintf(name + length, sizeof name - (size_t)length, "%u", (unsigned)(media & 127));
+    return name;
+}
+
+/* The rows of UDA50_DRIVE_TYPES: a unit of each number reports a media type with the name of that row. */
+static void drive_types(void)
+{
+#define ROW_OF(name, number, blocks) { #name, number },
+    static const struct {
+        const char *name;
+        uint32_t number;
+    } rows[] = { UDA50_DRIVE_TYPES(ROW_OF) };
+    uda50 other = { 0 };
+    uda50_image images[UDA50_UNITS] = { { NULL, 0 } };
+    uint32_t count = 0;
+
+    EXPECT(uda50_new(&other, true), UDA50_OK);
+    EXPECT(status_of(&other, (command){ SET_CONTROLLER, 0, 1, 0, 0 }), 0);
+    for (; count < sizeof rows / sizeof rows[0]; count++) {
+        uint32_t at = response_at((count + 1) % RESPONSES) + 28;
+
+        EXPECT(uda50_set_type(&other, 1, rows[count].number), UDA50_OK);
+        EXPECT(status_of(&other, (command){ GET_UNIT_STATUS, 1, 2, 0, 0 }), 0x0023);
+        EXPECT(strcmp(name_in(get16(at) | get16(at + 2) << 16), rows[count].name), 0);
+    }
+    EXPECT(count, UDA50_DRIVE_TYPE_COUNT);
+    EXPECT(uda50_free(&other, images), UDA50_OK);
+}
+
 int main(void)
 {
     uda50_image one = { disks[1], sizeof disks[1] }, two = { disks[2], sizeof disks[2] };
@@ -223,5 +261,6 @@ int main(void)
     death();
     arguments();
     identity();
+    drive_types();
     return ended();
 }

@@ -92,18 +92,19 @@ static controller controllers[CONTROLLERS] = {
     {.dib = REGISTERS(IOBA_RQD, IOLN_RQD), .device = &rqd_dev},
 };
 
+/* The usual sizes of the drive types in blocks. */
+#define BLOCKS_OF(name, number, blocks) BLOCKS_##name = blocks,
+enum { UDA50_DRIVE_TYPES(BLOCKS_OF) };
+
 /* The drive types by the library's numbers. After them SIMH's RAUSER, an RA82 with as many blocks as the user says. */
-enum { RAUSER = UDA50_RRD40 + 1 };
+enum { RAUSER = UDA50_DRIVE_TYPE_COUNT };
+#define ROW_OF(name, number, blocks) [number] = {#name, blocks},
 static struct {
     const char *name;
     uint32 blocks;
 } types[] = {
-    [UDA50_RX50] = {"RX50", 800},       [UDA50_RX33] = {"RX33", 2400},    [UDA50_RD51] = {"RD51", 21600},
-    [UDA50_RD31] = {"RD31", 41560},     [UDA50_RD52] = {"RD52", 60480},   [UDA50_RD53] = {"RD53", 138672},
-    [UDA50_RD54] = {"RD54", 311200},    [UDA50_RA60] = {"RA60", 400176},  [UDA50_RA81] = {"RA81", 891072},
-    [UDA50_RA82] = {"RA82", 1216665},   [UDA50_RA71] = {"RA71", 1367310}, [UDA50_RA72] = {"RA72", 1953300},
-    [UDA50_RA90] = {"RA90", 2376153},   [UDA50_RA92] = {"RA92", 2940951}, [UDA50_RRD40] = {"RRD40", 1331200},
-    [RAUSER] = {"RAUSER", 1216665},
+    UDA50_DRIVE_TYPES(ROW_OF)
+    [RAUSER] = {"RAUSER", BLOCKS_RA82},
 };
 
 /* Events of the simulator before a step of the start-up and before the last one, as RQ has them. */
@@ -123,6 +124,7 @@ static int32 rq_qtime = 200, rq_xtime = 500, rq_turns = 1;
 #define SET_ADDRESS "ADDRESS", &set_addr
 #endif
 #define TYPE(name, number) {MTAB_XTD | MTAB_VUN, number, NULL, name, &rq_set_type, NULL, NULL}
+#define TYPE_OF(name, number, blocks) TYPE(#name, number),
 MTAB rq_mod[] = {
     {UNIT_LOCKED, 0, NULL, "WRITEENABLED", &rq_set_lock},
     {UNIT_LOCKED, UNIT_LOCKED, NULL, "LOCKED", &rq_set_lock},
@@ -131,21 +133,7 @@ MTAB rq_mod[] = {
     {MTAB_XTD | MTAB_VUN | MTAB_NMO, 0, "MMAP", NULL, NULL, &rq_show_mmap, NULL},
     {MTAB_XTD | MTAB_VDV | MTAB_NMO, 0, "RINGS", NULL, NULL, &rq_show_rings, NULL},
     {MTAB_XTD | MTAB_VUN, 0, "WRITE", NULL, NULL, &rq_show_lock, NULL},
-    TYPE("RX50", UDA50_RX50),
-    TYPE("RX33", UDA50_RX33),
-    TYPE("RD51", UDA50_RD51),
-    TYPE("RD31", UDA50_RD31),
-    TYPE("RD52", UDA50_RD52),
-    TYPE("RD53", UDA50_RD53),
-    TYPE("RD54", UDA50_RD54),
-    TYPE("RA60", UDA50_RA60),
-    TYPE("RA81", UDA50_RA81),
-    TYPE("RA82", UDA50_RA82),
-    TYPE("RA71", UDA50_RA71),
-    TYPE("RA72", UDA50_RA72),
-    TYPE("RA90", UDA50_RA90),
-    TYPE("RA92", UDA50_RA92),
-    TYPE("RRD40", UDA50_RRD40),
+    UDA50_DRIVE_TYPES(TYPE_OF)
     TYPE("CDROM", UDA50_RRD40),
     TYPE("RAUSER", RAUSER),
     {MTAB_XTD | MTAB_VUN, 0, "TYPE", NULL, NULL, &rq_show_type, NULL},
@@ -155,18 +143,17 @@ MTAB rq_mod[] = {
     {0},
 };
 
-#define DRIVE(n, type, blocks)                                                                  \
+#define DRIVE(n, type)                                                                          \
     {                                                                                           \
-        UDATA(NULL, UNIT_FIX + UNIT_ATTABLE + UNIT_DISABLE + UNIT_ROABLE, blocks * BLOCK),      \
-            .drive_type = type, .controller_number = n                                          \
+        UDATA(NULL, UNIT_FIX + UNIT_ATTABLE + UNIT_DISABLE + UNIT_ROABLE, BLOCKS_##type * BLOCK), \
+            .drive_type = UDA50_##type, .controller_number = n                                  \
     }
 #define EVENT(n, call) {UDATA(&call, UNIT_DIS, 0), .controller_number = n}
 #define SAVED(n) {UDATA(NULL, UNIT_FIX + UNIT_DIS, UDA50_STATE_LENGTH), .controller_number = n}
-#define UNITS_OF(n, type, blocks)                                                               \
+#define UNITS_OF(n, type)                                                                       \
     {                                                                                           \
-        DRIVE(n, UDA50_RD54, 311200), DRIVE(n, UDA50_RD54, 311200), DRIVE(n, UDA50_RD54, 311200), \
-            DRIVE(n, type, blocks), EVENT(n, rq_turn), EVENT(n, rq_step), EVENT(n, rq_tick),    \
-            SAVED(n)                                                                            \
+        DRIVE(n, RD54), DRIVE(n, RD54), DRIVE(n, RD54), DRIVE(n, type), EVENT(n, rq_turn),      \
+            EVENT(n, rq_step), EVENT(n, rq_tick), SAVED(n)                                      \
     }
 #define REGISTERS_OF(n)                                                                         \
     {GRDATA(VEC, controllers[n].dib.vec, DEV_RDX, 16, 0), REG_RO},                              \
@@ -179,10 +166,10 @@ MTAB rq_mod[] = {
             DEV_FLTA | DEV_DISABLE | DEV_UBUS | DEV_QBUS | DEV_DEBUG | (flags)                  \
     }
 
-static UNIT rq_unit[] = UNITS_OF(0, UDA50_RX50, 800);
-static UNIT rqb_unit[] = UNITS_OF(1, UDA50_RD54, 311200);
-static UNIT rqc_unit[] = UNITS_OF(2, UDA50_RD54, 311200);
-static UNIT rqd_unit[] = UNITS_OF(3, UDA50_RD54, 311200);
+static UNIT rq_unit[] = UNITS_OF(0, RX50);
+static UNIT rqb_unit[] = UNITS_OF(1, RD54);
+static UNIT rqc_unit[] = UNITS_OF(2, RD54);
+static UNIT rqd_unit[] = UNITS_OF(3, RD54);
 
 static REG rq_reg[] = {
     REGISTERS_OF(0),

@@ -380,7 +380,8 @@ fn read_format<'w>(found: &ArgMatches<'w>) -> DumpFormat {
 }
 
 fn read_create<'w>(found: &ArgMatches<'w>) -> Task<'w> {
-    let blocks = match DriveTypeEntry::named(text(found, "drive")) {
+    let drive = DriveTypeEntry::named(text(found, "drive"));
+    let blocks = match drive {
         Some(drive) => drive.blocks,
         None => match found.get_one("blocks") {
             Some(BlockNumber(blocks)) => blocks,
@@ -390,6 +391,7 @@ fn read_create<'w>(found: &ArgMatches<'w>) -> Task<'w> {
     Task::Create(Create {
         image: image(found, "IMAGE"),
         blocks,
+        drive,
         force: found.get_flag("force"),
     })
 }

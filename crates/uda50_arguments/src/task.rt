@@ -2,6 +2,7 @@
 
 use crate::block_range::BlockRange;
 use crate::image_name::ImageName;
+use uda50_show::DriveTypeEntry;
 
 /// The task of the program, by verb.
 #[derive(Debug, Drop)]
@@ -113,6 +114,8 @@ pub struct Create<'w> {
     pub image: ImageName<'w>,
     /// The number of its blocks.
     pub blocks: u32,
+    /// The drive type of which it has that number, if `--drive` names one.
+    pub drive: Option<DriveTypeEntry>,
     /// Whether an existing file may be overwritten.
     pub force: bool,
 }

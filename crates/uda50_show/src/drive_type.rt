@@ -5,6 +5,7 @@ ghost use Rattle.uda50_show.specs.DriveTypes.{is_larger, is_smaller};
 
 use crate::number::Counted;
 use std::fmt;
+use uda_packet::{DriveType, UNREPORTED_TYPES, UnreportedType};
 
 /// A drive type, with the size of its units.
 #[derive(Clone, Copy, Debug)]
@@ -13,92 +14,56 @@ pub struct DriveTypeEntry {
     pub name: &'static str,
     /// The number of logical blocks that a host sees.
     pub blocks: u32,
+    /// Whether a unit can report it.
+    pub is_reported: bool,
 }
 
-/// The known drive types, the smallest first.
-pub static DRIVE_TYPES: [DriveTypeEntry; 17] = [
-    DriveTypeEntry {
-        name: "RX50",
-        blocks: 800,
-    },
-    DriveTypeEntry {
-        name: "RX33",
-        blocks: 2_400,
-    },
-    DriveTypeEntry {
-        name: "RD51",
-        blocks: 21_600,
-    },
-    DriveTypeEntry {
-        name: "RD31",
-        blocks: 41_560,
-    },
-    DriveTypeEntry {
-        name: "RD52",
-        blocks: 60_480,
-    },
-    DriveTypeEntry {
-        name: "RD53",
-        blocks: 138_672,
-    },
-    DriveTypeEntry {
-        name: "RA80",
-        blocks: 237_212,
-    },
-    DriveTypeEntry {
-        name: "RD54",
-        blocks: 311_200,
-    },
-    DriveTypeEntry {
-        name: "RA60",
-        blocks: 400_176,
-    },
-    DriveTypeEntry {
-        name: "RA70",
-        blocks: 547_041,
-    },
-    DriveTypeEntry {
-        name: "RA81",
-        blocks: 891_072,
-    },
-    DriveTypeEntry {
-        name: "RA82",
-        blocks: 1_216_665,
-    },
-    DriveTypeEntry {
-        name: "RRD40",
-        blocks: 1_331_200,
-    },
-    DriveTypeEntry {
-        name: "RA71",
-        blocks: 1_367_310,
-    },
-    DriveTypeEntry {
-        name: "RA72",
-        blocks: 1_953_300,
-    },
-    DriveTypeEntry {
-        name: "RA90",
-        blocks: 2_376_153,
-    },
-    DriveTypeEntry {
-        name: "RA92",
-        blocks: 2_940_951,
-    },
-];
+/// How many drive types there are.
+pub const DRIVE_TYPE_COUNT: usize = DriveType::ALL.len() + UNREPORTED_TYPES.len();
 
 impl DriveTypeEntry {
+    /// Returns every drive type, the smallest first.
+    pub fn all() -> [DriveTypeEntry; DRIVE_TYPE_COUNT] {
+        let reported = DriveType::ALL.iter().map(|kind| DriveTypeEntry::of(*kind));
+        let others = UNREPORTED_TYPES
+            .iter()
+            .map(|kind| DriveTypeEntry::of_unreported(*kind));
+        let mut all = [DriveTypeEntry::of(DriveType::Ra81); DRIVE_TYPE_COUNT];
+        for (place, drive) in all.iter_mut().zip(reported.chain(others)) {
+            *place = drive;
+        }
+        all.sort_unstable_by_key(|drive| drive.blocks);
+        all
+    }
+
     /// Returns the drive type of this name. Upper and lower case are equal.
     pub fn named(name: &str) -> Option<DriveTypeEntry> {
-        DRIVE_TYPES
-            .iter()
+        DriveTypeEntry::all()
+            .into_iter()
             .find(|drive| drive.name.eq_ignore_ascii_case(name))
-            .copied()
     }
 
     /// Returns the names of all drive types.
-    pub fn names() -> [&'static str; 17] {
-        DRIVE_TYPES.map(|drive| drive.name)
+    pub fn names() -> [&'static str; DRIVE_TYPE_COUNT] {
+        DriveTypeEntry::all().map(|drive| drive.name)
+    }
+
+    // Returns a drive type that a unit can report.
+    fn of(kind: DriveType) -> DriveTypeEntry {
+        DriveTypeEntry {
+            name: kind.name(),
+            blocks: kind.traits().blocks,
+            is_reported: true,
+        }
+    }
+
+    // Returns a drive type that no unit reports.
+    fn of_unreported(kind: UnreportedType) -> DriveTypeEntry {
+        DriveTypeEntry {
+            name: kind.name,
+            blocks: kind.blocks,
+            is_reported: false,
+        }
     }
 }
 
@@ -148,7 +113,7 @@ pub struct TypesOfSize(pub u32);
 impl fmt::Display for TypesOfSize {
     fn fmt<W: fmt::Write>(&self, f: &mut fmt::Formatter<W>) -> fmt::Result {
         let mut found = false;
-        for drive in DRIVE_TYPES.iter() {
+        for drive in DriveTypeEntry::all() {
             if drive.blocks == self.0 {
                 f.write_str(if found { ", " } else { "" })?;
                 f.write_str(drive.name)?;
@@ -166,8 +131,9 @@ impl fmt::Display for TypesOfSize {
 // Writes that no drive type has a size, and which are the nearest.
 fn write_nearest<W: fmt::Write>(f: &mut fmt::Formatter<W>, blocks: u32) -> fmt::Result {
     f.write_str("none; nearest ")?;
-    let larger = DriveTypeEntry::next_larger(&DRIVE_TYPES, blocks);
-    let smaller = DriveTypeEntry::next_smaller(&DRIVE_TYPES, blocks);
+    let types = DriveTypeEntry::all();
+    let larger = DriveTypeEntry::next_larger(&types, blocks);
+    let smaller = DriveTypeEntry::next_smaller(&types, blocks);
     if let Some(drive) = larger {
         let more = Counted::blocks(drive.blocks.saturating_sub(blocks));
         write!(f, "{} ({more} more)", drive.name)?;

@@ -1,8 +1,8 @@
 //! JSON objects of images.
 
 use crate::{
-    BootBlock, Checksum, ContainerRecord, DRIVE_TYPES, DiskLabel, DriveTypeEntry, FixedText,
-    HomeBlock, ImageFacts, SimhRecord, is_control,
+    BootBlock, Checksum, ContainerRecord, DiskLabel, DriveTypeEntry, FixedText, HomeBlock,
+    ImageFacts, SimhRecord, is_control,
 };
 use serde::Serialize;
 use serde_json::Error;
@@ -129,7 +129,7 @@ fn image_object<'w>(alloc: Global, facts: &ImageFacts<'w>) -> Result<ImageObject
 // Returns the names of the drive types of a size.
 fn types_of_size(alloc: Global, blocks: u32) -> Result<Vec<&'static str>, AllocError> {
     let mut names = Vec::new(alloc);
-    for drive in DRIVE_TYPES.iter() {
+    for drive in DriveTypeEntry::all() {
         if drive.blocks == blocks {
             names.push(drive.name)?;
         }
@@ -145,10 +145,11 @@ fn nearest_objects(
 ) -> Result<Vec<NearestObject>, AllocError> {
     let mut objects = Vec::new(alloc);
     if wanted {
-        if let Some(drive) = DriveTypeEntry::next_larger(&DRIVE_TYPES, blocks) {
+        let types = DriveTypeEntry::all();
+        if let Some(drive) = DriveTypeEntry::next_larger(&types, blocks) {
             objects.push(nearest_object(&drive, blocks))?;
         }
-        if let Some(drive) = DriveTypeEntry::next_smaller(&DRIVE_TYPES, blocks) {
+        if let Some(drive) = DriveTypeEntry::next_smaller(&types, blocks) {
             objects.push(nearest_object(&drive, blocks))?;
         }
     }

@@ -32,7 +32,7 @@ pub use checksum::Checksum;
 pub use compatible::{COMPATIBLE_TEXT, CompatibleCommand, CompatibleMessage, UnitAvailable};
 pub use container::{ContainerRecord, SimhRecord};
 pub use disk_label::DiskLabel;
-pub use drive_type::{DRIVE_TYPES, DriveTypeEntry, TypesOfSize};
+pub use drive_type::{DRIVE_TYPE_COUNT, DriveTypeEntry, TypesOfSize};
 pub use facts::{Contents, ImageFacts, StructureBlocks};
 pub use foreign::ForeignFormat;
 pub use home_block::{HomeBlock, VolumeFormat};

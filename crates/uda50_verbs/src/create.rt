@@ -7,6 +7,7 @@ use crate::outcome::Outcome;
 use std::fs;
 use std::fs::{File, Metadata, OpenFile, OpenOptions, TryLockError};
 use uda50_arguments::Create;
+use uda50_show::EscapedName;
 
 /// Makes an image of zeros. With `--force`, an existing file becomes one, and a map of what it was is removed.
 pub(crate) fn create<'w>(rt: &HostRuntime, create: &Create<'w>) -> Result<Outcome, Fault<'w>> {
@@ -17,9 +18,19 @@ pub(crate) fn create<'w>(rt: &HostRuntime, create: &Create<'w>) -> Result<Outcom
     if create.image.is_stream() {
         return Err(Fault::new(path, Reason::NoImage));
     }
-    match fs::metadata(rt, path) {
-        Ok(metadata) => overwrite(rt, create, &metadata),
-        Err(_) => create_new(rt, create),
+    let outcome = match fs::metadata(rt, path) {
+        Ok(metadata) => overwrite(rt, create, &metadata)?,
+        Err(_) => create_new(rt, create)?,
+    };
+    warn_of_unreported(rt, create);
+    Ok(outcome)
+}
+
+// Prints a line if no unit of the controller reports the drive type of the image.
+fn warn_of_unreported(rt: &HostRuntime, create: &Create<'_>) {
+    if let Some(drive) = create.drive.filter(|drive| !drive.is_reported) {
+        let image = EscapedName(create.image.path);
+        let _ = eprintln!(rt; "uda50: {image}: no unit of the controller reports the drive type {}", drive.name);
     }
 }
 

@@ -9,7 +9,7 @@ use uda50_arguments::BlockRange;
 use uda50_copy::MapError;
 use uda50_script_text::{ByteOrderMark, Mistake};
 use uda50_show::{
-    ContainerRecord, Counted, DRIVE_TYPES, EscapedName, ForeignFormat, Grouped, TokenError,
+    ContainerRecord, Counted, DriveTypeEntry, EscapedName, ForeignFormat, Grouped, TokenError,
 };
 
 /// The name of standard input in faults.
@@ -33,7 +33,7 @@ fn verb_of(error: StoreError) -> &'static str {
 // as many as a drive type has.
 fn length_guess(bytes: u64) -> &'static str {
     let blocks = bytes / 512;
-    if DRIVE_TYPES
+    if DriveTypeEntry::all()
         .iter()
         .any(|drive| u64::from(drive.blocks) == blocks)
     {

@@ -1,7 +1,7 @@
 //! A case: its lines are executed one by one, and each difference is reported.
-use crate::fault::Fault;
+use crate::fault::CaseFault;
 use crate::machine::CaseMachine;
-use crate::verb::Verb;
+use crate::step::CaseStep;
 use crate::words::{Words, are_alike, split};
 use std::alloc::Global;
 use std::fmt::Write;
@@ -19,7 +19,7 @@ pub struct CaseReport {
 }
 
 /// Executes a case, and returns its report and whether all values were as expected.
-pub fn carry_out(alloc: Global, name: &str, case: &str) -> Result<(String, bool), Fault> {
+pub fn carry_out(alloc: Global, name: &str, case: &str) -> Result<(String, bool), CaseFault> {
     let mut report = CaseReport::new(alloc, name)?;
     let mut machine = CaseMachine::new(alloc)?;
     for (line, number) in case.lines().zip(1u32..) {
@@ -35,7 +35,7 @@ pub fn carry_out(alloc: Global, name: &str, case: &str) -> Result<(String, bool)
 }
 
 impl CaseReport {
-    fn new(alloc: Global, name: &str) -> Result<CaseReport, Fault> {
+    fn new(alloc: Global, name: &str) -> Result<CaseReport, CaseFault> {
         Ok(CaseReport {
             text: String::new(alloc),
             name: String::from_str(alloc, name)?,
@@ -46,7 +46,12 @@ impl CaseReport {
     }
 
     // Executes a line. A line that can't be executed counts as one that differs.
-    fn step(&mut self, machine: &mut CaseMachine, number: u32, line: &str) -> Result<(), Fault> {
+    fn step(
+        &mut self,
+        machine: &mut CaseMachine,
+        number: u32,
+        line: &str,
+    ) -> Result<(), CaseFault> {
         let (head, tail) = match line.split_once('=') {
             Some((head, tail)) => (head, Some(tail)),
             None => (line, None),
@@ -65,7 +70,7 @@ impl CaseReport {
         }
         let head = head.trim();
         match self.step_of(machine, number, (first, head, tail), &mut words) {
-            Err(Fault::NoMemory) => Err(Fault::NoMemory),
+            Err(CaseFault::NoMemory) => Err(CaseFault::NoMemory),
             Err(fault) => self.fault(number, fault),
             Ok(()) => Ok(()),
         }
@@ -78,15 +83,15 @@ impl CaseReport {
         number: u32,
         (first, head, tail): (&str, &str, Option<&str>),
         words: &mut Words<'_>,
-    ) -> Result<(), Fault> {
-        let verb = Verb::of_word(first).ok_or(Fault::Wanted("a step's name"))?;
+    ) -> Result<(), CaseFault> {
+        let step = CaseStep::of_word(first).ok_or(CaseFault::Wanted("a step's name"))?;
         let Some(tail) = tail else {
-            return self.deed(machine, number, (verb, head), words);
+            return self.deed(machine, number, (step, head), words);
         };
         let wanted = split(tail)?;
         let wanted = wanted.as_slice();
         let mut came = String::new(machine.alloc);
-        look(machine, verb, words, wanted.len(), &mut came)?;
+        look(machine, step, words, wanted.len(), &mut came)?;
         words.end()?;
         self.compare(number, (head, tail, &came))?;
         self.turns(machine)
@@ -97,14 +102,14 @@ impl CaseReport {
         &mut self,
         machine: &mut CaseMachine,
         number: u32,
-        (verb, head): (Verb, &str),
+        (step, head): (CaseStep, &str),
         words: &mut Words<'_>,
-    ) -> Result<(), Fault> {
-        match verb {
-            Verb::Set(setting) => machine.set(setting, words)?,
-            Verb::Do(deed) => machine.act(deed, words)?,
-            Verb::Move(change) => machine.change(change, words)?,
-            _ => return Err(Fault::Wanted("`=` and what is expected")),
+    ) -> Result<(), CaseFault> {
+        match step {
+            CaseStep::Set(setting) => machine.set(setting, words)?,
+            CaseStep::Do(deed) => machine.act(deed, words)?,
+            CaseStep::Move(change) => machine.change(change, words)?,
+            _ => return Err(CaseFault::Wanted("`=` and what is expected")),
         }
         words.end()?;
         if self.traces {
@@ -119,7 +124,7 @@ impl CaseReport {
         &mut self,
         number: u32,
         (head, tail, came): (&str, &str, &str),
-    ) -> Result<(), Fault> {
+    ) -> Result<(), CaseFault> {
         self.looks = self.looks.saturating_add(1);
         let name = &self.name;
         if !are_alike(tail, came)? {
@@ -136,7 +141,7 @@ impl CaseReport {
     }
 
     // Writes the turns that were run, if they are traced.
-    fn turns(&mut self, machine: &mut CaseMachine) -> Result<(), Fault> {
+    fn turns(&mut self, machine: &mut CaseMachine) -> Result<(), CaseFault> {
         if self.traces {
             self.text.push_str(&machine.turns)?;
         }
@@ -144,7 +149,7 @@ impl CaseReport {
         Ok(())
     }
 
-    fn fault(&mut self, number: u32, fault: Fault) -> Result<(), Fault> {
+    fn fault(&mut self, number: u32, fault: CaseFault) -> Result<(), CaseFault> {
         self.looks = self.looks.saturating_add(1);
         self.differ = self.differ.saturating_add(1);
         let name = &self.name;
@@ -153,7 +158,7 @@ impl CaseReport {
     }
 
     // Writes the last line. A case that expects nothing would always pass, so it counts as one that differs.
-    fn close(&mut self) -> Result<(), Fault> {
+    fn close(&mut self) -> Result<(), CaseFault> {
         let CaseReport {
             text,
             name,
@@ -176,16 +181,16 @@ impl CaseReport {
 // Executes a line that expects a value, and writes the actual value.
 fn look(
     machine: &mut CaseMachine,
-    verb: Verb,
+    step: CaseStep,
     words: &mut Words<'_>,
     wanted: usize,
     came: &mut String,
-) -> Result<(), Fault> {
-    match verb {
-        Verb::Run(work) => machine.run(work, words, wanted, came),
-        Verb::Show(sight) => machine.show(sight, came),
-        Verb::Find(place) => machine.find(place, words, wanted, came),
-        Verb::Open(hold) => machine.open(hold, words, came),
-        _ => Err(Fault::Wanted("a line without `=`")),
+) -> Result<(), CaseFault> {
+    match step {
+        CaseStep::Run(work) => machine.run(work, words, wanted, came),
+        CaseStep::Show(sight) => machine.show(sight, came),
+        CaseStep::Find(place) => machine.find(place, words, wanted, came),
+        CaseStep::Open(hold) => machine.open(hold, words, came),
+        _ => Err(CaseFault::Wanted("a line without `=`")),
     }
 }

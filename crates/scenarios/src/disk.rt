@@ -10,7 +10,7 @@ const CALLS: usize = 64;
 
 /// A call of a store.
 #[derive(Clone, Copy, Default)]
-pub struct Call {
+pub struct RecordedCall {
     writes: bool,
     first: u32,
     // The number of blocks of a call for several; 0 for a call of one block.
@@ -19,9 +19,9 @@ pub struct Call {
 }
 
 /// Formats the call, as `read:5`, `write:5+4` for four blocks in one call, or `read:5+4:declined`.
-impl fmt::Display for Call {
+impl fmt::Display for RecordedCall {
     fn fmt<W: fmt::Write>(&self, f: &mut fmt::Formatter<W>) -> fmt::Result {
-        let Call {
+        let RecordedCall {
             writes,
             first,
             count,
@@ -55,17 +55,17 @@ pub struct Plan {
 #[derive(Drop)]
 pub struct Book {
     plan: Plan,
-    calls: ArrayVec<Call, CALLS>,
+    calls: ArrayVec<RecordedCall, CALLS>,
 }
 
 impl Book {
-    fn keep(&mut self, call: Call) {
+    fn keep(&mut self, call: RecordedCall) {
         let _ = self.calls.try_push(call);
     }
 
     // Records a call for one block, and returns whether it fails.
     fn fails(&mut self, writes: bool, first: u32) -> bool {
-        self.keep(Call {
+        self.keep(RecordedCall {
             writes,
             first,
             count: 0,
@@ -83,7 +83,7 @@ impl Book {
             self.plan.declines -= 1;
         }
         self.plan.at_once = self.plan.at_once.saturating_sub(1);
-        self.keep(Call {
+        self.keep(RecordedCall {
             writes,
             first,
             count,
@@ -116,7 +116,7 @@ impl RecordingImage {
     }
 
     /// Returns the calls since the record was cleared.
-    pub fn calls(&self) -> &[Call] {
+    pub fn calls(&self) -> &[RecordedCall] {
         self.book.calls.as_slice()
     }
 

@@ -1,9 +1,9 @@
 //! Drives that are attached and removed, and commands for an executor.
 use crate::disk::{Plan, RecordingImage};
-use crate::fault::Fault;
-use crate::machine::{CaseMachine, NO_UNITS, Subject};
+use crate::fault::CaseFault;
+use crate::machine::{CaseMachine, CaseSubject, NO_UNITS};
 use crate::op::command;
-use crate::verb::Change;
+use crate::step::Change;
 use crate::words::Words;
 use std::alloc::Global;
 use uda_disk::Mode;
@@ -13,7 +13,7 @@ use uda_packet::DriveType;
 
 impl CaseMachine {
     /// Changes the drives and the commands.
-    pub fn change(&mut self, change: Change, words: &mut Words<'_>) -> Result<(), Fault> {
+    pub fn change(&mut self, change: Change, words: &mut Words<'_>) -> Result<(), CaseFault> {
         match change {
             Change::Unit => self.new_drive(words),
             Change::Remove => {
@@ -36,7 +36,7 @@ impl CaseMachine {
     }
 
     // Attaches a new drive, and puts the old one on the shelf.
-    fn new_drive(&mut self, words: &mut Words<'_>) -> Result<(), Fault> {
+    fn new_drive(&mut self, words: &mut Words<'_>) -> Result<(), CaseFault> {
         let unit = words.unit()?;
         let drive = parse_drive(self.alloc, words)?;
         self.shelf = self.set_drive(unit, Some(drive))?;
@@ -44,11 +44,11 @@ impl CaseMachine {
     }
 
     // Sets the mode of a unit: online or available, with these flags.
-    fn restore(&mut self, words: &mut Words<'_>) -> Result<(), Fault> {
+    fn restore(&mut self, words: &mut Words<'_>) -> Result<(), CaseFault> {
         let unit = words.unit()?;
         let online = words.takes("online");
         if !online && !words.takes("available") {
-            return Err(Fault::Wanted("online or available"));
+            return Err(CaseFault::Wanted("online or available"));
         }
         let flags = words.hex()?;
         let mode = Mode {
@@ -60,39 +60,39 @@ impl CaseMachine {
     }
 
     // Sets the drive type of a unit without a drive.
-    fn set_type(&mut self, words: &mut Words<'_>) -> Result<(), Fault> {
+    fn set_type(&mut self, words: &mut Words<'_>) -> Result<(), CaseFault> {
         let unit = words.unit()?;
         let name = words.word("a drive type")?;
         let Some(kind) = DriveType::ALL
             .iter()
             .find(|kind| kind.name().eq_ignore_ascii_case(name))
         else {
-            return Err(Fault::Wanted("a drive type"));
+            return Err(CaseFault::Wanted("a drive type"));
         };
         if self.subject.port()?.set_type(unit, *kind) {
             Ok(())
         } else {
-            Err(Fault::Wanted("a unit without a drive"))
+            Err(CaseFault::Wanted("a unit without a drive"))
         }
     }
 
     /// Sets the mode of a unit.
-    pub fn restore_mode(&mut self, unit: usize, mode: Mode) -> Result<(), Fault> {
+    pub fn restore_mode(&mut self, unit: usize, mode: Mode) -> Result<(), CaseFault> {
         match &mut self.subject {
-            Subject::Port(port) => port.restore_mode(unit, mode),
-            Subject::Executor(exec) => exec.restore_mode(unit, mode),
+            CaseSubject::Port(port) => port.restore_mode(unit, mode),
+            CaseSubject::Executor(exec) => exec.restore_mode(unit, mode),
             _ => return Err(NO_UNITS),
         }
         Ok(())
     }
 
     // Queues a command in the executor.
-    fn accept(&mut self, words: &mut Words<'_>) -> Result<(), Fault> {
+    fn accept(&mut self, words: &mut Words<'_>) -> Result<(), CaseFault> {
         let reference = words.number()?;
         let command = command(words, reference)?;
         let exec = self.subject.executor()?;
         if exec.pending() >= PENDING {
-            return Err(Fault::Full);
+            return Err(CaseFault::Full);
         }
         exec.accept(command);
         Ok(())
@@ -100,10 +100,10 @@ impl CaseMachine {
 }
 
 // Returns a drive of n blocks. Block k has bytes k unless the line says otherwise.
-fn parse_drive(alloc: Global, words: &mut Words<'_>) -> Result<Drive<RecordingImage>, Fault> {
+fn parse_drive(alloc: Global, words: &mut Words<'_>) -> Result<Drive<RecordingImage>, CaseFault> {
     let count = words.number()?;
     if count > BLOCK_LIMIT {
-        return Err(Fault::Wanted("fewer blocks"));
+        return Err(CaseFault::Wanted("fewer blocks"));
     }
     let mut bytes = vec![in alloc; 0u8; 512 * count as usize]?;
     let hard = words.takes("protected");
@@ -131,7 +131,7 @@ fn number_blocks(bytes: &mut [u8], first: u8) {
 }
 
 // Returns the plan of a store's failures.
-fn plan(words: &mut Words<'_>) -> Result<Plan, Fault> {
+fn plan(words: &mut Words<'_>) -> Result<Plan, CaseFault> {
     Ok(Plan {
         fails: number_after(words, "fails", 0)?,
         bad: if words.takes("bad") {
@@ -146,7 +146,7 @@ fn plan(words: &mut Words<'_>) -> Result<Plan, Fault> {
 }
 
 // Returns the number after a word, or `without` if the word doesn't follow.
-fn number_after(words: &mut Words<'_>, word: &str, without: u32) -> Result<u32, Fault> {
+fn number_after(words: &mut Words<'_>, word: &str, without: u32) -> Result<u32, CaseFault> {
     if words.takes(word) {
         words.number()
     } else {

@@ -6,7 +6,7 @@ use uda_mem::NoMemory;
 
 /// Why a line of a case can't be executed.
 #[derive(Clone, Copy)]
-pub enum Fault {
+pub enum CaseFault {
     /// The line needs a word of this kind, and has none.
     Wanted(&'static str),
     /// The line has more words than its step accepts.
@@ -21,42 +21,42 @@ pub enum Fault {
     NoMemory,
 }
 
-impl fmt::Display for Fault {
+impl fmt::Display for CaseFault {
     fn fmt<W: fmt::Write>(&self, f: &mut fmt::Formatter<W>) -> fmt::Result {
         match self {
-            Fault::Wanted(kind) => write!(f, "wanted {kind}"),
-            Fault::MoreWords => f.write_str("more words than the step takes"),
-            Fault::Address => f.write_str("no such address in memory"),
-            Fault::Memory => f.write_str("no such memory"),
-            Fault::Full => f.write_str("no room for one more command"),
-            Fault::NoMemory => f.write_str("out of memory"),
+            CaseFault::Wanted(kind) => write!(f, "wanted {kind}"),
+            CaseFault::MoreWords => f.write_str("more words than the step takes"),
+            CaseFault::Address => f.write_str("no such address in memory"),
+            CaseFault::Memory => f.write_str("no such memory"),
+            CaseFault::Full => f.write_str("no room for one more command"),
+            CaseFault::NoMemory => f.write_str("out of memory"),
         }
     }
 }
 
-impl From<AllocError> for Fault {
+impl From<AllocError> for CaseFault {
     fn from(_: AllocError) -> Self {
-        Fault::NoMemory
+        CaseFault::NoMemory
     }
 }
 
-impl<T: Drop> From<AllocFailed<T>> for Fault {
+impl<T: Drop> From<AllocFailed<T>> for CaseFault {
     fn from(_: AllocFailed<T>) -> Self {
-        Fault::NoMemory
+        CaseFault::NoMemory
     }
 }
 
-impl From<NoMemory> for Fault {
+impl From<NoMemory> for CaseFault {
     fn from(_: NoMemory) -> Self {
-        Fault::NoMemory
+        CaseFault::NoMemory
     }
 }
 
-impl From<ImageError> for Fault {
+impl From<ImageError> for CaseFault {
     fn from(error: ImageError) -> Self {
         match error {
-            ImageError::NoMemory => Fault::NoMemory,
-            _ => Fault::Wanted("fewer blocks"),
+            ImageError::NoMemory => CaseFault::NoMemory,
+            _ => CaseFault::Wanted("fewer blocks"),
         }
     }
 }

@@ -1,9 +1,9 @@
 //! The visible state of drives.
 use crate::disk::RecordingImage;
-use crate::fault::Fault;
+use crate::fault::CaseFault;
 use crate::machine::CaseMachine;
 use crate::place::run_of;
-use crate::verb::Hold;
+use crate::step::Hold;
 use crate::words::Words;
 use std::fmt::Write;
 use uda_image::Drive;
@@ -18,7 +18,7 @@ impl CaseMachine {
         hold: Hold,
         words: &mut Words<'_>,
         came: &mut String,
-    ) -> Result<(), Fault> {
+    ) -> Result<(), CaseFault> {
         match hold {
             Hold::Mode => self.mode(words.unit()?, came),
             Hold::Shelf => write_drive(&self.shelf, came),
@@ -28,7 +28,7 @@ impl CaseMachine {
     }
 
     // Writes whether a unit is online, its flags, and its size.
-    fn mode(&self, unit: usize, came: &mut String) -> Result<(), Fault> {
+    fn mode(&self, unit: usize, came: &mut String) -> Result<(), CaseFault> {
         match self.look(unit) {
             Some(look) => {
                 let state = if look.mode.online {
@@ -44,7 +44,7 @@ impl CaseMachine {
     }
 
     // Writes the drive of a unit or its calls. It removes the drive, reads it, and puts it back unchanged.
-    fn opened(&mut self, unit: usize, calls: bool, came: &mut String) -> Result<(), Fault> {
+    fn opened(&mut self, unit: usize, calls: bool, came: &mut String) -> Result<(), CaseFault> {
         let look = self.look(unit);
         let drive = self.exchange_drive(unit, None)?;
         let drive = if calls {
@@ -65,7 +65,7 @@ impl CaseMachine {
 fn with_calls(
     drive: Option<Drive<RecordingImage>>,
     came: &mut String,
-) -> Result<Option<Drive<RecordingImage>>, Fault> {
+) -> Result<Option<Drive<RecordingImage>>, CaseFault> {
     let Some(mut drive) = drive else {
         came.push_str("no drive")?;
         return Ok(None);
@@ -81,7 +81,7 @@ fn with_calls(
 }
 
 // Writes the hardware write protection of a drive, and its blocks.
-fn write_drive(drive: &Option<Drive<RecordingImage>>, came: &mut String) -> Result<(), Fault> {
+fn write_drive(drive: &Option<Drive<RecordingImage>>, came: &mut String) -> Result<(), CaseFault> {
     let Some(drive) = drive else {
         return Ok(came.push_str("none")?);
     };
@@ -94,7 +94,7 @@ fn write_drive(drive: &Option<Drive<RecordingImage>>, came: &mut String) -> Resu
 }
 
 // Writes a block as runs of a byte: `30` if all bytes are equal, `66*256/32*256` if its halves differ.
-fn write_runs(block: &[u8], came: &mut String) -> Result<(), Fault> {
+fn write_runs(block: &[u8], came: &mut String) -> Result<(), CaseFault> {
     let mut rest = block;
     for _ in 0..RUNS {
         let Some(&byte) = rest.first() else {

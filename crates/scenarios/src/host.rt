@@ -1,14 +1,14 @@
 //! The actions of a host.
-use crate::fault::Fault;
+use crate::fault::CaseFault;
 use crate::machine::CaseMachine;
 use crate::op::command;
-use crate::verb::Deed;
+use crate::step::Deed;
 use crate::words::Words;
 use uda_packet::encode_command;
 
 impl CaseMachine {
     /// Executes an action of a host.
-    pub fn act(&mut self, deed: Deed, words: &mut Words<'_>) -> Result<(), Fault> {
+    pub fn act(&mut self, deed: Deed, words: &mut Words<'_>) -> Result<(), CaseFault> {
         match deed {
             Deed::Start => self.start(),
             Deed::Write => self.write(words),
@@ -25,7 +25,7 @@ impl CaseMachine {
     }
 
     // Writes the words of initialization.
-    fn start(&mut self) -> Result<(), Fault> {
+    fn start(&mut self) -> Result<(), CaseFault> {
         for word in self.layout.start_up() {
             self.memory.write_sa(self.subject.port()?, word)?;
         }
@@ -33,12 +33,12 @@ impl CaseMachine {
     }
 
     // Writes IP, or words to SA.
-    fn write(&mut self, words: &mut Words<'_>) -> Result<(), Fault> {
+    fn write(&mut self, words: &mut Words<'_>) -> Result<(), CaseFault> {
         let kind = "ip or sa";
         let is_ip = match words.word(kind)? {
             "ip" => true,
             "sa" => false,
-            _ => return Err(Fault::Wanted(kind)),
+            _ => return Err(CaseFault::Wanted(kind)),
         };
         for _ in 0..words.count() {
             let word = words.hex()?;
@@ -52,7 +52,7 @@ impl CaseMachine {
     }
 
     // Writes words of memory from an address on.
-    fn poke(&mut self, words: &mut Words<'_>) -> Result<(), Fault> {
+    fn poke(&mut self, words: &mut Words<'_>) -> Result<(), CaseFault> {
         let mut address = words.address()?;
         for _ in 0..words.count() {
             self.memory.poke(address, words.hex()?)?;
@@ -62,12 +62,12 @@ impl CaseMachine {
     }
 
     // Writes bytes of memory from an address on.
-    fn put(&mut self, words: &mut Words<'_>) -> Result<(), Fault> {
+    fn put(&mut self, words: &mut Words<'_>) -> Result<(), CaseFault> {
         let address = words.address()?;
         self.put_all(address, words)
     }
 
-    fn put_all(&mut self, address: u32, words: &mut Words<'_>) -> Result<(), Fault> {
+    fn put_all(&mut self, address: u32, words: &mut Words<'_>) -> Result<(), CaseFault> {
         let mut place = address;
         for _ in 0..words.count() {
             self.memory.put(place, words.byte()?)?;
@@ -76,14 +76,14 @@ impl CaseMachine {
         Ok(())
     }
 
-    fn fill(&mut self, words: &mut Words<'_>) -> Result<(), Fault> {
+    fn fill(&mut self, words: &mut Words<'_>) -> Result<(), CaseFault> {
         let address = words.address()?;
         let count = words.number()?;
         self.memory.fill(address, count, words.byte()?)
     }
 
     // Gives descriptor i of both rings to the port, with the length word of its packet.
-    fn hand(&mut self, i: u16, length: u16) -> Result<(), Fault> {
+    fn hand(&mut self, i: u16, length: u16) -> Result<(), CaseFault> {
         let descriptor = self.layout.descriptor(i);
         let packet = self.layout.packet(i);
         let text = packet.saturating_add(4);
@@ -95,7 +95,7 @@ impl CaseMachine {
     }
 
     // Gives response descriptor i to the port, with a buffer of 60 bytes or of the named size.
-    fn open_response(&mut self, words: &mut Words<'_>) -> Result<(), Fault> {
+    fn open_response(&mut self, words: &mut Words<'_>) -> Result<(), CaseFault> {
         let i = words.small()?;
         let length = if words.count() > 0 {
             words.small()?
@@ -106,7 +106,7 @@ impl CaseMachine {
     }
 
     // Posts a command as command i, with the reference i + 1.
-    fn post(&mut self, words: &mut Words<'_>) -> Result<(), Fault> {
+    fn post(&mut self, words: &mut Words<'_>) -> Result<(), CaseFault> {
         let i = words.small()?;
         let command = command(words, u32::from(i) + 1)?;
         let i = self.layout.command(i);
@@ -119,7 +119,7 @@ impl CaseMachine {
     }
 
     // Posts a text as command i: these bytes, followed by zeros.
-    fn post_text(&mut self, words: &mut Words<'_>) -> Result<(), Fault> {
+    fn post_text(&mut self, words: &mut Words<'_>) -> Result<(), CaseFault> {
         let i = self.layout.command(words.small()?);
         let text = self.layout.packet(i).saturating_add(4);
         self.memory.fill(text, 48, 0)?;
@@ -128,7 +128,7 @@ impl CaseMachine {
     }
 
     // Stores a copy of memory.
-    fn keep(&mut self) -> Result<(), Fault> {
+    fn keep(&mut self) -> Result<(), CaseFault> {
         self.kept = self.memory.bytes().to_vec(self.alloc)?;
         Ok(())
     }

@@ -1,8 +1,8 @@
 //! The machine of a case: a port, an executor without a port, or a ring, and the memory of its host.
 use crate::disk::RecordingImage;
-use crate::fault::Fault;
+use crate::fault::CaseFault;
 use crate::memory::{Memory, Slice};
-use crate::verb::Preparation;
+use crate::step::Preparation;
 use crate::words::Words;
 use std::alloc::Global;
 use uda_exec::{Exec, UnitInfo};
@@ -15,7 +15,7 @@ const MEMORY: u32 = 135_168;
 
 /// The subject of a case.
 #[derive(Drop)]
-pub enum Subject {
+pub enum CaseSubject {
     Nothing,
     Port(Port<RecordingImage>),
     Executor(Exec<RecordingImage>),
@@ -83,7 +83,7 @@ impl Layout {
 #[derive(Drop)]
 pub struct CaseMachine {
     pub alloc: Global,
-    pub subject: Subject,
+    pub subject: CaseSubject,
     pub memory: Memory,
     pub layout: Layout,
     /// The drive that was removed last.
@@ -100,10 +100,10 @@ pub struct CaseMachine {
 
 impl CaseMachine {
     /// Returns a machine without port and executor.
-    pub fn new(alloc: Global) -> Result<CaseMachine, Fault> {
+    pub fn new(alloc: Global) -> Result<CaseMachine, CaseFault> {
         Ok(CaseMachine {
             alloc,
-            subject: Subject::Nothing,
+            subject: CaseSubject::Nothing,
             memory: Memory::host(alloc, MEMORY, 0)?,
             layout: LAYOUT,
             shelf: None,
@@ -115,16 +115,16 @@ impl CaseMachine {
     }
 
     /// Prepares the machine.
-    pub fn set(&mut self, setting: Preparation, words: &mut Words<'_>) -> Result<(), Fault> {
+    pub fn set(&mut self, setting: Preparation, words: &mut Words<'_>) -> Result<(), CaseFault> {
         match setting {
             Preparation::New => self.begin(words),
             Preparation::Memory => {
-                let (count, byte) = size(words)?;
+                let (count, byte) = size_and_byte(words)?;
                 self.memory = Memory::host(self.alloc, count, byte)?;
                 Ok(())
             }
             Preparation::Slice => {
-                let (count, byte) = size(words)?;
+                let (count, byte) = size_and_byte(words)?;
                 self.memory = Memory::Slice(Slice::new(self.alloc, count, byte)?);
                 Ok(())
             }
@@ -137,7 +137,7 @@ impl CaseMachine {
     }
 
     // Restarts with the initial memory and layout.
-    fn begin(&mut self, words: &mut Words<'_>) -> Result<(), Fault> {
+    fn begin(&mut self, words: &mut Words<'_>) -> Result<(), CaseFault> {
         self.subject = subject_of(self.alloc, words)?;
         self.memory = Memory::host(self.alloc, MEMORY, 0)?;
         self.layout = LAYOUT;
@@ -151,10 +151,10 @@ impl CaseMachine {
         &mut self,
         unit: usize,
         drive: Option<Drive<RecordingImage>>,
-    ) -> Result<Option<Drive<RecordingImage>>, Fault> {
+    ) -> Result<Option<Drive<RecordingImage>>, CaseFault> {
         match &mut self.subject {
-            Subject::Port(port) => Ok(port.set_drive(unit, drive)),
-            Subject::Executor(exec) => Ok(exec.set_drive(unit, drive)),
+            CaseSubject::Port(port) => Ok(port.set_drive(unit, drive)),
+            CaseSubject::Executor(exec) => Ok(exec.set_drive(unit, drive)),
             _ => Err(NO_UNITS),
         }
     }
@@ -164,10 +164,10 @@ impl CaseMachine {
         &mut self,
         unit: usize,
         drive: Option<Drive<RecordingImage>>,
-    ) -> Result<Option<Drive<RecordingImage>>, Fault> {
+    ) -> Result<Option<Drive<RecordingImage>>, CaseFault> {
         match &mut self.subject {
-            Subject::Port(port) => Ok(port.exchange_drive(unit, drive)),
-            Subject::Executor(exec) => Ok(exec.set_drive(unit, drive)),
+            CaseSubject::Port(port) => Ok(port.exchange_drive(unit, drive)),
+            CaseSubject::Executor(exec) => Ok(exec.set_drive(unit, drive)),
             _ => Err(NO_UNITS),
         }
     }
@@ -175,57 +175,57 @@ impl CaseMachine {
     /// Returns the mode and the size of a unit.
     pub fn look(&self, unit: usize) -> Option<UnitInfo> {
         match &self.subject {
-            Subject::Port(port) => port.unit(unit),
-            Subject::Executor(exec) => exec.unit(unit),
+            CaseSubject::Port(port) => port.unit(unit),
+            CaseSubject::Executor(exec) => exec.unit(unit),
             _ => None,
         }
     }
 }
 
 /// The fault of a case whose subject has no units.
-pub const NO_UNITS: Fault = Fault::Wanted("a port or an executor before this line");
+pub const NO_UNITS: CaseFault = CaseFault::Wanted("a port or an executor before this line");
 
-impl Subject {
+impl CaseSubject {
     /// Returns the port.
-    pub fn port(&mut self) -> Result<&mut Port<RecordingImage>, Fault> {
+    pub fn port(&mut self) -> Result<&mut Port<RecordingImage>, CaseFault> {
         match self {
-            Subject::Port(port) => Ok(port),
-            _ => Err(Fault::Wanted("a port before this line")),
+            CaseSubject::Port(port) => Ok(port),
+            _ => Err(CaseFault::Wanted("a port before this line")),
         }
     }
 
     /// Returns the executor.
-    pub fn executor(&mut self) -> Result<&mut Exec<RecordingImage>, Fault> {
+    pub fn executor(&mut self) -> Result<&mut Exec<RecordingImage>, CaseFault> {
         match self {
-            Subject::Executor(exec) => Ok(exec),
-            _ => Err(Fault::Wanted("an executor before this line")),
+            CaseSubject::Executor(exec) => Ok(exec),
+            _ => Err(CaseFault::Wanted("an executor before this line")),
         }
     }
 }
 
 // Returns the subject that the words name: a port without drives, an executor without drives, or a ring.
-fn subject_of(alloc: Global, words: &mut Words<'_>) -> Result<Subject, Fault> {
+fn subject_of(alloc: Global, words: &mut Words<'_>) -> Result<CaseSubject, CaseFault> {
     let kind = "strict, guests, executor or ring";
     let name = words.word(kind)?;
     match name {
         "strict" => strict(alloc),
         "guests" => guests(alloc, identity(words)?),
-        "executor" => Ok(Subject::Executor(no_drives())),
+        "executor" => Ok(CaseSubject::Executor(no_drives())),
         "ring" => parse_ring(words),
-        _ => Err(Fault::Wanted(kind)),
+        _ => Err(CaseFault::Wanted(kind)),
     }
 }
 
 // Returns a strict port.
-fn strict(alloc: Global) -> Result<Subject, Fault> {
+fn strict(alloc: Global) -> Result<CaseSubject, CaseFault> {
     match Port::new(alloc, no_drives()) {
-        Ok(port) => Ok(Subject::Port(port)),
-        Err(_) => Err(Fault::NoMemory),
+        Ok(port) => Ok(CaseSubject::Port(port)),
+        Err(_) => Err(CaseFault::NoMemory),
     }
 }
 
 // Returns the identity of the controller: on a UNIBUS or on a Q-bus, with units from a number on.
-fn identity(words: &mut Words<'_>) -> Result<Identity, Fault> {
+fn identity(words: &mut Words<'_>) -> Result<Identity, CaseFault> {
     let bus = if words.takes("qbus") {
         Bus::Qbus
     } else {
@@ -237,10 +237,10 @@ fn identity(words: &mut Words<'_>) -> Result<Identity, Fault> {
 }
 
 // Returns a port of the compatible profile.
-fn guests(alloc: Global, identity: Identity) -> Result<Subject, Fault> {
+fn guests(alloc: Global, identity: Identity) -> Result<CaseSubject, CaseFault> {
     match Port::compatible_as(alloc, identity, no_drives()) {
-        Ok(port) => Ok(Subject::Port(port)),
-        Err(_) => Err(Fault::NoMemory),
+        Ok(port) => Ok(CaseSubject::Port(port)),
+        Err(_) => Err(CaseFault::NoMemory),
     }
 }
 
@@ -249,13 +249,13 @@ fn no_drives() -> Exec<RecordingImage> {
 }
 
 // Takes a number of bytes, and the byte that all of them have: 0 if none is named.
-fn size(words: &mut Words<'_>) -> Result<(u32, u8), Fault> {
+fn size_and_byte(words: &mut Words<'_>) -> Result<(u32, u8), CaseFault> {
     let count = words.number()?;
     let byte = if words.count() > 0 { words.byte()? } else { 0 };
     Ok((count, byte))
 }
 
-fn layout_of(words: &mut Words<'_>) -> Result<Layout, Fault> {
+fn layout_of(words: &mut Words<'_>) -> Result<Layout, CaseFault> {
     Ok(Layout {
         count: words.small()?,
         base: words.address()?,
@@ -263,14 +263,14 @@ fn layout_of(words: &mut Words<'_>) -> Result<Layout, Fault> {
     })
 }
 
-fn parse_ring(words: &mut Words<'_>) -> Result<Subject, Fault> {
+fn parse_ring(words: &mut Words<'_>) -> Result<CaseSubject, CaseFault> {
     let base = words.address()?;
     let count = words.small()?;
     if !Ring::is_base(base) {
-        return Err(Fault::Wanted("a ring's base"));
+        return Err(CaseFault::Wanted("a ring's base"));
     }
     match count {
-        1 | 2 | 4 | 8 | 16 | 32 | 64 | 128 => Ok(Subject::Ring(Ring::new(base, count))),
-        _ => Err(Fault::Wanted("a ring's length")),
+        1 | 2 | 4 | 8 | 16 | 32 | 64 | 128 => Ok(CaseSubject::Ring(Ring::new(base, count))),
+        _ => Err(CaseFault::Wanted("a ring's length")),
     }
 }

@@ -20,7 +20,7 @@ mod random;
 mod run;
 mod saved;
 mod sight;
-mod verb;
+mod step;
 mod words;
 
 use std::process::ExitCode;

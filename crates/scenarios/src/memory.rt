@@ -1,7 +1,7 @@
 //! The memory of a case's host: one of its own, or borrowed bytes in a slice. A memory that wanders is
 //! another slice at each call.
 use crate::disk::RecordingImage;
-use crate::fault::Fault;
+use crate::fault::CaseFault;
 use std::alloc::Global;
 use uda_exec::Exec;
 use uda_mem::{HostMemory, MEMORY_LIMIT, SLICE_LIMIT, is_memory};
@@ -29,9 +29,9 @@ pub struct Slice {
 
 impl Slice {
     /// Returns a memory of `count` bytes.
-    pub fn new(alloc: Global, count: u32, byte: u8) -> Result<Slice, Fault> {
+    pub fn new(alloc: Global, count: u32, byte: u8) -> Result<Slice, CaseFault> {
         if count > SLICE_LIMIT {
-            return Err(Fault::Memory);
+            return Err(CaseFault::Memory);
         }
         Ok(Slice {
             bytes: vec![in alloc; byte; count as usize]?,
@@ -40,10 +40,10 @@ impl Slice {
     }
 
     // Returns the bytes for the next call.
-    fn next(&mut self) -> Result<&mut [u8], Fault> {
+    fn next(&mut self) -> Result<&mut [u8], CaseFault> {
         if let Some(spare) = &mut self.spare {
             if spare.len() != self.bytes.len() {
-                return Err(Fault::Memory);
+                return Err(CaseFault::Memory);
             }
             spare.copy_from_slice(&self.bytes);
             self.bytes.fill(LEFT);
@@ -55,9 +55,9 @@ impl Slice {
 
 impl Memory {
     /// Returns a host's own memory of `count` bytes.
-    pub fn host(alloc: Global, count: u32, byte: u8) -> Result<Memory, Fault> {
+    pub fn host(alloc: Global, count: u32, byte: u8) -> Result<Memory, CaseFault> {
         if count % 2 != 0 || count > MEMORY_LIMIT {
-            return Err(Fault::Memory);
+            return Err(CaseFault::Memory);
         }
         let mut memory = Memory::Host(HostMemory::new(alloc, count)?);
         memory.bytes_mut().fill(byte);
@@ -65,7 +65,7 @@ impl Memory {
     }
 
     /// Moves the memory to another slice at each following call.
-    pub fn wander(&mut self, alloc: Global) -> Result<(), Fault> {
+    pub fn wander(&mut self, alloc: Global) -> Result<(), CaseFault> {
         if let Memory::Slice(slice) = self {
             let count = slice.bytes.len();
             slice.spare = Some(vec![in alloc; LEFT; count]?);
@@ -90,45 +90,49 @@ impl Memory {
     }
 
     /// Returns `count` bytes from an address on.
-    pub fn window(&self, address: u32, count: u32) -> Result<&[u8], Fault> {
-        uda_mem::window(self.bytes(), address, count).ok_or(Fault::Address)
+    pub fn window(&self, address: u32, count: u32) -> Result<&[u8], CaseFault> {
+        uda_mem::window(self.bytes(), address, count).ok_or(CaseFault::Address)
     }
 
     /// Returns the word at an address.
-    pub fn word(&self, address: u32) -> Result<u16, Fault> {
-        uda_mem::read_word(self.bytes(), address).ok_or(Fault::Address)
+    pub fn word(&self, address: u32) -> Result<u16, CaseFault> {
+        uda_mem::read_word(self.bytes(), address).ok_or(CaseFault::Address)
     }
 
     /// Writes a word.
-    pub fn poke(&mut self, address: u32, word: u16) -> Result<(), Fault> {
+    pub fn poke(&mut self, address: u32, word: u16) -> Result<(), CaseFault> {
         if uda_mem::write_word(self.bytes_mut(), address, word) {
             Ok(())
         } else {
-            Err(Fault::Address)
+            Err(CaseFault::Address)
         }
     }
 
     /// Writes a byte.
-    pub fn put(&mut self, address: u32, byte: u8) -> Result<(), Fault> {
+    pub fn put(&mut self, address: u32, byte: u8) -> Result<(), CaseFault> {
         match self.bytes_mut().get_mut(address as usize) {
             Some(place) => *place = byte,
-            None => return Err(Fault::Address),
+            None => return Err(CaseFault::Address),
         }
         Ok(())
     }
 
     /// Writes one byte to `count` addresses from one on.
-    pub fn fill(&mut self, address: u32, count: u32, byte: u8) -> Result<(), Fault> {
+    pub fn fill(&mut self, address: u32, count: u32, byte: u8) -> Result<(), CaseFault> {
         let start = address as usize;
         match self.bytes_mut().get_mut(start..start + count as usize) {
             Some(bytes) => bytes.fill(byte),
-            None => return Err(Fault::Address),
+            None => return Err(CaseFault::Address),
         }
         Ok(())
     }
 
     /// Writes a word to a port's SA.
-    pub fn write_sa(&mut self, port: &mut Port<RecordingImage>, word: u16) -> Result<(), Fault> {
+    pub fn write_sa(
+        &mut self,
+        port: &mut Port<RecordingImage>,
+        word: u16,
+    ) -> Result<(), CaseFault> {
         match self {
             Memory::Host(memory) => port.write_sa(word, memory),
             Memory::Slice(slice) => port.write_sa_in(word, slice.next()?),
@@ -137,13 +141,13 @@ impl Memory {
     }
 
     /// Runs a turn of a port.
-    pub fn turn(&mut self, port: &mut Port<RecordingImage>) -> Result<Trace, Fault> {
+    pub fn turn(&mut self, port: &mut Port<RecordingImage>) -> Result<Trace, CaseFault> {
         match self {
             Memory::Host(memory) => Ok(port.turn_traced(memory)),
             Memory::Slice(slice) => {
                 let bytes = slice.next()?;
                 if !is_memory(bytes) {
-                    return Err(Fault::Memory);
+                    return Err(CaseFault::Memory);
                 }
                 Ok(port.turn_traced_in(bytes))
             }
@@ -155,13 +159,13 @@ impl Memory {
         &mut self,
         port: &mut Port<RecordingImage>,
         events: &[HostEvent],
-    ) -> Result<u16, Fault> {
+    ) -> Result<u16, CaseFault> {
         match self {
             Memory::Host(memory) => Ok(port.play(events, memory)),
             Memory::Slice(slice) => {
                 let bytes = slice.next()?;
                 if !is_memory(bytes) {
-                    return Err(Fault::Memory);
+                    return Err(CaseFault::Memory);
                 }
                 Ok(port.play_in(events, bytes))
             }
@@ -169,13 +173,13 @@ impl Memory {
     }
 
     /// Executes a command of an executor.
-    pub fn execute(&mut self, exec: &mut Exec<RecordingImage>) -> Result<Option<End>, Fault> {
+    pub fn execute(&mut self, exec: &mut Exec<RecordingImage>) -> Result<Option<End>, CaseFault> {
         match self {
             Memory::Host(memory) => Ok(exec.execute_one(memory)),
             Memory::Slice(slice) => {
                 let bytes = slice.next()?;
                 if !is_memory(bytes) {
-                    return Err(Fault::Memory);
+                    return Err(CaseFault::Memory);
                 }
                 Ok(exec.execute_one_in(bytes))
             }
@@ -183,13 +187,16 @@ impl Memory {
     }
 
     /// Fetches a packet from a ring.
-    pub fn fetch(&mut self, ring: &mut Ring) -> Result<Result<Option<Fetched>, RingFault>, Fault> {
+    pub fn fetch(
+        &mut self,
+        ring: &mut Ring,
+    ) -> Result<Result<Option<Fetched>, RingFault>, CaseFault> {
         match self {
             Memory::Host(memory) => Ok(ring.fetch(memory)),
             Memory::Slice(slice) => {
                 let bytes = slice.next()?;
                 if !is_memory(bytes) {
-                    return Err(Fault::Memory);
+                    return Err(CaseFault::Memory);
                 }
                 Ok(ring.fetch_in(bytes))
             }

@@ -1,5 +1,5 @@
 //! Commands and end messages, in the notation of a case.
-use crate::fault::Fault;
+use crate::fault::CaseFault;
 use crate::words::Words;
 use std::fmt;
 use uda_packet::{Command, End, EndBody, Kind, Op, Reply, ReplyBody};
@@ -39,9 +39,9 @@ fn parse_name(word: &str) -> Option<Name> {
 
 /// Takes a command: its name, its unit, and its parameters. `read 0 5 512 1000` reads 512 bytes from block 5
 /// on to the address 0x1000.
-pub fn command(words: &mut Words<'_>, reference: u32) -> Result<Command, Fault> {
+pub fn command(words: &mut Words<'_>, reference: u32) -> Result<Command, CaseFault> {
     let kind = "a command's name";
-    let name = parse_name(words.word(kind)?).ok_or(Fault::Wanted(kind))?;
+    let name = parse_name(words.word(kind)?).ok_or(CaseFault::Wanted(kind))?;
     let unit = words.small()?;
     let op = operation(words, name)?;
     Ok(Command {
@@ -51,7 +51,7 @@ pub fn command(words: &mut Words<'_>, reference: u32) -> Result<Command, Fault> 
     })
 }
 
-fn operation(words: &mut Words<'_>, name: Name) -> Result<Op, Fault> {
+fn operation(words: &mut Words<'_>, name: Name) -> Result<Op, CaseFault> {
     match name {
         Name::Status => Ok(Op::Status),
         Name::Controller => Ok(Op::Controller),
@@ -74,7 +74,7 @@ fn protection(words: &mut Words<'_>) -> Option<bool> {
     }
 }
 
-fn transfer(words: &mut Words<'_>, name: Name) -> Result<Op, Fault> {
+fn transfer(words: &mut Words<'_>, name: Name) -> Result<Op, CaseFault> {
     let lbn = words.number()?;
     let bytes = words.number()?;
     match name {
@@ -184,7 +184,7 @@ fn name_of_body(body: EndBody) -> &'static str {
 }
 
 /// Returns whether an end message belongs to this command, by its reference, its unit and its name.
-pub fn is_of(end: &End, command: &Command) -> bool {
+pub fn is_end_of(end: &End, command: &Command) -> bool {
     end.reference == command.reference
         && end.unit == command.unit
         && end.body.code() == command.op.opcode() | 0x80

@@ -1,8 +1,8 @@
 //! The visible state of memory.
-use crate::fault::Fault;
+use crate::fault::CaseFault;
 use crate::machine::CaseMachine;
 use crate::op::ReplyLine;
-use crate::verb::Place;
+use crate::step::Place;
 use crate::words::Words;
 use std::fmt::Write;
 use uda_mem::is_memory;
@@ -17,7 +17,7 @@ impl CaseMachine {
         words: &mut Words<'_>,
         wanted: usize,
         came: &mut String,
-    ) -> Result<(), Fault> {
+    ) -> Result<(), CaseFault> {
         match place {
             Place::Words => self.words(words.address()?, wanted, came),
             Place::Bytes => self.bytes(words.address()?, wanted, came),
@@ -31,7 +31,7 @@ impl CaseMachine {
     }
 
     // Writes `wanted` words from an address on.
-    fn words(&self, first: u32, wanted: usize, came: &mut String) -> Result<(), Fault> {
+    fn words(&self, first: u32, wanted: usize, came: &mut String) -> Result<(), CaseFault> {
         let mut address = first;
         for _ in 0..wanted {
             write!(came, "{:04x} ", self.memory.word(address)?)?;
@@ -41,7 +41,7 @@ impl CaseMachine {
     }
 
     // Writes `wanted` bytes from an address on.
-    fn bytes(&self, first: u32, wanted: usize, came: &mut String) -> Result<(), Fault> {
+    fn bytes(&self, first: u32, wanted: usize, came: &mut String) -> Result<(), CaseFault> {
         let bytes = self.memory.bytes();
         for byte in bytes.iter().skip(first as usize).take(wanted) {
             write!(came, "{byte:02x} ")?;
@@ -50,12 +50,12 @@ impl CaseMachine {
     }
 
     // Writes the byte that a number of bytes from an address on have, and the first that differs.
-    fn filled(&self, words: &mut Words<'_>, came: &mut String) -> Result<(), Fault> {
+    fn filled(&self, words: &mut Words<'_>, came: &mut String) -> Result<(), CaseFault> {
         let first = words.address()?;
         let count = words.number()?;
         let bytes = self.memory.window(first, count)?;
         let Some(&byte) = bytes.first() else {
-            return Err(Fault::Wanted("one byte or more"));
+            return Err(CaseFault::Wanted("one byte or more"));
         };
         write!(came, "{byte:02x}")?;
         let run = run_of(bytes, byte);
@@ -70,7 +70,7 @@ impl CaseMachine {
     }
 
     // Writes the byte that memory has outside a range of zeros, and the first address that differs.
-    fn cleared(&self, words: &mut Words<'_>, came: &mut String) -> Result<(), Fault> {
+    fn cleared(&self, words: &mut Words<'_>, came: &mut String) -> Result<(), CaseFault> {
         let start = words.address()? as usize;
         let end = start.saturating_add(words.number()? as usize);
         let bytes = self.memory.bytes();
@@ -88,7 +88,7 @@ impl CaseMachine {
     }
 
     // Writes whether memory is equal to the stored copy.
-    fn same(&self, came: &mut String) -> Result<(), Fault> {
+    fn same(&self, came: &mut String) -> Result<(), CaseFault> {
         let bytes = self.memory.bytes();
         if bytes.len() != self.kept.len() {
             return Ok(came.push_str("no: another length")?);
@@ -104,7 +104,7 @@ impl CaseMachine {
     }
 
     // Writes the end message of response i.
-    fn end(&self, words: &mut Words<'_>, came: &mut String) -> Result<(), Fault> {
+    fn end(&self, words: &mut Words<'_>, came: &mut String) -> Result<(), CaseFault> {
         let packet = self.layout.packet(words.small()?);
         let bytes = self.memory.window(packet.saturating_add(4), 48)?;
         let mut text = [0; 48];
@@ -120,10 +120,10 @@ impl CaseMachine {
 
     // Writes the descriptor at an even address: its words, its owner, its address, and its second word as the
     // port returns it.
-    fn descriptor(&self, at: u32, came: &mut String) -> Result<(), Fault> {
+    fn descriptor(&self, at: u32, came: &mut String) -> Result<(), CaseFault> {
         let bytes = self.memory.bytes();
         if at % 2 != 0 || !is_memory(bytes) {
-            return Err(Fault::Address);
+            return Err(CaseFault::Address);
         }
         let Some(d) = Descriptor::read_in(bytes, at) else {
             return Ok(came.push_str("none")?);

@@ -1,7 +1,7 @@
 //! Random hosts: random events applied to a port, and checks that every fatal error is allowed.
 ghost use Rattle.std.specs.Prelude.{◌<◌};
 
-use crate::fault::Fault;
+use crate::fault::CaseFault;
 use crate::machine::CaseMachine;
 use crate::sight::write_phase;
 use crate::words::Words;
@@ -98,7 +98,7 @@ fn is_lawful(before: Phase, event: HostEvent, after: Phase) -> bool {
 
 impl CaseMachine {
     /// Applies a number of random events of a seed one by one, and writes whether all phases were allowed.
-    pub fn random(&mut self, words: &mut Words<'_>, came: &mut String) -> Result<(), Fault> {
+    pub fn random(&mut self, words: &mut Words<'_>, came: &mut String) -> Result<(), CaseFault> {
         let mut host = RandomHost::new(words.address()?);
         let (mut deaths, mut busy) = (0u32, 0u32);
         for number in 0..words.number()? {
@@ -126,25 +126,25 @@ impl CaseMachine {
     }
 
     // Applies an event, and returns the port's phase if SA shows it.
-    fn play_one(&mut self, event: HostEvent) -> Result<Phase, Fault> {
+    fn play_one(&mut self, event: HostEvent) -> Result<Phase, CaseFault> {
         let port = self.subject.port()?;
         let sa = self.memory.play(port, &[event])?;
         let phase = port.phase();
         if sa == port.read_sa() {
             Ok(phase)
         } else {
-            Err(Fault::Wanted("an SA that shows the phase"))
+            Err(CaseFault::Wanted("an SA that shows the phase"))
         }
     }
 
-    fn is_busy(&mut self) -> Result<bool, Fault> {
+    fn is_busy(&mut self) -> Result<bool, CaseFault> {
         let port = self.subject.port()?;
         Ok(port.pending() > 0 || port.waiting() > 0)
     }
 
     /// Applies the same events in one call, and writes whether the port's phase is the one after the last
     /// random events.
-    pub fn replay(&mut self, words: &mut Words<'_>, came: &mut String) -> Result<(), Fault> {
+    pub fn replay(&mut self, words: &mut Words<'_>, came: &mut String) -> Result<(), CaseFault> {
         let mut host = RandomHost::new(words.address()?);
         let mut events = Vec::new(self.alloc);
         for _ in 0..words.number()? {

@@ -1,8 +1,8 @@
 //! Turns, executions and fetches.
-use crate::fault::Fault;
-use crate::machine::{CaseMachine, Subject};
-use crate::op::{EndMessageLine, StatusAndNumbers, command, is_of};
-use crate::verb::Work;
+use crate::fault::CaseFault;
+use crate::machine::{CaseMachine, CaseSubject};
+use crate::op::{EndMessageLine, StatusAndNumbers, command, is_end_of};
+use crate::step::Work;
 use crate::words::Words;
 use std::fmt::Write;
 use uda_exec::PENDING;
@@ -16,7 +16,7 @@ impl CaseMachine {
         words: &mut Words<'_>,
         wanted: usize,
         came: &mut String,
-    ) -> Result<(), Fault> {
+    ) -> Result<(), CaseFault> {
         match work {
             Work::Ip => {
                 let value = self.subject.port()?.read_ip();
@@ -35,14 +35,14 @@ impl CaseMachine {
     }
 
     // Runs one turn, and writes it with its command or end message.
-    fn turn(&mut self, came: &mut String) -> Result<(), Fault> {
+    fn turn(&mut self, came: &mut String) -> Result<(), CaseFault> {
         let trace = self.memory.turn(self.subject.port()?)?;
         write!(came, "{trace}")?;
         Ok(())
     }
 
     // Runs several turns, and writes their kinds.
-    fn turns(&mut self, wanted: usize, came: &mut String) -> Result<(), Fault> {
+    fn turns(&mut self, wanted: usize, came: &mut String) -> Result<(), CaseFault> {
         for _ in 0..wanted {
             let trace = self.memory.turn(self.subject.port()?)?;
             write!(came, "{} ", turn_name(trace.turn()))?;
@@ -52,15 +52,15 @@ impl CaseMachine {
     }
 
     // Queues a command in the executor and executes it at once.
-    fn execute(&mut self, words: &mut Words<'_>, came: &mut String) -> Result<(), Fault> {
+    fn execute(&mut self, words: &mut Words<'_>, came: &mut String) -> Result<(), CaseFault> {
         let command = command(words, 1)?;
         let exec = self.subject.executor()?;
         if exec.pending() >= PENDING {
-            return Err(Fault::Full);
+            return Err(CaseFault::Full);
         }
         exec.accept(command);
         match self.memory.execute(exec)? {
-            Some(end) if is_of(&end, &command) => write!(came, "{}", StatusAndNumbers(end))?,
+            Some(end) if is_end_of(&end, &command) => write!(came, "{}", StatusAndNumbers(end))?,
             Some(end) => write!(came, "{}", EndMessageLine(end))?,
             None => came.push_str("none")?,
         }
@@ -68,7 +68,7 @@ impl CaseMachine {
     }
 
     // Executes the command that the executor chooses.
-    fn next(&mut self, came: &mut String) -> Result<(), Fault> {
+    fn next(&mut self, came: &mut String) -> Result<(), CaseFault> {
         match self.memory.execute(self.subject.executor()?)? {
             Some(end) => write!(came, "{} {:04x}", end.reference, end.status)?,
             None => came.push_str("none")?,
@@ -77,9 +77,9 @@ impl CaseMachine {
     }
 
     // Fetches a packet from the ring.
-    fn fetch(&mut self, came: &mut String) -> Result<(), Fault> {
-        let Subject::Ring(ring) = &mut self.subject else {
-            return Err(Fault::Wanted("a ring before this line"));
+    fn fetch(&mut self, came: &mut String) -> Result<(), CaseFault> {
+        let CaseSubject::Ring(ring) = &mut self.subject else {
+            return Err(CaseFault::Wanted("a ring before this line"));
         };
         match self.memory.fetch(ring)? {
             Ok(Some(packet)) => write_packet(&packet, came),
@@ -101,7 +101,7 @@ fn turn_name(turn: Turn) -> &'static str {
 }
 
 // Writes a packet: both words of its envelope, and the bytes of its text up to the last that isn't 0.
-fn write_packet(packet: &Fetched, came: &mut String) -> Result<(), Fault> {
+fn write_packet(packet: &Fetched, came: &mut String) -> Result<(), CaseFault> {
     let (length, second) = packet.words;
     write!(came, "{length:04x} {second:04x}")?;
     let mut count = 0;

@@ -1,13 +1,13 @@
 //! The visible state of a port, an executor or a ring.
-use crate::fault::Fault;
-use crate::machine::{CaseMachine, NO_UNITS, Subject};
-use crate::verb::Sight;
+use crate::fault::CaseFault;
+use crate::machine::{CaseMachine, CaseSubject, NO_UNITS};
+use crate::step::Sight;
 use std::fmt::Write;
 use uda_port::{Phase, Profile, Ring};
 
 impl CaseMachine {
     /// Writes the visible state.
-    pub fn show(&mut self, sight: Sight, came: &mut String) -> Result<(), Fault> {
+    pub fn show(&mut self, sight: Sight, came: &mut String) -> Result<(), CaseFault> {
         match sight {
             Sight::Load => self.load(came),
             Sight::Debug => self.debug(came),
@@ -18,7 +18,7 @@ impl CaseMachine {
     }
 
     // Writes the visible state that only a port has.
-    fn port_sight(&mut self, sight: Sight, came: &mut String) -> Result<(), Fault> {
+    fn port_sight(&mut self, sight: Sight, came: &mut String) -> Result<(), CaseFault> {
         let port = self.subject.port()?;
         match sight {
             Sight::Sa => write!(came, "{:04x}", port.read_sa())?,
@@ -36,7 +36,7 @@ impl CaseMachine {
     }
 
     // Takes the pending request and writes its vector; and that of a second one, if there were one.
-    fn interrupt(&mut self, came: &mut String) -> Result<(), Fault> {
+    fn interrupt(&mut self, came: &mut String) -> Result<(), CaseFault> {
         let port = self.subject.port()?;
         match port.take_interrupt() {
             Some(vector) => write!(came, "{vector:04x}")?,
@@ -49,36 +49,36 @@ impl CaseMachine {
     }
 
     // Writes the number of pending commands and of queued end messages.
-    fn load(&mut self, came: &mut String) -> Result<(), Fault> {
+    fn load(&mut self, came: &mut String) -> Result<(), CaseFault> {
         match &self.subject {
-            Subject::Port(port) => write!(came, "{} {}", port.pending(), port.waiting())?,
-            Subject::Executor(exec) => write!(came, "{}", exec.pending())?,
+            CaseSubject::Port(port) => write!(came, "{} {}", port.pending(), port.waiting())?,
+            CaseSubject::Executor(exec) => write!(came, "{}", exec.pending())?,
             _ => return Err(NO_UNITS),
         }
         Ok(())
     }
 
-    fn debug(&mut self, came: &mut String) -> Result<(), Fault> {
+    fn debug(&mut self, came: &mut String) -> Result<(), CaseFault> {
         match &self.subject {
-            Subject::Port(port) => write!(came, "{port:?}")?,
-            Subject::Executor(exec) => write!(came, "{exec:?}")?,
+            CaseSubject::Port(port) => write!(came, "{port:?}")?,
+            CaseSubject::Executor(exec) => write!(came, "{exec:?}")?,
             _ => return Err(NO_UNITS),
         }
         Ok(())
     }
 
     // Writes the command ring.
-    fn commands(&mut self, came: &mut String) -> Result<(), Fault> {
+    fn commands(&mut self, came: &mut String) -> Result<(), CaseFault> {
         match &self.subject {
-            Subject::Port(port) => write_ring(port.commands(), came),
-            Subject::Ring(ring) => write_ring(*ring, came),
-            _ => Err(Fault::Wanted("a port or a ring before this line")),
+            CaseSubject::Port(port) => write_ring(port.commands(), came),
+            CaseSubject::Ring(ring) => write_ring(*ring, came),
+            _ => Err(CaseFault::Wanted("a port or a ring before this line")),
         }
     }
 }
 
 /// Writes the phase of a port.
-pub fn write_phase(phase: Phase, came: &mut String) -> Result<(), Fault> {
+pub fn write_phase(phase: Phase, came: &mut String) -> Result<(), CaseFault> {
     came.push_str(match phase {
         Phase::Step1 => "step1",
         Phase::Step2 { .. } => "step2",
@@ -97,7 +97,7 @@ pub fn write_phase(phase: Phase, came: &mut String) -> Result<(), Fault> {
 }
 
 // Writes the cause of a dead port's fatal error.
-fn write_cause(phase: Phase, came: &mut String) -> Result<(), Fault> {
+fn write_cause(phase: Phase, came: &mut String) -> Result<(), CaseFault> {
     match phase {
         Phase::Dead { cause } => write!(came, "{cause}")?,
         _ => came.push_str("none")?,
@@ -106,7 +106,7 @@ fn write_cause(phase: Phase, came: &mut String) -> Result<(), Fault> {
 }
 
 // Writes a ring: its base, its number of descriptors, and its next index.
-fn write_ring(ring: Ring, came: &mut String) -> Result<(), Fault> {
+fn write_ring(ring: Ring, came: &mut String) -> Result<(), CaseFault> {
     write!(came, "{:x} {} {}", ring.base(), ring.count(), ring.place())?;
     Ok(())
 }

@@ -1,5 +1,5 @@
 //! The words of a line.
-use crate::fault::Fault;
+use crate::fault::CaseFault;
 use arrayvec::ArrayVec;
 
 /// The most words of each side of `=`.
@@ -9,11 +9,11 @@ pub const LINE_WORDS: usize = 96;
 pub type Split<'a> = ArrayVec<&'a str, LINE_WORDS>;
 
 /// Splits a text into its words.
-pub fn split(text: &str) -> Result<Split<'_>, Fault> {
+pub fn split(text: &str) -> Result<Split<'_>, CaseFault> {
     let mut words = ArrayVec::new();
     for word in text.split_whitespace() {
         if words.try_push(word).is_err() {
-            return Err(Fault::MoreWords);
+            return Err(CaseFault::MoreWords);
         }
     }
     Ok(words)
@@ -56,69 +56,69 @@ impl<'a> Words<'a> {
     }
 
     /// Takes the next word, which is of this kind.
-    pub fn word(&mut self, kind: &'static str) -> Result<&'a str, Fault> {
-        self.next().ok_or(Fault::Wanted(kind))
+    pub fn word(&mut self, kind: &'static str) -> Result<&'a str, CaseFault> {
+        self.next().ok_or(CaseFault::Wanted(kind))
     }
 
     /// Takes a hexadecimal number of at most 32 bits.
-    pub fn address(&mut self) -> Result<u32, Fault> {
+    pub fn address(&mut self) -> Result<u32, CaseFault> {
         let kind = "a hexadecimal number";
-        parse_hexadecimal(self.word(kind)?).ok_or(Fault::Wanted(kind))
+        parse_hexadecimal(self.word(kind)?).ok_or(CaseFault::Wanted(kind))
     }
 
     /// Takes a hexadecimal number of at most 16 bits.
-    pub fn hex(&mut self) -> Result<u16, Fault> {
+    pub fn hex(&mut self) -> Result<u16, CaseFault> {
         match u16::try_from(self.address()?) {
             Ok(value) => Ok(value),
-            Err(_) => Err(Fault::Wanted("a hexadecimal word")),
+            Err(_) => Err(CaseFault::Wanted("a hexadecimal word")),
         }
     }
 
     /// Takes a hexadecimal number of at most 8 bits.
-    pub fn byte(&mut self) -> Result<u8, Fault> {
+    pub fn byte(&mut self) -> Result<u8, CaseFault> {
         match u8::try_from(self.address()?) {
             Ok(value) => Ok(value),
-            Err(_) => Err(Fault::Wanted("a hexadecimal byte")),
+            Err(_) => Err(CaseFault::Wanted("a hexadecimal byte")),
         }
     }
 
     /// Takes the number of a unit.
-    pub fn unit(&mut self) -> Result<usize, Fault> {
+    pub fn unit(&mut self) -> Result<usize, CaseFault> {
         let kind = "a decimal number";
         match self.word(kind)?.parse::<usize>() {
             Ok(value) => Ok(value),
-            Err(_) => Err(Fault::Wanted(kind)),
+            Err(_) => Err(CaseFault::Wanted(kind)),
         }
     }
 
     /// Takes a decimal number of at most 32 bits.
-    pub fn number(&mut self) -> Result<u32, Fault> {
+    pub fn number(&mut self) -> Result<u32, CaseFault> {
         match u32::try_from(self.unit()?) {
             Ok(value) => Ok(value),
-            Err(_) => Err(Fault::Wanted("a decimal number of 32 bits")),
+            Err(_) => Err(CaseFault::Wanted("a decimal number of 32 bits")),
         }
     }
 
     /// Takes a decimal number of at most 16 bits.
-    pub fn small(&mut self) -> Result<u16, Fault> {
+    pub fn small(&mut self) -> Result<u16, CaseFault> {
         match u16::try_from(self.unit()?) {
             Ok(value) => Ok(value),
-            Err(_) => Err(Fault::Wanted("a decimal number of 16 bits")),
+            Err(_) => Err(CaseFault::Wanted("a decimal number of 16 bits")),
         }
     }
 
     /// Fails if a word is left.
-    pub fn end(&self) -> Result<(), Fault> {
+    pub fn end(&self) -> Result<(), CaseFault> {
         if self.count() == 0 {
             Ok(())
         } else {
-            Err(Fault::MoreWords)
+            Err(CaseFault::MoreWords)
         }
     }
 }
 
 // Returns the value of a hexadecimal digit.
-fn nibble(digit: u8) -> Option<u32> {
+fn hexadecimal_value(digit: u8) -> Option<u32> {
     match digit {
         b'0'..=b'9' => Some(u32::from(digit - b'0')),
         b'a'..=b'f' => Some(u32::from(digit - b'a') + 10),
@@ -133,13 +133,15 @@ fn parse_hexadecimal(word: &str) -> Option<u32> {
     }
     let mut value = 0u32;
     for digit in word.bytes() {
-        value = value.checked_mul(16)?.checked_add(nibble(digit)?)?;
+        value = value
+            .checked_mul(16)?
+            .checked_add(hexadecimal_value(digit)?)?;
     }
     Some(value)
 }
 
 /// Returns whether two texts have the same words, except for leading zeros.
-pub fn are_alike(one: &str, other: &str) -> Result<bool, Fault> {
+pub fn are_alike(one: &str, other: &str) -> Result<bool, CaseFault> {
     let one = split(one)?;
     let other = split(other)?;
     if one.len() != other.len() {

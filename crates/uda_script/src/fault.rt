@@ -9,7 +9,7 @@ use uda_mem::NoMemory;
 
 /// The reason why the program ended without completing its task.
 #[derive(Debug, Drop, Error)]
-pub enum Fault {
+pub enum ProgramFault {
     /// The arguments are invalid.
     #[error("uda: usage")]
     Usage,
@@ -63,15 +63,15 @@ pub enum Fault {
     },
 }
 
-impl Fault {
+impl ProgramFault {
     ghost use Rattle.std.specs.Prelude.{◌≡◌};
     ghost use Rattle.uda_script.specs.Statuses.{exit_status_of};
 
     /// Returns the fault of a unit's image that can't be used.
-    pub fn image(unit: usize, error: ImageError) -> Fault {
+    pub fn image(unit: usize, error: ImageError) -> ProgramFault {
         match error {
-            ImageError::NoMemory => Fault::NoMemory,
-            error => Fault::Image { unit, error },
+            ImageError::NoMemory => ProgramFault::NoMemory,
+            error => ProgramFault::Image { unit, error },
         }
     }
 
@@ -85,33 +85,33 @@ impl Fault {
         ensures status { result ≡ exit_status_of self.now }
     {
         match self {
-            Fault::Usage => 2,
+            ProgramFault::Usage => 2,
             _ => 1,
         }
     }
 }
 
-impl From<NoMemory> for Fault {
+impl From<NoMemory> for ProgramFault {
     fn from(_: NoMemory) -> Self {
-        Fault::NoMemory
+        ProgramFault::NoMemory
     }
 }
 
-impl From<AllocError> for Fault {
+impl From<AllocError> for ProgramFault {
     fn from(_: AllocError) -> Self {
-        Fault::NoMemory
+        ProgramFault::NoMemory
     }
 }
 
-impl From<ScriptError> for Fault {
+impl From<ScriptError> for ProgramFault {
     fn from(error: ScriptError) -> Self {
         match error {
-            ScriptError::NoMemory => Fault::NoMemory,
-            ScriptError::Syntax { line } => Fault::Syntax { line },
-            ScriptError::TooManyLines => Fault::TooManyLines,
-            ScriptError::ShortData { line } => Fault::ShortData { line },
-            ScriptError::Read => Fault::Read,
-            ScriptError::Write => Fault::Write,
+            ScriptError::NoMemory => ProgramFault::NoMemory,
+            ScriptError::Syntax { line } => ProgramFault::Syntax { line },
+            ScriptError::TooManyLines => ProgramFault::TooManyLines,
+            ScriptError::ShortData { line } => ProgramFault::ShortData { line },
+            ScriptError::Read => ProgramFault::Read,
+            ScriptError::Write => ProgramFault::Write,
         }
     }
 }

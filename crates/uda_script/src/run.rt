@@ -1,7 +1,7 @@
 //! The run of a script over images in files.
 
-use crate::fault::Fault;
-use crate::files::{fill_closed_streams, open_units, read_script};
+use crate::fault::ProgramFault;
+use crate::files::{open_units, read_script, replace_closed_streams};
 use std::alloc::Global;
 use std::io::{BufWriter, Read, Write};
 use uda_driver::Driver;
@@ -11,7 +11,7 @@ use uda_script_run::run_script;
 
 /// The capacity of a write buffer in bytes. A text of that length or more is written directly, without the
 /// buffer.
-const GATHERED: usize = 4_096;
+const WRITE_CAPACITY: usize = 4_096;
 
 /// The streams of a run: the source of its data, and the destinations of its texts.
 #[derive(Drop)]
@@ -28,13 +28,13 @@ pub(crate) struct StandardStreams<R, W, V> {
 ///
 /// It writes and flushes `out` before the first byte of `report`. If a write fails, buffered bytes are
 /// dropped. At the end it syncs each image that was written. If that fails, a line of `report` says so.
-pub(crate) fn run<R: Read, W: Write + Drop, V: Write + Drop>(
+pub(crate) fn run_script_file<R: Read, W: Write + Drop, V: Write + Drop>(
     rt: &HostRuntime,
     script: &str,
     units: &[&str],
     streams: &mut StandardStreams<R, W, V>,
-) -> Result<(), Fault> {
-    let held = fill_closed_streams(rt)?;
+) -> Result<(), ProgramFault> {
+    let held = replace_closed_streams(rt)?;
     let drives = open_units(rt, units)?;
     let script = script_in(rt, script)?;
     let done = run_over(rt.alloc(), drives, &script, streams);
@@ -43,7 +43,7 @@ pub(crate) fn run<R: Read, W: Write + Drop, V: Write + Drop>(
 }
 
 // Reads and parses the script of a file.
-fn script_in(rt: &HostRuntime, path: &str) -> Result<Script, Fault> {
+fn script_in(rt: &HostRuntime, path: &str) -> Result<Script, ProgramFault> {
     let text = read_script(rt, path)?;
     Ok(parse(rt.alloc(), &text)?)
 }
@@ -54,23 +54,23 @@ fn run_over<R: Read, W: Write + Drop, V: Write + Drop>(
     drives: [Option<Drive<FileImage>>; 4],
     script: &Script,
     streams: &mut StandardStreams<R, W, V>,
-) -> Result<(), Fault> {
+) -> Result<(), ProgramFault> {
     match Driver::start(alloc, drives) {
         Ok(mut driver) => {
             let done = gather(alloc, script, streams, &mut driver);
-            sync(driver.into_stores(), done, &mut streams.report)
+            sync_images(driver.into_stores(), done, &mut streams.report)
         }
-        Err(_) => Err(Fault::NoMemory),
+        Err(_) => Err(ProgramFault::NoMemory),
     }
 }
 
 // Syncs each image that was written. It returns the last of the faults: the run's, and then those of the
 // units. It prints the lines of the others.
-fn sync<V: Write>(
+fn sync_images<V: Write>(
     mut drives: [Option<Drive<FileImage>>; 4],
-    mut done: Result<(), Fault>,
+    mut done: Result<(), ProgramFault>,
     report: &mut V,
-) -> Result<(), Fault> {
+) -> Result<(), ProgramFault> {
     for (unit, drive) in drives.iter_mut().enumerate() {
         let Some(drive) = drive else {
             continue;
@@ -79,7 +79,7 @@ fn sync<V: Write>(
             if let Err(earlier) = &done {
                 earlier.print(report);
             }
-            done = Err(Fault::SyncFailed { unit });
+            done = Err(ProgramFault::SyncFailed { unit });
         }
     }
     done
@@ -91,12 +91,12 @@ fn gather<R: Read, W: Write + Drop, V: Write + Drop>(
     script: &Script,
     streams: &mut StandardStreams<R, W, V>,
     driver: &mut Driver<FileImage>,
-) -> Result<(), Fault> {
-    let Ok(mut out) = BufWriter::with_capacity(alloc, GATHERED, &mut streams.out) else {
-        return Err(Fault::NoMemory);
+) -> Result<(), ProgramFault> {
+    let Ok(mut out) = BufWriter::with_capacity(alloc, WRITE_CAPACITY, &mut streams.out) else {
+        return Err(ProgramFault::NoMemory);
     };
-    let Ok(mut report) = BufWriter::with_capacity(alloc, GATHERED, &mut streams.report) else {
-        return Err(Fault::NoMemory);
+    let Ok(mut report) = BufWriter::with_capacity(alloc, WRITE_CAPACITY, &mut streams.report) else {
+        return Err(ProgramFault::NoMemory);
     };
     let done = run_script(
         alloc,

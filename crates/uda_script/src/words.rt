@@ -1,13 +1,13 @@
 //! The arguments of the program.
 
-use crate::fault::Fault;
+use crate::fault::ProgramFault;
 use clap::error::ErrorKind;
 use clap::{Arg, ArgAction, Command, Error};
 use std::alloc::Global;
 
 /// The task of the arguments.
 #[derive(Debug, Drop, PartialEq, Eq)]
-pub enum Task<'w> {
+pub enum ProgramTask<'w> {
     /// One Get Unit Status through the rings.
     Probe,
     /// A script over images.
@@ -27,22 +27,25 @@ pub enum Task<'w> {
 ///   images. An argument that begins with `-`, except `-` itself, is rejected before the grammar of options
 ///   reads it.
 /// - `NoMemory` if memory allocation fails.
-pub fn read_words<'w>(alloc: Global, words: &'w [&'w str]) -> Result<Task<'w>, Fault> {
+pub fn read_words<'w>(
+    alloc: Global,
+    words: &'w [&'w str],
+) -> Result<ProgramTask<'w>, ProgramFault> {
     if words
         .iter()
         .any(|word| word.starts_with('-') && *word != "-")
     {
-        return Err(Fault::Usage);
+        return Err(ProgramFault::Usage);
     }
     match asked(alloc, words) {
         Ok(Some(task)) => Ok(task),
-        Ok(None) => Err(Fault::Usage),
+        Ok(None) => Err(ProgramFault::Usage),
         Err(error) => Err(fault_of(error.kind())),
     }
 }
 
 // Returns the command line's grammar: `probe`, or `run SCRIPT [UNIT0 [UNIT1 [UNIT2 [UNIT3]]]]`.
-fn grammar<'w>(alloc: Global) -> Result<Command<'w>, Error> {
+fn command_line_grammar<'w>(alloc: Global) -> Result<Command<'w>, Error> {
     let script = Arg::new(alloc, "script")
         .required(true)
         .action(ArgAction::Set);
@@ -61,12 +64,12 @@ fn grammar<'w>(alloc: Global) -> Result<Command<'w>, Error> {
 }
 
 // Returns the task of the arguments by the grammar.
-fn asked<'w>(alloc: Global, words: &'w [&'w str]) -> Result<Option<Task<'w>>, Error> {
-    let matches = grammar(alloc)?.try_get_matches_from(words)?;
+fn asked<'w>(alloc: Global, words: &'w [&'w str]) -> Result<Option<ProgramTask<'w>>, Error> {
+    let matches = command_line_grammar(alloc)?.try_get_matches_from(words)?;
     Ok(match matches.subcommand() {
-        Some(("probe", _)) => Some(Task::Probe),
+        Some(("probe", _)) => Some(ProgramTask::Probe),
         Some(("run", found)) => match found.get_str("script") {
-            Some(script) => Some(Task::Run {
+            Some(script) => Some(ProgramTask::Run {
                 script,
                 units: match found.get_strs("units") {
                     Some(units) => Vec::from_slice(alloc, units)?,
@@ -79,9 +82,9 @@ fn asked<'w>(alloc: Global, words: &'w [&'w str]) -> Result<Option<Task<'w>>, Er
     })
 }
 
-fn fault_of(kind: ErrorKind) -> Fault {
+fn fault_of(kind: ErrorKind) -> ProgramFault {
     match kind {
-        ErrorKind::OutOfMemory => Fault::NoMemory,
-        _ => Fault::Usage,
+        ErrorKind::OutOfMemory => ProgramFault::NoMemory,
+        _ => ProgramFault::Usage,
     }
 }

@@ -1,6 +1,7 @@
 //! The drive types of which an image can be.
 ghost use Rattle.std.specs.Prelude.{◌≡◌, [], ◌∷◌, find};
 ghost use Rattle.std.proofs.Common.{reverse};
+ghost use Rattle.std.specs.List.Sorted.{IsNonDecreasingBy};
 ghost use Rattle.uda50_show.specs.DriveTypes.{is_larger, is_smaller};
 
 use crate::number::Counted;
@@ -23,7 +24,9 @@ pub const DRIVE_TYPE_COUNT: usize = DriveType::ALL.len() + UNREPORTED_TYPES.len(
 
 impl DriveTypeEntry {
     /// Returns every drive type, the smallest first.
-    pub fn all() -> [DriveTypeEntry; DRIVE_TYPE_COUNT] {
+    pub fn all() -> [DriveTypeEntry; DRIVE_TYPE_COUNT]
+        ensures smallest_first { IsNonDecreasingBy (λ drive. drive.blocks) result }
+    {
         let reported = DriveType::ALL.iter().map(|kind| DriveTypeEntry::of(*kind));
         let others = UNREPORTED_TYPES
             .iter()

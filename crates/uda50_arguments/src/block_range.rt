@@ -1,7 +1,10 @@
 //! Ranges of blocks.
-ghost use Rattle.std.specs.Prelude.{◌≡◌, ◌+◌, ◌<◌, ◌≤◌, ◌↔◌, IfSome, IsTrue, IsSome};
+ghost use Rattle.std.specs.Prelude.{◌≡◌, ◌+◌, ◌<◌, ◌≤◌, ◌↔◌, IfOk, IfSome, IsTrue, IsSome};
 
-use crate::block_number::BlockNumber;
+use crate::block_number::Number;
+use std::fmt;
+use std::num::ParseIntError;
+use std::str::FromStr;
 
 /// A range of blocks, never empty.
 #[derive(Clone, Copy, Debug, PartialEq, Eq)]
@@ -12,17 +15,38 @@ pub struct BlockRange {
     pub end: u32,
 }
 
-impl BlockRange {
-    /// Reads a range such as `3..17`. Returns `None` if the text is not a range, or the range is empty.
-    pub fn parse(text: &str) -> Option<BlockRange>
-        ensures nonempty { IfSome result (λ range. range.start < range.end) }
-    {
-        let (start, end) = text.split_once("..")?;
-        let BlockNumber(start) = start.parse().ok()?;
-        let BlockNumber(end) = end.parse().ok()?;
-        BlockRange::between(start, end)
-    }
+impl FromStr for BlockRange {
+    type Err = WrongRange;
 
+    ghost from_str_gives = { λ _ r. IfOk r (λ range. range.start < range.end) };
+
+    fn from_str(text: &str) -> Result<BlockRange, WrongRange>
+        ensures nonempty { IfOk result (λ range. range.start < range.end) }
+    {
+        let (start, end) = text.split_once("..").ok_or(WrongRange)?;
+        let Number(start) = start.parse()?;
+        let Number(end) = end.parse()?;
+        BlockRange::between(start, end).ok_or(WrongRange)
+    }
+}
+
+/// The error of a text that is not a range such as `3..17`, or is an empty one.
+#[derive(Clone, Copy, Debug, PartialEq, Eq)]
+pub struct WrongRange;
+
+impl fmt::Display for WrongRange {
+    fn fmt<W: fmt::Write>(&self, f: &mut fmt::Formatter<W>) -> fmt::Result {
+        f.write_str("expected a range of blocks, as 0..400176")
+    }
+}
+
+impl From<ParseIntError> for WrongRange {
+    fn from(_error: ParseIntError) -> WrongRange {
+        WrongRange
+    }
+}
+
+impl BlockRange {
     /// Returns the blocks from `start` to `end` - 1, or `None` if there are none.
     pub fn between(start: u32, end: u32) -> Option<BlockRange>
         ensures value { IfSome result (λ range. (range.start ≡ start) × (range.end ≡ end)) }

@@ -1,6 +1,6 @@
 //! The verbs with their arguments.
 
-use crate::block_number::MAX_BLOCKS;
+use crate::block_number::{BlockCount, MAX_BLOCKS};
 use crate::verbs::{Argument, Flag, Form, OptionValue, Positional, Verb, verbs};
 use clap::builder::ValueParser;
 use clap::{Arg, ArgAction, ArgGroup, Command, value_parser};
@@ -34,13 +34,13 @@ impl<'w> Values<'w> {
     }
 }
 
-/// The texts that are taken for a number of blocks.
+/// The texts that clap takes for a number of blocks.
 #[derive(Clone, Copy)]
 pub(crate) enum Numbers {
+    /// Any text, which the reader of the arguments then reads.
+    Any,
     /// A number in decimal, within its range.
     Decimal,
-    /// Any text. The reader of the arguments judges it.
-    Any,
 }
 
 /// Builds the whole command line.
@@ -214,7 +214,11 @@ fn option<'w>(
     match value {
         OptionValue::Text => with_value_name(alloc, argument, name),
         OptionValue::Drive => one_of(with_value_name(alloc, argument, name), values.drives),
-        OptionValue::Blocks => number(with_value_name(alloc, argument, name), 1, values.numbers),
+        OptionValue::Blocks => number(
+            with_value_name(alloc, argument, name),
+            BlockCount::LEAST,
+            values.numbers,
+        ),
     }
 }
 

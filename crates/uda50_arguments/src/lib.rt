@@ -9,7 +9,7 @@ mod reading;
 mod task;
 mod verbs;
 
-pub use block_range::BlockRange;
+pub use block_range::{BlockRange, WrongRange};
 pub use image_name::ImageName;
 pub use reading::{ParsedArguments, read_arguments};
 pub use task::{Copy, Create, Dump, DumpFormat, Run, Task};

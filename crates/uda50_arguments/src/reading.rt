@@ -1,6 +1,6 @@
 //! Reading of the arguments.
 
-use crate::block_number::{BlockNumber, MAX_BLOCKS};
+use crate::block_number::{BlockCount, BlockNumber, Number};
 use crate::block_range::BlockRange;
 use crate::grammar::{Numbers, Values, grammar, verb_grammar};
 use crate::image_name::ImageName;
@@ -9,6 +9,8 @@ use crate::verbs::{COPY, CREATE, DUMP, Verb};
 use clap::error::ErrorKind;
 use clap::{ArgMatches, Command, Error};
 use std::alloc::{AllocError, Global};
+use std::fmt::Display;
+use std::str::FromStr;
 use uda50_show::DriveTypeEntry;
 
 /// The result of reading the arguments.
@@ -34,196 +36,100 @@ pub fn read_arguments<'w>(
     if let [_, "help", "script"] = arguments {
         return ParsedArguments::Task(Task::ScriptHelp);
     }
-    match read_decimal(alloc, arguments, drives) {
-        Ok(task) => ParsedArguments::Task(task),
-        Err(text) => {
-            let verb = match text.kind() {
-                ErrorKind::InvalidValue | ErrorKind::ValueValidation => numbered_verb(arguments),
-                _ => None,
-            };
-            match verb {
-                Some(verb) => read_any_numbers(alloc, verb, arguments, drives, text),
-                None => ParsedArguments::Text { text, usage: None },
-            }
-        }
-    }
-}
-
-// A verb whose options or arguments are numbers, and its name in its usage.
-#[derive(Clone, Copy)]
-struct VerbUsage {
-    verb: &'static Verb,
-    name: &'static str,
-}
-
-// Returns the verb in the arguments, if it has numbers.
-fn numbered_verb(arguments: &[&str]) -> Option<VerbUsage> {
-    let (verb, name) = match *arguments.get(1)? {
-        "dump" => (&DUMP, "uda50 dump"),
-        "create" => (&CREATE, "uda50 create"),
-        _ => return None,
+    let Some(verb) = numbered_verb(arguments) else {
+        return parsed(read(alloc, arguments, Values::new(drives, Numbers::Any)));
     };
-    Some(VerbUsage { verb, name })
+    read_numbered(alloc, verb, arguments, drives)
 }
 
-// Reads arguments of which one is not valid, if numbers have to be decimal. If one begins with 0x or 0o, they are
-// read again with such numbers. Otherwise `text` is the error.
-fn read_any_numbers<'w>(
-    alloc: Global,
-    verb: VerbUsage,
-    arguments: &'w [&'w str],
-    drives: &'w [&'static str],
-    text: Error,
-) -> ParsedArguments<'w> {
-    let values = Values::new(drives, Numbers::Any);
-    match parse(alloc, arguments, values) {
-        Ok(matches) if has_prefixed_number(&matches) => parsed_numbers(alloc, verb, &matches),
-        Ok(_matches) => original(alloc, verb, values, text),
-        Err(_error) => original(alloc, verb, values, text),
-    }
-}
-
-// Returns the task, or the error of a number.
-fn parsed_numbers<'w>(
-    alloc: Global,
-    verb: VerbUsage,
-    matches: &ArgMatches<'w>,
-) -> ParsedArguments<'w> {
-    match read_numbered(alloc, verb, matches) {
+// Returns a task, or the text of an error.
+fn parsed(read: Result<Task<'_>, Error>) -> ParsedArguments<'_> {
+    match read {
         Ok(task) => ParsedArguments::Task(task),
         Err(text) => ParsedArguments::Text { text, usage: None },
     }
 }
 
-// Returns an error with the usage of the verb.
-fn original<'w>(
+// Returns the verb in the arguments, if it has numbers.
+fn numbered_verb(arguments: &[&str]) -> Option<&'static Verb> {
+    match *arguments.get(1)? {
+        "dump" => Some(&DUMP),
+        "create" => Some(&CREATE),
+        _ => None,
+    }
+}
+
+// Reads the arguments of a verb with numbers. If they are wrong and no number begins with 0x or 0o, clap reads them
+// again as decimal ones: so it names the first fault of the line, whatever that is.
+fn read_numbered<'w>(
     alloc: Global,
-    verb: VerbUsage,
-    values: Values<'w>,
-    text: Error,
+    verb: &'static Verb,
+    arguments: &'w [&'w str],
+    drives: &'w [&'static str],
 ) -> ParsedArguments<'w> {
-    let usage = usage(alloc, verb, values).ok();
-    ParsedArguments::Text { text, usage }
-}
-
-// A number of an argument or an option.
-#[derive(Clone, Copy)]
-struct NumberText<'w> {
-    // The argument or option, as errors name it.
-    argument: &'static str,
-    // The number, if there is one.
-    text: Option<&'w str>,
-    // The least that it may be.
-    least: u32,
-}
-
-impl<'w> NumberText<'w> {
-    // Returns the numbers of a verb.
-    fn of_verb(found: &ArgMatches<'w>) -> [NumberText<'w>; 3] {
-        [
-            NumberText {
-                argument: "[LBN]",
-                text: found.get_str("LBN"),
-                least: 0,
-            },
-            NumberText {
-                argument: "[COUNT]",
-                text: found.get_str("COUNT"),
-                least: 1,
-            },
-            NumberText {
-                argument: "--blocks <N>",
-                text: found.get_str("blocks"),
-                least: 1,
-            },
-        ]
-    }
-
-    // Returns whether the number begins with 0x or 0o.
-    fn has_prefix(&self) -> bool {
-        match self.text {
-            Some(text) => BlockNumber::has_prefix(text),
-            None => false,
+    let Ok(matches) = parse(alloc, arguments, Values::new(drives, Numbers::Any)) else {
+        return read_decimal(alloc, verb, arguments, drives);
+    };
+    match read_matches(alloc, &matches) {
+        Err(_error) if !has_prefixed_number(&matches) => {
+            read_decimal(alloc, verb, arguments, drives)
         }
-    }
-
-    // Returns the text, if it is not a number of blocks, or too small or too large a one.
-    fn wrong_text(&self) -> Option<&'w str> {
-        match self.text {
-            Some(text) if BlockNumber::at_least(text, self.least).is_none() => Some(text),
-            _ => None,
-        }
+        read => parsed(read),
     }
 }
 
 // Returns whether a number begins with 0x or 0o.
 fn has_prefixed_number(matches: &ArgMatches<'_>) -> bool {
     match matches.subcommand() {
-        Some((_, found)) => NumberText::of_verb(found)
+        Some((_, found)) => ["LBN", "COUNT", "blocks"]
             .iter()
-            .any(|number| number.has_prefix()),
+            .any(|name| Number::has_prefix(text(found, name))),
         None => false,
     }
 }
 
-// Reads the task of a verb, after a check of its numbers.
-fn read_numbered<'w>(
+// Reads arguments whose numbers have to be decimal. The error of a value has the usage of the verb.
+fn read_decimal<'w>(
     alloc: Global,
-    verb: VerbUsage,
-    matches: &ArgMatches<'w>,
-) -> Result<Task<'w>, Error> {
-    if let Some((_, found)) = matches.subcommand() {
-        for number in NumberText::of_verb(found) {
-            if let Some(text) = number.wrong_text() {
-                return Err(wrong_number(alloc, verb, number, text)?);
-            }
+    verb: &'static Verb,
+    arguments: &'w [&'w str],
+    drives: &'w [&'static str],
+) -> ParsedArguments<'w> {
+    let values = Values::new(drives, Numbers::Decimal);
+    match read(alloc, arguments, values) {
+        Ok(task) => ParsedArguments::Task(task),
+        Err(text) => {
+            let usage = match text.kind() {
+                ErrorKind::InvalidValue | ErrorKind::ValueValidation => {
+                    usage(alloc, verb, values).ok()
+                }
+                _ => None,
+            };
+            ParsedArguments::Text { text, usage }
         }
     }
-    read_matches(alloc, matches)
-}
-
-// Returns the error of a number.
-fn wrong_number(
-    alloc: Global,
-    verb: VerbUsage,
-    number: NumberText<'_>,
-    text: &str,
-) -> Result<Error, AllocError> {
-    let NumberText {
-        argument,
-        least,
-        ..
-    } = number;
-    let message = format!(in alloc;
-        "invalid value '{text}' for '{argument}': not a number in {least}..={MAX_BLOCKS}"
-    )?;
-    let verb = named(alloc, verb, Values::new(&[], Numbers::Any))?;
-    error_of(verb, ErrorKind::ValueValidation, message.as_str())
 }
 
 // Returns the usage of a verb.
-fn usage<'w>(alloc: Global, verb: VerbUsage, values: Values<'w>) -> Result<String, AllocError> {
+fn usage<'w>(alloc: Global, verb: &'static Verb, values: Values<'w>) -> Result<String, AllocError> {
     named(alloc, verb, values)?.render_usage()
 }
 
 // Builds a verb with the name that its usage has.
 fn named<'w>(
     alloc: Global,
-    verb: VerbUsage,
+    verb: &'static Verb,
     values: Values<'w>,
 ) -> Result<Command<'w>, AllocError> {
-    let VerbUsage { verb, name } = verb;
-    let verb = verb_grammar(alloc, verb, values)?;
-    verb.bin_name(name)
+    verb_grammar(alloc, verb, values)?.bin_name(verb.bin_name)
 }
 
-// Reads arguments whose numbers have to be decimal.
-fn read_decimal<'w>(
+fn read<'w>(
     alloc: Global,
     arguments: &'w [&'w str],
-    drives: &'w [&'static str],
+    values: Values<'w>,
 ) -> Result<Task<'w>, Error> {
-    let matches = parse(alloc, arguments, Values::new(drives, Numbers::Decimal))?;
+    let matches = parse(alloc, arguments, values)?;
     read_matches(alloc, &matches)
 }
 
@@ -245,7 +151,7 @@ fn read_matches<'w>(alloc: Global, matches: &ArgMatches<'w>) -> Result<Task<'w>,
 
 // Returns the error of arguments without a verb.
 fn no_verb(alloc: Global) -> Result<Error, AllocError> {
-    let program = grammar(alloc, Values::new(&[], Numbers::Decimal))?;
+    let program = grammar(alloc, Values::new(&[], Numbers::Any))?;
     error_of(program, ErrorKind::MissingSubcommand, "a verb is missing")
 }
 
@@ -263,8 +169,8 @@ fn read_verb<'w>(alloc: Global, verb: &str, found: &ArgMatches<'w>) -> Result<Ta
         "run" => read_run(alloc, found),
         "copy" => read_copy(alloc, found),
         "info" => read_info(alloc, found),
-        "dump" => Ok(read_dump(found)),
-        "create" => Ok(read_create(found)),
+        "dump" => read_dump(alloc, found),
+        "create" => read_create(alloc, found),
         "trace" => read_trace(alloc, found),
         _ => Ok(read_decode(found)),
     }
@@ -300,7 +206,7 @@ fn read_decode<'w>(found: &ArgMatches<'w>) -> Task<'w> {
 }
 
 fn read_copy<'w>(alloc: Global, found: &ArgMatches<'w>) -> Result<Task<'w>, Error> {
-    let blocks = read_range(alloc, found)?;
+    let blocks = value(alloc, &COPY, found, "blocks")?;
     Ok(Task::Copy(Copy {
         from: image(found, "FROM"),
         to: image(found, "TO"),
@@ -316,53 +222,24 @@ fn read_copy<'w>(alloc: Global, found: &ArgMatches<'w>) -> Result<Task<'w>, Erro
     }))
 }
 
-// Reads the range of blocks of `copy`. Returns `None` if there is none.
-fn read_range<'w>(alloc: Global, found: &ArgMatches<'w>) -> Result<Option<BlockRange>, Error> {
-    let Some(text) = found.get_str("blocks") else {
-        return Ok(None);
-    };
-    match BlockRange::parse(text) {
-        None => Err(wrong_range(alloc, text)?),
-        range => Ok(range),
-    }
-}
-
-// Returns the error of an invalid range.
-fn wrong_range(alloc: Global, text: &str) -> Result<Error, AllocError> {
-    let message = format!(in alloc;
-        "invalid value '{text}' for '--blocks <A..B>': expected a range of blocks, as 0..400176"
-    )?;
-    copy_error(alloc, message.as_str())
-}
-
-// Returns an error of the values of `copy`.
-fn copy_error(alloc: Global, message: &str) -> Result<Error, AllocError> {
-    let verb = VerbUsage {
-        verb: &COPY,
-        name: "uda50 copy",
-    };
-    let verb = named(alloc, verb, Values::new(&[], Numbers::Decimal))?;
-    error_of(verb, ErrorKind::ValueValidation, message)
-}
-
-fn read_dump<'w>(found: &ArgMatches<'w>) -> Task<'w> {
-    Task::Dump(Dump {
+fn read_dump<'w>(alloc: Global, found: &ArgMatches<'w>) -> Result<Task<'w>, Error> {
+    let blocks = read_blocks(alloc, found)?;
+    Ok(Task::Dump(Dump {
         image: image(found, "IMAGE"),
-        blocks: read_blocks(found),
+        blocks,
         format: read_format(found),
         all: found.get_flag("all"),
-    })
+    }))
 }
 
 // Reads the blocks of `dump`. Returns `None` for all of them.
-fn read_blocks<'w>(found: &ArgMatches<'w>) -> Option<BlockRange> {
-    let count = match found.get_one("COUNT") {
-        Some(BlockNumber(count)) => count,
-        None => 1,
-    };
-    match found.get_one("LBN") {
-        Some(BlockNumber(start)) => BlockRange::of_count(start, count),
-        None => None,
+fn read_blocks<'w>(alloc: Global, found: &ArgMatches<'w>) -> Result<Option<BlockRange>, Error> {
+    let start = value(alloc, &DUMP, found, "LBN")?;
+    let count = value(alloc, &DUMP, found, "COUNT")?;
+    let BlockCount(count) = count.unwrap_or(BlockCount(1));
+    match start {
+        Some(BlockNumber(start)) => Ok(BlockRange::of_count(start, count)),
+        None => Ok(None),
     }
 }
 
@@ -379,24 +256,65 @@ fn read_format<'w>(found: &ArgMatches<'w>) -> DumpFormat {
     }
 }
 
-fn read_create<'w>(found: &ArgMatches<'w>) -> Task<'w> {
+fn read_create<'w>(alloc: Global, found: &ArgMatches<'w>) -> Result<Task<'w>, Error> {
     let drive = DriveTypeEntry::named(text(found, "drive"));
     let blocks = match drive {
         Some(drive) => drive.blocks,
-        None => match found.get_one("blocks") {
-            Some(BlockNumber(blocks)) => blocks,
-            None => 0,
-        },
+        None => read_size(alloc, found)?,
     };
-    Task::Create(Create {
+    Ok(Task::Create(Create {
         image: image(found, "IMAGE"),
         blocks,
         drive,
         force: found.get_flag("force"),
-    })
+    }))
 }
 
-// Returns the value of an argument that is required or has a default, or the empty text.
+// Reads the number of blocks of a new image that has no drive type.
+fn read_size<'w>(alloc: Global, found: &ArgMatches<'w>) -> Result<u32, Error> {
+    match value(alloc, &CREATE, found, "blocks")? {
+        Some(BlockCount(blocks)) => Ok(blocks),
+        None => Ok(0),
+    }
+}
+
+// Reads the value of an argument of a verb, if it has one.
+fn value<'w, T: FromStr>(
+    alloc: Global,
+    verb: &'static Verb,
+    found: &ArgMatches<'w>,
+    name: &str,
+) -> Result<Option<T>, Error>
+where
+    T::Err: Display + Drop,
+{
+    match found.try_get_one(name) {
+        Ok(value) => Ok(value),
+        Err(error) => Err(wrong_value(alloc, verb, name, text(found, name), error)?),
+    }
+}
+
+// Returns the error of an argument's value.
+fn wrong_value<E: Display + Drop>(
+    alloc: Global,
+    verb: &'static Verb,
+    name: &str,
+    value: &str,
+    error: E,
+) -> Result<Error, AllocError> {
+    let command = named(alloc, verb, Values::new(&[], Numbers::Any))?;
+    let argument = command
+        .get_arguments()
+        .iter()
+        .find(|argument| argument.get_id() == name);
+    let message = match argument {
+        Some(argument) => format!(in alloc; "invalid value '{value}' for '{argument}': {error}")?,
+        None => format!(in alloc; "invalid value '{value}': {error}")?,
+    };
+    error_of(command, ErrorKind::ValueValidation, message.as_str())
+}
+
+// Returns the text of an argument, or the empty text if it has none.
 fn text<'w>(found: &ArgMatches<'w>, name: &str) -> &'w str {
     match found.get_str(name) {
         Some(text) => text,

@@ -1,9 +1,13 @@
 //! The table of the verbs and of their arguments.
 
+use crate::block_number::{BlockCount, BlockNumber};
+
 /// A verb.
 pub(crate) struct Verb {
     /// The name.
     pub(crate) name: &'static str,
+    /// The program's name and this one, as the usage has them.
+    pub(crate) bin_name: &'static str,
     /// The help.
     pub(crate) about: &'static str,
     /// The arguments, in the order of the help.
@@ -95,6 +99,7 @@ pub(crate) fn verbs() -> [&'static Verb; 7] {
 /// The verb `run`.
 static RUN: Verb = Verb {
     name: "run",
+    bin_name: "uda50 run",
     about: "Executes a script of requests on one to four images",
     arguments: &[
         SCRIPT,
@@ -128,6 +133,7 @@ static RUN: Verb = Verb {
 /// The verb `copy`.
 pub(crate) static COPY: Verb = Verb {
     name: "copy",
+    bin_name: "uda50 copy",
     about: "Copies an image; if a transfer fails, block by block",
     arguments: &[
         Argument {
@@ -192,6 +198,7 @@ pub(crate) static COPY: Verb = Verb {
 /// The verb `info`.
 static INFO: Verb = Verb {
     name: "info",
+    bin_name: "uda50 info",
     about: "Prints the size of images, drive types of that size, and what they hold",
     arguments: &[
         Argument {
@@ -211,6 +218,7 @@ static INFO: Verb = Verb {
 /// The verb `dump`.
 pub(crate) static DUMP: Verb = Verb {
     name: "dump",
+    bin_name: "uda50 dump",
     about: "Prints blocks in hexadecimal and as text",
     arguments: &[
         Argument {
@@ -220,12 +228,16 @@ pub(crate) static DUMP: Verb = Verb {
         },
         Argument {
             name: "LBN",
-            form: Form::Positional(Positional::Number { least: 0 }),
+            form: Form::Positional(Positional::Number {
+                least: BlockNumber::LEAST,
+            }),
             help: "The first block; without it, all blocks",
         },
         Argument {
             name: "COUNT",
-            form: Form::Positional(Positional::Number { least: 1 }),
+            form: Form::Positional(Positional::Number {
+                least: BlockCount::LEAST,
+            }),
             help: "The number of blocks; without it, 1",
         },
         Argument {
@@ -255,6 +267,7 @@ pub(crate) static DUMP: Verb = Verb {
 /// The verb `create`.
 pub(crate) static CREATE: Verb = Verb {
     name: "create",
+    bin_name: "uda50 create",
     about: "Makes an image of zeros",
     arguments: &[
         Argument {
@@ -284,6 +297,7 @@ pub(crate) static CREATE: Verb = Verb {
 /// The verb `decode`.
 static DECODE: Verb = Verb {
     name: "decode",
+    bin_name: "uda50 decode",
     about: "Prints the fields of MSCP packets, given as hexadecimal bytes or octal words",
     arguments: &[Argument {
         name: "FILE",
@@ -296,6 +310,7 @@ static DECODE: Verb = Verb {
 /// The verb `trace`.
 static TRACE: Verb = Verb {
     name: "trace",
+    bin_name: "uda50 trace",
     about: "Executes a script, and prints each turn of the controller's port",
     arguments: &[
         SCRIPT,

@@ -21,7 +21,7 @@ use Rattle.uda_packet.specs.Opcode.{opcode_of, end_code, blank_body, parameters}
 use Rattle.uda_packet.specs.Range.{EntriesFit}
 use Rattle.uda_packet.specs.Transfer.{has_buffer}
 use Rattle.uda50_show.specs.Hex.{hex_byte, hex_word, hex_long}
-use Rattle.uda50_show.specs.PacketText.{line, named_status, protection_name, flags_line, size_line, size_end, result_lines, end_text, request_lines, head_lines, buffer_line, transfer_lines, protection_line, parameter_lines, command_text, bad_title, bad_text}
+use Rattle.uda50_show.specs.PacketText.{line, named_status, protection_name, flags_line, size_line, size_end, result_lines, end_message_text, request_lines, head_lines, buffer_line, transfer_lines, protection_line, parameter_lines, command_text, bad_title, bad_text}
 
 -- ---- names
 
@@ -111,7 +111,7 @@ head_lines_short reference unit opcode modifiers long word =
 
 -- ---- packets
 
-pub end_short : (e : End) → e.reference < 2 ^ 32 → e.unit < 2 ^ 16 → BodyFits e.body → length (end_text e) ≤ 256
+pub end_short : (e : End) → e.reference < 2 ^ 32 → e.unit < 2 ^ 16 → BodyFits e.body → length (end_message_text e) ≤ 256
 end_short e long word fits =
     let a = line (codes "end message: ") (body_name e.body) in
     let b = request_lines e.reference e.unit in

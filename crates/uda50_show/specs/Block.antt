@@ -7,16 +7,16 @@ use Rattle.uda50_show.specs.declared.checksum.Checksum.{Checksum}
 use Rattle.uda50_show.specs.declared.checksum.Checksum.TheVariants.{Right, Wrong}
 
 -- the byte at an offset
-abbrev pub byte_at : ℕ → List ℕ → ℕ
-byte_at offset block = slice_index block offset
+abbrev pub byte_at_offset : ℕ → List ℕ → ℕ
+byte_at_offset offset block = slice_index block offset
 
 -- the word of two bytes at an offset
-abbrev pub word_at : ℕ → List ℕ → ℕ
-word_at offset block = little_from offset 2 block
+abbrev pub word_at_offset : ℕ → List ℕ → ℕ
+word_at_offset offset block = little_from offset 2 block
 
 -- the long word of four bytes at an offset
-abbrev pub long_at : ℕ → List ℕ → ℕ
-long_at offset block = little_from offset 4 block
+abbrev pub long_at_offset : ℕ → List ℕ → ℕ
+long_at_offset offset block = little_from offset 4 block
 
 -- `count` bytes from an offset
 abbrev pub block_bytes : ℕ → ℕ → List ℕ → List ℕ
@@ -25,7 +25,7 @@ block_bytes offset count block = take count (drop offset block)
 -- the first words of a block
 unfoldable pub words : ℕ → List ℕ → List ℕ
 words zero block = []
-words (suc count) block = words count block ++ word_at (2 * count) block ∷ []
+words (suc count) block = words count block ++ word_at_offset (2 * count) block ∷ []
 
 -- their sum in 16 bits
 abbrev pub word_sum : ℕ → List ℕ → ℕ
@@ -35,7 +35,7 @@ word_sum count block = sum (words count block) % 65536
 unfoldable pub word_parity : ℕ → ℕ → List ℕ → ℕ
 word_parity offset zero block = 0
 word_parity offset (suc count) block =
-    bit_xor (word_parity offset count block) (word_at (offset + 2 * count) block)
+    bit_xor (word_parity offset count block) (word_at_offset (offset + 2 * count) block)
 
 -- the result of checking a checksum
 abbrev pub checksum_of : Bool → Checksum

@@ -35,8 +35,8 @@ abbrev pub as_end : List ℕ → List ℕ
 as_end bytes = with_number code_field (number_in code_field bytes + 0x80) bytes
 
 -- the parameters of a command, of which the others are those of its end message
-abbrev pub command_of : List ℕ → Reply → CompatibleCommand
-command_of bytes r = record {
+abbrev pub compatible_command : List ℕ → Reply → CompatibleCommand
+compatible_command bytes r = record {
   form = r;
   modifiers = number_in modifiers_field bytes;
   buffer = number_in address_field bytes;
@@ -45,8 +45,8 @@ command_of bytes r = record {
 }
 
 -- the fields of an attention message; the identifier of the unit has eight bytes, in two halves
-abbrev pub unit_available : List ℕ → UnitAvailable
-unit_available bytes = record {
+abbrev pub unit_available_fields : List ℕ → UnitAvailable
+unit_available_fields bytes = record {
   unit = number_in unit_field bytes;
   flags = number_in unit_flags_field bytes;
   identifier = number_in (field 20 4) bytes ∷ number_in (field 24 4) bytes ∷ [];
@@ -59,13 +59,13 @@ end_message (Some r) = Some (message.End r)
 
 abbrev pub command_message : List ℕ → Option Reply → Option CompatibleMessage
 command_message bytes None = None
-command_message bytes (Some r) = Some (message.Command (command_of bytes r))
+command_message bytes (Some r) = Some (message.Command (compatible_command bytes r))
 
 -- the message in a text: an end message from 0x80 on, the attention message 0x40, or a command
 abbrev pub message_with : ℕ → List ℕ → Option CompatibleMessage
 message_with code bytes =
     if nat_lt code 0x80
-    then (if code == 0x40 then Some (message.UnitAvailable (unit_available bytes))
+    then (if code == 0x40 then Some (message.UnitAvailable (unit_available_fields bytes))
     else command_message bytes (additional (as_end bytes)))
     else end_message (additional bytes)
 

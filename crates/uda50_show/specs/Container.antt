@@ -7,7 +7,7 @@ use Rattle.byteorder.specs.Endian.{big_from}
 use Rattle.uda50_show.specs.declared.container.ContainerRecord.{ContainerRecord}
 use Rattle.uda50_show.specs.declared.container.ContainerRecord.TheVariants as record_of
 use Rattle.uda50_show.specs.declared.container.SimhRecord.{SimhRecord}
-use Rattle.uda50_show.specs.Block.{byte_at, block_bytes, checksum_of}
+use Rattle.uda50_show.specs.Block.{byte_at_offset, block_bytes, checksum_of}
 
 -- the long word of four bytes at an offset, high byte first
 abbrev pub big_long : ℕ → List ℕ → ℕ
@@ -24,7 +24,7 @@ crc_byte sum = crc_bit (crc_bit (crc_bit (crc_bit (crc_bit (crc_bit (crc_bit (cr
 -- the sum after the first bytes
 unfoldable pub crc_sum : ℕ → List ℕ → ℕ
 crc_sum zero block = 0xFFFFFFFF
-crc_sum (suc count) block = crc_byte (bit_xor (crc_sum count block) (byte_at count block))
+crc_sum (suc count) block = crc_byte (bit_xor (crc_sum count block) (byte_at_offset count block))
 
 -- the CRC-32 of the first 508 bytes
 abbrev pub crc : List ℕ → ℕ

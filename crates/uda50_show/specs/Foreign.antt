@@ -4,7 +4,7 @@ use Rattle.std.specs.Prelude.{ℕ, ◌==◌, List, [], ◌∷◌, Bool, ◌&&◌
 use Rattle.std.specs.List.{starts_with}
 use Rattle.uda50_show.specs.declared.foreign.ForeignFormat.{ForeignFormat}
 use Rattle.uda50_show.specs.declared.foreign.ForeignFormat.TheVariants as format
-use Rattle.uda50_show.specs.Block.{long_at}
+use Rattle.uda50_show.specs.Block.{long_at_offset}
 
 -- a block begins with these bytes
 abbrev pub begins : List ℕ → List ℕ → Bool
@@ -12,7 +12,7 @@ begins block bytes = starts_with nat_eq block bytes
 
 -- the header of VirtualBox is a line of text, and a number from byte 64 on
 abbrev pub is_vdi : List ℕ → Bool
-is_vdi block = begins block (codes "<<< ") && (long_at 64 block == 0xBEDA107F)
+is_vdi block = begins block (codes "<<< ") && (long_at_offset 64 block == 0xBEDA107F)
 
 -- the format of an image of VMware or VirtualBox
 abbrev pub desktop_format : List ℕ → Option ForeignFormat

@@ -5,7 +5,7 @@ use Rattle.uda50_show.specs.declared.checksum.Checksum.{Checksum}
 use Rattle.uda50_show.specs.declared.checksum.Checksum.TheVariants.{Unchecked}
 use Rattle.uda50_show.specs.declared.home_block.VolumeFormat.{VolumeFormat}
 use Rattle.uda50_show.specs.declared.home_block.VolumeFormat.TheVariants.{Rt11, Ods1, Ods2}
-use Rattle.uda50_show.specs.Block.{word_at, word_sum, checksum_of}
+use Rattle.uda50_show.specs.Block.{word_at_offset, word_sum, checksum_of}
 
 -- the text at byte 496 that identifies a format
 abbrev pub format_text : VolumeFormat → List ℕ
@@ -29,7 +29,7 @@ volume_offset Ods2 = 472
 -- those before byte 510
 abbrev pub files11_checksum : List ℕ → Checksum
 files11_checksum block =
-    checksum_of ((word_sum 29 block == word_at 58 block) && (word_sum 255 block == word_at 510 block))
+    checksum_of ((word_sum 29 block == word_at_offset 58 block) && (word_sum 255 block == word_at_offset 510 block))
 
 -- RT-11's checksum is not checked
 abbrev pub home_checksum : VolumeFormat → List ℕ → Checksum

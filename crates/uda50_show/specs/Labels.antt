@@ -4,15 +4,15 @@ use Rattle.std.specs.Prelude.{ℕ, ◌+◌, ◌*◌, ◌==◌, List, Bool, ◌&&
 use Rattle.uda50_show.specs.declared.checksum.Checksum.{Checksum}
 use Rattle.uda50_show.specs.declared.disk_label.DiskLabel.{DiskLabel}
 use Rattle.uda50_show.specs.declared.disk_label.DiskLabel.TheVariants as label
-use Rattle.uda50_show.specs.Block.{word_at, long_at, word_parity, checksum_of}
+use Rattle.uda50_show.specs.Block.{word_at_offset, long_at_offset, word_parity, checksum_of}
 
 -- a VAX's label begins at byte 64 of block 0, and has its magic number again 132 bytes later
 abbrev pub has_bsd_label : List ℕ → Bool
-has_bsd_label block = (long_at 64 block == 0x82564557) && (long_at 196 block == 0x82564557)
+has_bsd_label block = (long_at_offset 64 block == 0x82564557) && (long_at_offset 196 block == 0x82564557)
 
 -- the number of its partitions; each has 16 bytes, from byte 212, and the block has room for 18
 abbrev pub partitions_of : List ℕ → ℕ
-partitions_of block = word_at 202 block
+partitions_of block = word_at_offset 202 block
 
 -- the exclusive or of all its words, including the checksum, is 0
 abbrev pub bsd_checksum : List ℕ → Checksum
@@ -23,12 +23,12 @@ bsd_checksum block =
 -- a PDP-11's label begins block 1 with the magic number, its halves exchanged, and has it a second time
 abbrev pub has_bsd211_label : List ℕ → Bool
 has_bsd211_label block =
-    (long_at 0 block == 0x45578256)
-    && ((long_at 108 block == 0x45578256) || (long_at 132 block == 0x45578256))
+    (long_at_offset 0 block == 0x45578256)
+    && ((long_at_offset 108 block == 0x45578256) || (long_at_offset 132 block == 0x45578256))
 
 -- Ultrix has its partition table in the last 72 bytes of block 31, with 1 for a valid one
 abbrev pub has_ultrix_table : List ℕ → Bool
-has_ultrix_table block = (long_at 440 block == 0x00032957) && (long_at 444 block == 1)
+has_ultrix_table block = (long_at_offset 440 block == 0x00032957) && (long_at_offset 444 block == 1)
 
 -- the name of a kind
 abbrev pub label_kind : DiskLabel → List ℕ

@@ -8,8 +8,8 @@ abbrev pub is_control : ℕ → Bool
 is_control c = nat_lt c 32 || (nat_le 127 c && nat_le c 159)
 
 -- a character as a name is printed with it: a control character as an escape, any other as it is
-abbrev pub escaped : ℕ → List ℕ
-escaped c =
+abbrev pub escaped_character : ℕ → List ℕ
+escaped_character c =
     if is_control c then
     if nat_le c 127 then codes "\\x" ++ hex_byte c
     else codes "\\u{" ++ hex_byte c ++ codes "}"

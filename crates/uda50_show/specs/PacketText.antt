@@ -68,8 +68,8 @@ result_lines (body.Online flags size) =
     flags_line flags ++ size_line size
 result_lines (body.Moved which bytes) = line (codes "  byte count  ") (decimal bytes)
 
-abbrev pub end_text : End → List ℕ
-end_text e =
+abbrev pub end_message_text : End → List ℕ
+end_message_text e =
     line (codes "end message: ") (body_name e.body)
     ++ request_lines e.reference e.unit
     ++ line (codes "  end code    0x") (hex_byte (end_code e.body))
@@ -139,7 +139,7 @@ bad_text b opcode modifiers =
 
 -- the text of an end message, or else of a command or of an invalid command
 abbrev text_with : List ℕ → Option End → Result Command Bad → List ℕ
-text_with bytes (Some e) r = end_text e
+text_with bytes (Some e) r = end_message_text e
 text_with bytes None (Ok c) = command_text c (number_in modifiers_field bytes)
 text_with bytes None (Err b) = bad_text b (number_in code_field bytes) (number_in modifiers_field bytes)
 

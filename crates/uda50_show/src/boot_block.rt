@@ -2,7 +2,7 @@
 ghost use Rattle.std.specs.Prelude.{◌≡◌, ◌/◌, ◌==◌, true, false};
 ghost use Rattle.uda50_show.specs.Boot.{is_vax_boot, area_sum};
 
-use crate::checksum::{Checksum, word_at};
+use crate::checksum::{Checksum, word_at_offset};
 use std::fmt;
 
 /// The kind of bootstrap in a block.
@@ -34,10 +34,10 @@ impl BootBlock {
         if is_vax_boot(block) {
             return Some(BootBlock::Vax(Checksum::of(area_sum(block) == 0xff)));
         }
-        let nop = word_at(block, 0) == NOP;
-        if nop && is_branch(word_at(block, 2)) {
+        let nop = word_at_offset(block, 0) == NOP;
+        if nop && is_branch(word_at_offset(block, 2)) {
             Some(BootBlock::Pdp11)
-        } else if nop || is_branch(word_at(block, 0)) {
+        } else if nop || is_branch(word_at_offset(block, 0)) {
             Some(BootBlock::PerhapsPdp11)
         } else {
             None

@@ -9,7 +9,7 @@ ghost use Rattle.uda50_show.specs.Rows.{octal_cell, octal_glyph, octal_columns};
 ghost use Rattle.uda50_show.specs.Block.{words};
 
 use crate::digits::computed_digit;
-use crate::row::word_at;
+use crate::row::word_at_offset;
 use std::simd::u8x16;
 
 // The halves of a vector by turns.
@@ -211,7 +211,7 @@ fn row_words(bytes: &[u8; 16]) -> [u16; 8]
 {
     let mut words = [0; 8];
     for n in 0..8 {
-        words[n] = word_at(bytes, 2 * n);
+        words[n] = word_at_offset(bytes, 2 * n);
     }
     words
 }

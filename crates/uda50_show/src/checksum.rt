@@ -1,6 +1,6 @@
 //! Checksums of blocks.
 ghost use Rattle.std.specs.Prelude.{◌≡◌, ◌≤◌, ◌+◌, ◌*◌};
-ghost use Rattle.uda50_show.specs.Block.{word_at, long_at, word_sum, word_parity, checksum_of};
+ghost use Rattle.uda50_show.specs.Block.{word_at_offset, long_at_offset, word_sum, word_parity, checksum_of};
 
 use byteorder::{ByteOrder, LittleEndian};
 use std::fmt;
@@ -41,17 +41,17 @@ impl fmt::Display for Checksum {
 }
 
 // Returns the word at an offset, low byte first.
-pub(crate) fn word_at(block: &[u8; 512], offset: usize) -> u16
+pub(crate) fn word_at_offset(block: &[u8; 512], offset: usize) -> u16
     requires { offset + 2 ≤ 512 }
-    ensures { result ≡ word_at offset block.now }
+    ensures { result ≡ word_at_offset offset block.now }
 {
     LittleEndian::read_u16(&block[offset..])
 }
 
 // Returns the long word at an offset, low byte first.
-pub(crate) fn long_at(block: &[u8; 512], offset: usize) -> u32
+pub(crate) fn long_at_offset(block: &[u8; 512], offset: usize) -> u32
     requires { offset + 4 ≤ 512 }
-    ensures { result ≡ long_at offset block.now }
+    ensures { result ≡ long_at_offset offset block.now }
 {
     LittleEndian::read_u32(&block[offset..])
 }
@@ -64,7 +64,7 @@ pub(crate) fn word_sum(block: &[u8; 512], count: usize) -> u16
 {
     let mut sum = 0u16;
     for n in 0..count {
-        sum = sum.wrapping_add(word_at(block, 2 * n));
+        sum = sum.wrapping_add(word_at_offset(block, 2 * n));
     }
     sum
 }
@@ -77,7 +77,7 @@ pub(crate) fn word_parity(block: &[u8; 512], offset: usize, count: usize) -> u16
 {
     let mut parity = 0u16;
     for n in 0..count {
-        parity ^= word_at(block, offset + 2 * n);
+        parity ^= word_at_offset(block, offset + 2 * n);
     }
     parity
 }

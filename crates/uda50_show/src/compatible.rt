@@ -1,7 +1,7 @@
 //! The messages that only the compatible profile has.
 ghost use Rattle.std.specs.Prelude.{◌≡◌, ◌<◌};
 ghost use Rattle.uda_packet.specs.Field.{number_in, code_field};
-ghost use Rattle.uda50_show.specs.Compatible.{compatible_message, command_of, unit_available, additional};
+ghost use Rattle.uda50_show.specs.Compatible.{compatible_message, compatible_command, unit_available_fields, additional};
 ghost use Rattle.uda50_show.specs.Compatible.{as_end};
 
 use crate::fields::{code, modifiers};
@@ -14,7 +14,7 @@ use uda_packet::{Reply, ReplyBody, decode_reply, status};
 pub const COMPATIBLE_TEXT: usize = 512;
 
 // The code of the attention message that a unit has become available.
-const UNIT_AVAILABLE: u8 = 0x40;
+const UNIT_AVAILABLE_CODE: u8 = 0x40;
 
 // The bit of an end code.
 const END: u8 = 0x80;
@@ -69,11 +69,11 @@ impl CompatibleMessage {
         if code >= END {
             return Some(CompatibleMessage::End(additional(text)?));
         }
-        if code == UNIT_AVAILABLE {
-            return Some(CompatibleMessage::UnitAvailable(unit_available(text)));
+        if code == UNIT_AVAILABLE_CODE {
+            return Some(CompatibleMessage::UnitAvailable(unit_available_fields(text)));
         }
         let form = additional(&as_end(text))?;
-        Some(CompatibleMessage::Command(command_of(text, form)))
+        Some(CompatibleMessage::Command(compatible_command(text, form)))
     }
 }
 
@@ -103,8 +103,8 @@ fn as_end(text: &[u8; 48]) -> [u8; 48]
 }
 
 // Returns the command in a text with this form.
-fn command_of(text: &[u8; 48], form: Reply) -> CompatibleCommand
-    ensures { result ≡ command_of text.now form }
+fn compatible_command(text: &[u8; 48], form: Reply) -> CompatibleCommand
+    ensures { result ≡ compatible_command text.now form }
 {
     CompatibleCommand {
         form,
@@ -116,8 +116,8 @@ fn command_of(text: &[u8; 48], form: Reply) -> CompatibleCommand
 }
 
 // Returns the fields of an attention message.
-fn unit_available(text: &[u8; 48]) -> UnitAvailable
-    ensures { result ≡ unit_available text.now }
+fn unit_available_fields(text: &[u8; 48]) -> UnitAvailable
+    ensures { result ≡ unit_available_fields text.now }
 {
     UnitAvailable {
         unit: LittleEndian::read_u16(&text[4..]),
@@ -133,7 +133,7 @@ fn unit_available(text: &[u8; 48]) -> UnitAvailable
 impl fmt::Display for CompatibleMessage {
     fn fmt<W: fmt::Write>(&self, f: &mut fmt::Formatter<W>) -> fmt::Result {
         match self {
-            CompatibleMessage::Command(command) => write_command(f, command)?,
+            CompatibleMessage::Command(command) => write_compatible_command(f, command)?,
             CompatibleMessage::End(reply) => write_end(f, reply)?,
             CompatibleMessage::UnitAvailable(unit) => write_unit_available(f, unit)?,
         }
@@ -144,7 +144,7 @@ impl fmt::Display for CompatibleMessage {
 }
 
 // Writes the lines of a command.
-fn write_command<W: fmt::Write>(
+fn write_compatible_command<W: fmt::Write>(
     f: &mut fmt::Formatter<W>,
     command: &CompatibleCommand,
 ) -> fmt::Result {
@@ -202,7 +202,7 @@ fn write_unit_available<W: fmt::Write>(
 ) -> fmt::Result {
     writeln!(f, "attention message: Unit Available")?;
     writeln!(f, "  unit        {}", available.unit)?;
-    writeln!(f, "  code        0x{UNIT_AVAILABLE:02x}")?;
+    writeln!(f, "  code        0x{UNIT_AVAILABLE_CODE:02x}")?;
     write_flags(f, available.flags)?;
     let [low, high] = available.identifier;
     writeln!(f, "  identifier  0x{high:08x}{low:08x}")?;

@@ -19,7 +19,7 @@ pub const LINE_ROOM: usize = 4_096;
 const HEAD_ROOM: usize = 29;
 
 /// The most bytes of packets that go out in one write. A pipe takes this many in one piece.
-const GATHERED: usize = 4_096;
+const WRITE_LIMIT: usize = 4_096;
 
 /// What a text has, if all of it is packets.
 #[derive(Clone, Copy, Debug)]
@@ -148,7 +148,7 @@ fn decode_line<W: Write + Drop>(
             let is_valid = packet.is_valid();
             progress.invalid |= !is_valid;
             if is_valid || !put_compatible(out, progress.packets, packet)? {
-                put_text(out, progress.packets, &packet)?;
+                put_packet_text(out, progress.packets, &packet)?;
             }
         }
     }
@@ -165,7 +165,7 @@ fn put_compatible<W: Write + Drop>(
 ) -> io::Result<bool> {
     match CompatibleMessage::read(&packet) {
         Some(message) => {
-            put_message(out, number, &message)?;
+            put_compatible_message(out, number, &message)?;
             Ok(true)
         }
         None => Ok(false),
@@ -174,13 +174,13 @@ fn put_compatible<W: Write + Drop>(
 
 // Prints the text of a packet. If it might be too long for the write of the packets that are gathered, these
 // go out first. So each write ends with a packet.
-fn put_text<W: Write + Drop>(
+fn put_packet_text<W: Write + Drop>(
     out: &mut BufWriter<W>,
     number: u64,
     packet: &Packet,
 ) -> io::Result<()> {
     let text = packet.text();
-    if out.buffer().len() + HEAD_ROOM + text.len() > GATHERED {
+    if out.buffer().len() + HEAD_ROOM + text.len() > WRITE_LIMIT {
         out.flush()?;
     }
     write!(out, "packet {number}, ")?;
@@ -188,12 +188,12 @@ fn put_text<W: Write + Drop>(
 }
 
 // Prints a message that only the compatible profile has, in the same way.
-fn put_message<W: Write + Drop>(
+fn put_compatible_message<W: Write + Drop>(
     out: &mut BufWriter<W>,
     number: u64,
     message: &CompatibleMessage,
 ) -> io::Result<()> {
-    if out.buffer().len() + HEAD_ROOM + COMPATIBLE_TEXT > GATHERED {
+    if out.buffer().len() + HEAD_ROOM + COMPATIBLE_TEXT > WRITE_LIMIT {
         out.flush()?;
     }
     write!(out, "packet {number}, {message}")

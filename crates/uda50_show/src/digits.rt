@@ -14,7 +14,7 @@ pub(crate) fn hex_byte(byte: u8) -> [u8; 2]
     ensures ascii { IsAscii result }
 {
     let byte = u16::from(byte);
-    [digit(byte >> 4), digit(byte)]
+    [table_digit(byte >> 4), table_digit(byte)]
 }
 
 /// Returns the four hexadecimal digits of a word of two bytes.
@@ -24,10 +24,10 @@ pub(crate) fn hex_word(word: u16) -> [u8; 4]
     ensures ascii { IsAscii result }
 {
     [
-        digit(word >> 12),
-        digit(word >> 8),
-        digit(word >> 4),
-        digit(word),
+        table_digit(word >> 12),
+        table_digit(word >> 8),
+        table_digit(word >> 4),
+        table_digit(word),
     ]
 }
 
@@ -49,17 +49,17 @@ pub(crate) fn octal_word(word: u16) -> [u8; 6]
     ensures ascii { IsAscii result }
 {
     [
-        digit(word >> 15),
-        digit(word >> 12 & 7),
-        digit(word >> 9 & 7),
-        digit(word >> 6 & 7),
-        digit(word >> 3 & 7),
-        digit(word & 7),
+        table_digit(word >> 15),
+        table_digit(word >> 12 & 7),
+        table_digit(word >> 9 & 7),
+        table_digit(word >> 6 & 7),
+        table_digit(word >> 3 & 7),
+        table_digit(word & 7),
     ]
 }
 
 /// Returns the digit of the low four bits, from a table.
-pub(crate) fn digit(number: u16) -> u8
+pub(crate) fn table_digit(number: u16) -> u8
     ensures value { result ≡ glyph (number % 16) }
     ensures ascii { result < 128 }
 {

@@ -1,7 +1,7 @@
 //! Disk labels and partition tables of Unix systems.
 ghost use Rattle.std.specs.Prelude.{◌≡◌};
 
-use crate::checksum::{Checksum, long_at, word_at, word_parity};
+use crate::checksum::{Checksum, long_at_offset, word_at_offset, word_parity};
 use std::fmt;
 
 /// A disk label, by its magic numbers.
@@ -33,10 +33,10 @@ impl DiskLabel {
         ensures label { result ≡ (if has_bsd_label block.now
             then Some (DiskLabel.Bsd (bsd_checksum block.now)) else None) }
     {
-        if long_at(block, 64) != BSD_MAGIC || long_at(block, 196) != BSD_MAGIC {
+        if long_at_offset(block, 64) != BSD_MAGIC || long_at_offset(block, 196) != BSD_MAGIC {
             return None;
         }
-        let partitions = usize::from(word_at(block, 202));
+        let partitions = usize::from(word_at_offset(block, 202));
         let fits = partitions <= 18 && word_parity(block, 64, 74 + 8 * partitions) == 0;
         Some(DiskLabel::Bsd(Checksum::of(fits)))
     }
@@ -45,16 +45,16 @@ impl DiskLabel {
     pub fn in_block_1(block: &[u8; 512]) -> Option<DiskLabel>
         ensures label { result ≡ (if has_bsd211_label block.now then Some DiskLabel.Bsd211 else None) }
     {
-        let again = long_at(block, 108) == BSD_MAGIC_PDP11
-            || long_at(block, 132) == BSD_MAGIC_PDP11;
-        (long_at(block, 0) == BSD_MAGIC_PDP11 && again).then_some(DiskLabel::Bsd211)
+        let again = long_at_offset(block, 108) == BSD_MAGIC_PDP11
+            || long_at_offset(block, 132) == BSD_MAGIC_PDP11;
+        (long_at_offset(block, 0) == BSD_MAGIC_PDP11 && again).then_some(DiskLabel::Bsd211)
     }
 
     /// Reads the partition table of Ultrix, in block 31.
     pub fn in_block_31(block: &[u8; 512]) -> Option<DiskLabel>
         ensures label { result ≡ (if has_ultrix_table block.now then Some DiskLabel.Ultrix else None) }
     {
-        (long_at(block, 440) == ULTRIX_MAGIC && long_at(block, 444) == 1).then_some(
+        (long_at_offset(block, 440) == ULTRIX_MAGIC && long_at_offset(block, 444) == 1).then_some(
             DiskLabel::Ultrix,
         )
     }

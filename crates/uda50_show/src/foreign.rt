@@ -4,7 +4,7 @@
 ghost use Rattle.std.specs.Prelude.{◌≡◌};
 ghost use Rattle.uda50_show.specs.Foreign.{desktop_format, foreign_format, format_kind, is_vdi};
 
-use crate::checksum::long_at;
+use crate::checksum::long_at_offset;
 use crate::container::is_same;
 use std::fmt;
 
@@ -73,7 +73,7 @@ fn desktop_format(block: &[u8; 512]) -> Option<ForeignFormat>
 fn is_vdi(block: &[u8; 512]) -> bool
     ensures vdi { result ≡ is_vdi block.now }
 {
-    is_same(&block[..4], b"<<< ") && long_at(block, 64) == VDI_SIGNATURE
+    is_same(&block[..4], b"<<< ") && long_at_offset(block, 64) == VDI_SIGNATURE
 }
 
 impl fmt::Display for ForeignFormat {

@@ -6,7 +6,7 @@ ghost use Rattle.uda50_show.specs.declared.home_block.VolumeFormat.{VolumeFormat
 ghost use Rattle.uda50_show.specs.Block.{block_bytes};
 ghost use Rattle.uda50_show.specs.Home.{format_text, home_kind, volume_offset, home_checksum};
 
-use crate::checksum::{Checksum, word_at, word_sum};
+use crate::checksum::{Checksum, word_at_offset, word_sum};
 use crate::text::FixedText;
 use std::fmt;
 
@@ -105,8 +105,8 @@ fn checksum_in(format: VolumeFormat, block: &[u8; 512]) -> Checksum
     match format {
         VolumeFormat::Rt11 => Checksum::Unchecked,
         VolumeFormat::Ods1 | VolumeFormat::Ods2 => Checksum::of(
-            word_sum(block, 29) == word_at(block, 58)
-                && word_sum(block, 255) == word_at(block, 510),
+            word_sum(block, 29) == word_at_offset(block, 58)
+                && word_sum(block, 255) == word_at_offset(block, 510),
         ),
     }
 }

@@ -187,8 +187,8 @@ fn record_object(
 
 // Makes the object of SIMH's record.
 fn simh_object(alloc: Global, block: u32, record: &SimhRecord) -> Result<RecordObject, AllocError> {
-    let simulator = text(alloc, record.simulator_name())?;
-    let drive_type = text(alloc, record.drive_name())?;
+    let simulator = field_text(alloc, record.simulator_name())?;
+    let drive_type = field_text(alloc, record.drive_name())?;
     Ok(RecordObject {
         block,
         kind: "SIMH container record",
@@ -256,8 +256,8 @@ fn label_object(block: u32, label: DiskLabel) -> StructureObject {
 
 // Makes the object of a home block.
 fn home_object(alloc: Global, home: &HomeBlock) -> Result<StructureObject, AllocError> {
-    let volume = text(alloc, &home.volume)?;
-    let owner = text(alloc, &home.owner)?;
+    let volume = field_text(alloc, &home.volume)?;
+    let owner = field_text(alloc, &home.owner)?;
     Ok(StructureObject {
         block: 1,
         kind: home.format.kind(),
@@ -288,6 +288,6 @@ fn checksum_word(checksum: Checksum) -> Option<&'static str> {
 }
 
 // Returns the text of a field, as the lines of `uda50 info` show it.
-fn text(alloc: Global, field: &[u8]) -> Result<String, AllocError> {
+fn field_text(alloc: Global, field: &[u8]) -> Result<String, AllocError> {
     format!(in alloc; "{}", FixedText(field))
 }

@@ -4,7 +4,7 @@ ghost use Rattle.std.specs.Fmt.{WritesOnOk};
 ghost use Rattle.std.specs.List.{flat_map};
 ghost use Rattle.std.specs.Str.{chars};
 ghost use Rattle.uda50_show.specs.Hex.{hex_byte};
-ghost use Rattle.uda50_show.specs.Names.{escaped, is_control};
+ghost use Rattle.uda50_show.specs.Names.{escaped_character, is_control};
 
 use crate::digits::{hex_byte, write_ascii};
 use std::fmt;
@@ -41,7 +41,7 @@ fn write_code_point<W: fmt::Write>(f: &mut fmt::Formatter<W>, byte: u8) -> fmt::
 
 // Writes a character, or the escape that replaces it.
 fn write_escaped<W: fmt::Write>(f: &mut fmt::Formatter<W>, character: char) -> fmt::Result
-    ensures { WritesOnOk W.write_str_gives f.old result (escaped character) f.new }
+    ensures { WritesOnOk W.write_str_gives f.old result (escaped_character character) f.new }
 {
     if !is_control(character) {
         return write!(f, "{character}");
@@ -56,7 +56,7 @@ fn write_escaped<W: fmt::Write>(f: &mut fmt::Formatter<W>, character: char) -> f
 
 // Writes the characters of a name, or the escapes that replace them.
 fn write_name<W: fmt::Write>(f: &mut fmt::Formatter<W>, name: &str) -> fmt::Result
-    ensures { WritesOnOk W.write_str_gives f.old result (flat_map escaped (chars name.now)) f.new }
+    ensures { WritesOnOk W.write_str_gives f.old result (flat_map escaped_character (chars name.now)) f.new }
 {
     for character in name.chars() {
         write_escaped(f, character)?;
@@ -65,7 +65,7 @@ fn write_name<W: fmt::Write>(f: &mut fmt::Formatter<W>, name: &str) -> fmt::Resu
 }
 
 impl fmt::Display for EscapedName<'_> {
-    ghost output = { λ name. Some (flat_map escaped (chars name.0.now)) };
+    ghost output = { λ name. Some (flat_map escaped_character (chars name.0.now)) };
 
     fn fmt<W: fmt::Write>(&self, f: &mut fmt::Formatter<W>) -> fmt::Result {
         write_name(f, self.0)

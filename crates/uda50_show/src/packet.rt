@@ -8,7 +8,7 @@ ghost use Rattle.uda_packet.specs.Display.{fault_display};
 ghost use Rattle.uda_packet.specs.Opcode.{parameters};
 ghost use Rattle.uda_packet.specs.Range.{EntriesFit};
 ghost use Rattle.uda_packet.specs.Transfer.{has_buffer};
-ghost use Rattle.uda50_show.specs.PacketText.{packet_text, end_text, command_text, bad_text, head_lines};
+ghost use Rattle.uda50_show.specs.PacketText.{packet_text, end_message_text, command_text, bad_text, head_lines};
 ghost use Rattle.uda50_show.specs.PacketText.{line, request_lines, named_status, flags_line, size_line, size_end};
 ghost use Rattle.uda50_show.specs.PacketText.{parameter_lines, transfer_lines, buffer_line, protection_line};
 ghost use Rattle.uda50_show.specs.PacketText.{result_lines, protection_name, bad_title};
@@ -52,17 +52,17 @@ impl Packet {
 
     // Returns the pieces of the text.
     #[tactic(auto, unfolding(crate::specs::PacketText::packet_text))]
-    fn pieces(&self) -> Pieces
+    fn pieces(&self) -> TextPieces
         ensures text { pieces_text result.0.items ≡ packet_text self.now.0 }
         ensures short { length (pieces_text result.0.items) ≤ 256 }
     {
         if let Some(end) = decode_end(&self.0) {
-            return Pieces::of_end(&end);
+            return TextPieces::of_end(&end);
         }
         let (code, modifiers) = (code(&self.0), modifiers(&self.0));
         match decode_command(&self.0) {
-            Ok(command) => Pieces::of_command(&command, modifiers),
-            Err(bad) => Pieces::of_bad(&bad, code, modifiers),
+            Ok(command) => TextPieces::of_command(&command, modifiers),
+            Err(bad) => TextPieces::of_bad(&bad, code, modifiers),
         }
     }
 }
@@ -81,7 +81,7 @@ impl fmt::Display for Packet {
 
 // A piece of the text of a packet.
 #[derive(Clone, Copy, Drop)]
-enum Piece {
+enum TextPiece {
     // A text.
     Text(&'static str),
     // A number in decimal.
@@ -94,23 +94,23 @@ enum Piece {
     Long(u32),
 }
 
-impl Default for Piece {
-    fn default() -> Piece {
-        Piece::Text("")
+impl Default for TextPiece {
+    fn default() -> TextPiece {
+        TextPiece::Text("")
     }
 }
 
-impl Piece {
+impl TextPiece {
     // Writes the piece. A number with zeros before it is two pieces for the writer.
     fn write<W: fmt::Write>(&self, f: &mut fmt::Formatter<W>) -> fmt::Result
         ensures { WritesOnOk W.write_str_gives f.old result (piece_text self.now) f.new }
     {
         match *self {
-            Piece::Text(words) => f.write_str(words),
-            Piece::Decimal(number) => write!(f, "{number}"),
-            Piece::Byte(byte) => write_number(f, &hex_byte(byte)),
-            Piece::Word(word) => write_number(f, &hex_word(word)),
-            Piece::Long(long) => write_number(f, &hex_long(long)),
+            TextPiece::Text(words) => f.write_str(words),
+            TextPiece::Decimal(number) => write!(f, "{number}"),
+            TextPiece::Byte(byte) => write_number(f, &hex_byte(byte)),
+            TextPiece::Word(word) => write_number(f, &hex_word(word)),
+            TextPiece::Long(long) => write_number(f, &hex_long(long)),
         }
     }
 
@@ -120,23 +120,23 @@ impl Piece {
         ensures appended { text.new.bytes ≡ text.old.bytes ++ piece_text self.now }
     {
         match *self {
-            Piece::Text(words) => text.push_str(words),
-            Piece::Decimal(number) => text.push_str(Buffer::new().format(number)),
-            Piece::Byte(byte) => text.push_str(ascii_text(&hex_byte(byte))),
-            Piece::Word(word) => text.push_str(ascii_text(&hex_word(word))),
-            Piece::Long(long) => text.push_str(ascii_text(&hex_long(long))),
+            TextPiece::Text(words) => text.push_str(words),
+            TextPiece::Decimal(number) => text.push_str(Buffer::new().format(number)),
+            TextPiece::Byte(byte) => text.push_str(ascii_text(&hex_byte(byte))),
+            TextPiece::Word(word) => text.push_str(ascii_text(&hex_word(word))),
+            TextPiece::Long(long) => text.push_str(ascii_text(&hex_long(long))),
         }
     }
 }
 
 // The pieces of the text of a packet. An end message of Online and a Read have the most.
 #[derive(Drop)]
-struct Pieces(ArrayVec<Piece, 24>);
+struct TextPieces(ArrayVec<TextPiece, 24>);
 
-impl Pieces {
+impl TextPieces {
     // Returns the pieces of an end message.
-    fn of_end(end: &End) -> Pieces
-        ensures text { pieces_text result.0.items ≡ end_text end.now }
+    fn of_end(end: &End) -> TextPieces
+        ensures text { pieces_text result.0.items ≡ end_message_text end.now }
         ensures short { length (pieces_text result.0.items) ≤ 256 }
     {
         let End {
@@ -145,17 +145,17 @@ impl Pieces {
             status,
             body,
         } = *end;
-        let mut pieces = Pieces(ArrayVec::new());
-        pieces.line("end message: ", Piece::Text(body.name()));
+        let mut pieces = TextPieces(ArrayVec::new());
+        pieces.line("end message: ", TextPiece::Text(body.name()));
         pieces.request_lines(reference, unit);
-        pieces.line("  end code    0x", Piece::Byte(body.code()));
+        pieces.line("  end code    0x", TextPiece::Byte(body.code()));
         pieces.status_line("  status      0x", status);
         pieces.result_lines(body);
         pieces
     }
 
     // Returns the pieces of a command with these modifiers.
-    fn of_command(command: &Command, modifiers: u16) -> Pieces
+    fn of_command(command: &Command, modifiers: u16) -> TextPieces
         ensures text { pieces_text result.0.items ≡ command_text command.now modifiers }
         ensures short { length (pieces_text result.0.items) ≤ 256 }
     {
@@ -164,8 +164,8 @@ impl Pieces {
             unit,
             op,
         } = *command;
-        let mut pieces = Pieces(ArrayVec::new());
-        pieces.line("command: ", Piece::Text(op.name()));
+        let mut pieces = TextPieces(ArrayVec::new());
+        pieces.line("command: ", TextPiece::Text(op.name()));
         pieces.head_lines(reference, unit, op.opcode(), modifiers);
         pieces.parameter_lines(op);
         pieces
@@ -173,21 +173,21 @@ impl Pieces {
 
     // Returns the pieces of an invalid command with this byte in the place of an opcode, and with these
     // modifiers.
-    fn of_bad(bad: &Bad, code: u8, modifiers: u16) -> Pieces
+    fn of_bad(bad: &Bad, code: u8, modifiers: u16) -> TextPieces
         ensures text { pieces_text result.0.items ≡ bad_text bad.now code modifiers }
         ensures short { length (pieces_text result.0.items) ≤ 256 }
     {
-        let mut pieces = Pieces(ArrayVec::new());
+        let mut pieces = TextPieces(ArrayVec::new());
         pieces.title(bad.kind, bad.body.name());
-        pieces.push(Piece::Text(fault_text(bad.kind)));
-        pieces.push(Piece::Text("\n"));
+        pieces.push(TextPiece::Text(fault_text(bad.kind)));
+        pieces.push(TextPiece::Text("\n"));
         pieces.head_lines(bad.reference, bad.unit, code, modifiers);
         pieces.status_line("  rejected    status 0x", bad.end().status);
         pieces
     }
 
     // Adds a piece.
-    fn push(&mut self, piece: Piece)
+    fn push(&mut self, piece: TextPiece)
         requires room { array_vec_len self.old.0 + 1 ≤ 24 }
         ensures text { pieces_text self.new.0.items
             ≡ pieces_text self.old.0.items ++ piece_text piece }
@@ -197,15 +197,15 @@ impl Pieces {
     }
 
     // Adds a line: a label and a value.
-    fn line(&mut self, label: &'static str, value: Piece)
+    fn line(&mut self, label: &'static str, value: TextPiece)
         requires room { array_vec_len self.old.0 + 3 ≤ 24 }
         ensures text { pieces_text self.new.0.items
             ≡ pieces_text self.old.0.items ++ line label.now (piece_text value) }
         ensures count { array_vec_len self.new.0 ≡ array_vec_len self.old.0 + 3 }
     {
-        self.push(Piece::Text(label));
+        self.push(TextPiece::Text(label));
         self.push(value);
-        self.push(Piece::Text("\n"));
+        self.push(TextPiece::Text("\n"));
     }
 
     // Adds the line of a status word, with its name.
@@ -215,11 +215,11 @@ impl Pieces {
             ≡ pieces_text self.old.0.items ++ line label.now (named_status status) }
         ensures count { array_vec_len self.new.0 ≡ array_vec_len self.old.0 + 5 }
     {
-        self.push(Piece::Text(label));
-        self.push(Piece::Word(status));
-        self.push(Piece::Text(" ("));
-        self.push(Piece::Text(status::name(status)));
-        self.push(Piece::Text(")\n"));
+        self.push(TextPiece::Text(label));
+        self.push(TextPiece::Word(status));
+        self.push(TextPiece::Text(" ("));
+        self.push(TextPiece::Text(status::name(status)));
+        self.push(TextPiece::Text(")\n"));
     }
 
     // Adds the lines of the reference and the unit.
@@ -229,8 +229,8 @@ impl Pieces {
             ≡ pieces_text self.old.0.items ++ request_lines reference unit }
         ensures count { array_vec_len self.new.0 ≡ array_vec_len self.old.0 + 6 }
     {
-        self.line("  reference   ", Piece::Decimal(reference));
-        self.line("  unit        ", Piece::Decimal(u32::from(unit)));
+        self.line("  reference   ", TextPiece::Decimal(reference));
+        self.line("  unit        ", TextPiece::Decimal(u32::from(unit)));
     }
 
     // Adds the lines of the fields that valid and invalid commands have.
@@ -241,8 +241,8 @@ impl Pieces {
         ensures count { array_vec_len self.new.0 ≡ array_vec_len self.old.0 + 12 }
     {
         self.request_lines(reference, unit);
-        self.line("  opcode      0x", Piece::Byte(opcode));
-        self.line("  modifiers   0x", Piece::Word(modifiers));
+        self.line("  opcode      0x", TextPiece::Byte(opcode));
+        self.line("  modifiers   0x", TextPiece::Word(modifiers));
     }
 
     // Adds the lines of an end message's results.
@@ -257,7 +257,7 @@ impl Pieces {
                 self.flags_line(flags);
                 self.size_line(size);
             }
-            EndBody::Moved { bytes, .. } => self.line("  byte count  ", Piece::Decimal(bytes)),
+            EndBody::Moved { bytes, .. } => self.line("  byte count  ", TextPiece::Decimal(bytes)),
             EndBody::Invalid | EndBody::Controller | EndBody::Available => {}
         }
     }
@@ -268,10 +268,10 @@ impl Pieces {
         ensures text { pieces_text self.new.0.items ≡ pieces_text self.old.0.items ++ flags_line flags }
         ensures count { array_vec_len self.new.0 ≡ array_vec_len self.old.0 + 4 }
     {
-        self.push(Piece::Text("  unit flags  0x"));
-        self.push(Piece::Word(flags));
-        self.push(Piece::Text(protection_name(flags)));
-        self.push(Piece::Text("\n"));
+        self.push(TextPiece::Text("  unit flags  0x"));
+        self.push(TextPiece::Word(flags));
+        self.push(TextPiece::Text(protection_name(flags)));
+        self.push(TextPiece::Text("\n"));
     }
 
     // Adds the line of a unit's size.
@@ -280,9 +280,9 @@ impl Pieces {
         ensures text { pieces_text self.new.0.items ≡ pieces_text self.old.0.items ++ size_line size }
         ensures count { array_vec_len self.new.0 ≡ array_vec_len self.old.0 + 3 }
     {
-        self.push(Piece::Text("  unit size   "));
-        self.push(Piece::Decimal(size));
-        self.push(Piece::Text(size_end(size)));
+        self.push(TextPiece::Text("  unit size   "));
+        self.push(TextPiece::Decimal(size));
+        self.push(TextPiece::Text(size_end(size)));
     }
 
     // Adds the lines of a command's parameters.
@@ -307,9 +307,9 @@ impl Pieces {
             Some(false) => "off",
             None => return,
         };
-        self.push(Piece::Text("  protection  "));
-        self.push(Piece::Text(asked));
-        self.push(Piece::Text(" (Set Write Protect)\n"));
+        self.push(TextPiece::Text("  protection  "));
+        self.push(TextPiece::Text(asked));
+        self.push(TextPiece::Text(" (Set Write Protect)\n"));
     }
 
     // Adds the lines of a transfer's parameters, if the command is one.
@@ -319,9 +319,9 @@ impl Pieces {
             ≡ pieces_text self.old.0.items ++ transfer_lines transfer }
     {
         if let Some(transfer) = transfer {
-            self.line("  byte count  ", Piece::Decimal(transfer.bytes));
+            self.line("  byte count  ", TextPiece::Decimal(transfer.bytes));
             self.buffer_line(&transfer);
-            self.line("  lbn         ", Piece::Decimal(transfer.lbn));
+            self.line("  lbn         ", TextPiece::Decimal(transfer.lbn));
         }
     }
 
@@ -333,7 +333,7 @@ impl Pieces {
         ensures count { array_vec_len self.new.0 ≤ array_vec_len self.old.0 + 3 }
     {
         if transfer.kind.has_buffer() {
-            self.line("  buffer      0x", Piece::Long(transfer.buffer));
+            self.line("  buffer      0x", TextPiece::Long(transfer.buffer));
         }
     }
 
@@ -345,11 +345,11 @@ impl Pieces {
         ensures count { array_vec_len self.new.0 ≤ array_vec_len self.old.0 + 3 }
     {
         match kind {
-            BadKind::Opcode => self.push(Piece::Text("neither a command nor an end message: ")),
+            BadKind::Opcode => self.push(TextPiece::Text("neither a command nor an end message: ")),
             BadKind::Modifiers | BadKind::Version => {
-                self.push(Piece::Text("invalid command, "));
-                self.push(Piece::Text(name));
-                self.push(Piece::Text(": "));
+                self.push(TextPiece::Text("invalid command, "));
+                self.push(TextPiece::Text(name));
+                self.push(TextPiece::Text(": "));
             }
         }
     }

@@ -70,7 +70,7 @@ impl PacketReader {
     {
         match token.as_bytes() {
             [high, low] => {
-                let byte = byte_of([*high, *low])?;
+                let byte = byte_of_token([*high, *low])?;
                 if self.filled < 47 {
                     self.put(byte);
                     return Ok(None);
@@ -78,7 +78,7 @@ impl PacketReader {
                 Ok(Some(self.complete(byte)))
             }
             [a, b, c, d, e, f] => {
-                let [low, high] = word_of([*a, *b, *c, *d, *e, *f])?.to_le_bytes();
+                let [low, high] = word_of_token([*a, *b, *c, *d, *e, *f])?.to_le_bytes();
                 if self.filled < 46 {
                     self.put(low);
                     self.put(high);
@@ -147,7 +147,7 @@ static DIGIT_VALUES: [u8; 256] = [
 ];
 
 // Returns the byte of a token of two digits.
-fn byte_of(token: [u8; 2]) -> Result<u8, TokenError>
+fn byte_of_token(token: [u8; 2]) -> Result<u8, TokenError>
     ensures value { IfOk result (λ byte. byte ≡ digits_value 16 token) }
     ensures ok { IsOk result ↔ IsByteToken token }
 {
@@ -159,7 +159,7 @@ fn byte_of(token: [u8; 2]) -> Result<u8, TokenError>
 }
 
 // Returns the word of a token of six digits.
-fn word_of(token: [u8; 6]) -> Result<u16, TokenError>
+fn word_of_token(token: [u8; 6]) -> Result<u16, TokenError>
     ensures value { IfOk result (λ word. word ≡ digits_value 8 token) }
     ensures ok { IsOk result ↔ IsWordToken token }
 {

@@ -2,10 +2,10 @@
 ghost use Rattle.std.specs.Prelude.{◌≡◌, ◌≤◌, ◌+◌, ◌<◌, Some, map};
 ghost use Rattle.std.specs.Fmt.{WritesOnOk};
 ghost use Rattle.uda50_show.specs.Rows.{hex_row, octal_row, hex_offset, octal_offset, row_text, printable};
-ghost use Rattle.uda50_show.specs.Block.{words, word_at};
+ghost use Rattle.uda50_show.specs.Block.{words, word_at_offset};
 
 use crate::cells::{hex_cells, octal_cells};
-use crate::digits::{digit, hex_byte, octal_word, write_ascii, write_number};
+use crate::digits::{hex_byte, octal_word, table_digit, write_ascii, write_number};
 use crate::text::printable;
 use byteorder::{ByteOrder, LittleEndian};
 use std::fmt;
@@ -78,7 +78,7 @@ impl fmt::Display for OctalRow {
         write!(f, "{:03o} ", self.offset)?;
         for n in 0..8 {
             f.write_str(" ")?;
-            write_number(f, &octal_word(word_at(&self.bytes, 2 * n)))?;
+            write_number(f, &octal_word(word_at_offset(&self.bytes, 2 * n)))?;
         }
         write_characters(f, &self.bytes)
     }
@@ -100,7 +100,12 @@ fn hex_offset(offset: u16) -> [u8; 4]
     requires { offset < 512 }
     ensures text { result ≡ hex_offset offset }
 {
-    [digit(offset >> 8), digit(offset >> 4), digit(offset), b' ']
+    [
+        table_digit(offset >> 8),
+        table_digit(offset >> 4),
+        table_digit(offset),
+        b' ',
+    ]
 }
 
 // Returns the offset of a row of a block in octal, and a space.
@@ -109,9 +114,9 @@ fn octal_offset(offset: u16) -> [u8; 4]
     ensures text { result ≡ octal_offset offset }
 {
     [
-        digit(offset >> 6 & 7),
-        digit(offset >> 3 & 7),
-        digit(offset & 7),
+        table_digit(offset >> 6 & 7),
+        table_digit(offset >> 3 & 7),
+        table_digit(offset & 7),
         b' ',
     ]
 }
@@ -128,9 +133,9 @@ fn characters(bytes: &[u8; 16]) -> [u8; 20]
 }
 
 /// Returns the word at an offset, low byte first.
-pub(crate) fn word_at(bytes: &[u8; 16], offset: usize) -> u16
+pub(crate) fn word_at_offset(bytes: &[u8; 16], offset: usize) -> u16
     requires { offset + 2 ≤ 16 }
-    ensures { result ≡ word_at offset bytes.now }
+    ensures { result ≡ word_at_offset offset bytes.now }
 {
     LittleEndian::read_u16(&bytes[offset..])
 }

@@ -2,7 +2,7 @@ use Rattle.std.proofs.Common.{◌≡◌, ℕ, List, ◌+◌, ◌*◌, ◌<◌, �
 use Rattle.std.proofs.Common.{add-one, take, length}
 use Rattle.std.specs.Prelude.{slice_set}
 use Rattle.std.proofs.lemmas.List.{take_more_set}
-use Rattle.uda50_show.specs.Block.{words, word_at}
+use Rattle.uda50_show.specs.Block.{words, word_at_offset}
 use Rattle.uda50_show.proofs.cells.row_words.Goals as goal
 
 pub loop-n-init : goal.loop-n-init
@@ -11,7 +11,7 @@ loop-n-init c = record { long = refl; read = refl }
 
 -- one word more
 word_more : (array bytes : List ℕ) (word n : ℕ) → n < length array
-    → take n array ≡ words n bytes → word ≡ word_at (2 * n) bytes
+    → take n array ≡ words n bytes → word ≡ word_at_offset (2 * n) bytes
     → take (n + 1) (slice_set array n word) ≡ words (n + 1) bytes
 unfolding words
 word_more array bytes word n less so_far is =
@@ -25,5 +25,5 @@ loop-n-preserved c =
     let now = c.loop-n.invariant in
     record {
       long = search rules;
-      read = word_more _ _ _ _ (omega (arith, now.long, c.loop-n-test.true)) now.read c.word_at.ensures;
+      read = word_more _ _ _ _ (omega (arith, now.long, c.loop-n-test.true)) now.read c.word_at_offset.ensures;
     }

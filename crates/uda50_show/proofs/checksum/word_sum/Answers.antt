@@ -13,4 +13,4 @@ pub loop-n-preserved : goal.loop-n-preserved
 unfolding words
 loop-n-preserved c =
     let before = words c.loop-n.n c.args.block.now in
-    rw (add-one c.loop-n.n, c.word_at-sum.ensures) (sum_more c.loop-n.sum _ before c.loop-n.invariant)
+    rw (add-one c.loop-n.n, c.word_at_offset-sum.ensures) (sum_more c.loop-n.sum _ before c.loop-n.invariant)

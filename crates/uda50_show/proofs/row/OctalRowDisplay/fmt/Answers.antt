@@ -4,7 +4,7 @@ use Rattle.std.specs.List.{flat_map}
 use Rattle.std.proofs.Output.{has_written_of_eq}
 use Rattle.std.proofs.lemmas.Grind.{put_three}
 use Rattle.std.proofs.lemmas.List.{flat_map_more}
-use Rattle.uda50_show.specs.Block.{words, word_at}
+use Rattle.uda50_show.specs.Block.{words, word_at_offset}
 use Rattle.uda50_show.specs.Rows.{octal_offset, octal_cell}
 use Rattle.uda50_show.proofs.Offsets.{three_wide, octal_offset_shown}
 use Rattle.uda50_show.proofs.row.OctalRowDisplay.fmt.Goals as goal
@@ -17,12 +17,12 @@ loop-n-init g c = λ plain.
     has_written_of_eq _ _ _ _ _ (octal_offset_shown offset ∙ sym (append-nil (octal_offset offset))) shown
 
 -- one cell more
-cell_more : (front piece bytes : List ℕ) (n : ℕ) → piece ≡ octal_cell (word_at (2 * n) bytes)
+cell_more : (front piece bytes : List ℕ) (n : ℕ) → piece ≡ octal_cell (word_at_offset (2 * n) bytes)
     → (front ++ flat_map octal_cell (words n bytes)) ++ piece ≡ front ++ flat_map octal_cell (words (n + 1) bytes)
 unfolding words
 cell_more front piece bytes n is =
     ap (λ (t : List ℕ). (front ++ flat_map octal_cell (words n bytes)) ++ t) is
-    ∙ flat_map_more octal_cell front (words n bytes) (word_at (2 * n) bytes)
+    ∙ flat_map_more octal_cell front (words n bytes) (word_at_offset (2 * n) bytes)
     ∙ ap (λ (k : ℕ). front ++ flat_map octal_cell (words k bytes)) (sym (add-one n))
 
 pub loop-n-preserved : goal.loop-n-preserved
@@ -32,4 +32,4 @@ loop-n-preserved g c = λ plain.
     let digits = c.write_number.ensures space.plain (search rules) in
     put_three _ _ _ _ _ _ _ _ _ now space digits
     (cell_more (octal_offset c.args.self.now.offset) (32 ∷ c.octal_word.result) c.args.self.now.bytes c.loop-n.n
-    (c.octal_word.ensures.digits ∙ ap octal_cell c.word_at.ensures))
+    (c.octal_word.ensures.digits ∙ ap octal_cell c.word_at_offset.ensures))

@@ -1,6 +1,6 @@
 use Rattle.std.proofs.Common.{◌<◌, ◌≤◌, ◌^◌, ℕ, List, length, append_assoc, subst, sym, rules}
 use Rattle.uda50_show.proofs.PacketLengths.{end_short}
-use Rattle.uda50_show.proofs.packet.Pieces.of_end.Goals as goal
+use Rattle.uda50_show.proofs.packet.TextPieces.of_end.Goals as goal
 
 pub returns-clause-text : goal.returns-clause-text
 returns-clause-text c =

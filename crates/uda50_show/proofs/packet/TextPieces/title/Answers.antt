@@ -1,5 +1,5 @@
 use Rattle.std.proofs.Common.{append_assoc, arith, inl, inr}
-use Rattle.uda50_show.proofs.packet.Pieces.title.Goals as goal
+use Rattle.uda50_show.proofs.packet.TextPieces.title.Goals as goal
 
 pub returns-in-Modifiers : goal.returns-in-Modifiers
 returns-in-Modifiers c =

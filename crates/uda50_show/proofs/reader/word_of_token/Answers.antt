@@ -1,6 +1,6 @@
 use Rattle.std.proofs.Common.{refl, rules, arith}
 use Rattle.uda50_show.proofs.Tokens.{by_six}
-use Rattle.uda50_show.proofs.reader.word_of.Goals as goal
+use Rattle.uda50_show.proofs.reader.word_of_token.Goals as goal
 
 pub returns-then-high-lt128-clause-ok : goal.returns-then-high-lt128-clause-ok
 returns-then-high-lt128-clause-ok c =

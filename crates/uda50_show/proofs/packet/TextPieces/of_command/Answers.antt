@@ -2,7 +2,7 @@ use Rattle.std.proofs.Common.{◌≡◌, ◌<◌, ◌≤◌, ◌^◌, ℕ, List,
 use Rattle.uda50_show.specs.Pieces.{pieces_text}
 use Rattle.uda50_show.specs.PacketText.{command_text}
 use Rattle.uda50_show.proofs.PacketLengths.{command_short}
-use Rattle.uda50_show.proofs.packet.Pieces.of_command.Goals as goal
+use Rattle.uda50_show.proofs.packet.TextPieces.of_command.Goals as goal
 
 pub returns-clause-short : goal.returns-clause-short
 returns-clause-short c =

@@ -3,7 +3,7 @@ use Rattle.uda50_show.specs.Hex.{hex_byte, hex_word}
 use Rattle.uda50_show.specs.Pieces.{pieces_text}
 use Rattle.uda50_show.specs.PacketText.{line, request_lines}
 use Rattle.uda50_show.proofs.Pieces.{more}
-use Rattle.uda50_show.proofs.packet.Pieces.head_lines.Goals as goal
+use Rattle.uda50_show.proofs.packet.TextPieces.head_lines.Goals as goal
 
 pub returns-clause-text : goal.returns-clause-text
 returns-clause-text c =

@@ -1,12 +1,11 @@
 use Rattle.std.proofs.Common.{append_assoc}
-use Rattle.uda50_show.proofs.packet.Pieces.flags_line.Goals as goal
+use Rattle.uda50_show.proofs.packet.TextPieces.size_line.Goals as goal
 
 pub returns-clause-text : goal.returns-clause-text
 returns-clause-text c =
     rw (
-      c.push-4.ensures.text,
       c.push-3.ensures.text,
-      c.protection_name.ensures.name,
+      c.size_end.ensures.end,
       c.push-2.ensures.text,
       c.push.ensures.text,
     ) (simp append_assoc)

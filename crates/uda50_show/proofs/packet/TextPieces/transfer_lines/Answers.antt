@@ -6,7 +6,7 @@ use Rattle.uda_packet.specs.Transfer.{has_buffer}
 use Rattle.uda50_show.specs.Pieces.{pieces_text}
 use Rattle.uda50_show.specs.PacketText.{line, buffer_line, transfer_lines}
 use Rattle.uda50_show.proofs.Pieces.{more}
-use Rattle.uda50_show.proofs.packet.Pieces.transfer_lines.Goals as goal
+use Rattle.uda50_show.proofs.packet.TextPieces.transfer_lines.Goals as goal
 
 pub returns-in-Some : goal.returns-in-Some
 returns-in-Some c =

@@ -5,7 +5,7 @@ use Rattle.uda50_show.specs.PacketText.{line, named_status, head_lines, bad_titl
 use Rattle.uda50_show.specs.Pieces.{pieces_text}
 use Rattle.uda50_show.proofs.Pieces.{more}
 use Rattle.uda50_show.proofs.PacketLengths.{bad_short}
-use Rattle.uda50_show.proofs.packet.Pieces.of_bad.Goals as goal
+use Rattle.uda50_show.proofs.packet.TextPieces.of_bad.Goals as goal
 
 pub returns-clause-text : goal.returns-clause-text
 returns-clause-text c =

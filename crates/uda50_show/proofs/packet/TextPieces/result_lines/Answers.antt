@@ -3,7 +3,7 @@ use Rattle.uda_packet.specs.declared.end.EndBody.{EndBody}
 use Rattle.uda50_show.specs.Pieces.{pieces_text}
 use Rattle.uda50_show.specs.PacketText.{flags_line, size_line, result_lines}
 use Rattle.uda50_show.proofs.Pieces.{more}
-use Rattle.uda50_show.proofs.packet.Pieces.result_lines.Goals as goal
+use Rattle.uda50_show.proofs.packet.TextPieces.result_lines.Goals as goal
 
 pub returns-in-Online-clause-text : goal.returns-in-Online-clause-text
 returns-in-Online-clause-text c =

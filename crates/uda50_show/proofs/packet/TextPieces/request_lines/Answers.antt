@@ -2,7 +2,7 @@ use Rattle.std.proofs.Common.{codes, decimal}
 use Rattle.uda50_show.specs.Pieces.{pieces_text}
 use Rattle.uda50_show.specs.PacketText.{line}
 use Rattle.uda50_show.proofs.Pieces.{more}
-use Rattle.uda50_show.proofs.packet.Pieces.request_lines.Goals as goal
+use Rattle.uda50_show.proofs.packet.TextPieces.request_lines.Goals as goal
 
 pub returns-clause-text : goal.returns-clause-text
 returns-clause-text c =

@@ -12,7 +12,7 @@ use Rattle.std.specs.VecDeque.Iter.{deque_iter_rest, deque_iter_steps_back}
 use Rattle.uda50_copy.specs.declared.map.entry.BlockStatus.{BlockStatus}
 use Rattle.uda50_copy.specs.declared.map.entry.BlockStatus.TheVariants.{Finished}
 use Rattle.uda50_copy.specs.declared.map.entry.MapEntry.{MapEntry}
-use Rattle.uda50_copy.specs.Map.{is_within, statuses_at, IsUnfinishedFrom, AreConsecutive, start_of, end_from}
+use Rattle.uda50_copy.specs.Map.{is_within, statuses_at, IsUnfinishedFrom, AreConsecutive, map_start, end_from}
 use Rattle.uda50_copy.proofs.MapLaws.{statuses_at-append, outside_empty}
 use Rattle.uda50_copy.proofs.Spans.{spans_of, spans_left, spans_right, spans_starts, spans_ends, right_consecutive, ends_rise}
 
@@ -86,7 +86,7 @@ none_quiet xs from others = λ k d within.
 pub before_quiet : (xs ys : List MapEntry) (x : MapEntry) → AreConsecutive (xs ++ ys) → Contains ys x → All (IsQuiet x.end) xs
 before_quiet xs ys x all there = λ k d below.
     let spans = spans_of (xs ++ ys) all in
-    let middle = end_from (start_of (xs ++ ys)) xs in
+    let middle = end_from (map_start (xs ++ ys)) xs in
     let ends : (get_or xs k d).end ≤ middle = spans_ends xs _ _ (spans_left xs ys _ _ spans) k d below in
     let starts : middle ≤ x.start = All-contains (λ (e : MapEntry). middle ≤ e.start) ys x (spans_starts ys _ _ (spans_right xs ys _ _ spans)) there in
     let forward : x.start ≤ x.end = All-contains (λ (e : MapEntry). e.start ≤ e.end) ys x (right_consecutive xs ys all).0 there in

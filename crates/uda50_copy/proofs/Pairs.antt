@@ -13,8 +13,8 @@ use Rattle.uda_disk.specs.Units.{Units, disks_of, AllSound, AreWellFormedIfSound
 use Rattle.uda_disk.proofs.Callers.{joined_and_cut}
 use Rattle.uda_disk.proofs.Successes.{All-part, whole_blocks, whole_disk}
 use Rattle.uda50_copy.specs.Copy.{source_of, target_of, ChangesNoBlock, AreEqual, EqualIfSound, read_from, ArePairedReads, ReturnsBlocks, EachReturnsBlocks, IsReading, IsBlockRead, AreSameBytes, AreEqualReads}
-use Rattle.uda50_copy.specs.declared.requests.Reading.{Reading}
-use Rattle.uda50_copy.specs.declared.requests.Reading.TheVariants.{Bytes, Failed}
+use Rattle.uda50_copy.specs.declared.requests.BlockReading.{BlockReading}
+use Rattle.uda50_copy.specs.declared.requests.BlockReading.TheVariants.{Bytes, Failed}
 use Rattle.uda50_copy.proofs.Pieces.{part-none}
 
 -- ---- equal blocks
@@ -102,19 +102,19 @@ only_one xs (z ∷ zs) (Some y) x are at one = absurd (omega (arith, ap length a
 only_one xs [] (Some y) x are at one =
     ap (λ (l : List Told). slice_get (answer_values l) 0) are ∙ ap (option_map answer_value) at
 
-pub block_read : (blocks : List (List ℕ)) (lbn : ℕ) (answer : Answer) (reading : Reading)
+pub block_read : (blocks : List (List ℕ)) (lbn : ℕ) (answer : Answer) (reading : BlockReading)
     → ReturnsBlocks blocks answer lbn 1 → IsReading answer reading → IsBlockRead blocks lbn reading
 block_read blocks lbn answer (Bytes payload) returned is = λ bytes h. returned bytes (is ∙ h)
 block_read blocks lbn answer Failed returned is = tt
 
-pub block_is_read : {E P Q : Type 0} (result : Result Reading E) (answer : Answer) (blocks : List (List ℕ)) (lbn : ℕ)
+pub block_is_read : {E P Q : Type 0} (result : Result BlockReading E) (answer : Answer) (blocks : List (List ℕ)) (lbn : ℕ)
     → (P → Q → ReturnsBlocks blocks answer lbn 1) → IfOk result (IsReading answer)
     → IfOk result (λ reading. P → Q → IsBlockRead blocks lbn reading)
 block_is_read (Ok reading) answer blocks lbn returned is = λ p q. block_read blocks lbn answer reading (returned p q) is
 block_is_read (Err e) answer blocks lbn returned is = tt
 
 -- the same bytes were read of a block of both units
-pub equal_block : (skips_lost : Bool) (lbn : ℕ) (units now after : Units) (source target : Reading)
+pub equal_block : (skips_lost : Bool) (lbn : ℕ) (units now after : Units) (source target : BlockReading)
     → ChangesNoBlock units now → ChangesNoBlock now after
     → (AreWellFormedIfSound units → AllSound now → IsBlockRead (source_of units) lbn source)
     → (AreWellFormedIfSound now → AllSound after → IsBlockRead (target_of now) lbn target)

@@ -5,7 +5,7 @@ use Rattle.std.proofs.lemmas.Bool.Decides.{nat_tests}
 use Rattle.std.proofs.lemmas.List.Elements.{All-cons}
 use Rattle.std.specs.List.Sorted.{IsNonDecreasingBy}
 use Rattle.uda50_copy.specs.declared.map.entry.MapEntry.{MapEntry}
-use Rattle.uda50_copy.specs.Map.{is_within, statuses_at, HasBlocks, AreConsecutive, Spans, start_of, end_from, end_of}
+use Rattle.uda50_copy.specs.Map.{is_within, statuses_at, HasBlocks, AreConsecutive, Spans, map_start, end_from, map_end}
 
 -- the entries after the first one
 rest_consecutive : (x : MapEntry) (xs : List MapEntry) → AreConsecutive (x ∷ xs) → AreConsecutive xs
@@ -19,7 +19,7 @@ spans_more x (y ∷ ys) all =
     let rest : Spans y.start (end_from y.end ys) (y ∷ ys) = spans_more y ys (rest_consecutive x (y ∷ ys) all) in
     (refl, all.0 0 x (omega arith), (all.1 0 x (omega arith), rest.1, rest.2))
 
-pub spans_of : (xs : List MapEntry) → AreConsecutive xs → Spans (start_of xs) (end_of xs) xs
+pub spans_of : (xs : List MapEntry) → AreConsecutive xs → Spans (map_start xs) (map_end xs) xs
 spans_of [] all = refl
 spans_of (x ∷ xs) all = spans_more x xs all
 
@@ -116,7 +116,7 @@ rising (x ∷ xs) start end spans (suc i) (suc j) d order below =
     rising xs x.end end spans.2 i j d (omega (arith, order)) (omega (arith, below))
 
 pub ends_rise : (xs : List MapEntry) → AreConsecutive xs → IsNonDecreasingBy (λ (e : MapEntry). e.end) xs
-ends_rise xs all = rising xs (start_of xs) (end_of xs) (spans_of xs all)
+ends_rise xs all = rising xs (map_start xs) (map_end xs) (spans_of xs all)
 
 -- the parts of consecutive entries
 pub left_consecutive : (xs ys : List MapEntry) → AreConsecutive (xs ++ ys) → AreConsecutive xs
@@ -137,9 +137,9 @@ all_later xs (y ∷ ys) next block all is some later = λ k d below.
     omega (arith, it, same, later)
 
 -- the first and the last entry
-pub start_of_first : (xs : List MapEntry) (d : MapEntry) → 0 < length xs → start_of xs ≡ (get_or xs 0 d).start
-start_of_first [] d some = absurd (omega (arith, some))
-start_of_first (x ∷ xs) d some = refl
+pub map_start_first : (xs : List MapEntry) (d : MapEntry) → 0 < length xs → map_start xs ≡ (get_or xs 0 d).start
+map_start_first [] d some = absurd (omega (arith, some))
+map_start_first (x ∷ xs) d some = refl
 
 end_from_last : (xs : List MapEntry) (start k : ℕ) (d : MapEntry) → k + 1 ≡ length xs → end_from start xs ≡ (get_or xs k d).end
 end_from_last [] start k d size = absurd (omega (arith, size))
@@ -148,11 +148,11 @@ end_from_last (x ∷ []) start (suc k) d size = absurd (omega (arith, size))
 end_from_last (x ∷ y ∷ ys) start zero d size = absurd (omega (arith, size))
 end_from_last (x ∷ y ∷ ys) start (suc k) d size = end_from_last (y ∷ ys) x.end k d (omega (arith, size))
 
-pub end_of_last : (xs : List MapEntry) (k : ℕ) (d : MapEntry) → k + 1 ≡ length xs → end_of xs ≡ (get_or xs k d).end
-end_of_last xs k d size = end_from_last xs 0 k d size
+pub map_end_last : (xs : List MapEntry) (k : ℕ) (d : MapEntry) → k + 1 ≡ length xs → map_end xs ≡ (get_or xs k d).end
+map_end_last xs k d size = end_from_last xs 0 k d size
 
-pub end_of-append : (xs ys : List MapEntry) (k : ℕ) (d : MapEntry) → k + 1 ≡ length ys → end_of (xs ++ ys) ≡ (get_or ys k d).end
-end_of-append xs ys k d size = end_from_append xs ys 0 k d size
+pub map_end-append : (xs ys : List MapEntry) (k : ℕ) (d : MapEntry) → k + 1 ≡ length ys → map_end (xs ++ ys) ≡ (get_or ys k d).end
+map_end-append xs ys k d size = end_from_append xs ys 0 k d size
   where
     end_from_append : (xs ys : List MapEntry) (start k : ℕ) (d : MapEntry) → k + 1 ≡ length ys
         → end_from start (xs ++ ys) ≡ (get_or ys k d).end
@@ -172,12 +172,12 @@ statuses_outside (x ∷ xs) start end block spans (inr late) =
     rw none (statuses_outside xs x.end end block spans.2 (inr late))
 
 -- entries without blocks
-pub no_blocks : (xs : List MapEntry) → AreConsecutive xs → end_of xs ≤ start_of xs → (block : ℕ) → statuses_at xs block ≡ []
+pub no_blocks : (xs : List MapEntry) → AreConsecutive xs → map_end xs ≤ map_start xs → (block : ℕ) → statuses_at xs block ≡ []
 no_blocks xs all none block =
-    statuses_outside xs (start_of xs) (end_of xs) block (spans_of xs all)
-    (either (cases_lt block (start_of xs)))
+    statuses_outside xs (map_start xs) (map_end xs) block (spans_of xs all)
+    (either (cases_lt block (map_start xs)))
   where
-    either : (block < start_of xs) ⊎ (start_of xs ≤ block) → (block < start_of xs) ⊎ (end_of xs ≤ block)
+    either : (block < map_start xs) ⊎ (map_start xs ≤ block) → (block < map_start xs) ⊎ (map_end xs ≤ block)
     either (inl early) = inl early
     either (inr late) = inr (omega (arith, late, none))
 
@@ -200,33 +200,33 @@ statuses_inside (x ∷ xs) start end block spans from before =
     (λ later. statuses_inside xs x.end end block spans.2 later before)
 
 -- all blocks from the first to the last
-pub has_blocks : (xs : List MapEntry) (start end : ℕ) → AreConsecutive xs → start_of xs ≤ start → end ≤ end_of xs
+pub has_blocks : (xs : List MapEntry) (start end : ℕ) → AreConsecutive xs → map_start xs ≤ start → end ≤ map_end xs
     → HasBlocks start end xs
 has_blocks xs start end all first last = λ block from before.
-    statuses_inside xs (start_of xs) (end_of xs) block (spans_of xs all) (omega (arith, first, from)) (omega (arith, last, before))
+    statuses_inside xs (map_start xs) (map_end xs) block (spans_of xs all) (omega (arith, first, from)) (omega (arith, last, before))
 
 -- and no others
-pub start_of_has : (xs : List MapEntry) (start end : ℕ) → AreConsecutive xs → start < end → HasBlocks start end xs
-    → start_of xs ≤ start
-start_of_has xs start end all some has = either (cases_lt start (start_of xs))
+pub map_start_has : (xs : List MapEntry) (start end : ℕ) → AreConsecutive xs → start < end → HasBlocks start end xs
+    → map_start xs ≤ start
+map_start_has xs start end all some has = either (cases_lt start (map_start xs))
   where
-    either : (start < start_of xs) ⊎ (start_of xs ≤ start) → start_of xs ≤ start
+    either : (start < map_start xs) ⊎ (map_start xs ≤ start) → map_start xs ≤ start
     either (inr is) = is
     either (inl early) =
         let none : statuses_at xs start ≡ [] =
-        statuses_outside xs (start_of xs) (end_of xs) start (spans_of xs all) (inl early) in
+        statuses_outside xs (map_start xs) (map_end xs) start (spans_of xs all) (inl early) in
         let one : length (statuses_at xs start) ≡ 1 = has start (omega arith) some in
         absurd (omega (arith, one, ap length none))
 
-pub end_of_has : (xs : List MapEntry) (start end : ℕ) → AreConsecutive xs → start < end → HasBlocks start end xs
-    → end ≤ end_of xs
-end_of_has xs start end all some has = either (cases_lt (end_of xs) end)
+pub map_end_has : (xs : List MapEntry) (start end : ℕ) → AreConsecutive xs → start < end → HasBlocks start end xs
+    → end ≤ map_end xs
+map_end_has xs start end all some has = either (cases_lt (map_end xs) end)
   where
-    either : (end_of xs < end) ⊎ (end ≤ end_of xs) → end ≤ end_of xs
+    either : (map_end xs < end) ⊎ (end ≤ map_end xs) → end ≤ map_end xs
     either (inr is) = is
     either (inl late) =
         let none : statuses_at xs (end - 1) ≡ [] =
-        statuses_outside xs (start_of xs) (end_of xs) (end - 1) (spans_of xs all) (inr (omega (arith, late))) in
+        statuses_outside xs (map_start xs) (map_end xs) (end - 1) (spans_of xs all) (inr (omega (arith, late))) in
         let one : length (statuses_at xs (end - 1)) ≡ 1 = has (end - 1) (omega (arith, some)) (omega (arith, some)) in
         absurd (omega (arith, one, ap length none))
 

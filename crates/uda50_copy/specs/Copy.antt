@@ -12,8 +12,8 @@ use Rattle.uda_disk.specs.Units.{Units, disks_of, AllSound, AreSoundBefore, AreW
 use Rattle.uda_driver.specs.Run.{DriverState, units_of}
 use Rattle.uda50_copy.specs.declared.error.Side.{Side}
 use Rattle.uda50_copy.specs.declared.error.Side.TheVariants.{Source, Target}
-use Rattle.uda50_copy.specs.declared.requests.Reading.{Reading}
-use Rattle.uda50_copy.specs.declared.requests.Reading.TheVariants.{Bytes, Failed}
+use Rattle.uda50_copy.specs.declared.requests.BlockReading.{BlockReading}
+use Rattle.uda50_copy.specs.declared.requests.BlockReading.TheVariants.{Bytes, Failed}
 
 -- a driver over both drives, and whether blocks that can't be read are skipped
 pub record CopierState : Type 0 where
@@ -119,12 +119,12 @@ EachReturnsBlocks units requests answers =
     → slice_get answers k ≡ Some answer → ReturnsBlocks (blocks_at (disks_of units) u) answer lbn count
 
 -- what was read of a block
-abbrev pub IsBlockRead : List (List ℕ) → ℕ → Reading → Type 0
+abbrev pub IsBlockRead : List (List ℕ) → ℕ → BlockReading → Type 0
 IsBlockRead blocks lbn (Bytes payload) = ReturnsBlocks blocks (Data SUCCESS payload.items) lbn 1
 IsBlockRead blocks lbn Failed = Unit {0}
 
 -- a block was read from both units, and the bytes are the same
-abbrev pub AreSameBytes : Reading → Reading → Type 0
+abbrev pub AreSameBytes : BlockReading → BlockReading → Type 0
 AreSameBytes (Bytes a) (Bytes b) = a.items ≡ b.items
 AreSameBytes (Bytes a) Failed = ⊥
 AreSameBytes Failed target = ⊥
@@ -174,7 +174,7 @@ AreWritten requests answers =
     → (answer : Answer) × ((slice_get answers k ≡ Some answer) × IsSuccess answer)
 
 -- what a Read's answer tells
-abbrev pub IsReading : Answer → Reading → Type 0
+abbrev pub IsReading : Answer → BlockReading → Type 0
 IsReading answer (Bytes payload) = answer ≡ Data SUCCESS payload.items
 IsReading answer Failed = Unit {0}
 

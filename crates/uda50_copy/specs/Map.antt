@@ -65,9 +65,9 @@ Spans start end (entry ∷ entries) =
     (start ≡ entry.start) × (entry.start ≤ entry.end) × Spans entry.end end entries
 
 -- the first block of entries that follow each other, or 0 if there are none
-abbrev pub start_of : List MapEntry → ℕ
-start_of [] = 0
-start_of (entry ∷ entries) = entry.start
+abbrev pub map_start : List MapEntry → ℕ
+map_start [] = 0
+map_start (entry ∷ entries) = entry.start
 
 -- the block after the last of these entries, or this one if there are none
 abbrev pub end_from : ℕ → List MapEntry → ℕ
@@ -75,5 +75,5 @@ end_from start [] = start
 end_from start (entry ∷ entries) = end_from entry.end entries
 
 -- the block after the last one of entries that follow each other, or 0 if there are none
-abbrev pub end_of : List MapEntry → ℕ
-end_of entries = end_from 0 entries
+abbrev pub map_end : List MapEntry → ℕ
+map_end entries = end_from 0 entries

@@ -11,8 +11,8 @@ status_character Bad = 45
 status_character Finished = 43
 
 -- the status of a text. Blocks with * or / failed as a part of more blocks, and were not tried one by one
-abbrev pub status_of : List ℕ → Option BlockStatus
-status_of text =
+abbrev pub status_of_text : List ℕ → Option BlockStatus
+status_of_text text =
     if bytes_eq text (codes "?") || (bytes_eq text (codes "*") || bytes_eq text (codes "/"))
     then Some NonTried
     else if bytes_eq text (codes "-") then Some Bad

@@ -12,7 +12,7 @@ ghost use Rattle.uda50_copy.specs.Copy.{AddsPiece, IsBlockRead, AreEqualReads, A
 
 use crate::error::{CopyError, Side};
 use crate::requests::{
-    REQUEST_BLOCKS, Reading, all_written, make_read, make_write, paired_reads, reading_of,
+    BlockReading, REQUEST_BLOCKS, all_written, make_read, make_write, paired_reads, reading_of,
     reusable_answers, source_reads, status_or_invalid_length,
 };
 use std::alloc::Global;
@@ -192,8 +192,8 @@ impl<S: BlockStore + Drop> Copier<S> {
             (units_in self.old) (units_in self.new)) }
     {
         match reading_of(Side::Source, answer)? {
-            Reading::Bytes(payload) => add(writes, make_write(piece.start, payload)),
-            Reading::Failed => self.read_singly(piece, writes, observer),
+            BlockReading::Bytes(payload) => add(writes, make_write(piece.start, payload)),
+            BlockReading::Failed => self.read_singly(piece, writes, observer),
         }
     }
 
@@ -237,9 +237,9 @@ impl<S: BlockStore + Drop> Copier<S> {
             (request_values writes.old.items) (request_values writes.new.items) lbn 1) }
     {
         match reading_of(Side::Source, answer)? {
-            Reading::Bytes(payload) => add(writes, make_write(lbn, payload)),
-            Reading::Failed if !self.skips_lost => Err(CopyError::Read(Side::Source, lbn)),
-            Reading::Failed => {
+            BlockReading::Bytes(payload) => add(writes, make_write(lbn, payload)),
+            BlockReading::Failed if !self.skips_lost => Err(CopyError::Read(Side::Source, lbn)),
+            BlockReading::Failed => {
                 observer.lost(lbn);
                 Ok(())
             }
@@ -324,7 +324,7 @@ impl<S: BlockStore + Drop> Copier<S> {
     }
 
     // Reads one block.
-    fn read_block(&mut self, side: Side, lbn: u32) -> Result<Reading, CopyError>
+    fn read_block(&mut self, side: Side, lbn: u32) -> Result<BlockReading, CopyError>
         ensures skips_lost { self.new.skips_lost ≡ self.old.skips_lost }
         ensures changes_no_block { ChangesNoBlock (units_in self.old) (units_in self.new) }
         ensures block { IfOk result (λ reading. AreWellFormedIfSound (units_in self.old)
@@ -334,7 +334,7 @@ impl<S: BlockStore + Drop> Copier<S> {
         let room = Vec::new(self.alloc);
         match self.run_reads(&[make_read(side, lbn, 1)], room)?.pop() {
             Some(answer) => reading_of(side, answer),
-            None => Ok(Reading::Failed),
+            None => Ok(BlockReading::Failed),
         }
     }
 }
@@ -368,17 +368,17 @@ fn bring_online<S: BlockStore>(driver: &mut Driver<S>, side: Side) -> Result<(),
 fn check_equal(
     skips_lost: bool,
     lbn: u32,
-    source: &Reading,
-    target: &Reading,
+    source: &BlockReading,
+    target: &BlockReading,
 ) -> Result<(), CopyError>
     ensures equal { OnOk result (skips_lost ≡ false → AreSameBytes source.now target.now) }
 {
     match (source, target) {
-        (Reading::Bytes(a), Reading::Bytes(b)) if a != b => Err(CopyError::Differs(lbn)),
-        (Reading::Bytes(_), Reading::Bytes(_)) => Ok(()),
-        (Reading::Failed, _) if !skips_lost => Err(CopyError::Read(Side::Source, lbn)),
-        (Reading::Failed, _) => Ok(()),
-        (_, Reading::Failed) => Err(CopyError::Read(Side::Target, lbn)),
+        (BlockReading::Bytes(a), BlockReading::Bytes(b)) if a != b => Err(CopyError::Differs(lbn)),
+        (BlockReading::Bytes(_), BlockReading::Bytes(_)) => Ok(()),
+        (BlockReading::Failed, _) if !skips_lost => Err(CopyError::Read(Side::Source, lbn)),
+        (BlockReading::Failed, _) => Ok(()),
+        (_, BlockReading::Failed) => Err(CopyError::Read(Side::Target, lbn)),
     }
 }
 
@@ -389,14 +389,14 @@ fn are_equal(pair: &[Answer]) -> bool
     let [source, target] = pair else {
         return false;
     };
-    match (bytes_of(source), bytes_of(target)) {
+    match (bytes_read(source), bytes_read(target)) {
         (Some(a), Some(b)) => a == b,
         _ => false,
     }
 }
 
 // Returns the bytes of a Read that succeeded.
-fn bytes_of(answer: &Answer) -> Option<&[u8]>
+fn bytes_read(answer: &Answer) -> Option<&[u8]>
     ensures read { IfSome result (λ bytes. answer_value answer.now ≡ Data SUCCESS bytes.now) }
 {
     match answer {

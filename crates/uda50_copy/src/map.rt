@@ -1,6 +1,6 @@
 //! Maps of the blocks of a copy, in the format of GNU ddrescue's mapfiles.
 ghost use Rattle.std.specs.Prelude.{◌≡◌, ℕ, ◌<◌, ◌≤◌, ◌⊎◌, true, false, [], ◌∷◌, ◌++◌, if◌then◌else◌, IfSome, IfNone, IfOk, OnOk, OnErr, All, IsTrue, ◌↔◌, length, ◌≢◌, ◌-◌};
-ghost use Rattle.uda50_copy.specs.Map.{is_within, statuses_at, changed, IsUntried, IsSet, IsFinishedFrom, IsFinishedAt, IsUnfinishedFrom, HasBlocks, AreForward, AreConsecutive, Spans, start_of, end_of};
+ghost use Rattle.uda50_copy.specs.Map.{is_within, statuses_at, changed, IsUntried, IsSet, IsFinishedFrom, IsFinishedAt, IsUnfinishedFrom, HasBlocks, AreForward, AreConsecutive, Spans, map_start, map_end};
 ghost use Rattle.uda50_copy.specs.Status.{AreLater};
 
 use std::alloc::{AllocError, Global};
@@ -96,7 +96,7 @@ impl BlockMap {
 
     /// Returns the block after the last one, or 0 if there are no entries.
     pub fn end(&self) -> u32
-        ensures value { result ≡ end_of self.now }
+        ensures value { result ≡ map_end self.now }
     {
         if let Some(entry) = self.after.back() {
             return entry.end;
@@ -135,7 +135,7 @@ impl BlockMap {
 
     /// Returns the first block, or 0 if there are no entries.
     pub fn start(&self) -> u32
-        ensures value { result ≡ start_of self.now }
+        ensures value { result ≡ map_start self.now }
         ensures consecutive { AreConsecutive self.now }
     {
         match self.before.first().or(self.after.front()) {
@@ -223,13 +223,13 @@ fn append_set(
 {
     let start = blocks.start.clamp(entry.start, entry.end);
     let end = blocks.end.clamp(start, entry.end);
-    append(entries, entry.before(start))?;
-    append(entries, MapEntry { start, end, status })?;
-    append(entries, entry.from(end))
+    append_joined(entries, entry.before(start))?;
+    append_joined(entries, MapEntry { start, end, status })?;
+    append_joined(entries, entry.from(end))
 }
 
 // Adds an entry after the others. One that is empty is left out, and one with the status of the last is joined to it.
-fn append(entries: &mut Vec<MapEntry>, entry: MapEntry) -> Result<(), AllocError>
+fn append_joined(entries: &mut Vec<MapEntry>, entry: MapEntry) -> Result<(), AllocError>
     requires forward { entry.start ≤ entry.end }
     requires all_forward { AreForward entries.old.items }
     ensures all_forward { AreForward entries.new.items }

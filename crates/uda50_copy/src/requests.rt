@@ -83,7 +83,7 @@ pub(crate) fn paired_reads(
 
 /// The result of a Read.
 #[derive(Drop)]
-pub(crate) enum Reading {
+pub(crate) enum BlockReading {
     /// All bytes were read.
     Bytes(Vec<u8>),
     /// The drive failed.
@@ -91,18 +91,18 @@ pub(crate) enum Reading {
 }
 
 /// Returns the result of a Read, or the error that the controller rejected it.
-pub(crate) fn reading_of(side: Side, answer: Answer) -> Result<Reading, CopyError>
+pub(crate) fn reading_of(side: Side, answer: Answer) -> Result<BlockReading, CopyError>
     ensures reading { IfOk result (IsReading (answer_value answer)) }
 {
     match answer {
         Answer::Data {
             status: status::SUCCESS,
             bytes,
-        } => Ok(Reading::Bytes(bytes)),
+        } => Ok(BlockReading::Bytes(bytes)),
         Answer::Data {
             status: status::DRIVE_ERROR,
             ..
-        } => Ok(Reading::Failed),
+        } => Ok(BlockReading::Failed),
         other => Err(CopyError::Rejected(side, status_or_invalid_length(&other))),
     }
 }

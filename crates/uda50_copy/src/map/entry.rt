@@ -1,6 +1,6 @@
 //! Ranges of blocks with one status.
 ghost use Rattle.std.specs.Prelude.{◌≡◌, ◌≤◌, ◌↔◌, min, max, true, IsTrue};
-ghost use Rattle.uda50_copy.specs.Status.{status_character, status_of};
+ghost use Rattle.uda50_copy.specs.Status.{status_character, status_of_text};
 
 use std::fmt;
 
@@ -29,7 +29,7 @@ impl BlockStatus {
 
     /// Returns the status of a character. Blocks that were read in part have not been tried one by one.
     pub fn of_character(text: &str) -> Option<BlockStatus>
-        ensures value { result ≡ status_of text.now }
+        ensures value { result ≡ status_of_text text.now }
     {
         match text {
             "?" | "*" | "/" => Some(BlockStatus::NonTried),

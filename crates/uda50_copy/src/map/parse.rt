@@ -37,8 +37,8 @@ impl MapLine {
     // Reads a line of a position, a size and a status.
     fn parse(text: &str) -> Option<MapLine> {
         let mut words = text.split_whitespace();
-        let start = number(words.next()?)?;
-        let size = number(words.next()?)?;
+        let start = parse_number(words.next()?)?;
+        let size = parse_number(words.next()?)?;
         let status = BlockStatus::of_character(words.next()?)?;
         let end = start.checked_add(size)?;
         match words.next() {
@@ -62,7 +62,7 @@ impl MapLine {
 }
 
 // Reads a number as ddrescue does: in hexadecimal after 0x, in octal after 0, or in decimal.
-fn number(text: &str) -> Option<u64> {
+fn parse_number(text: &str) -> Option<u64> {
     let number = if let Some(digits) = text.strip_prefix("0x") {
         u64::from_str_radix(digits, 16)
     } else if text.len() > 1 && text.starts_with('0') {
@@ -100,7 +100,7 @@ fn set_all(map: &mut BlockMap, lines: &[MapLine], finished: bool) -> Result<(), 
 }
 
 // Adds a line.
-fn push(lines: &mut Vec<MapLine>, line: MapLine) -> Result<(), AllocError> {
+fn push_line(lines: &mut Vec<MapLine>, line: MapLine) -> Result<(), AllocError> {
     lines.push(line).map_err(AllocError::from)
 }
 
@@ -122,7 +122,7 @@ fn parse_lines(alloc: Global, text: &str) -> Result<Vec<MapLine>, MapError> {
         match MapLine::parse(text) {
             Some(parsed) if parsed.start >= end => {
                 end = parsed.end;
-                push(&mut lines, parsed)?;
+                push_line(&mut lines, parsed)?;
             }
             _ => return Err(MapError::Line(line)),
         }

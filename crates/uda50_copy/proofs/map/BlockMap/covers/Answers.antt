@@ -1,7 +1,7 @@
 use Rattle.std.proofs.Common.{◌≡◌, ◌≤◌, ◌<◌, length, leb-true, leb-false, sym, ◌∙◌, arith}
 use Rattle.std.proofs.lemmas.Grind.{common_steps}
-use Rattle.uda50_copy.specs.Map.{start_of, end_of}
-use Rattle.uda50_copy.proofs.Spans.{has_blocks, start_of_has, end_of_has, entries_has}
+use Rattle.uda50_copy.specs.Map.{map_start, map_end}
+use Rattle.uda50_copy.proofs.Spans.{has_blocks, map_start_has, map_end_has, entries_has}
 use Rattle.uda50_copy.proofs.map.BlockMap.covers.Goals as goal
 use Rattle.uda50_copy.proofs.map.BlockMap.covers.Goals.{then-not-is_empty, else-not-is_empty}
 
@@ -18,15 +18,15 @@ returns-then-start-blocks-clause-all c = λ is.
 
 pub returns-then-start-blocks-clause-others : goal.returns-then-start-blocks-clause-others
 returns-then-start-blocks-clause-others c = λ is some has.
-    let last : c.args.blocks.now.end ≤ end_of c.args.self.now =
-    end_of_has c.args.self.now _ _ c.start-start.ensures.consecutive some has in
+    let last : c.args.blocks.now.end ≤ map_end c.args.self.now =
+    map_end_has c.args.self.now _ _ c.start-start.ensures.consecutive some has in
     let late : c.end-end.result < c.args.blocks.now.end = leb-false _ _ is in
     omega (arith, last, late, c.end-end.ensures.value)
 
 pub returns-else-start-blocks-clause-others : goal.returns-else-start-blocks-clause-others
 returns-else-start-blocks-clause-others c = λ is some has.
-    let first : start_of c.args.self.now ≤ c.args.blocks.now.start =
-    start_of_has c.args.self.now _ _ c.start-start.ensures.consecutive some has in
+    let first : map_start c.args.self.now ≤ c.args.blocks.now.start =
+    map_start_has c.args.self.now _ _ c.start-start.ensures.consecutive some has in
     elim c.if-not-is_empty.branch [
       | then-not-is_empty w ↦
           (let early : c.args.blocks.now.start < c.start-start.result = leb-false _ _ (sym w.value-is ∙ is) in

@@ -2,7 +2,7 @@ use Rattle.std.proofs.Common.{arith, ◌≡◌, ◌++◌, ◌∷◌, []}
 use Rattle.std.proofs.lemmas.Grind.{common_steps}
 use Rattle.uda50_copy.proofs.MapLaws.{statuses_at-append, joined_last}
 use Rattle.uda50_copy.proofs.Spans.{spans_longer, spans_push}
-use Rattle.uda50_copy.proofs.map.append.Goals as goal
+use Rattle.uda50_copy.proofs.map.append_joined.Goals as goal
 
 pub returns-then-is_followed_by-clause-added : goal.returns-then-is_followed_by-clause-added
 returns-then-is_followed_by-clause-added c = λ block.

@@ -3,7 +3,7 @@ use Rattle.std.proofs.Common.{◌≡◌, ℕ, ◌==◌, true, if◌then◌else�
 use Rattle.std.proofs.lemmas.Bool.Decides.{nat_tests}
 use Rattle.uda50_script_text.specs.declared.blanks.Blanks.{Blanks}
 use Rattle.uda50_script_text.specs.declared.blanks.Blanks.TheVariants.{Indent, Word, Gap}
-use Rattle.uda50_script_text.specs.Blanks.{passed, held, next, squeezed, blanks_after, passed_or_held, is_plain_after}
+use Rattle.uda50_script_text.specs.Blanks.{passed, held_back, next, squeezed, blanks_after, passed_or_held, is_plain_after}
 
 -- what is held back after a byte of a plain text
 abbrev pub blanks_of : ℕ → Blanks
@@ -27,7 +27,7 @@ pub plain_next : (before byte : ℕ) → is_plain_after before byte ≡ true
 plain_next before byte plain = grind (arith, nat_tests)
 
 pub plain_passed : (before byte : ℕ) → is_plain_after before byte ≡ true
-    → passed (blanks_of before) byte ++ held (blanks_of byte) ≡ held (blanks_of before) ++ byte ∷ []
+    → passed (blanks_of before) byte ++ held_back (blanks_of byte) ≡ held_back (blanks_of before) ++ byte ∷ []
 plain_passed before byte plain = grind (arith, nat_tests)
 
 -- one byte more of a plain text
@@ -39,13 +39,13 @@ plain_more xs before byte plain same is =
     blanks_after_more Word xs byte ∙ ap (λ b. next b byte) is ∙ plain_next before byte plain in
     let more : squeezed Word (xs ++ byte ∷ []) ≡ squeezed Word xs ++ passed (blanks_of before) byte =
     squeezed_more Word xs byte ∙ ap (λ b. squeezed Word xs ++ passed b byte) is in
-    let whole : squeezed Word xs ++ held (blanks_of before) ≡ xs =
-    ap (λ b. squeezed Word xs ++ held b) (sym is) ∙ same in (
-      ap (λ b. squeezed Word (xs ++ byte ∷ []) ++ held b) after
-          ∙ ap (λ (t : List ℕ). t ++ held (blanks_of byte)) more
-          ∙ append_assoc (squeezed Word xs) (passed (blanks_of before) byte) (held (blanks_of byte))
+    let whole : squeezed Word xs ++ held_back (blanks_of before) ≡ xs =
+    ap (λ b. squeezed Word xs ++ held_back b) (sym is) ∙ same in (
+      ap (λ b. squeezed Word (xs ++ byte ∷ []) ++ held_back b) after
+          ∙ ap (λ (t : List ℕ). t ++ held_back (blanks_of byte)) more
+          ∙ append_assoc (squeezed Word xs) (passed (blanks_of before) byte) (held_back (blanks_of byte))
           ∙ ap (λ (t : List ℕ). squeezed Word xs ++ t) (plain_passed before byte plain)
-          ∙ sym (append_assoc (squeezed Word xs) (held (blanks_of before)) (byte ∷ []))
+          ∙ sym (append_assoc (squeezed Word xs) (held_back (blanks_of before)) (byte ∷ []))
           ∙ ap (λ (t : List ℕ). t ++ byte ∷ []) whole,
       after,
     )

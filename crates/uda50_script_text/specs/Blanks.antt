@@ -14,18 +14,18 @@ abbrev pub is_passed : ℕ → Bool
 is_passed byte = not (is_blank byte || byte == 13)
 
 -- what is passed on of the blanks if the line goes on with a word
-abbrev pub held : Blanks → List ℕ
-held Indent = []
-held Word = []
-held Gap = 32 ∷ []
-held Return = 13 ∷ []
-held GapAndReturn = 32 ∷ 13 ∷ []
+abbrev pub held_back : Blanks → List ℕ
+held_back Indent = []
+held_back Word = []
+held_back Gap = 32 ∷ []
+held_back Return = 13 ∷ []
+held_back GapAndReturn = 32 ∷ 13 ∷ []
 
 -- what is passed on of them before this byte: nothing at the end of the line. Before more blanks a carriage
 -- return is passed on, since it is not at the end.
 abbrev pub released : Blanks → ℕ → List ℕ
-released Gap byte = if byte == 10 || (is_blank byte || byte == 13) then [] else held Gap
-released blanks byte = if byte == 10 then [] else held blanks
+released Gap byte = if byte == 10 || (is_blank byte || byte == 13) then [] else held_back Gap
+released blanks byte = if byte == 10 then [] else held_back blanks
 
 -- what is passed on when this byte is read
 abbrev pub passed : Blanks → ℕ → List ℕ
@@ -61,7 +61,7 @@ blanks_after blanks (byte ∷ bytes) = blanks_after (next blanks byte) bytes
 
 -- what is passed on of a text after a word, and then what is held back at its end
 abbrev pub passed_or_held : List ℕ → List ℕ
-passed_or_held bytes = squeezed Word bytes ++ held (blanks_after Word bytes)
+passed_or_held bytes = squeezed Word bytes ++ held_back (blanks_after Word bytes)
 
 -- a byte of a word, a blank after a word, or a line feed after anything but a blank
 abbrev pub is_plain_after : ℕ → ℕ → Bool

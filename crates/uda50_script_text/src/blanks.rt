@@ -1,6 +1,6 @@
 //! Blanks, which separate the words of a line.
 ghost use Rattle.std.specs.Prelude.{◌≡◌, ◌++◌, true, OnOk, IfOk};
-ghost use Rattle.uda50_script_text.specs.Blanks.{is_passed, held, released, passed};
+ghost use Rattle.uda50_script_text.specs.Blanks.{is_passed, held_back, released, passed};
 ghost use Rattle.uda50_script_text.specs.Blanks.{next, squeezed, blanks_after};
 ghost use Rattle.uda50_script_text.specs.Blanks.{passed_or_held, is_plain_after};
 
@@ -42,13 +42,13 @@ impl Blanks {
     {
         match (byte, self) {
             (b'\n', _) | (b' ' | b'\t' | b'\r', Blanks::Gap) => b"",
-            _ => self.held(),
+            _ => self.held_back(),
         }
     }
 
     // Returns the bytes that are held back.
-    fn held(self) -> &'static [u8]
-        ensures held { result.now ≡ held self }
+    fn held_back(self) -> &'static [u8]
+        ensures held_back { result.now ≡ held_back self }
     {
         match self {
             Blanks::Indent | Blanks::Word => b"",

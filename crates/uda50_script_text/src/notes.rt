@@ -9,7 +9,7 @@ use std::io;
 use std::io::Read;
 
 /// The most bytes that are read at once.
-pub(crate) const ROOM: usize = 8_192;
+pub(crate) const READ_LIMIT: usize = 8_192;
 
 /// The bytes of a script that were read last, as the file has them. They explain the mistake of a line that
 /// the parser has read.
@@ -53,8 +53,8 @@ pub(crate) struct RecentText {
 
 impl RecentText {
     fn new(alloc: Global) -> Result<RecentText, AllocError> {
-        let mut room = Vec::with_capacity(alloc, ROOM)?;
-        room.resize(ROOM, 0)?;
+        let mut room = Vec::with_capacity(alloc, READ_LIMIT)?;
+        room.resize(READ_LIMIT, 0)?;
         Ok(RecentText {
             line: ScriptLine::new(),
             room,

@@ -3,7 +3,7 @@ ghost use Rattle.std.specs.Prelude.{◌≤◌, length};
 
 use crate::blanks::{Blanks, is_plain};
 use crate::line::ScriptLine;
-use crate::notes::{ROOM, RecentText, ScriptNotes};
+use crate::notes::{READ_LIMIT, RecentText, ScriptNotes};
 use memchr::memchr;
 use std::alloc::{AllocError, Global};
 use std::io;
@@ -39,7 +39,7 @@ impl<'n, R: Read> ScriptReader<'n, R> {
             input,
             notes,
             blanks: Blanks::Indent,
-            passed: Vec::with_capacity(alloc, ROOM + MOST_HELD)?,
+            passed: Vec::with_capacity(alloc, READ_LIMIT + MOST_HELD)?,
             taken: 0,
         })
     }
@@ -122,14 +122,14 @@ impl<R: Read> Read for ScriptReader<'_, R> {
         if !self.fill()? {
             return Ok(0);
         }
-        let count = copy(buf, self.left());
+        let count = copy_fitting(buf, self.left());
         self.taken = self.taken.saturating_add(count);
         Ok(count)
     }
 }
 
 // Copies as many bytes as there is room for, and returns their number.
-fn copy(buf: &mut [u8], bytes: &[u8]) -> usize
+fn copy_fitting(buf: &mut [u8], bytes: &[u8]) -> usize
     ensures { result ≤ length buf.old }
 {
     let count = bytes.len().min(buf.len());

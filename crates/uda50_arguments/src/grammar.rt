@@ -49,11 +49,11 @@ pub(crate) fn grammar<'w>(alloc: Global, values: Values<'w>) -> Result<Command<'
     for verb in verbs() {
         push_verb(alloc, &mut grammars, verb, values)?;
     }
-    program(alloc).subcommands(grammars)
+    without_verbs(alloc).subcommands(grammars)
 }
 
 // Builds the program without its verbs.
-fn program<'w>(alloc: Global) -> Command<'w> {
+fn without_verbs<'w>(alloc: Global) -> Command<'w> {
     Command::new(alloc, "uda50")
         .version(PROGRAM_VERSION)
         .about("Works on disk images through a simulated DEC UDA50 disk controller")
@@ -143,7 +143,7 @@ fn argument_grammar<'w>(
 ) -> Result<Arg<'w>, AllocError> {
     match &argument.form {
         Form::Positional(form) => positional(alloc, argument, form, values.numbers),
-        Form::Flag(form) => flag(alloc, argument, form),
+        Form::Flag(form) => flag_of_form(alloc, argument, form),
         Form::Option(name, value) => Ok(option(alloc, argument, name, value, values)),
     }
 }
@@ -163,7 +163,7 @@ fn positional<'w>(
             several(described, *most).required_unless_present(option)
         }
         Positional::ValueOr(default) => Ok(described.default_value(default)),
-        Positional::Number { least } => Ok(number(described, *least, numbers)),
+        Positional::Number { least } => Ok(with_number(described, *least, numbers)),
     }
 }
 
@@ -178,7 +178,11 @@ fn several<'w>(arg: Arg<'w>, most: usize) -> Arg<'w> {
 }
 
 // Builds an option without a value.
-fn flag<'w>(alloc: Global, argument: &Argument, form: &Flag) -> Result<Arg<'w>, AllocError> {
+fn flag_of_form<'w>(
+    alloc: Global,
+    argument: &Argument,
+    form: &Flag,
+) -> Result<Arg<'w>, AllocError> {
     match form {
         Flag::Long => Ok(long_flag(alloc, argument)),
         Flag::Short(short) => Ok(short_flag(alloc, argument, *short)),
@@ -195,11 +199,11 @@ fn short_flag<'w>(alloc: Global, argument: &Argument, short: char) -> Arg<'w> {
 
 // Builds an option without a value and without a short form.
 fn long_flag<'w>(alloc: Global, argument: &Argument) -> Arg<'w> {
-    long(alloc, argument).action(ArgAction::SetTrue)
+    long_option(alloc, argument).action(ArgAction::SetTrue)
 }
 
 // Builds an option without its form.
-fn long<'w>(alloc: Global, argument: &Argument) -> Arg<'w> {
+fn long_option<'w>(alloc: Global, argument: &Argument) -> Arg<'w> {
     described(alloc, argument).long(argument.name)
 }
 
@@ -214,7 +218,7 @@ fn option<'w>(
     match value {
         OptionValue::Text => with_value_name(alloc, argument, name),
         OptionValue::Drive => one_of(with_value_name(alloc, argument, name), values.drives),
-        OptionValue::Blocks => number(
+        OptionValue::Blocks => with_number(
             with_value_name(alloc, argument, name),
             BlockCount::LEAST,
             values.numbers,
@@ -224,7 +228,7 @@ fn option<'w>(
 
 // Builds an option with any value, which the help calls by this name.
 fn with_value_name<'w>(alloc: Global, argument: &Argument, name: &'w str) -> Arg<'w> {
-    long(alloc, argument).value_name(name)
+    long_option(alloc, argument).value_name(name)
 }
 
 // Makes the value of an argument one of some names, in upper or lower case.
@@ -234,7 +238,7 @@ fn one_of<'w>(arg: Arg<'w>, names: &'w [&'w str]) -> Arg<'w> {
 }
 
 // Makes the value of an argument a number of blocks.
-fn number<'w>(arg: Arg<'w>, least: u32, numbers: Numbers) -> Arg<'w> {
+fn with_number<'w>(arg: Arg<'w>, least: u32, numbers: Numbers) -> Arg<'w> {
     match numbers {
         Numbers::Decimal => arg.value_parser(value_parser!(u32).range(
             i64::from(least)..=i64::from(MAX_BLOCKS),

@@ -37,7 +37,7 @@ pub fn read_arguments<'w>(
         return ParsedArguments::Task(Task::ScriptHelp);
     }
     let Some(verb) = numbered_verb(arguments) else {
-        return parsed(read(alloc, arguments, Values::new(drives, Numbers::Any)));
+        return parsed(read_task(alloc, arguments, Values::new(drives, Numbers::Any)));
     };
     read_numbered(alloc, verb, arguments, drives)
 }
@@ -67,7 +67,7 @@ fn read_numbered<'w>(
     arguments: &'w [&'w str],
     drives: &'w [&'static str],
 ) -> ParsedArguments<'w> {
-    let Ok(matches) = parse(alloc, arguments, Values::new(drives, Numbers::Any)) else {
+    let Ok(matches) = match_arguments(alloc, arguments, Values::new(drives, Numbers::Any)) else {
         return read_decimal(alloc, verb, arguments, drives);
     };
     match read_matches(alloc, &matches) {
@@ -96,7 +96,7 @@ fn read_decimal<'w>(
     drives: &'w [&'static str],
 ) -> ParsedArguments<'w> {
     let values = Values::new(drives, Numbers::Decimal);
-    match read(alloc, arguments, values) {
+    match read_task(alloc, arguments, values) {
         Ok(task) => ParsedArguments::Task(task),
         Err(text) => {
             let usage = match text.kind() {
@@ -124,16 +124,16 @@ fn named<'w>(
     verb_grammar(alloc, verb, values)?.bin_name(verb.bin_name)
 }
 
-fn read<'w>(
+fn read_task<'w>(
     alloc: Global,
     arguments: &'w [&'w str],
     values: Values<'w>,
 ) -> Result<Task<'w>, Error> {
-    let matches = parse(alloc, arguments, values)?;
+    let matches = match_arguments(alloc, arguments, values)?;
     read_matches(alloc, &matches)
 }
 
-fn parse<'w>(
+fn match_arguments<'w>(
     alloc: Global,
     arguments: &'w [&'w str],
     values: Values<'w>,
@@ -223,7 +223,7 @@ fn read_copy<'w>(alloc: Global, found: &ArgMatches<'w>) -> Result<Task<'w>, Erro
 }
 
 fn read_dump<'w>(alloc: Global, found: &ArgMatches<'w>) -> Result<Task<'w>, Error> {
-    let blocks = read_blocks(alloc, found)?;
+    let blocks = read_block_range(alloc, found)?;
     Ok(Task::Dump(Dump {
         image: image(found, "IMAGE"),
         blocks,
@@ -233,7 +233,10 @@ fn read_dump<'w>(alloc: Global, found: &ArgMatches<'w>) -> Result<Task<'w>, Erro
 }
 
 // Reads the blocks of `dump`. Returns `None` for all of them.
-fn read_blocks<'w>(alloc: Global, found: &ArgMatches<'w>) -> Result<Option<BlockRange>, Error> {
+fn read_block_range<'w>(
+    alloc: Global,
+    found: &ArgMatches<'w>,
+) -> Result<Option<BlockRange>, Error> {
     let start = value(alloc, &DUMP, found, "LBN")?;
     let count = value(alloc, &DUMP, found, "COUNT")?;
     let BlockCount(count) = count.unwrap_or(BlockCount(1));
@@ -343,13 +346,13 @@ fn units<'w>(
 ) -> Result<Vec<Option<ImageName<'w>>>, AllocError> {
     let mut units = Vec::new(alloc);
     for name in found.get_strs("IMAGE").unwrap_or(&[]) {
-        units.push(unit(name))?;
+        units.push(unit_image(name))?;
     }
     Ok(units)
 }
 
 // Returns the image of a unit, or `None` for `-`.
-fn unit<'w>(name: &'w str) -> Option<ImageName<'w>> {
+fn unit_image<'w>(name: &'w str) -> Option<ImageName<'w>> {
     match name {
         "-" => None,
         _ => Some(ImageName::parse(name)),

@@ -89,7 +89,8 @@ const SCRIPT: Argument = Argument {
 };
 
 /// The help of the images of `run` and `trace`.
-const UNITS: &str = "The images of units 0 to 3: FILE, lock:FILE to protect it, or - for no drive";
+const UNIT_IMAGES: &str =
+    "The images of units 0 to 3: FILE, lock:FILE to protect it, or - for no drive";
 
 /// Returns the verbs, in the order of the help.
 pub(crate) fn verbs() -> [&'static Verb; 7] {
@@ -109,7 +110,7 @@ static RUN: Verb = Verb {
                 most: 4,
                 option: "check",
             }),
-            help: UNITS,
+            help: UNIT_IMAGES,
         },
         Argument {
             name: "names",
@@ -317,7 +318,7 @@ static TRACE: Verb = Verb {
         Argument {
             name: "IMAGE",
             form: Form::Positional(Positional::Values { most: 4 }),
-            help: UNITS,
+            help: UNIT_IMAGES,
         },
     ],
     needs_size: false,

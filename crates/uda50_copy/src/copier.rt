@@ -120,14 +120,6 @@ impl<S: BlockStore + Drop> Copier<S> {
         Ok(())
     }
 
-    /// Returns the driver.
-    pub fn into_driver(self) -> Driver<S>
-        ensures driver { result ≡ self.driver }
-    {
-        let Copier { driver, .. } = self;
-        driver
-    }
-
     // Copies blocks by one run of Reads and one of Writes. The Writes have the bytes that the Reads
     // returned. The next run reuses the memory of these bytes.
     fn copy_run<W: Observer>(

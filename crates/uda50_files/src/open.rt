@@ -92,16 +92,8 @@ impl OpenImageFile {
     /// Opens a file, and takes its lock: an exclusive one if it may be written, and a shared one otherwise. A file
     /// system without locks gives no such protection.
     pub fn open(rt: &HostRuntime, path: &str, access: Access) -> Result<OpenImageFile, OpenError> {
-        if !access.permits(&fs::metadata(rt, path)?) {
-            return Err(OpenError::NotPlain);
-        }
-        let writes = access.writes();
-        let file = OpenOptions::new().read(true).write(writes).open(rt, path)?;
-        let metadata = file.metadata()?;
-        if !access.permits(&metadata) {
-            return Err(OpenError::NotPlain);
-        }
-        if is_locked(&file, writes) {
+        let (file, metadata) = open_permitted(rt, path, access)?;
+        if is_locked(&file, access.writes()) {
             return Err(OpenError::InUse);
         }
         let bytes = length(&file, &metadata)?;
@@ -215,18 +207,7 @@ impl TargetFile {
     pub fn open(rt: &HostRuntime, path: &str, access: Access) -> Result<TargetFile, OpenError>
         ensures no_zeros_added { IfOk result (λ target. target.zeros_from ≡ target.bytes) }
     {
-        let metadata = fs::metadata(rt, path)?;
-        if !access.permits(&metadata) {
-            return Err(OpenError::NotPlain);
-        }
-        if metadata.file_type().is_block_device() && is_in_use(rt, metadata.rdev())? {
-            return Err(OpenError::Mounted);
-        }
-        let file = OpenOptions::new().read(true).write(true).open(rt, path)?;
-        let metadata = file.metadata()?;
-        if !access.permits(&metadata) {
-            return Err(OpenError::NotPlain);
-        }
+        let (file, metadata) = open_permitted(rt, path, access)?;
         let bytes = length(&file, &metadata)?;
         TargetFile::locked(file, bytes)
     }
@@ -321,6 +302,29 @@ impl TargetFile {
         };
         Ok(FileImage::over(file, blocks.min(STORE_LIMIT), true))
     }
+}
+
+// Opens an existing file for a use that its kind permits, now and when it is open. A block device that may be written may
+// not be mounted or in use by the system, nor may a part of it.
+fn open_permitted(
+    rt: &HostRuntime,
+    path: &str,
+    access: Access,
+) -> Result<(File, Metadata), OpenError> {
+    let metadata = fs::metadata(rt, path)?;
+    if !access.permits(&metadata) {
+        return Err(OpenError::NotPlain);
+    }
+    let writes = access.writes();
+    if writes && metadata.file_type().is_block_device() && is_in_use(rt, metadata.rdev())? {
+        return Err(OpenError::Mounted);
+    }
+    let file = OpenOptions::new().read(true).write(writes).open(rt, path)?;
+    let metadata = file.metadata()?;
+    if !access.permits(&metadata) {
+        return Err(OpenError::NotPlain);
+    }
+    Ok((file, metadata))
 }
 
 // Takes the lock of a file. Returns whether somebody else holds one that excludes it.

@@ -2,13 +2,13 @@
 //!
 //! SIMH's sim_disk.c: the footer of a container. Microsoft's Virtual Hard Disk Image Format Specification:
 //! the footer of a hard disk.
-ghost use Rattle.std.specs.Prelude.{◌≡◌, ◌↔◌, ◌≤◌, ◌+◌, IsTrue};
+ghost use Rattle.std.specs.Prelude.{◌≡◌, ◌≤◌, ◌+◌};
 ghost use Rattle.uda50_show.specs.Container.{container_record, simh_record, big_long};
 ghost use Rattle.uda50_show.specs.Container.{before_zero, crc_bit, crc_byte, crc_sum, crc};
 
 use crate::checksum::Checksum;
 use crate::number::Counted;
-use crate::text::FixedText;
+use crate::text::{FixedText, is_same};
 use byteorder::{BigEndian, ByteOrder};
 use std::fmt;
 
@@ -64,13 +64,6 @@ fn simh_record(block: &[u8; 512]) -> SimhRecord
         sectors: big_long(block, 88),
         checksum: Checksum::of(crc(block) == big_long(block, 508)),
     }
-}
-
-// Returns whether two texts are equal.
-pub(crate) fn is_same(text: &[u8], other: &[u8]) -> bool
-    ensures { IsTrue result ↔ (text.now ≡ other.now) }
-{
-    text == other
 }
 
 // Returns the long word at an offset, high byte first.

@@ -5,7 +5,7 @@ ghost use Rattle.std.specs.Prelude.{◌≡◌};
 ghost use Rattle.uda50_show.specs.Foreign.{desktop_format, foreign_format, format_kind, is_vdi};
 
 use crate::checksum::long_at_offset;
-use crate::container::is_same;
+use crate::text::is_same;
 use std::fmt;
 
 /// A format of files that are no plain images.

@@ -1,13 +1,13 @@
 //! Home blocks: the block of a volume that contains its format and its label.
 //!
 //! RT-11 Volume and File Formats Manual; Files-11 On-Disk Structure, levels 1 and 2.
-ghost use Rattle.std.specs.Prelude.{◌≡◌, ◌≢◌, ◌≤◌, ◌+◌, ◌↔◌, IfSome, IsNone, IsTrue};
+ghost use Rattle.std.specs.Prelude.{◌≡◌, ◌≢◌, ◌≤◌, ◌+◌, IfSome, IsNone};
 ghost use Rattle.uda50_show.specs.declared.home_block.VolumeFormat.{VolumeFormat};
 ghost use Rattle.uda50_show.specs.Block.{block_bytes};
 ghost use Rattle.uda50_show.specs.Home.{format_text, home_kind, volume_offset, home_checksum};
 
 use crate::checksum::{Checksum, word_at_offset, word_sum};
-use crate::text::FixedText;
+use crate::text::{FixedText, is_same};
 use std::fmt;
 
 /// A format of volumes.
@@ -89,13 +89,6 @@ impl HomeBlock {
             checksum: checksum_in(format, block),
         })
     }
-}
-
-// Returns whether two texts are equal.
-fn is_same(text: &[u8], other: &[u8]) -> bool
-    ensures { IsTrue result ↔ (text.now ≡ other.now) }
-{
-    text == other
 }
 
 // Returns the result of checking a home block's checksums.

@@ -2,6 +2,7 @@
 ghost use Rattle.std.specs.Prelude.{◌≡◌, ◌<◌, ◌↔◌, IsTrue};
 ghost use Rattle.uda50_show.specs.Squeeze.{Repeats, row_bytes};
 
+use crate::text::is_same;
 use std::fmt;
 
 /// The form in which a squeezed dump prints a row of a block.
@@ -46,13 +47,6 @@ fn repeats(block: &[u8; 512], row: usize) -> bool
             &block[16 * row..16 * row + 16],
             &block[16 * row - 16..16 * row],
         )
-}
-
-// Returns whether two rows are equal.
-fn is_same(row: &[u8], other: &[u8]) -> bool
-    ensures { IsTrue result ↔ (row.now ≡ other.now) }
-{
-    row == other
 }
 
 /// Blocks that a squeezed dump left out, with the text `* blocks 6..900`.

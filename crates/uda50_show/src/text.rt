@@ -1,5 +1,5 @@
 //! Bytes as text.
-ghost use Rattle.std.specs.Prelude.{◌≡◌, ◌<◌};
+ghost use Rattle.std.specs.Prelude.{◌≡◌, ◌<◌, ◌↔◌, IsTrue};
 ghost use Rattle.uda50_show.specs.Rows.{printable};
 
 use std::fmt;
@@ -21,6 +21,13 @@ impl fmt::Display for FixedText<'_> {
         }
         Ok(())
     }
+}
+
+/// Returns whether two texts are equal.
+pub(crate) fn is_same(text: &[u8], other: &[u8]) -> bool
+    ensures { IsTrue result ↔ (text.now ≡ other.now) }
+{
+    text == other
 }
 
 /// Returns the byte if it is printable ASCII, or else a point.

@@ -8,6 +8,7 @@ use memchr::memchr;
 use std::alloc::{AllocError, Global};
 use std::io;
 use std::io::{BufRead, BufReader, ErrorKind, Read};
+use uda_grammar::PartEnd;
 
 /// The most bytes that are held back.
 const MOST_HELD: usize = 2;
@@ -141,17 +142,6 @@ fn copy_fitting(buf: &mut [u8], bytes: &[u8]) -> usize
 #[derive(Drop)]
 pub struct LineReader<R> {
     input: BufReader<R>,
-}
-
-// The end of a part of a line.
-#[derive(Clone, Copy, PartialEq, Eq)]
-enum PartEnd {
-    // None: more of the line may follow.
-    Open,
-    // A line feed.
-    LineFeed,
-    // The end of the text.
-    Text,
 }
 
 impl<R: Read + Drop> LineReader<R> {

@@ -20,7 +20,7 @@ use Rattle.uda_script_run.specs.declared.style.ScriptOutcome.{ScriptOutcome}
 use Rattle.uda_script_run.specs.declared.style.ScriptOutcome.TheVariants.{AllSucceeded, SomeFailed}
 use Rattle.uda_script_run.specs.declared.source.Next.{Next}
 use Rattle.uda_script_run.specs.declared.source.Next.TheVariants.{More, End, Fault}
-use Rattle.uda_script_run.specs.declared.source.PartEnd.TheVariants.{Open, LineFeed, Text}
+use Rattle.uda_grammar.specs.declared.part_end.PartEnd.TheVariants.{Open, LineFeed, Text}
 use Rattle.uda_script_run.specs.declared.text_error.TextError.{TextError}
 use Rattle.uda_script_run.specs.declared.text_error.TextError.TheVariants as error
 use Rattle.uda_script_run.specs.Texts.{succeeded, outcome_of, both, part_after, whole_report}

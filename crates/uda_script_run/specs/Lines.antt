@@ -9,8 +9,8 @@ use Rattle.uda_script_run.specs.declared.text_error.TextError.{TextError}
 use Rattle.uda_script_run.specs.declared.text_error.TextError.TheVariants as error
 use Rattle.uda_script_run.specs.declared.source.Next.{Next}
 use Rattle.uda_script_run.specs.declared.source.Next.TheVariants.{More, End, Fault}
-use Rattle.uda_script_run.specs.declared.source.PartEnd.{PartEnd}
-use Rattle.uda_script_run.specs.declared.source.PartEnd.TheVariants.{Open, LineFeed, Text}
+use Rattle.uda_grammar.specs.declared.part_end.PartEnd.{PartEnd}
+use Rattle.uda_grammar.specs.declared.part_end.PartEnd.TheVariants.{Open, LineFeed, Text}
 
 -- the number of bytes of a line that are kept
 abbrev pub line_room : ℕ

@@ -12,7 +12,7 @@ use crate::text_reader::TextReader;
 use arrayvec::ArrayVec;
 use memchr::memchr;
 use std::io::{ErrorKind, Read};
-use uda_grammar::{Expected, Line, ScriptError, explain, parse_line};
+use uda_grammar::{Expected, Line, PartEnd, ScriptError, explain, parse_line};
 
 /// The most requests that are executed in one batch.
 pub(crate) const BATCH: usize = 64;
@@ -32,17 +32,6 @@ pub(crate) enum Next {
     End,
     /// A line that is not a statement. Its number counts from 1.
     Fault { line: u64, expected: Expected },
-}
-
-/// The end of a part of a line.
-#[derive(Clone, Copy)]
-pub(crate) enum PartEnd {
-    /// None: more of the line may follow.
-    Open,
-    /// A line feed.
-    LineFeed,
-    /// The end of the text.
-    Text,
 }
 
 /// A stream with the text of a script, and the number of its lines that were read.

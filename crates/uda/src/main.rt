@@ -3,7 +3,7 @@
 
 use std::process::ExitCode;
 use std::{env, io};
-use uda_script::{execute_arguments, report_unreadable_arguments};
+use uda_script::{program, report_unreadable_arguments};
 
 fn main(rt: HostRuntime) -> ExitCode {
     ExitCode::from(match run_program(&rt) {
@@ -16,5 +16,5 @@ fn main(rt: HostRuntime) -> ExitCode {
 fn run_program(rt: &HostRuntime) -> io::Result<u8> {
     let owned: Vec<String> = env::args(rt)?.skip(1).collect(rt.alloc())?;
     let words: Vec<&str> = owned.iter().map(|word| word.as_str()).collect(rt.alloc())?;
-    Ok(execute_arguments(rt, words.as_slice(), rt.stdin(), rt.stdout(), rt.stderr()))
+    Ok(program(rt, words.as_slice(), rt.stdin(), rt.stdout(), rt.stderr()))
 }

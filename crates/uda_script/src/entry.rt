@@ -24,7 +24,7 @@ use std::io::{ErrorKind, Read, Write};
 ///
 /// `probe` writes the end message of one Get Unit Status to `out`, 16 bytes a line. `run` runs a script
 /// over images in files, with data from `input`. It reads exactly the data that the script needs.
-pub fn execute_arguments<R: Read + Drop, W: Write + Drop, V: Write + Drop>(
+pub fn program<R: Read + Drop, W: Write + Drop, V: Write + Drop>(
     rt: &HostRuntime,
     words: &[&str],
     input: R,

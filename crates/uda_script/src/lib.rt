@@ -11,7 +11,7 @@ pub mod probe;
 mod run;
 mod words;
 
-pub use entry::{execute_arguments, report_unreadable_arguments};
+pub use entry::{program, report_unreadable_arguments};
 pub use fault::ProgramFault;
 pub use uda_grammar::{Script, ScriptError, parse};
 pub use uda_script_run::run_script;

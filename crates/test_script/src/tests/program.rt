@@ -4,7 +4,7 @@ use std::alloc::{AllocError, Global};
 use std::path::PathBuf;
 use std::test::Fail;
 use std::{env, fs, io, process};
-use uda_script::{execute_arguments, report_unreadable_arguments};
+use uda_script::{program, report_unreadable_arguments};
 
 /// The arguments of the program.
 #[derive(Clone, Copy)]
@@ -189,14 +189,14 @@ impl Case {
         let input = Source::new(self.input, &[0x42; 1030]);
         match self.words {
             Words::One(word) => Ok(Outcome {
-                status: execute_arguments(rt, &[word], input, out, report),
+                status: program(rt, &[word], input, out, report),
                 left: Vec::new(rt.alloc()),
             }),
             Words::Run(script, blocks) => {
                 let script = file_of(rt, "script", script.as_bytes())?;
                 let image = file_of(rt, "image", &bytes_of(rt.alloc(), blocks)?)?;
                 let words = ["run", script.as_str(), image.as_str()];
-                let status = execute_arguments(rt, &words, input, out, report);
+                let status = program(rt, &words, input, out, report);
                 Ok(take_files(rt, status, &script, &image)?)
             }
         }

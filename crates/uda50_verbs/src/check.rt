@@ -1,10 +1,10 @@
 //! `uda50 run --check`: names the mistakes of a script.
 
-use crate::fault::{Fault, Reason, STANDARD_INPUT};
+use crate::fault::Fault;
 use crate::notes::mistake;
 use crate::outcome::Outcome;
-use crate::streams::open_script;
-use std::io::Read;
+use crate::reason::{Reason, ScriptReason};
+use crate::streams::{InputStream, stream_name};
 use uda50_script_text::{LineReader, ScriptLine};
 
 /// The most mistakes that are named.
@@ -13,20 +13,8 @@ const MOST_NAMED: u32 = 100;
 /// Prints a fault's line for each line of a script that is not a statement, up to a number of them. It
 /// executes nothing.
 pub(crate) fn check<'w>(rt: &HostRuntime, script: &'w str) -> Result<Outcome, Fault<'w>> {
-    if script == "-" {
-        check_lines(rt, STANDARD_INPUT, rt.stdin())
-    } else {
-        let file = open_script(rt, script)?;
-        check_lines(rt, script, file)
-    }
-}
-
-// Checks the lines of a script with this name.
-fn check_lines<'w, T: Read + Drop>(
-    rt: &HostRuntime,
-    name: &'w str,
-    text: T,
-) -> Result<Outcome, Fault<'w>> {
+    let name = stream_name(script);
+    let text = InputStream::open(rt, script)?;
     let mut lines = LineReader::new(rt.alloc(), text)?;
     let mut mistakes = 0u32;
     for number in 1..u64::MAX {
@@ -34,7 +22,7 @@ fn check_lines<'w, T: Read + Drop>(
             break;
         };
         if mistakes >= MOST_NAMED {
-            return Err(Fault::new(name, Reason::ManyMistakes(mistakes)));
+            return Err(Fault::new(name, Reason::Script(ScriptReason::ManyMistakes(mistakes))));
         }
         if is_reported(rt, name, number, &line) {
             mistakes = mistakes.saturating_add(1);
@@ -48,9 +36,9 @@ fn check_lines<'w, T: Read + Drop>(
 }
 
 // Reads the next line.
-fn next_line<'w, T: Read + Drop>(
+fn next_line<'w>(
     name: &'w str,
-    lines: &mut LineReader<T>,
+    lines: &mut LineReader<InputStream>,
 ) -> Result<Option<ScriptLine>, Fault<'w>> {
     lines
         .next_line()

@@ -1,7 +1,8 @@
 //! Records that other programs put after the blocks of an image, and formats that are no plain images.
 
-use crate::fault::{Fault, Reason, RecordPlace};
+use crate::file_fault::{FileFault, FileRole};
 use crate::image::NamedImage;
+use crate::reason::{CopyReason, ImageReason, Reason, RecordPlace};
 use std::fs;
 use std::fs::{File, OpenFile};
 use std::os::unix::fs::{FileExt, FileTypeExt};
@@ -41,12 +42,12 @@ pub(crate) fn warn_of_format(rt: &HostRuntime, name: &str, block: &[u8; 512]) {
     }
 }
 
-/// Returns a fault. If it is that of a length, and the file has a record or the format of another program,
-/// the reason says so.
-pub(crate) fn explain_length<'w>(rt: &HostRuntime, fault: Fault<'w>) -> Fault<'w> {
-    match fault.reason {
-        Reason::Length(bytes) => Fault::new(fault.name, length_reason(rt, fault.name, bytes)),
-        reason => Fault::new(fault.name, reason),
+/// Returns the reason why a file can't be used. If it is its length, and the file has a record or the format of another
+/// program, the reason says so.
+pub(crate) fn explain_length(rt: &HostRuntime, path: &str, reason: Reason) -> Reason {
+    match reason {
+        Reason::Image(ImageReason::Length(bytes)) => length_reason(rt, path, bytes),
+        reason => reason,
     }
 }
 
@@ -54,23 +55,23 @@ pub(crate) fn explain_length<'w>(rt: &HostRuntime, fault: Fault<'w>) -> Fault<'w
 fn length_reason(rt: &HostRuntime, path: &str, bytes: u64) -> Reason {
     if let Some(record) = record_before(rt, path, bytes) {
         let place = RecordPlace::LastBytes;
-        return Reason::LengthWithRecord {
+        return Reason::Image(ImageReason::LengthWithRecord {
             bytes,
             place,
             record,
-        };
+        });
     }
     if let Some(record) = record_before(rt, path, bytes / 512 * 512) {
         let place = RecordPlace::LastBlock;
-        return Reason::LengthWithRecord {
+        return Reason::Image(ImageReason::LengthWithRecord {
             bytes,
             place,
             record,
-        };
+        });
     }
     match format_of(rt, path) {
-        Some(format) => Reason::LengthOfFormat { bytes, format },
-        None => Reason::Length(bytes),
+        Some(format) => Reason::Image(ImageReason::LengthOfFormat { bytes, format }),
+        None => Reason::Image(ImageReason::Length(bytes)),
     }
 }
 
@@ -85,17 +86,16 @@ fn record_before(rt: &HostRuntime, path: &str, end: u64) -> Option<ContainerReco
 
 /// Returns the number of blocks of a source of that many blocks that belong to its volume. With `--without-record` these
 /// are the blocks before the record, which is the last one.
-pub(crate) fn volume_blocks<'w>(
+pub(crate) fn volume_blocks(
     rt: &HostRuntime,
-    copy: &Copy<'w>,
+    copy: &Copy<'_>,
     blocks: u32,
-) -> Result<u32, Fault<'w>> {
+) -> Result<u32, FileFault> {
     if !copy.without_record {
         return Ok(blocks);
     }
-    let path = copy.from.path;
-    match record_before(rt, path, 512 * u64::from(blocks)) {
+    match record_before(rt, copy.from.path, 512 * u64::from(blocks)) {
         Some(_record) => Ok(blocks.saturating_sub(1)),
-        None => Err(Fault::new(path, Reason::NoRecord)),
+        None => Err(FileRole::Source.fault(Reason::Copy(CopyReason::NoRecord))),
     }
 }

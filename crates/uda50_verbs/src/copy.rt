@@ -1,9 +1,11 @@
 //! `uda50 copy`: copies an image to another one, a stream to an image, or an image to standard output.
 
-use crate::fault::{Fault, Reason, Suffix};
+use crate::fault::{Fault, Suffix};
+use crate::file_fault::{FileFault, FileRole};
 use crate::image_copy::copy_image;
 use crate::names::{CopyName, end_of_links, is_link};
 use crate::outcome::Outcome;
+use crate::reason::{ImageReason, Reason, TargetReason};
 use crate::stream::{copy_from_stream, copy_to_output, is_stream};
 use std::fs;
 use std::io::{BufWriter, Write};
@@ -25,15 +27,33 @@ pub(crate) fn copy<'w, W: Write + Drop>(
     }
 }
 
-// Copies an image or a stream to a file. A link in the place of the file or of a named map stays one.
+// Copies an image or a stream to a file.
 fn copy_to_file<'w>(
     rt: &HostRuntime,
     copy: &Copy<'w>,
     reads_stream: bool,
 ) -> Result<Outcome, Fault<'w>> {
+    if copy.to.path.is_empty() {
+        return Err(Fault::new("TO", Reason::Target(TargetReason::EmptyName)));
+    }
+    if copy.map == Some("") {
+        return Err(Fault::new("--map", Reason::Target(TargetReason::EmptyName)));
+    }
+    match copy_to_end(rt, copy, reads_stream) {
+        Ok(outcome) => Ok(outcome),
+        Err(fault) => Err(fault.named(copy)),
+    }
+}
+
+// Copies an image or a stream to a file. A link in the place of the file or of a named map stays one.
+fn copy_to_end(
+    rt: &HostRuntime,
+    copy: &Copy<'_>,
+    reads_stream: bool,
+) -> Result<Outcome, FileFault> {
     let path = end_of_target(rt, copy)?;
     let map = match copy.map {
-        Some(map) => Some(end_of_links(rt, map)?),
+        Some(map) => Some(end_of_links(rt, FileRole::Map, map)?),
         None => None,
     };
     let to = ImageName {
@@ -44,55 +64,51 @@ fn copy_to_file<'w>(
         Some(map) => Some(map.as_str()),
         None => None,
     };
+    Ok(copy_or_report(rt, &Copy { to, map, ..*copy }, reads_stream))
+}
+
+// Copies an image or a stream to a file, and prints the fault if that fails.
+fn copy_or_report(rt: &HostRuntime, copy: &Copy<'_>, reads_stream: bool) -> Outcome {
     let copied = match reads_stream {
-        true => copy_from_stream(rt, &Copy { to, map, ..*copy }),
-        false => copy_image(rt, &Copy { to, map, ..*copy }),
+        true => copy_from_stream(rt, copy),
+        false => copy_image(rt, copy),
     };
     match copied {
-        Ok(outcome) => Ok(outcome),
+        Ok(outcome) => outcome,
         Err(fault) => {
-            fault.print(rt);
-            Ok(Outcome::FaultReported)
+            fault.named(copy).print(rt);
+            Outcome::FaultReported
         }
     }
 }
 
 // Returns the path of the target: if it is a link, of the file to which that leads. A new file is made through no link.
 // A device keeps the name that `--device` repeats.
-fn end_of_target<'w>(rt: &HostRuntime, copy: &Copy<'w>) -> Result<String, Fault<'w>> {
+fn end_of_target(rt: &HostRuntime, copy: &Copy<'_>) -> Result<String, FileFault> {
     let path = copy.to.path;
-    if path.is_empty() {
-        return Err(Fault::new("TO", Reason::EmptyName));
-    }
-    if copy.map == Some("") {
-        return Err(Fault::new("--map", Reason::EmptyName));
-    }
     if copy.device.is_some() || !is_link(rt, path) {
         return Ok(String::from_str(rt.alloc(), path)?);
     }
-    let end = end_of_links(rt, path)?;
+    let end = end_of_links(rt, FileRole::Target, path)?;
     if fs::metadata(rt, path).is_err() {
         let part = CopyName::derived(end.as_str(), Suffix::Part).path(rt.alloc())?;
         if !copy.resumes || fs::metadata(rt, part.as_str()).is_err() {
-            return Err(Fault::new(path, Reason::LinkToNowhere));
+            return Err(FileRole::Target.fault(Reason::Target(TargetReason::LinkToNowhere)));
         }
     } else if !copy.force && !copy.resumes {
-        return Err(Fault::new(path, Reason::Exists));
+        return Err(FileRole::Target.fault(Reason::Exists));
     }
     Ok(end)
 }
 
 /// Returns the blocks to copy, after a check that the source has all of them.
-pub(crate) fn blocks_to_copy<'w>(copy: &Copy<'w>, size: u32) -> Result<Range<u32>, Fault<'w>> {
+pub(crate) fn blocks_to_copy(copy: &Copy<'_>, size: u32) -> Result<Range<u32>, FileFault> {
     match copy.blocks {
         None => Ok(0..size),
         Some(range) if range.end <= size => Ok(range.start..range.end),
-        Some(range) => Err(Fault::new(
-            copy.from.path,
-            Reason::PastEnd {
-                range,
-                blocks: size,
-            },
-        )),
+        Some(range) => Err(FileRole::Source.fault(Reason::Image(ImageReason::PastEnd {
+            range,
+            blocks: size,
+        }))),
     }
 }

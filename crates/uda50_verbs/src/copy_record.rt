@@ -2,7 +2,7 @@
 ghost use Rattle.std.specs.Prelude.{IfSome};
 ghost use Rattle.uda50_copy.specs.Status.{AreLater};
 
-use crate::fault::Fault;
+use crate::file_fault::FileFault;
 use crate::outcome::Outcome;
 use crate::progress::CopyProgress;
 use crate::target::CopyTarget;
@@ -29,7 +29,7 @@ pub(crate) struct CopyRecord<'r, 'w> {
     // Whether the map is saved.
     is_saved: bool,
     // What kept the record from noting a run.
-    failed: Result<(), Fault<'w>>,
+    failed: Result<(), FileFault>,
 }
 
 impl<'r, 'w> CopyRecord<'r, 'w> {
@@ -61,7 +61,7 @@ impl<'r, 'w> CopyRecord<'r, 'w> {
     }
 
     /// Notes that these blocks are zeros in both images, and that the copy goes on after them.
-    pub(crate) fn skip(&mut self, blocks: Range<u32>) -> Result<(), Fault<'w>> {
+    pub(crate) fn skip(&mut self, blocks: Range<u32>) -> Result<(), FileFault> {
         let Range { start, end } = blocks;
         self.from = start;
         if start < end {
@@ -73,12 +73,12 @@ impl<'r, 'w> CopyRecord<'r, 'w> {
     }
 
     /// Fails if something kept the record from noting a run.
-    pub(crate) fn check(&mut self) -> Result<(), Fault<'w>> {
+    pub(crate) fn check(&mut self) -> Result<(), FileFault> {
         mem::replace(&mut self.failed, Ok(()))
     }
 
     /// Ends the progress.
-    pub(crate) fn end(self) -> Result<EndedRecord<'r, 'w>, Fault<'w>> {
+    pub(crate) fn end(self) -> Result<EndedRecord<'r, 'w>, FileFault> {
         let CopyRecord {
             rt,
             progress,
@@ -98,7 +98,7 @@ impl<'r, 'w> CopyRecord<'r, 'w> {
     }
 
     // Notes the blocks of a run.
-    fn note_run(&mut self, end: u32) -> Result<(), Fault<'w>> {
+    fn note_run(&mut self, end: u32) -> Result<(), FileFault> {
         let blocks = end.saturating_sub(self.from);
         let copied = &self.target.copied;
         copied.set(copied.get().saturating_add(blocks));
@@ -113,7 +113,7 @@ impl<'r, 'w> CopyRecord<'r, 'w> {
     }
 
     // Notes that the blocks up to `end` are done.
-    fn finish(&mut self, end: u32) -> Result<(), Fault<'w>> {
+    fn finish(&mut self, end: u32) -> Result<(), FileFault> {
         self.map.set(self.from..end, BlockStatus::Finished)?;
         self.from = end;
         Ok(())
@@ -127,7 +127,7 @@ impl<'r, 'w> CopyRecord<'r, 'w> {
     }
 
     // Saves the map if it is time.
-    fn save_if_due(&mut self) -> Result<(), Fault<'w>> {
+    fn save_if_due(&mut self) -> Result<(), FileFault> {
         if self.is_saved && self.is_due() {
             self.save()?;
             self.saved = Instant::now(self.rt).ok();
@@ -136,7 +136,7 @@ impl<'r, 'w> CopyRecord<'r, 'w> {
     }
 
     // Saves the map. What it claims is on the disk before.
-    fn save(&self) -> Result<(), Fault<'w>> {
+    fn save(&self) -> Result<(), FileFault> {
         self.target.sync(self.map.finished_end())?;
         self.target.sync_name()?;
         self.target.map().save(self.rt, &self.map)
@@ -154,7 +154,7 @@ impl<'r, 'w> CopyRecord<'r, 'w> {
     }
 
     // Keeps the first thing that kept the record from noting a run.
-    fn keep(&mut self, noted: Result<(), Fault<'w>>) {
+    fn keep(&mut self, noted: Result<(), FileFault>) {
         if self.failed.is_ok() {
             self.failed = noted;
         }
@@ -173,7 +173,7 @@ impl Observer for CopyRecord<'_, '_> {
         let pushed = self.lost.push(block);
         self.keep(match pushed {
             Ok(()) => Ok(()),
-            Err(_error) => Err(Fault::no_memory()),
+            Err(_error) => Err(FileFault::no_memory()),
         });
     }
 }
@@ -189,7 +189,7 @@ pub(crate) struct EndedRecord<'r, 'w> {
 
 impl<'r, 'w> EndedRecord<'r, 'w> {
     /// Saves the map of a target that is synced, if blocks were lost or if it is wanted. Returns whether it is saved.
-    pub(crate) fn save(&self, wanted: bool) -> Result<bool, Fault<'w>> {
+    pub(crate) fn save(&self, wanted: bool) -> Result<bool, FileFault> {
         let is_saved = self.lost > 0 || wanted;
         if is_saved {
             self.target.sync_name()?;

@@ -1,8 +1,9 @@
 //! `uda50 decode`: prints packets by their fields.
 
-use crate::fault::{Fault, Reason, STANDARD_INPUT};
+use crate::fault::Fault;
 use crate::outcome::Outcome;
-use crate::streams::open_text;
+use crate::reason::{InputReason, Reason};
+use crate::streams::{InputStream, stream_name};
 use std::io::{BufReader, BufWriter, Write};
 use uda50_show::decode::{DecodeError, Decoded};
 
@@ -12,21 +13,10 @@ pub(crate) fn decode<'w, W: Write + Drop>(
     path: &'w str,
     out: &mut BufWriter<W>,
 ) -> Result<Outcome, Fault<'w>> {
-    if path == "-" {
-        return decode_input(rt, out);
-    }
-    let input = open_text(rt, path)?;
-    outcome(path, uda50_show::decode::decode(rt.alloc(), input, out))
-}
-
-// Prints the packets of standard input.
-fn decode_input<'w, W: Write + Drop>(
-    rt: &HostRuntime,
-    out: &mut BufWriter<W>,
-) -> Result<Outcome, Fault<'w>> {
-    let input = BufReader::new(rt.alloc(), rt.stdin())?;
+    let input = InputStream::open(rt, path)?;
+    let input = BufReader::new(rt.alloc(), input)?;
     outcome(
-        STANDARD_INPUT,
+        stream_name(path),
         uda50_show::decode::decode(rt.alloc(), input, out),
     )
 }
@@ -44,12 +34,18 @@ fn outcome<'w>(name: &'w str, done: Result<Decoded, DecodeError>) -> Result<Outc
 fn fault<'w>(name: &'w str, error: DecodeError) -> Fault<'w> {
     match error {
         DecodeError::Read(error) => Fault::system(name, error),
-        DecodeError::NotText(line) => Fault::new(name, Reason::NotText(line)),
+        DecodeError::NotText(line) => Fault::new(name, Reason::Input(InputReason::NotText(line))),
         DecodeError::Write(error) => Fault::from(error),
         DecodeError::Token { line, word, error } => {
-            Fault::new(name, Reason::Token { line, word, error })
+            Fault::new(
+                name,
+                Reason::Input(InputReason::Token { line, word, error }),
+            )
         }
-        DecodeError::ShortPacket(bytes) => Fault::new(name, Reason::ShortPacket(bytes)),
+        DecodeError::ShortPacket(bytes) => Fault::new(
+            name,
+            Reason::Input(InputReason::ShortPacket(bytes)),
+        ),
         DecodeError::TooManyLines => Fault::new(name, Reason::Unreadable),
     }
 }

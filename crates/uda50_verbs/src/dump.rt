@@ -1,11 +1,12 @@
 //! `uda50 dump`: prints blocks as text, or writes their bytes.
 
-use crate::fault::{Fault, Reason, STANDARD_OUTPUT};
+use crate::fault::{Fault, STANDARD_OUTPUT};
 use crate::image::NamedImage;
 use crate::input_blocks::dump_input;
 use crate::outcome::Outcome;
 use crate::printer::BlockPrinter;
 use crate::raw_blocks::write_blocks;
+use crate::reason::{ImageReason, Reason};
 use std::io::{BufWriter, IsTerminal, Write};
 use std::ops::Range;
 use uda50_arguments::{Dump, DumpFormat};
@@ -42,7 +43,10 @@ fn blocks_to_dump<'w>(dump: &Dump<'w>, blocks: u32) -> Result<Range<u32>, Fault<
     match dump.blocks {
         None => Ok(0..blocks),
         Some(range) if range.is_within(blocks) => Ok(range.start..range.end),
-        Some(range) => Err(Fault::new(dump.image.path, Reason::PastEnd { range, blocks })),
+        Some(range) => Err(Fault::new(
+            dump.image.path,
+            Reason::Image(ImageReason::PastEnd { range, blocks }),
+        )),
     }
 }
 

@@ -1,6 +1,7 @@
 //! Opening and reading of images.
 
-use crate::fault::{Fault, Reason};
+use crate::fault::Fault;
+use crate::reason::{CopyReason, ImageReason, Reason};
 use std::fs::{OpenFile, OpenOptions};
 use std::io::ErrorKind;
 use std::{fs, io};
@@ -23,7 +24,7 @@ impl<'w> NamedImage<'w> {
         if name.is_stream() {
             return Err(Fault::new(path, Reason::NoImage));
         }
-        let file = open_file(rt, path, Access::Read)?;
+        let file = Fault::of(path, open_file(rt, path, Access::Read))?;
         let failures = Failures::none(rt.alloc())?;
         let image = file.into_image(&failures)?;
         Ok(NamedImage {
@@ -86,17 +87,21 @@ impl<'w> NamedImage<'w> {
 
     // Returns the fault of a block that can't be read.
     fn fault_of(&self, block: u32) -> Fault<'w> {
-        block_fault(self.path, block, StoreError::Read, &self.failures)
+        let reason = block_reason(block, StoreError::Read, &self.failures);
+        Fault::new(self.path, reason)
     }
 }
 
 /// Opens the file of an image, and takes its lock.
-pub(crate) fn open_file<'w>(
+pub(crate) fn open_file(
     rt: &HostRuntime,
-    path: &'w str,
+    path: &str,
     access: Access,
-) -> Result<OpenImageFile, Fault<'w>> {
-    OpenImageFile::open(rt, path, access).map_err(|error| Fault::new(path, reason(error)))
+) -> Result<OpenImageFile, Reason> {
+    match OpenImageFile::open(rt, path, access) {
+        Ok(file) => Ok(file),
+        Err(error) => Err(reason(error)),
+    }
 }
 
 /// Returns the reason why an image can't be opened.
@@ -106,26 +111,16 @@ pub(crate) fn reason(error: OpenError) -> Reason {
         OpenError::NotPlain => Reason::NotPlain,
         OpenError::InUse => Reason::InUse,
         OpenError::Mounted => Reason::Mounted,
-        OpenError::Length(bytes) => Reason::Length(bytes),
-        OpenError::TooLarge(blocks) => Reason::TooLarge(blocks),
+        OpenError::Length(bytes) => Reason::Image(ImageReason::Length(bytes)),
+        OpenError::TooLarge(blocks) => Reason::Image(ImageReason::TooLarge(blocks)),
     }
-}
-
-/// Returns the fault of a block that can't be read or written, with the system's reason if it is known.
-pub(crate) fn block_fault<'w>(
-    path: &'w str,
-    block: u32,
-    error: StoreError,
-    failures: &Failures,
-) -> Fault<'w> {
-    Fault::new(path, block_reason(block, error, failures))
 }
 
 /// Returns the reason why a block can't be read or written, which is the system's if that is known.
 pub(crate) fn block_reason(block: u32, error: StoreError, failures: &Failures) -> Reason {
     match failures.lowest() {
         Some(failure) if failure.block == block && is_told(&failure.cause) => cause_of(&failure),
-        _ => Reason::Block { block, error },
+        _ => Reason::Image(ImageReason::Block { block, error }),
     }
 }
 
@@ -134,7 +129,7 @@ pub(crate) fn source_reason(block: u32, failures: &Failures) -> Reason {
     match failures.lowest() {
         Some(failure)
             if failure.block == block && failure.cause.kind() == ErrorKind::UnexpectedEof => {
-            Reason::SourceEnded(block)
+            Reason::Copy(CopyReason::SourceEnded(block))
         }
         _ => block_reason(block, StoreError::Read, failures),
     }
@@ -155,11 +150,11 @@ fn cause_of(failure: &Failure) -> Reason {
         error,
         cause,
     } = *failure;
-    Reason::BlockCause {
+    Reason::Image(ImageReason::BlockCause {
         block,
         error,
         cause,
-    }
+    })
 }
 
 /// Returns the fault of an image that can't be synced, with the system's reason if it is known.
@@ -167,8 +162,8 @@ pub(crate) fn sync_fault<'w>(path: &'w str, failures: &Failures) -> Fault<'w> {
     Fault::new(
         path,
         match failures.sync() {
-            Some(error) => Reason::SyncFailed(error),
-            None => Reason::NotSynced,
+            Some(error) => Reason::Image(ImageReason::SyncFailed(error)),
+            None => Reason::Image(ImageReason::NotSynced),
         },
     )
 }

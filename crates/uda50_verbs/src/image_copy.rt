@@ -3,10 +3,11 @@
 use crate::container::{explain_length, volume_blocks, warn_of_format};
 use crate::copy::blocks_to_copy;
 use crate::copy_record::{CopyRecord, EndedRecord};
-use crate::fault::{Fault, Reason};
+use crate::file_fault::{FileFault, FileRole};
 use crate::image::{block_reason, open_file, source_reason};
 use crate::outcome::Outcome;
 use crate::progress::{CopyProgress, clear_line, print_syncing};
+use crate::reason::{CopyReason, ImageReason, Reason};
 use crate::script::Drives;
 use crate::target::{BegunCopy, CheckedTarget, CopyTarget, Resumption, TargetKind};
 use std::ops::Range;
@@ -34,21 +35,12 @@ struct ImageCopy<'a, 'w> {
 }
 
 /// Copies an image to another one.
-pub(crate) fn copy_image<'w>(rt: &HostRuntime, copy: &Copy<'w>) -> Result<Outcome, Fault<'w>> {
-    let source = match open_file(rt, copy.from.path, Access::Read) {
-        Ok(source) => source,
-        Err(fault) => return Err(explain_length(rt, fault)),
-    };
+pub(crate) fn copy_image(rt: &HostRuntime, copy: &Copy<'_>) -> Result<Outcome, FileFault> {
+    let source = open_source(rt, copy)?;
     let size = volume_blocks(rt, copy, source.blocks())?;
     let blocks = blocks_to_copy(copy, size)?;
     let failures = Failures::none(rt.alloc())?;
-    let checked = CheckedTarget::open(rt, copy, &blocks)?;
-    let begun = if checked.resumes() {
-        checked.resume(rt, &blocks, size)?
-    } else {
-        checked.begin(rt, &blocks)?
-    };
-    let BegunCopy { target, file, map } = begun;
+    let BegunCopy { target, file, map } = begin(rt, copy, &blocks, size)?;
     if copy.resumes && target.kind() == TargetKind::New {
         let name = EscapedName(copy.to.path);
         let _ = eprintln!(rt; "uda50: {name}: there is no copy to resume, so it begins");
@@ -64,6 +56,29 @@ pub(crate) fn copy_image<'w>(rt: &HostRuntime, copy: &Copy<'w>) -> Result<Outcom
     job.run_or_abandon(source, file, map)
 }
 
+// Opens the source of a copy.
+fn open_source(rt: &HostRuntime, copy: &Copy<'_>) -> Result<OpenImageFile, FileFault> {
+    let path = copy.from.path;
+    match open_file(rt, path, Access::Read) {
+        Ok(source) => Ok(source),
+        Err(reason) => Err(FileRole::Source.fault(explain_length(rt, path, reason))),
+    }
+}
+
+// Begins a copy of blocks from a source of `size` blocks, or goes on with one that ended early.
+fn begin<'r, 'w>(
+    rt: &'r HostRuntime,
+    copy: &Copy<'w>,
+    blocks: &Range<u32>,
+    size: u32,
+) -> Result<BegunCopy<'r, 'w>, FileFault> {
+    let checked = CheckedTarget::open(rt, copy, blocks)?;
+    match checked.resumes() {
+        true => checked.resume(rt, blocks, size),
+        false => checked.begin(rt, blocks),
+    }
+}
+
 impl<'a, 'w> ImageCopy<'a, 'w> {
     // Copies, and completes the target. If that fails, it prints the fault, and what is left of the target.
     fn run_or_abandon(
@@ -71,31 +86,34 @@ impl<'a, 'w> ImageCopy<'a, 'w> {
         source: OpenImageFile,
         file: TargetFile,
         map: BlockMap,
-    ) -> Result<Outcome, Fault<'w>> {
+    ) -> Result<Outcome, FileFault> {
         match self.run(source, file, map) {
             Ok(outcome) => Ok(outcome),
             Err(fault) => {
-                fault.print(self.rt);
                 let blocks = self.blocks.start..self.blocks.end;
-                self.target.abandon(blocks, self.resumption(&fault))?;
-                Ok(Outcome::FaultReported)
+                let resumption = self.resumption(&fault);
+                self.target.abandon(fault, blocks, resumption)
             }
         }
     }
 
     // Returns what can be done after a fault.
-    fn resumption(&self, fault: &Fault<'_>) -> Resumption {
+    fn resumption(&self, fault: &FileFault) -> Resumption {
         match fault.reason {
-            Reason::SourceEnded(_) => Resumption::Impossible,
+            Reason::Copy(CopyReason::SourceEnded(_)) => Resumption::Impossible,
             Reason::Exists => Resumption::Forced,
-            Reason::Block {
-                error: StoreError::Read,
-                ..
-            }
-            | Reason::BlockCause {
-                error: StoreError::Read,
-                ..
-            } if !self.copy.skips_lost => Resumption::Continuing,
+            Reason::Image(
+                ImageReason::Block {
+                    error: StoreError::Read,
+                    ..
+                },
+            )
+            | Reason::Image(
+                ImageReason::BlockCause {
+                    error: StoreError::Read,
+                    ..
+                },
+            ) if !self.copy.skips_lost => Resumption::Continuing,
             _ => Resumption::Possible,
         }
     }
@@ -107,19 +125,30 @@ impl<'a, 'w> ImageCopy<'a, 'w> {
         source: OpenImageFile,
         file: TargetFile,
         map: BlockMap,
-    ) -> Result<Outcome, Fault<'w>> {
+    ) -> Result<Outcome, FileFault> {
         self.target.announce(true)?;
         let ended = self.copy_files(source, file, map)?;
+        self.sync()?;
+        self.complete(&ended)?;
+        Ok(ended.outcome())
+    }
+
+    // Puts the blocks on the disk.
+    fn sync(&self) -> Result<(), FileFault> {
         print_syncing(self.rt);
         let synced = self.target.sync(self.blocks.end);
         clear_line(self.rt);
-        synced?;
-        self.target.note_checked();
-        self.target.check_name()?;
-        let saved = ended.save(self.target.leaves_map())?;
-        self.target.complete(saved)?;
-        self.target.discard_part_map()?;
-        Ok(ended.outcome())
+        synced
+    }
+
+    // Saves the map of a copy whose blocks are on the disk, and gives the target its own name.
+    fn complete(&self, ended: &EndedRecord<'a, 'w>) -> Result<(), FileFault> {
+        let target = self.target;
+        target.note_checked();
+        target.check_name()?;
+        let saved = ended.save(target.leaves_map())?;
+        target.complete(saved)?;
+        target.discard_part_map()
     }
 
     // Copies the blocks of an open file to another one, and compares them if that is asked for.
@@ -128,35 +157,53 @@ impl<'a, 'w> ImageCopy<'a, 'w> {
         source: OpenImageFile,
         file: TargetFile,
         map: BlockMap,
-    ) -> Result<EndedRecord<'a, 'w>, Fault<'w>> {
-        let copy = self.copy;
+    ) -> Result<EndedRecord<'a, 'w>, FileFault> {
         let zeroed = self.zeroed_blocks(&file)?;
+        let searched = self.searched(source, &zeroed, &map)?;
+        let SearchedImage { image, data } = searched;
+        let target = file.into_image(self.size, false, &self.target.failures)?;
+        let copier = self.copier(image, target)?;
+        let data = UncopiedData {
+            data,
+            target: zeroed,
+        };
+        self.copy_and_verify(copier, map, data)
+    }
+
+    // Makes an image of the source. Its data is searched if blocks of zeros may be left out.
+    fn searched(
+        &self,
+        source: OpenImageFile,
+        zeroed: &ZeroedBlocks,
+        map: &BlockMap,
+    ) -> Result<SearchedImage, FileFault> {
         let leaves_zeros = !matches!(zeroed, ZeroedBlocks::None);
         let searched = source.into_searched_image(self.rt, &self.failures, leaves_zeros);
-        let mut searched = Fault::of_call(copy.from.path, searched)?;
-        self.warn(&mut searched, &map);
-        let target = file.into_image(self.size, false, &self.target.failures)?;
-        let mut copier = self.copier(searched.image, target)?;
-        let ended = self.copy_blocks(
-            &mut copier,
-            map,
-            UncopiedData {
-                data: searched.data,
-                target: zeroed,
-            },
-        )?;
+        let mut searched = FileRole::Source.of_call(searched)?;
+        self.warn(&mut searched, map);
+        Ok(searched)
+    }
+
+    // Copies blocks, and compares them if that is asked for.
+    fn copy_and_verify(
+        &self,
+        mut copier: Copier<Image>,
+        map: BlockMap,
+        data: UncopiedData,
+    ) -> Result<EndedRecord<'a, 'w>, FileFault> {
+        let ended = self.copy_blocks(&mut copier, map, data)?;
         self.target.set_length(self.size)?;
         self.verify(&mut copier, &ended)?;
         Ok(ended)
     }
 
     // Returns which blocks of the target are zeros already.
-    fn zeroed_blocks(&self, file: &TargetFile) -> Result<ZeroedBlocks, Fault<'w>> {
+    fn zeroed_blocks(&self, file: &TargetFile) -> Result<ZeroedBlocks, FileFault> {
         let copy = self.copy;
         match self.target.kind() {
             kind if !copy.sparse || !kind.is_whole() => Ok(ZeroedBlocks::None),
             TargetKind::Resume => {
-                let zeros = Fault::of_call(copy.to.path, file.zeros(self.rt))?;
+                let zeros = FileRole::Target.of_call(file.zeros(self.rt))?;
                 Ok(ZeroedBlocks::Held(zeros))
             }
             _ => Ok(ZeroedBlocks::From(file.blocks_begun())),
@@ -187,7 +234,7 @@ impl<'a, 'w> ImageCopy<'a, 'w> {
         copier: &mut Copier<Image>,
         map: BlockMap,
         mut data: UncopiedData,
-    ) -> Result<EndedRecord<'a, 'w>, Fault<'w>> {
+    ) -> Result<EndedRecord<'a, 'w>, FileFault> {
         let copy = self.copy;
         let blocks = self.blocks.start..self.blocks.end;
         let progress = CopyProgress::start(self.rt, copy.from.path, blocks);
@@ -203,9 +250,9 @@ impl<'a, 'w> ImageCopy<'a, 'w> {
     }
 
     // Starts a driver over both images, and brings them online.
-    fn copier(&self, source: Image, target: Image) -> Result<Copier<Image>, Fault<'w>> {
+    fn copier(&self, source: Image, target: Image) -> Result<Copier<Image>, FileFault> {
         let Ok(driver) = Driver::start(self.rt.alloc(), drives_of(source, target)) else {
-            return Err(Fault::no_memory());
+            return Err(FileFault::no_memory());
         };
         Copier::new(self.rt.alloc(), driver, self.copy.skips_lost).map_err(|error| self.fault(
             error,
@@ -218,7 +265,7 @@ impl<'a, 'w> ImageCopy<'a, 'w> {
         copier: &mut Copier<Image>,
         record: &mut CopyRecord<'a, 'w>,
         data: &mut UncopiedData,
-    ) -> Result<(), Fault<'w>> {
+    ) -> Result<(), FileFault> {
         let last = self.blocks.end;
         let mut at = self.blocks.start;
         for _ in 0..u32::MAX {
@@ -243,7 +290,7 @@ impl<'a, 'w> ImageCopy<'a, 'w> {
         copier: &mut Copier<Image>,
         record: &mut CopyRecord<'a, 'w>,
         blocks: Range<u32>,
-    ) -> Result<(), Fault<'w>> {
+    ) -> Result<(), FileFault> {
         let copied = copier.copy(blocks, record);
         record.check()?;
         copied.map_err(|error| self.fault(error))
@@ -254,7 +301,7 @@ impl<'a, 'w> ImageCopy<'a, 'w> {
         &self,
         copier: &mut Copier<Image>,
         ended: &EndedRecord<'a, 'w>,
-    ) -> Result<(), Fault<'w>> {
+    ) -> Result<(), FileFault> {
         let copy = self.copy;
         if !copy.verify {
             return Ok(());
@@ -287,12 +334,12 @@ impl<'a, 'w> ImageCopy<'a, 'w> {
     }
 
     // Returns the fault for an error, with the file that it concerns.
-    fn fault(&self, error: CopyError) -> Fault<'w> {
-        let (copy, target) = (self.copy, self.target);
+    fn fault(&self, error: CopyError) -> FileFault {
+        let target = &self.target.failures;
         match error.side() {
-            Some(Side::Source) => Fault::new(copy.from.path, reason(error, &self.failures)),
-            Some(Side::Target) => Fault::new(copy.to.path, reason(error, &target.failures)),
-            None => Fault::new("uda50", reason(error, &target.failures)),
+            Some(Side::Source) => FileRole::Source.fault(reason(error, &self.failures)),
+            Some(Side::Target) => FileRole::Target.fault(reason(error, target)),
+            None => FileRole::Program.fault(reason(error, target)),
         }
     }
 }
@@ -341,8 +388,8 @@ fn reason(error: CopyError, failures: &Failures) -> Reason {
         CopyError::Read(Side::Source, block) => source_reason(block, failures),
         CopyError::Read(Side::Target, block) => block_reason(block, StoreError::Read, failures),
         CopyError::Write(block) => block_reason(block, StoreError::Write, failures),
-        CopyError::Differs(block) => Reason::Differs(block),
-        CopyError::Rejected(_, status) => Reason::Rejected(status),
+        CopyError::Differs(block) => Reason::Copy(CopyReason::Differs(block)),
+        CopyError::Rejected(_, status) => Reason::Copy(CopyReason::Rejected(status)),
     }
 }
 

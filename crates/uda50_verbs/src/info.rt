@@ -1,9 +1,10 @@
 //! `uda50 info`: describes images.
 
 use crate::container::{explain_length, last_record};
-use crate::fault::{Fault, Reason};
+use crate::fault::Fault;
 use crate::image::{NamedImage, is_writable};
 use crate::outcome::Outcome;
+use crate::reason::Reason;
 use std::fmt::Display;
 use std::io;
 use std::io::Write;
@@ -98,7 +99,10 @@ fn write_object<'w, W: Write>(
 fn read_facts<'w>(rt: &HostRuntime, name: ImageName<'w>) -> Result<ImageFacts<'w>, Fault<'w>> {
     let mut image = match NamedImage::open(rt, name) {
         Ok(image) => image,
-        Err(fault) => return Err(explain_length(rt, fault)),
+        Err(fault) => {
+            let reason = explain_length(rt, fault.name, fault.reason);
+            return Err(Fault::new(fault.name, reason));
+        }
     };
     let structures = read_structures(&mut image)?;
     Ok(ImageFacts {

@@ -1,8 +1,9 @@
 //! Blocks of standard input.
 
-use crate::fault::{Fault, Reason, STANDARD_INPUT};
+use crate::fault::{Fault, STANDARD_INPUT};
 use crate::outcome::Outcome;
 use crate::printer::BlockPrinter;
+use crate::reason::{InputReason, Reason};
 use std::io;
 use std::io::{BufReader, BufWriter, ErrorKind, Read, Write};
 use std::ops::Range;
@@ -54,8 +55,14 @@ fn print_blocks<'w, R: Read + Drop, W: Write + Drop>(
 fn at_end<'w>(read: io::Result<usize>, number: u64, end: u64) -> Result<Outcome, Fault<'w>> {
     match read {
         Ok(0) if end == u64::MAX => Ok(Outcome::Done),
-        Ok(0) => Err(Fault::new(STANDARD_INPUT, Reason::EndsBefore(number))),
-        Ok(bytes) => Err(Fault::new(STANDARD_INPUT, Reason::ShortBlock(bytes))),
+        Ok(0) => Err(Fault::new(
+            STANDARD_INPUT,
+            Reason::Input(InputReason::EndsBefore(number)),
+        )),
+        Ok(bytes) => Err(Fault::new(
+            STANDARD_INPUT,
+            Reason::Input(InputReason::ShortBlock(bytes)),
+        )),
         Err(error) => Err(Fault::system(STANDARD_INPUT, error)),
     }
 }

@@ -10,6 +10,7 @@ mod decode;
 mod dump;
 mod entry;
 mod fault;
+mod file_fault;
 mod image;
 mod image_copy;
 mod info;
@@ -22,6 +23,7 @@ mod outcome;
 mod printer;
 mod progress;
 mod raw_blocks;
+mod reason;
 mod run;
 mod script;
 mod script_help;
@@ -32,5 +34,9 @@ mod trace;
 mod unreadable;
 
 pub use entry::{program, unreadable_arguments};
-pub use fault::{CopyOption, Fault, Reason, RecordPlace, Suffix};
+pub use fault::{Fault, Suffix};
 pub use outcome::Outcome;
+pub use reason::{
+    CopyOption, CopyReason, ImageReason, InputReason, MapReason, Reason, RecordPlace, ScriptReason,
+    StreamLength, TargetReason,
+};

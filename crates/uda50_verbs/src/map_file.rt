@@ -3,15 +3,17 @@
 //! A map on the disk claims no block that isn't on the disk. So a map is saved only after the target was synced, and it
 //! is written to a new file, which is synced before it takes the place of the old map.
 
-use crate::fault::{Fault, Reason, Suffix};
+use crate::fault::Suffix;
+use crate::file_fault::{FileFault, FileRole};
 use crate::lasting;
 use crate::names::{CopyName, last_of};
+use crate::reason::{MapReason, Reason, TargetReason};
 use crate::target::TargetKind;
 use std::alloc::AllocError;
-use std::fs;
 use std::fs::{File, OpenFile};
 use std::io::{ErrorKind, Read};
 use std::ops::Range;
+use std::{fs, io};
 use uda50_arguments::Copy;
 use uda50_copy::{BlockMap, BlockStatus};
 use uda50_show::EscapedName;
@@ -87,8 +89,8 @@ impl<'w> MapFile<'w> {
     fn named_or(copy: &Copy<'w>, during: CopyName<'w>) -> MapFile<'w> {
         match copy.map {
             Some(path) => MapFile {
-                during: CopyName::argument(path),
-                afterwards: CopyName::argument(path),
+                during: CopyName::argument(FileRole::Map, path),
+                afterwards: CopyName::argument(FileRole::Map, path),
                 target: copy.to.path,
                 is_of_part: false,
             },
@@ -113,38 +115,58 @@ impl<'w> MapFile<'w> {
         rt: &HostRuntime,
         copy: &Copy<'w>,
         kind: TargetKind,
-    ) -> Result<(), Fault<'w>> {
+    ) -> Result<(), FileFault> {
         self.check_names(rt, copy)?;
         if self.is_named() && self.during.is_same_place(rt, &part_map_of(copy))? {
-            return Err(self.fault(Reason::MapOfPart));
+            return Err(self.fault(Reason::Map(MapReason::OfPart)));
         }
-        let leaves_map = copy.skips_lost || copy.map.is_some();
+        self.check_replaced(rt, copy, kind)?;
+        match copy.force {
+            true => Ok(()),
+            false => self.check_earlier(rt, copy, kind),
+        }
+    }
+
+    // Fails if a file that is no map would be replaced by the map.
+    fn check_replaced(
+        &self,
+        rt: &HostRuntime,
+        copy: &Copy<'w>,
+        kind: TargetKind,
+    ) -> Result<(), FileFault> {
         if kind.has_part() {
             check_replaceable(rt, &part_map_of(copy))?;
         }
         if copy.resumes && self.is_named() || kind == TargetKind::LostBlocks {
             read_map(rt, &self.afterwards)?;
         }
-        if leaves_map || kind == TargetKind::LostBlocks {
+        if leaves_map(copy) || kind == TargetKind::LostBlocks {
             check_replaceable(rt, &self.afterwards)?;
-        }
-        if copy.force {
-            return Ok(());
-        }
-        if leaves_map && !copy.resumes && self.afterwards.found(rt)?.is_some() {
-            return Err(self.afterwards.fault(Reason::Exists));
-        }
-        if kind == TargetKind::New {
-            check_no_map_of(rt, copy.to.path)?;
         }
         Ok(())
     }
 
+    // Fails if a copy that begins would replace the map of an earlier one.
+    fn check_earlier(
+        &self,
+        rt: &HostRuntime,
+        copy: &Copy<'w>,
+        kind: TargetKind,
+    ) -> Result<(), FileFault> {
+        if leaves_map(copy) && !copy.resumes && self.afterwards.found(rt)?.is_some() {
+            return Err(self.afterwards.fault(Reason::Exists));
+        }
+        match kind {
+            TargetKind::New => check_no_map_of(rt, copy.to.path),
+            _ => Ok(()),
+        }
+    }
+
     // Fails if a map has the name of an image of the copy.
-    fn check_names(&self, rt: &HostRuntime, copy: &Copy<'w>) -> Result<(), Fault<'w>> {
+    fn check_names(&self, rt: &HostRuntime, copy: &Copy<'w>) -> Result<(), FileFault> {
         let images = [
-            CopyName::argument(copy.from.path),
-            CopyName::argument(copy.to.path),
+            CopyName::argument(FileRole::Source, copy.from.path),
+            CopyName::argument(FileRole::Target, copy.to.path),
             CopyName::derived(copy.to.path, Suffix::Part),
         ];
         for map in [
@@ -153,13 +175,8 @@ impl<'w> MapFile<'w> {
             part_map_of(copy),
             map_of(copy),
         ] {
-            for name in [map, new_of(&map)] {
-                for image in images {
-                    if name.is_same(rt, &image)? {
-                        return Err(name.fault(Reason::MapIsImage));
-                    }
-                }
-            }
+            check_images(rt, &map, &images)?;
+            check_images(rt, &new_of(&map), &images)?;
         }
         Ok(())
     }
@@ -170,7 +187,7 @@ impl<'w> MapFile<'w> {
         &self,
         rt: &HostRuntime,
         blocks: Range<u32>,
-    ) -> Result<BlockMap, Fault<'w>> {
+    ) -> Result<BlockMap, FileFault> {
         let map = BlockMap::new(rt.alloc(), blocks)?;
         let lasts = self.during.found(rt)?.is_some() || self.read_afterwards(rt)?.is_some();
         let text = self.text(rt, &map, Subject::Incomplete)?;
@@ -184,7 +201,7 @@ impl<'w> MapFile<'w> {
         &self,
         rt: &HostRuntime,
         blocks: Range<u32>,
-    ) -> Result<Option<BlockMap>, Fault<'w>> {
+    ) -> Result<Option<BlockMap>, FileFault> {
         let Some(mut map) = read_if_map(rt, &self.during)? else {
             return Ok(None);
         };
@@ -197,28 +214,28 @@ impl<'w> MapFile<'w> {
     }
 
     /// Reads the map of a copy that ended early. Returns `None` if there is none.
-    pub(crate) fn read(&self, rt: &HostRuntime) -> Result<Option<BlockMap>, Fault<'w>> {
+    pub(crate) fn read(&self, rt: &HostRuntime) -> Result<Option<BlockMap>, FileFault> {
         read_map(rt, &self.during)
     }
 
     // Reads the map that the target has under its own name. Returns `None` if there is none.
-    fn read_afterwards(&self, rt: &HostRuntime) -> Result<Option<BlockMap>, Fault<'w>> {
+    fn read_afterwards(&self, rt: &HostRuntime) -> Result<Option<BlockMap>, FileFault> {
         read_if_map(rt, &self.afterwards)
     }
 
     /// Reads the map that a copy will replace. Returns `None` if there is none, or another file.
-    pub(crate) fn read_if_map(&self, rt: &HostRuntime) -> Result<Option<BlockMap>, Fault<'w>> {
+    pub(crate) fn read_if_map(&self, rt: &HostRuntime) -> Result<Option<BlockMap>, FileFault> {
         read_if_map(rt, &self.during)
     }
 
     /// Returns whether the map tells of the file whose name ends in `.part`. A named map says so.
-    pub(crate) fn tells_of_part(&self, rt: &HostRuntime) -> Result<bool, Fault<'w>> {
+    pub(crate) fn tells_of_part(&self, rt: &HostRuntime) -> Result<bool, FileFault> {
         Ok(!self.is_named() || matches!(self.subject(rt)?, Subject::Incomplete | Subject::Complete))
     }
 
     /// Returns whether the map tells of the target with its own name. If it is one of the complete copy, that has this
     /// name unless it still has the other one.
-    pub(crate) fn tells_of_target(&self, rt: &HostRuntime) -> Result<bool, Fault<'w>> {
+    pub(crate) fn tells_of_target(&self, rt: &HostRuntime) -> Result<bool, FileFault> {
         let part = CopyName::derived(self.target, Suffix::Part);
         Ok(match self.subject(rt)? {
             Subject::Target => true,
@@ -228,19 +245,22 @@ impl<'w> MapFile<'w> {
     }
 
     // Returns what the map tells of, by its text.
-    fn subject(&self, rt: &HostRuntime) -> Result<Subject, Fault<'w>> {
+    fn subject(&self, rt: &HostRuntime) -> Result<Subject, FileFault> {
         let path = self.during.path(rt.alloc())?;
         let text = self.during.of_call(fs::read_to_string(rt, path.as_str()))?;
-        let incomplete = Subject::Incomplete.line(rt, self.target)?;
-        let complete = Subject::Complete.line(rt, self.target)?;
-        let Some(line) = text.as_str().lines().find(|line| line.starts_with(OF_PART)) else {
-            return Ok(Subject::Target);
-        };
-        if line.trim_end() == incomplete.as_str().trim_end() {
-            return Ok(Subject::Incomplete);
+        match text.as_str().lines().find(|line| line.starts_with(OF_PART)) {
+            Some(line) => Ok(self.subject_of(rt, line)?),
+            None => Ok(Subject::Target),
         }
-        if line.trim_end() == complete.as_str().trim_end() {
-            return Ok(Subject::Complete);
+    }
+
+    // Returns what a map tells of whose text has this line.
+    fn subject_of(&self, rt: &HostRuntime, line: &str) -> Result<Subject, AllocError> {
+        for subject in [Subject::Incomplete, Subject::Complete] {
+            let own = subject.line(rt, self.target)?;
+            if line.trim_end() == own.as_str().trim_end() {
+                return Ok(subject);
+            }
         }
         Ok(Subject::Other)
     }
@@ -260,14 +280,14 @@ impl<'w> MapFile<'w> {
     }
 
     /// Writes the map during a copy.
-    pub(crate) fn save(&self, rt: &HostRuntime, map: &BlockMap) -> Result<(), Fault<'w>> {
+    pub(crate) fn save(&self, rt: &HostRuntime, map: &BlockMap) -> Result<(), FileFault> {
         let text = self.text(rt, map, Subject::Incomplete)?;
         write_map(rt, &self.during, text.as_str(), true)
     }
 
     /// Writes the map after a copy. That of the incomplete copy gets the same content before, so that it tells that the
     /// copy was complete if it outlasts the copy.
-    pub(crate) fn finish(&self, rt: &HostRuntime, map: &BlockMap) -> Result<(), Fault<'w>> {
+    pub(crate) fn finish(&self, rt: &HostRuntime, map: &BlockMap) -> Result<(), FileFault> {
         if self.is_moved() {
             self.save(rt, map)?;
         }
@@ -276,7 +296,7 @@ impl<'w> MapFile<'w> {
     }
 
     /// Forgets that these blocks are copied, since they may not be right.
-    pub(crate) fn forget(&self, rt: &HostRuntime, blocks: Range<u32>) -> Result<(), Fault<'w>> {
+    pub(crate) fn forget(&self, rt: &HostRuntime, blocks: Range<u32>) -> Result<(), FileFault> {
         if self.is_moved() {
             return remove(rt, &self.during);
         }
@@ -286,7 +306,7 @@ impl<'w> MapFile<'w> {
 
     /// Undoes the map of a copy that is undone. The old one has its unfinished blocks again, but claims none: if the copy
     /// is resumed, it begins. So the first map of a copy over a target that has a map of its own stays.
-    pub(crate) fn restore(&self, rt: &HostRuntime, former: &FormerMap) -> Result<(), Fault<'w>> {
+    pub(crate) fn restore(&self, rt: &HostRuntime, former: &FormerMap) -> Result<(), FileFault> {
         match former {
             FormerMap::Kept(map) => {
                 let map = without_claims(rt, map)?;
@@ -318,7 +338,7 @@ impl<'w> MapFile<'w> {
 
     /// Lets no map be that of the incomplete copy, after the target got its own name: a named one becomes the target's, and
     /// another one is removed. It need not be so after a loss of power, or if the system fails it.
-    pub(crate) fn discard(&self, rt: &HostRuntime) -> Result<(), Fault<'w>> {
+    pub(crate) fn discard(&self, rt: &HostRuntime) -> Result<(), FileFault> {
         if self.is_moved() {
             let path = self.during.path(rt.alloc())?;
             let _ = fs::remove_file(rt, path.as_str());
@@ -329,7 +349,7 @@ impl<'w> MapFile<'w> {
     }
 
     // Lets the map be that of the target.
-    fn settle(&self, rt: &HostRuntime) -> Result<(), Fault<'w>> {
+    fn settle(&self, rt: &HostRuntime) -> Result<(), FileFault> {
         if let Some(map) = self.read_if_map(rt)? {
             let text = format!(in rt.alloc(); "{map}")?;
             write_map(rt, &self.during, text.as_str(), true)?;
@@ -338,7 +358,7 @@ impl<'w> MapFile<'w> {
     }
 
     /// Removes the map with the target's name, unless it is this map. It tells of what the target was.
-    pub(crate) fn retire(&self, rt: &HostRuntime, copy: &Copy<'w>) -> Result<(), Fault<'w>> {
+    pub(crate) fn retire(&self, rt: &HostRuntime, copy: &Copy<'w>) -> Result<(), FileFault> {
         let name = map_of(copy);
         if self.is_named() && self.afterwards.is_same_place(rt, &name)? {
             return Ok(());
@@ -347,7 +367,7 @@ impl<'w> MapFile<'w> {
     }
 
     /// Returns the fault of the map.
-    pub(crate) fn fault(&self, reason: Reason) -> Fault<'w> {
+    pub(crate) fn fault(&self, reason: Reason) -> FileFault {
         self.during.fault(reason)
     }
 }
@@ -367,7 +387,7 @@ pub(crate) enum FormerMap {
 pub(crate) fn remove_map_of<'w>(
     rt: &HostRuntime,
     path: &'w str,
-) -> Result<Option<BlockMap>, Fault<'w>> {
+) -> Result<Option<BlockMap>, FileFault> {
     let name = CopyName::derived(path, Suffix::Map);
     let map = read_if_map(rt, &name)?;
     if map.is_some() {
@@ -381,7 +401,7 @@ pub(crate) fn restore_map_of<'w>(
     rt: &HostRuntime,
     path: &'w str,
     map: &BlockMap,
-) -> Result<(), Fault<'w>> {
+) -> Result<(), FileFault> {
     let text = format!(in rt.alloc(); "{map}")?;
     write_map(
         rt,
@@ -392,36 +412,36 @@ pub(crate) fn restore_map_of<'w>(
 }
 
 /// Removes the map of an incomplete copy that begins anew without a map of that name.
-pub(crate) fn remove_part_map<'w>(rt: &HostRuntime, copy: &Copy<'w>) -> Result<(), Fault<'w>> {
+pub(crate) fn remove_part_map<'w>(rt: &HostRuntime, copy: &Copy<'w>) -> Result<(), FileFault> {
     remove(rt, &part_map_of(copy))
 }
 
 /// Removes the map of an incomplete copy that isn't there any more.
-pub(crate) fn remove_old_part_map<'w>(rt: &HostRuntime, copy: &Copy<'w>) -> Result<(), Fault<'w>> {
+pub(crate) fn remove_old_part_map<'w>(rt: &HostRuntime, copy: &Copy<'w>) -> Result<(), FileFault> {
     remove_if_map(rt, &part_map_of(copy))
 }
 
 /// Returns whether there is a map of the incomplete copy with the name that is made from that of the target.
-pub(crate) fn has_part_map<'w>(rt: &HostRuntime, copy: &Copy<'w>) -> Result<bool, Fault<'w>> {
+pub(crate) fn has_part_map<'w>(rt: &HostRuntime, copy: &Copy<'w>) -> Result<bool, FileFault> {
     Ok(read_if_map(rt, &part_map_of(copy))?.is_some())
 }
 
 /// Fails if there is a map of the incomplete copy with the name that is made from that of the target. A copy with a named
 /// map would have removed it, so the named one is older.
-pub(crate) fn check_no_part_map<'w>(rt: &HostRuntime, copy: &Copy<'w>) -> Result<(), Fault<'w>> {
+pub(crate) fn check_no_part_map<'w>(rt: &HostRuntime, copy: &Copy<'w>) -> Result<(), FileFault> {
     match has_part_map(rt, copy)? {
-        true => Err(part_map_of(copy).fault(Reason::MapOfPart)),
+        true => Err(part_map_of(copy).fault(Reason::Map(MapReason::OfPart))),
         false => Ok(()),
     }
 }
 
 /// Returns whether a first map of an incomplete copy was begun, and not saved.
-pub(crate) fn has_new_part_map<'w>(rt: &HostRuntime, copy: &Copy<'w>) -> Result<bool, Fault<'w>> {
+pub(crate) fn has_new_part_map<'w>(rt: &HostRuntime, copy: &Copy<'w>) -> Result<bool, FileFault> {
     Ok(new_of(&part_map_of(copy)).found(rt)?.is_some())
 }
 
 // Returns a map in which those blocks are lost that aren't finished, and the others are not tried.
-fn without_claims<'w>(rt: &HostRuntime, map: &BlockMap) -> Result<BlockMap, Fault<'w>> {
+fn without_claims<'w>(rt: &HostRuntime, map: &BlockMap) -> Result<BlockMap, FileFault> {
     let mut rest = BlockMap::new(rt.alloc(), map.start()..map.end())?;
     let mut at = map.start();
     for _ in 0..u32::MAX {
@@ -435,7 +455,7 @@ fn without_claims<'w>(rt: &HostRuntime, map: &BlockMap) -> Result<BlockMap, Faul
 }
 
 // Removes a file if it is a map.
-fn remove_if_map<'w>(rt: &HostRuntime, name: &CopyName<'w>) -> Result<(), Fault<'w>> {
+fn remove_if_map<'w>(rt: &HostRuntime, name: &CopyName<'w>) -> Result<(), FileFault> {
     match read_if_map(rt, name)? {
         Some(_map) => remove(rt, name),
         None => Ok(()),
@@ -443,7 +463,7 @@ fn remove_if_map<'w>(rt: &HostRuntime, name: &CopyName<'w>) -> Result<(), Fault<
 }
 
 // Removes a file, and syncs its folder. There may be none.
-fn remove<'w>(rt: &HostRuntime, name: &CopyName<'w>) -> Result<(), Fault<'w>> {
+fn remove<'w>(rt: &HostRuntime, name: &CopyName<'w>) -> Result<(), FileFault> {
     let path = name.path(rt.alloc())?;
     name.of_call(lasting::remove(rt, path.as_str()))
 }
@@ -459,7 +479,7 @@ fn map_of<'w>(copy: &Copy<'w>) -> CopyName<'w> {
 }
 
 /// Fails if there is a map of a file that isn't there, and says that blocks of it are copied.
-pub(crate) fn check_no_map_of<'w>(rt: &HostRuntime, path: &'w str) -> Result<(), Fault<'w>> {
+pub(crate) fn check_no_map_of<'w>(rt: &HostRuntime, path: &'w str) -> Result<(), FileFault> {
     let name = CopyName::derived(path, Suffix::Map);
     match read_if_map(rt, &name)? {
         Some(map) if map.finished_end() > 0 => Err(name.fault(Reason::Exists)),
@@ -467,13 +487,32 @@ pub(crate) fn check_no_map_of<'w>(rt: &HostRuntime, path: &'w str) -> Result<(),
     }
 }
 
+// Returns whether a copy leaves a map.
+fn leaves_map(copy: &Copy<'_>) -> bool {
+    copy.skips_lost || copy.map.is_some()
+}
+
+// Fails if a file of a map has the name of one of the images.
+fn check_images<'w>(
+    rt: &HostRuntime,
+    name: &CopyName<'w>,
+    images: &[CopyName<'w>],
+) -> Result<(), FileFault> {
+    for image in images {
+        if name.is_same(rt, image)? {
+            return Err(name.fault(Reason::Map(MapReason::IsImage)));
+        }
+    }
+    Ok(())
+}
+
 // Returns the name of the file to which a map is written first.
 fn new_of<'w>(map: &CopyName<'w>) -> CopyName<'w> {
-    CopyName::derived(map.base, map.suffix.of_new())
+    map.with_suffix(map.suffix.of_new())
 }
 
 // Fails if there is a file in the place of a map, or of the file to which it is written first, that is none.
-fn check_replaceable<'w>(rt: &HostRuntime, name: &CopyName<'w>) -> Result<(), Fault<'w>> {
+fn check_replaceable<'w>(rt: &HostRuntime, name: &CopyName<'w>) -> Result<(), FileFault> {
     for name in [*name, new_of(name)] {
         let is_whole = match name.found(rt)? {
             None => true,
@@ -481,14 +520,14 @@ fn check_replaceable<'w>(rt: &HostRuntime, name: &CopyName<'w>) -> Result<(), Fa
             Some(found) => found.len() == 0 || is_begun(rt, &name)?,
         };
         if !is_whole && read_if_map(rt, &name)?.is_none() {
-            return Err(name.fault(Reason::NoMap));
+            return Err(name.fault(Reason::Map(MapReason::NoMap)));
         }
     }
     Ok(())
 }
 
 // Returns whether a file begins as a map of `uda50`, whose end may be lost.
-fn is_begun<'w>(rt: &HostRuntime, name: &CopyName<'w>) -> Result<bool, Fault<'w>> {
+fn is_begun<'w>(rt: &HostRuntime, name: &CopyName<'w>) -> Result<bool, FileFault> {
     let path = name.path(rt.alloc())?;
     let mut bytes = [0; BEGINNING.len()];
     let mut file = name.of_call(File::open(rt, path.as_str()))?;
@@ -496,29 +535,52 @@ fn is_begun<'w>(rt: &HostRuntime, name: &CopyName<'w>) -> Result<bool, Fault<'w>
 }
 
 // Reads a map. Returns `None` if there is none.
-fn read_map<'w>(rt: &HostRuntime, name: &CopyName<'w>) -> Result<Option<BlockMap>, Fault<'w>> {
+fn read_map<'w>(rt: &HostRuntime, name: &CopyName<'w>) -> Result<Option<BlockMap>, FileFault> {
+    match read_text(rt, name)? {
+        Some(text) => read_map_of(rt, name, text.as_str()),
+        None => Ok(None),
+    }
+}
+
+// Reads the text of a map. Returns `None` if there is none.
+fn read_text<'w>(rt: &HostRuntime, name: &CopyName<'w>) -> Result<Option<String>, FileFault> {
     name.found(rt)?;
     let path = name.path(rt.alloc())?;
-    let text = match fs::read_to_string(rt, path.as_str()) {
-        Ok(text) => text,
-        Err(error) if error.kind() == ErrorKind::NotFound => return Ok(None),
-        Err(error) if error.kind() == ErrorKind::InvalidData => {
-            return Err(name.fault(Reason::MapIsNoText));
-        }
-        Err(error) => return Err(name.fault(Reason::of(error))),
-    };
-    match BlockMap::parse(rt.alloc(), text.as_str()) {
+    match lasting::read(rt, path.as_str()) {
+        Ok(text) => Ok(text),
+        Err(error) => Err(name.fault(reason_of_text(error))),
+    }
+}
+
+// Returns the reason why the text of a map can't be read.
+fn reason_of_text(error: io::Error) -> Reason {
+    match error.kind() {
+        ErrorKind::InvalidData => Reason::Map(MapReason::NoText),
+        _ => Reason::of(error),
+    }
+}
+
+// Reads the map that a text is.
+fn read_map_of<'w>(
+    rt: &HostRuntime,
+    name: &CopyName<'w>,
+    text: &str,
+) -> Result<Option<BlockMap>, FileFault> {
+    match BlockMap::parse(rt.alloc(), text) {
         Ok(map) => Ok(Some(map)),
-        Err(error) => Err(name.fault(Reason::Map(error))),
+        Err(error) => Err(name.fault(Reason::Map(MapReason::Invalid(error)))),
     }
 }
 
 // Reads a file if it is a map. Returns `None` if there is none, or if it is a link or another file.
-fn read_if_map<'w>(rt: &HostRuntime, name: &CopyName<'w>) -> Result<Option<BlockMap>, Fault<'w>> {
+fn read_if_map<'w>(rt: &HostRuntime, name: &CopyName<'w>) -> Result<Option<BlockMap>, FileFault> {
     match read_map(rt, name) {
         Err(
-            Fault {
-                reason: Reason::Link | Reason::NotPlain | Reason::Map(_) | Reason::MapIsNoText,
+            FileFault {
+                reason: Reason::Target(TargetReason::Link)
+                | Reason::NotPlain
+                | Reason::Map(MapReason::Invalid(_))
+                | Reason::Map(MapReason::NoText),
                 ..
             },
         ) => Ok(None),
@@ -527,29 +589,29 @@ fn read_if_map<'w>(rt: &HostRuntime, name: &CopyName<'w>) -> Result<Option<Block
 }
 
 // Writes the text of a map to a new file, which then takes the place of the old one. What an interrupted copy left of such
-// removed. If the map is to last, the new file and its folder are synced.
+// is removed. If the map is to last, the new file and its folder are synced.
 fn write_map<'w>(
     rt: &HostRuntime,
     name: &CopyName<'w>,
     text: &str,
     lasts: bool,
-) -> Result<(), Fault<'w>> {
+) -> Result<(), FileFault> {
     let path = name.path(rt.alloc())?;
+    let new_path = new_of(name).path(rt.alloc())?;
+    remove_interrupted(rt, name, new_path.as_str())?;
+    name.of_call(lasting::replace(rt, path.as_str(), new_path.as_str(), text, lasts))
+}
+
+// Removes what an interrupted copy left of a new map, which has this path.
+fn remove_interrupted<'w>(
+    rt: &HostRuntime,
+    name: &CopyName<'w>,
+    new_path: &str,
+) -> Result<(), FileFault> {
     let new = new_of(name);
-    let new_path = new.path(rt.alloc())?;
     if new.found(rt)?.is_some() {
         check_replaceable(rt, name)?;
-        new.of_call(fs::remove_file(rt, new_path.as_str()))?;
+        new.of_call(fs::remove_file(rt, new_path))?;
     }
-    let replaced = lasting::write_new(rt, new_path.as_str(), text, lasts);
-    name.of_call(replaced)?;
-    let renamed = fs::rename(rt, new_path.as_str(), path.as_str());
-    if renamed.is_err() {
-        let _ = fs::remove_file(rt, new_path.as_str());
-    }
-    name.of_call(renamed)?;
-    match lasts {
-        true => name.of_call(lasting::sync_folder(rt, path.as_str())),
-        false => Ok(()),
-    }
+    Ok(())
 }

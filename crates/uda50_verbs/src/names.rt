@@ -1,7 +1,9 @@
 //! The names of the files of a copy.
 
-use crate::fault::{Fault, Reason, Suffix};
+use crate::fault::Suffix;
+use crate::file_fault::{FileFault, FileRole};
 use crate::lasting::folder_of;
+use crate::reason::{Reason, TargetReason};
 use std::alloc::{AllocError, Global};
 use std::fs::Metadata;
 use std::os::unix::fs::MetadataExt;
@@ -13,21 +15,35 @@ const LINKS: u32 = 40;
 /// A name that a copy uses: that of an argument, or one that is made from it.
 #[derive(Clone, Copy, Debug)]
 pub(crate) struct CopyName<'w> {
-    /// The argument.
-    pub(crate) base: &'w str,
+    // The argument, and which one it is.
+    base: &'w str,
+    role: FileRole,
     /// What follows it.
     pub(crate) suffix: Suffix,
 }
 
 impl<'w> CopyName<'w> {
     /// Returns the name of an argument.
-    pub(crate) fn argument(base: &'w str) -> CopyName<'w> {
-        CopyName::derived(base, Suffix::None)
+    pub(crate) fn argument(role: FileRole, base: &'w str) -> CopyName<'w> {
+        CopyName {
+            base,
+            role,
+            suffix: Suffix::None,
+        }
     }
 
-    /// Returns the name that is made from an argument.
-    pub(crate) fn derived(base: &'w str, suffix: Suffix) -> CopyName<'w> {
-        CopyName { base, suffix }
+    /// Returns the name of a target with a suffix.
+    pub(crate) fn derived(target: &'w str, suffix: Suffix) -> CopyName<'w> {
+        CopyName {
+            base: target,
+            role: FileRole::Target,
+            suffix,
+        }
+    }
+
+    /// Returns the name with another suffix.
+    pub(crate) fn with_suffix(&self, suffix: Suffix) -> CopyName<'w> {
+        CopyName { suffix, ..*self }
     }
 
     /// Returns the path.
@@ -38,12 +54,16 @@ impl<'w> CopyName<'w> {
     }
 
     /// Returns the fault of the file.
-    pub(crate) fn fault(&self, reason: Reason) -> Fault<'w> {
-        Fault::of_derived(self.base, self.suffix, reason)
+    pub(crate) fn fault(&self, reason: Reason) -> FileFault {
+        FileFault {
+            role: self.role,
+            suffix: self.suffix,
+            reason,
+        }
     }
 
     /// Returns the result of a call of the system on the file, with the fault if it failed.
-    pub(crate) fn of_call<T>(&self, called: io::Result<T>) -> Result<T, Fault<'w>> {
+    pub(crate) fn of_call<T>(&self, called: io::Result<T>) -> Result<T, FileFault> {
         match called {
             Ok(value) => Ok(value),
             Err(error) => Err(self.fault(Reason::of(error))),
@@ -52,13 +72,15 @@ impl<'w> CopyName<'w> {
 
     /// Returns what the file is, if there is one. Fails if the name is that of a link and is made from an argument,
     /// since a copy follows no such link.
-    pub(crate) fn found(&self, rt: &HostRuntime) -> Result<Option<Metadata>, Fault<'w>> {
+    pub(crate) fn found(&self, rt: &HostRuntime) -> Result<Option<Metadata>, FileFault> {
         let path = self.path(rt.alloc())?;
         if self.suffix == Suffix::None {
             return Ok(fs::metadata(rt, path.as_str()).ok());
         }
         match fs::symlink_metadata(rt, path.as_str()) {
-            Ok(metadata) if metadata.is_symlink() => Err(self.fault(Reason::Link)),
+            Ok(metadata) if metadata.is_symlink() => Err(self.fault(Reason::Target(
+                TargetReason::Link,
+            ))),
             found => Ok(found.ok()),
         }
     }
@@ -87,8 +109,8 @@ impl<'w> CopyName<'w> {
     }
 }
 
-// Returns whether two paths are of one file that exists.
-fn is_same_file(rt: &HostRuntime, one: &str, other: &str) -> bool {
+/// Returns whether two paths are of one file that exists.
+pub(crate) fn is_same_file(rt: &HostRuntime, one: &str, other: &str) -> bool {
     match (fs::metadata(rt, one), fs::metadata(rt, other)) {
         (Ok(one), Ok(other)) => one.dev() == other.dev() && one.ino() == other.ino(),
         _ => false,
@@ -117,16 +139,20 @@ pub(crate) fn is_link(rt: &HostRuntime, path: &str) -> bool {
 }
 
 /// Returns the path to which links lead. The file there need not exist.
-pub(crate) fn end_of_links<'w>(rt: &HostRuntime, path: &'w str) -> Result<String, Fault<'w>> {
+pub(crate) fn end_of_links(
+    rt: &HostRuntime,
+    role: FileRole,
+    path: &str,
+) -> Result<String, FileFault> {
     let mut end = String::from_str(rt.alloc(), path)?;
     for _ in 0..LINKS {
         if !is_link(rt, end.as_str()) {
             return Ok(end);
         }
-        let led = Fault::of_call(path, fs::read_link(rt, end.as_str()))?.into_string();
+        let led = role.of_call(fs::read_link(rt, end.as_str()))?.into_string();
         end = from_folder(rt.alloc(), end.as_str(), led)?;
     }
-    Err(Fault::new(path, Reason::LinksInCircle))
+    Err(role.fault(Reason::Target(TargetReason::LinksInCircle)))
 }
 
 // Returns the path of a link's text, which is one from the folder of the link unless it begins with a slash.

@@ -1,18 +1,19 @@
 //! What is noted of the streams and images of a script's run, so that a fault can tell its reason.
 
-use crate::fault::{Fault, Reason, STANDARD_ERROR, STANDARD_INPUT, STANDARD_OUTPUT};
-use crate::streams::{LastError, Noting};
+use crate::fault::{Fault, STANDARD_ERROR, STANDARD_INPUT, STANDARD_OUTPUT};
+use crate::reason::{Reason, ScriptReason};
+use crate::streams::{InputStream, LastError, Noting};
 use std::alloc::{AllocError, Global};
 use std::cell::Cell;
 use std::io;
-use std::io::{BufReader, Read};
+use std::io::BufReader;
 use uda_grammar::{Expected, ScriptError};
 use uda_script_run::TextError;
 use uda50_files::Failures;
 use uda50_script_text::{Mistake, ScriptLine, ScriptNotes, ScriptReader};
 
 /// The reader of a script that is executed, with a buffer.
-pub(crate) type ScriptText<'n, T> = BufReader<ScriptReader<'n, Noting<'n, T>>>;
+pub(crate) type ScriptText<'n> = BufReader<ScriptReader<'n, Noting<'n, InputStream>>>;
 
 /// What is noted of the streams and images of a run.
 #[derive(Drop)]
@@ -46,11 +47,7 @@ impl RunNotes {
     }
 
     /// Makes the reader of a script.
-    pub(crate) fn text<'n, T: Read + Drop>(
-        &'n self,
-        alloc: Global,
-        input: T,
-    ) -> io::Result<ScriptText<'n, T>> {
+    pub(crate) fn text(&self, alloc: Global, input: InputStream) -> io::Result<ScriptText<'_>> {
         let noting = Noting::new(input, &self.script);
         let reader = ScriptReader::new(alloc, &self.lines, noting)?;
         BufReader::new(alloc, reader)
@@ -80,7 +77,7 @@ impl RunNotes {
     fn reason_of_run(&self, error: ScriptError) -> Reason {
         match error {
             ScriptError::NoMemory => Reason::NoMemory,
-            ScriptError::ShortData { line } => Reason::DataEnded(line),
+            ScriptError::ShortData { line } => Reason::Script(ScriptReason::DataEnded(line)),
             ScriptError::Read => reason_of(&self.input, Reason::Unreadable),
             ScriptError::Write => self.reason_of_output(),
             ScriptError::Syntax { .. } | ScriptError::TooManyLines => Reason::Unreadable,
@@ -92,17 +89,17 @@ impl RunNotes {
         let noted = self.lines.faulty_line();
         match noted.and_then(|noted| mistake(line, &noted)) {
             Some(reason) => reason,
-            None => Reason::Syntax {
+            None => Reason::Script(ScriptReason::Syntax {
                 line,
                 mistake: Mistake::at(expected),
-            },
+            }),
         }
     }
 
     // Returns the reason why standard output or standard error can't be written.
     fn reason_of_output(&self) -> Reason {
         match self.out.get() {
-            Some(_) if self.refused.get() => Reason::BlocksToTerminal,
+            Some(_) if self.refused.get() => Reason::Script(ScriptReason::BlocksToTerminal),
             Some(error) => Reason::of_stream(error),
             None => reason_of(&self.report, Reason::Unwritable),
         }
@@ -144,10 +141,10 @@ fn reason_of(last: &LastError, other: Reason) -> Reason {
 pub(crate) fn mistake(number: u64, line: &ScriptLine) -> Option<Reason> {
     let mistake = line.mistake()?;
     match line.byte_order_mark() {
-        Some(mark) if number == 1 => Some(Reason::ByteOrderMark(mark)),
-        _ => Some(Reason::Syntax {
+        Some(mark) if number == 1 => Some(Reason::Script(ScriptReason::ByteOrderMark(mark))),
+        _ => Some(Reason::Script(ScriptReason::Syntax {
             line: number,
             mistake,
-        }),
+        })),
     }
 }

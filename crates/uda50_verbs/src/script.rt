@@ -1,11 +1,12 @@
 //! Execution of scripts on images.
 
-use crate::fault::{Fault, Reason};
+use crate::fault::Fault;
 use crate::image::{failure_fault, open_file, sync_fault};
+use crate::names::is_same_file;
 use crate::notes::{RunNotes, ScriptText};
-use std::fs;
+use crate::reason::{Reason, ScriptReason};
+use crate::streams::{InputStream, stream_name};
 use std::io::{Read, Write};
-use std::os::unix::fs::MetadataExt;
 use uda_driver::{Driver, Watch};
 use uda_image::Drive;
 use uda_script_run::{Channels, ReportStyle, ScriptOutcome, run_buffered_text};
@@ -17,23 +18,43 @@ pub(crate) type Drives = [Option<Drive<Image>>; 4];
 
 /// A script, the images on which it is executed, and the style of its report.
 #[derive(Drop)]
-pub(crate) struct Job<'j, 'w, T> {
-    /// The name of the script's file.
-    pub(crate) name: &'w str,
-    /// The text of the script.
-    pub(crate) text: ScriptText<'j, T>,
-    /// What is noted of the streams.
-    pub(crate) notes: &'j RunNotes,
-    /// The images of units 0 to 3; `None` for no drive.
-    pub(crate) units: &'j [Option<ImageName<'w>>],
-    /// The style of the report.
-    pub(crate) style: ReportStyle,
+pub(crate) struct Job<'j, 'w> {
+    // The name of the script's file.
+    name: &'w str,
+    // The text of the script.
+    text: ScriptText<'j>,
+    // What is noted of the streams.
+    notes: &'j RunNotes,
+    // The images of units 0 to 3; `None` for no drive.
+    units: &'j [Option<ImageName<'w>>],
+    // The style of the report.
+    style: ReportStyle,
+}
+
+impl<'j, 'w> Job<'j, 'w> {
+    /// Opens a script.
+    pub(crate) fn open(
+        rt: &HostRuntime,
+        script: &'w str,
+        units: &'j [Option<ImageName<'w>>],
+        notes: &'j RunNotes,
+        style: ReportStyle,
+    ) -> Result<Job<'j, 'w>, Fault<'w>> {
+        let text = InputStream::open(rt, script)?;
+        Ok(Job {
+            name: stream_name(script),
+            text: notes.text(rt.alloc(), text)?,
+            notes,
+            units,
+            style,
+        })
+    }
 }
 
 /// Executes a script on its images, in batches, as it is read, and syncs the images that it wrote.
-pub(crate) fn execute_script<'w, T: Read + Drop, R: Read, W: Write, V: Write, H: Watch>(
+pub(crate) fn execute_script<'w, R: Read, W: Write, V: Write, H: Watch>(
     rt: &HostRuntime,
-    job: Job<'_, 'w, T>,
+    job: Job<'_, 'w>,
     drives: Drives,
     channels: &mut Channels<R, W, V, H>,
 ) -> Result<ScriptOutcome, Fault<'w>> {
@@ -44,9 +65,9 @@ pub(crate) fn execute_script<'w, T: Read + Drop, R: Read, W: Write, V: Write, H:
 }
 
 // Executes a script through a driver, and syncs the images that it wrote.
-fn execute_on<'w, T: Read + Drop, R: Read, W: Write, V: Write, H: Watch>(
+fn execute_on<'w, R: Read, W: Write, V: Write, H: Watch>(
     rt: &HostRuntime,
-    job: Job<'_, 'w, T>,
+    job: Job<'_, 'w>,
     mut driver: Driver<Image>,
     channels: &mut Channels<R, W, V, H>,
 ) -> Result<ScriptOutcome, Fault<'w>> {
@@ -108,21 +129,21 @@ fn with_user<'w>(
     match units
         .iter()
         .take(number)
-        .position(|unit| is_same_file(rt, *unit, fault.name))
+        .position(|unit| is_of_file(rt, *unit, fault.name))
     {
-        Some(first) => Fault::new(fault.name, Reason::GivenTwice(first, number)),
+        Some(first) => Fault::new(
+            fault.name,
+            Reason::Script(ScriptReason::GivenTwice(first, number)),
+        ),
         None => fault,
     }
 }
 
 // Returns whether a unit's image is this file.
-fn is_same_file(rt: &HostRuntime, unit: Option<ImageName<'_>>, path: &str) -> bool {
-    let Some(image) = unit else {
-        return false;
-    };
-    match (fs::metadata(rt, image.path), fs::metadata(rt, path)) {
-        (Ok(one), Ok(other)) => one.dev() == other.dev() && one.ino() == other.ino(),
-        _ => false,
+fn is_of_file(rt: &HostRuntime, unit: Option<ImageName<'_>>, path: &str) -> bool {
+    match unit {
+        Some(image) => is_same_file(rt, image.path, path),
+        None => false,
     }
 }
 
@@ -137,7 +158,8 @@ fn open_drive<'w>(
     } else {
         Access::Write
     };
-    let store = open_file(rt, image.path, access)?.into_image(failures)?;
+    let file = Fault::of(image.path, open_file(rt, image.path, access))?;
+    let store = file.into_image(failures)?;
     let hard = image.protected;
     Ok(Drive { store, hard })
 }

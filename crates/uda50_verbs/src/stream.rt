@@ -3,12 +3,16 @@ ghost use Rattle.std.specs.Prelude.{◌≤◌};
 
 use crate::container::{volume_blocks, warn_of_format};
 use crate::copy::blocks_to_copy;
-use crate::fault::{CopyOption, Fault, Reason, STANDARD_INPUT, STANDARD_OUTPUT, StreamLength};
-use crate::image::{NamedImage, block_fault};
+use crate::fault::{Fault, STANDARD_OUTPUT};
+use crate::file_fault::{FileFault, FileRole};
+use crate::image::{NamedImage, block_reason};
 use crate::outcome::Outcome;
 use crate::progress::{CopyProgress, StreamProgress, clear_line, print_syncing};
 use crate::raw_blocks::HeldBlocks;
+use crate::reason::{CopyOption, CopyReason, ImageReason, Reason, StreamLength, TargetReason};
+use crate::streams::{InputStream, stream_name};
 use crate::target::{BegunCopy, CheckedTarget, CopyTarget, Resumption};
+use std::alloc::AllocError;
 use std::fs::{File, OpenFile};
 use std::io::{BufWriter, ErrorKind, IsTerminal, Read, Write};
 use std::ops::Range;
@@ -17,7 +21,7 @@ use std::{fs, io};
 use uda_image::{BlockStore, STORE_LIMIT};
 use uda50_arguments::{Copy, ImageName};
 use uda50_copy::Observer;
-use uda50_files::{Failures, Image};
+use uda50_files::{Failures, Image, TargetFile};
 
 /// The most blocks that are read from a stream at once.
 const PIECE: usize = 32;
@@ -40,97 +44,76 @@ pub(crate) fn is_stream(rt: &HostRuntime, from: ImageName<'_>) -> bool {
 }
 
 /// Copies a stream to an image: its blocks up to its end, or those of `--blocks`.
-pub(crate) fn copy_from_stream<'w>(
-    rt: &HostRuntime,
-    copy: &Copy<'w>,
-) -> Result<Outcome, Fault<'w>> {
-    let name = stream_name(copy.from.path);
-    if copy.skips_lost {
-        let option = Reason::NeedsImages(CopyOption::Continue);
-        return Err(Fault::new(name, option));
-    }
-    if copy.without_record {
-        let option = Reason::NeedsImages(CopyOption::WithoutRecord);
-        return Err(Fault::new(name, option));
-    }
-    check_options(copy, name)?;
-    if copy.from.is_stream() {
-        return take_stream(rt, copy, name, rt.stdin());
-    }
-    let file = Fault::of_call(name, File::open(rt, name))?;
-    take_stream(rt, copy, name, file)
-}
-
-// Returns the name of a stream in faults.
-fn stream_name(path: &str) -> &str {
-    match path {
-        "-" => STANDARD_INPUT,
-        _ => path,
-    }
-}
-
-// Fails if an option needs two images.
-fn check_options<'w>(copy: &Copy<'w>, name: &'w str) -> Result<(), Fault<'w>> {
-    let option = if copy.verify {
-        CopyOption::Verify
-    } else if copy.resumes {
-        CopyOption::Resume
-    } else if copy.map.is_some() {
-        CopyOption::Map
+pub(crate) fn copy_from_stream(rt: &HostRuntime, copy: &Copy<'_>) -> Result<Outcome, FileFault> {
+    let option = if copy.skips_lost {
+        Some(CopyOption::Continue)
+    } else if copy.without_record {
+        Some(CopyOption::WithoutRecord)
     } else {
-        return Ok(());
+        image_option(copy)
     };
-    Err(Fault::new(name, Reason::NeedsImages(option)))
+    if let Some(option) = option {
+        return Err(FileRole::Stream.fault(Reason::Copy(CopyReason::NeedsImages(option))));
+    }
+    let stream = match copy.from.is_stream() {
+        true => InputStream::Standard(rt.stdin()),
+        false => {
+            let file = File::open(rt, stream_name(copy.from.path));
+            InputStream::File(FileRole::Stream.of_call(file)?)
+        }
+    };
+    take_stream(rt, copy, stream)
+}
+
+// Returns the option that needs two images, if there is one.
+fn image_option(copy: &Copy<'_>) -> Option<CopyOption> {
+    if copy.verify {
+        Some(CopyOption::Verify)
+    } else if copy.resumes {
+        Some(CopyOption::Resume)
+    } else if copy.map.is_some() {
+        Some(CopyOption::Map)
+    } else {
+        None
+    }
 }
 
 // Copies an open stream, and completes the target. If that fails, it prints the fault, and what is left.
-fn take_stream<'w, R: Read + Drop>(
+fn take_stream(
     rt: &HostRuntime,
-    copy: &Copy<'w>,
-    name: &'w str,
-    stream: R,
-) -> Result<Outcome, Fault<'w>> {
+    copy: &Copy<'_>,
+    stream: InputStream,
+) -> Result<Outcome, FileFault> {
+    let BegunCopy { target, file, .. } = begin(rt, copy)?;
+    let mut taken = StreamCopy::new(rt, copy, &target, file, stream)?;
+    let done = taken.run();
+    let blocks = taken.close();
+    clear_line(rt);
+    target.copied.set(blocks);
+    match complete(rt, &target, blocks, done) {
+        Ok(()) => Ok(Outcome::Done),
+        Err(fault) => target.abandon(fault, 0..blocks, Resumption::Impossible),
+    }
+}
+
+// Begins a copy of a stream.
+fn begin<'r, 'w>(rt: &'r HostRuntime, copy: &Copy<'w>) -> Result<BegunCopy<'r, 'w>, FileFault> {
     let end = match copy.blocks {
         Some(range) => range.end,
         None => 0,
     };
     let begun = CheckedTarget::open(rt, copy, &(0..end))?.begin_unmapped(rt)?;
-    let BegunCopy { target, file, .. } = begun;
-    target.announce(false)?;
-    let is_sparse = copy.sparse && target.kind().is_whole();
-    let image = file.into_image(STORE_LIMIT, is_sparse, &target.failures)?;
-    let mut taken = StreamCopy {
-        rt,
-        copy,
-        name,
-        stream,
-        image,
-        failures: target.failures.share()?,
-        at: 0,
-        progress: StreamProgress::start(rt),
-    };
-    let done = taken.run();
-    let blocks = taken.at;
-    drop(taken);
-    clear_line(rt);
-    target.copied.set(blocks);
-    match complete(rt, &target, blocks, done) {
-        Ok(()) => Ok(Outcome::Done),
-        Err(fault) => {
-            fault.print(rt);
-            target.abandon(0..blocks, Resumption::Impossible)?;
-            Ok(Outcome::FaultReported)
-        }
-    }
+    begun.target.announce(false)?;
+    Ok(begun)
 }
 
 // Completes a target of that many blocks.
-fn complete<'w>(
+fn complete(
     rt: &HostRuntime,
-    target: &CopyTarget<'_, 'w>,
+    target: &CopyTarget<'_, '_>,
     blocks: u32,
-    done: Result<(), Fault<'w>>,
-) -> Result<(), Fault<'w>> {
+    done: Result<(), FileFault>,
+) -> Result<(), FileFault> {
     done?;
     target.set_length(blocks)?;
     print_syncing(rt);
@@ -142,11 +125,10 @@ fn complete<'w>(
 
 // A copy of a stream to an image.
 #[derive(Drop)]
-struct StreamCopy<'a, 'w, R> {
+struct StreamCopy<'a, 'w> {
     rt: &'a HostRuntime,
     copy: &'a Copy<'w>,
-    name: &'w str,
-    stream: R,
+    stream: InputStream,
     image: Image,
     failures: Failures,
     // The next block of the stream.
@@ -154,9 +136,36 @@ struct StreamCopy<'a, 'w, R> {
     progress: StreamProgress<'a>,
 }
 
-impl<'a, 'w, R: Read> StreamCopy<'a, 'w, R> {
+impl<'a, 'w> StreamCopy<'a, 'w> {
+    // Makes a copy of which no block is read yet.
+    fn new(
+        rt: &'a HostRuntime,
+        copy: &'a Copy<'w>,
+        target: &CopyTarget<'_, '_>,
+        file: TargetFile,
+        stream: InputStream,
+    ) -> Result<StreamCopy<'a, 'w>, AllocError> {
+        let is_sparse = copy.sparse && target.kind().is_whole();
+        let image = file.into_image(STORE_LIMIT, is_sparse, &target.failures)?;
+        let failures = target.failures.share()?;
+        Ok(StreamCopy {
+            rt,
+            copy,
+            stream,
+            image,
+            failures,
+            at: 0,
+            progress: StreamProgress::start(rt),
+        })
+    }
+
+    // Closes the image and the stream. Returns the number of blocks that were read.
+    fn close(self) -> u32 {
+        self.at
+    }
+
     // Copies the blocks of the stream that are asked for.
-    fn run(&mut self) -> Result<(), Fault<'w>> {
+    fn run(&mut self) -> Result<(), FileFault> {
         let mut piece = [0; PIECE * BLOCK];
         for _ in 0..u32::MAX {
             let wanted = self.wanted();
@@ -175,10 +184,12 @@ impl<'a, 'w, R: Read> StreamCopy<'a, 'w, R> {
     }
 
     // Fails if the stream has more blocks than an image can have.
-    fn at_most(&mut self) -> Result<(), Fault<'w>> {
+    fn at_most(&mut self) -> Result<(), FileFault> {
         let mut byte = [0; 1];
         if self.at == STORE_LIMIT && self.fill(&mut byte)? > 0 {
-            return Err(Fault::new(self.name, Reason::TooLarge(u64::from(self.at) + 1)));
+            return Err(FileRole::Stream.fault(Reason::Image(ImageReason::TooLarge(
+                u64::from(self.at) + 1,
+            ))));
         }
         Ok(())
     }
@@ -197,7 +208,7 @@ impl<'a, 'w, R: Read> StreamCopy<'a, 'w, R> {
     }
 
     // Reads bytes until `to` is full or the stream ends, and returns their number.
-    fn fill(&mut self, to: &mut [u8]) -> Result<usize, Fault<'w>> {
+    fn fill(&mut self, to: &mut [u8]) -> Result<usize, FileFault> {
         let mut read = 0;
         for _ in 0..usize::MAX {
             if read >= to.len() {
@@ -207,14 +218,14 @@ impl<'a, 'w, R: Read> StreamCopy<'a, 'w, R> {
                 Ok(0) => break,
                 Ok(bytes) => read += bytes,
                 Err(error) if error.kind() == ErrorKind::Interrupted => {}
-                Err(error) => return Err(Fault::system(self.name, error)),
+                Err(error) => return Err(FileRole::Stream.fault(Reason::of(error))),
             }
         }
         Ok(read)
     }
 
     // Writes whole blocks, unless they are before those of `--blocks`.
-    fn write_blocks(&mut self, bytes: &[u8]) -> Result<(), Fault<'w>> {
+    fn write_blocks(&mut self, bytes: &[u8]) -> Result<(), FileFault> {
         let start = match self.copy.blocks {
             Some(range) => range.start,
             None => 0,
@@ -231,24 +242,29 @@ impl<'a, 'w, R: Read> StreamCopy<'a, 'w, R> {
     }
 
     // Writes a block.
-    fn write_block(&mut self, block: u32, bytes: &[u8]) -> Result<(), Fault<'w>> {
+    fn write_block(&mut self, block: u32, bytes: &[u8]) -> Result<(), FileFault> {
         let mut from = [0; BLOCK];
         let copy = self.copy;
         if block >= self.image.size() || bytes.len() != BLOCK {
-            return Err(Fault::new(self.name, Reason::TooLarge(u64::from(block))));
+            return Err(FileRole::Stream.fault(Reason::Image(ImageReason::TooLarge(u64::from(
+                block,
+            )))));
         }
         from.copy_from_slice(bytes);
         if block == 0 {
-            warn_of_format(self.rt, self.name, &from);
+            warn_of_format(self.rt, stream_name(copy.from.path), &from);
         }
         match self.image.write(block, &from) {
             Ok(()) => Ok(()),
-            Err(error) => Err(block_fault(copy.to.path, block, error, &self.failures)),
+            Err(error) => {
+                let reason = block_reason(block, error, &self.failures);
+                Err(FileRole::Target.fault(reason))
+            }
         }
     }
 
     // Ends a copy whose stream ended, with that many bytes after its last whole block.
-    fn end(&self, bytes: usize) -> Result<(), Fault<'w>> {
+    fn end(&self, bytes: usize) -> Result<(), FileFault> {
         match self.copy.blocks {
             None if bytes == 0 => Ok(()),
             _ => {
@@ -256,7 +272,7 @@ impl<'a, 'w, R: Read> StreamCopy<'a, 'w, R> {
                     blocks: self.at,
                     bytes,
                 };
-                Err(Fault::new(self.name, Reason::Ended(length)))
+                Err(FileRole::Stream.fault(Reason::Copy(CopyReason::Ended(length))))
             }
         }
     }
@@ -269,16 +285,19 @@ pub(crate) fn copy_to_output<'w, W: Write + Drop>(
     out: &mut BufWriter<W>,
 ) -> Result<Outcome, Fault<'w>> {
     let image = NamedImage::open(rt, copy.from)?;
-    let size = volume_blocks(rt, copy, image.size())?;
-    let blocks = blocks_to_copy(copy, size)?;
-    check_options(copy, STANDARD_OUTPUT)?;
+    let Range { start, end } = output_blocks(rt, copy, image.size())?;
+    if let Some(option) = image_option(copy) {
+        return Err(Fault::new(
+            STANDARD_OUTPUT,
+            Reason::Copy(CopyReason::NeedsImages(option)),
+        ));
+    }
     if copy.device.is_some() {
-        return Err(Fault::new(STANDARD_OUTPUT, Reason::OtherDevice));
+        return Err(Fault::new(STANDARD_OUTPUT, Reason::Target(TargetReason::OtherDevice)));
     }
     if !copy.force && rt.stdout().is_terminal() {
         return Err(Fault::new(STANDARD_OUTPUT, Reason::Terminal));
     }
-    let Range { start, end } = blocks;
     let mut copied = OutputCopy {
         most: if image.is_plain(rt) { u32::MAX } else { 1 },
         image,
@@ -301,11 +320,27 @@ pub(crate) fn copy_to_output<'w, W: Write + Drop>(
     })
 }
 
+// Returns the blocks of a source of that many blocks that are copied to standard output.
+fn output_blocks<'w>(
+    rt: &HostRuntime,
+    copy: &Copy<'w>,
+    size: u32,
+) -> Result<Range<u32>, Fault<'w>> {
+    let blocks = match volume_blocks(rt, copy, size) {
+        Ok(volume) => blocks_to_copy(copy, volume),
+        Err(fault) => Err(fault),
+    };
+    match blocks {
+        Ok(blocks) => Ok(blocks),
+        Err(fault) => Err(fault.named(copy)),
+    }
+}
+
 // Returns the result of a write to standard output. It is a fault of a copy if its reader has gone.
 fn to_output<'w>(written: io::Result<()>) -> Result<(), Fault<'w>> {
     match written {
         Ok(()) => Ok(()),
-        Err(error) => Err(Fault::new(STANDARD_OUTPUT, Reason::Output(error))),
+        Err(error) => Err(Fault::new(STANDARD_OUTPUT, Reason::Copy(CopyReason::Output(error)))),
     }
 }
 

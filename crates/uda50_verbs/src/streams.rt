@@ -1,11 +1,11 @@
-//! The standard streams, and text files.
+//! The standard streams, and files that are read as streams.
 ghost use Rattle.std.specs.Prelude.{◌≡◌};
 
-use crate::fault::Fault;
+use crate::fault::{Fault, STANDARD_INPUT};
 use std::cell::Cell;
 use std::fs::{File, OpenFile};
 use std::io;
-use std::io::{BufReader, ErrorKind, IsTerminal, Read, Write};
+use std::io::{ErrorKind, IsTerminal, Read, Stdin, Write};
 
 /// Opens files that replace closed standard streams. The caller keeps them open while it uses other files.
 /// Without them an image could be opened in place of a closed stream, and printed text would be written to
@@ -16,15 +16,54 @@ pub(crate) fn fill_closed_streams(rt: &HostRuntime) -> Option<[File; 3]> {
     Some([nothing(rt)?, nothing(rt)?, nothing(rt)?])
 }
 
-/// Opens a text file through a buffer.
-pub(crate) fn open_text<'w>(rt: &HostRuntime, path: &'w str) -> Result<BufReader<File>, Fault<'w>> {
-    let file = Fault::of_call(path, File::open(rt, path))?;
-    Ok(BufReader::new(rt.alloc(), file)?)
+/// What a verb reads as a stream.
+#[derive(Drop)]
+pub(crate) enum InputStream {
+    /// A stream without bytes.
+    Empty,
+    /// Standard input.
+    Standard(Stdin),
+    /// A file.
+    File(File),
 }
 
-/// Opens the file of a script.
-pub(crate) fn open_script<'w>(rt: &HostRuntime, path: &'w str) -> Result<File, Fault<'w>> {
-    Fault::of_call(path, File::open(rt, path))
+impl InputStream {
+    /// Opens a file, or standard input if the name is `-`.
+    pub(crate) fn open<'w>(rt: &HostRuntime, name: &'w str) -> Result<InputStream, Fault<'w>> {
+        match name {
+            "-" => Ok(InputStream::Standard(rt.stdin())),
+            path => {
+                let file = Fault::of_call(path, File::open(rt, path))?;
+                Ok(InputStream::File(file))
+            }
+        }
+    }
+
+    /// Returns what the data of a script is read from: standard input, unless the script is read from there.
+    pub(crate) fn of_data(rt: &HostRuntime, script: &str) -> InputStream {
+        match script {
+            "-" => InputStream::Empty,
+            _ => InputStream::Standard(rt.stdin()),
+        }
+    }
+}
+
+impl Read for InputStream {
+    fn read(&mut self, buf: &mut [u8]) -> io::Result<usize> {
+        match self {
+            InputStream::Empty => Ok(0),
+            InputStream::Standard(stream) => stream.read(buf),
+            InputStream::File(file) => file.read(buf),
+        }
+    }
+}
+
+/// Returns the name of a stream in faults.
+pub(crate) fn stream_name(name: &str) -> &str {
+    match name {
+        "-" => STANDARD_INPUT,
+        path => path,
+    }
 }
 
 /// The last error of a stream.

@@ -1,7 +1,8 @@
 //! The target file of a copy. While it is incomplete, its name ends in `.part`.
 
 use crate::create::{check_existing, set_blocks};
-use crate::fault::{Fault, Reason, Suffix};
+use crate::fault::Suffix;
+use crate::file_fault::{FileFault, FileRole};
 use crate::image::reason;
 use crate::lasting;
 use crate::map_file::{
@@ -9,6 +10,8 @@ use crate::map_file::{
     remove_part_map,
 };
 use crate::names::{CopyName, is_link};
+use crate::outcome::Outcome;
+use crate::reason::{ImageReason, MapReason, Reason, TargetReason};
 use std::cell::Cell;
 use std::fs;
 use std::fs::{File, Metadata};
@@ -58,30 +61,45 @@ impl TargetKind {
         matches!(self, TargetKind::Resume | TargetKind::LostBlocks)
     }
 
+    // Chooses what a copy does. Fails if something may not be written or replaced.
+    fn checked<'w>(rt: &HostRuntime, copy: &Copy<'w>) -> Result<TargetKind, FileFault> {
+        let kind = TargetKind::choose(rt, copy)?;
+        MapFile::of(copy, kind).check(rt, copy, kind)?;
+        if kind.has_part() && part_of(copy).is_same(rt, &target_of(copy))? {
+            return Err(part_of(copy).fault(Reason::Target(TargetReason::PartIsTarget)));
+        }
+        Ok(kind)
+    }
+
     // Chooses what a copy does. Fails if the target may not be written, or is the source.
-    fn choose<'w>(rt: &HostRuntime, copy: &Copy<'w>) -> Result<TargetKind, Fault<'w>> {
-        let path = copy.to.path;
+    fn choose<'w>(rt: &HostRuntime, copy: &Copy<'w>) -> Result<TargetKind, FileFault> {
         if copy.to.protected {
-            return Err(Fault::new(path, Reason::Protected));
+            return Err(FileRole::Target.fault(Reason::Protected));
         }
         if names_other(copy) {
-            return Err(Fault::new(path, Reason::OtherDevice));
+            return Err(FileRole::Target.fault(Reason::Target(TargetReason::OtherDevice)));
         }
-        if let Ok(metadata) = fs::metadata(rt, path) {
-            return TargetKind::of_existing(rt, copy, &metadata);
+        match fs::metadata(rt, copy.to.path) {
+            Ok(metadata) => TargetKind::of_existing(rt, copy, &metadata),
+            Err(_) => TargetKind::of_new(rt, copy),
         }
+    }
+
+    // Chooses what a copy does whose target doesn't exist.
+    fn of_new<'w>(rt: &HostRuntime, copy: &Copy<'w>) -> Result<TargetKind, FileFault> {
+        let path = copy.to.path;
         if copy.device.is_some() {
-            return Err(Fault::new(path, Reason::NoSuchFile));
+            return Err(FileRole::Target.fault(Reason::NoSuchFile));
         }
         if is_link(rt, path) {
-            return Err(Fault::new(path, Reason::LinkToNowhere));
+            return Err(FileRole::Target.fault(Reason::Target(TargetReason::LinkToNowhere)));
         }
         check_source(rt, copy)?;
         check_folder(rt, path)?;
-        if copy.resumes {
-            return TargetKind::of_resumed(rt, copy);
+        match copy.resumes {
+            true => TargetKind::of_resumed(rt, copy),
+            false => Ok(TargetKind::New),
         }
-        Ok(TargetKind::New)
     }
 
     // Chooses what a copy does with an existing target.
@@ -89,22 +107,16 @@ impl TargetKind {
         rt: &HostRuntime,
         copy: &Copy<'w>,
         metadata: &Metadata,
-    ) -> Result<TargetKind, Fault<'w>> {
-        let path = copy.to.path;
+    ) -> Result<TargetKind, FileFault> {
         let is_device = metadata.file_type().is_block_device();
         let has_part = copy.resumes && part_of(copy).found(rt)?.is_some();
         let tries_lost = copy.resumes && !has_part;
-        match (is_device, copy.device) {
-            (true, None) => return Err(Fault::new(path, Reason::Device)),
-            (false, Some(_)) => return Err(Fault::new(path, Reason::NoDevice)),
-            _ => {}
-        }
+        FileRole::Target.of(check_device(copy, is_device))?;
         if tries_lost {
             check_begun(rt, copy)?;
         }
         if !is_device {
-            check_part(rt, copy, metadata)?;
-            check_existing(path, copy.force || tries_lost, metadata)?;
+            check_overwritten(rt, copy, metadata, tries_lost)?;
         }
         check_source(rt, copy)?;
         Ok(match copy.blocks {
@@ -117,7 +129,7 @@ impl TargetKind {
     }
 
     // Chooses what a copy does that is resumed, and whose target doesn't exist. It begins if nothing was copied before.
-    fn of_resumed<'w>(rt: &HostRuntime, copy: &Copy<'w>) -> Result<TargetKind, Fault<'w>> {
+    fn of_resumed<'w>(rt: &HostRuntime, copy: &Copy<'w>) -> Result<TargetKind, FileFault> {
         if part_of(copy).found(rt)?.is_some() {
             return Ok(TargetKind::Resume);
         }
@@ -126,7 +138,7 @@ impl TargetKind {
             None => copy.map.is_none() && MapFile::of_target(copy).read(rt)?.is_some(),
         };
         if claims {
-            return Err(Fault::new(copy.to.path, Reason::OnlyMap));
+            return Err(FileRole::Target.fault(Reason::Target(TargetReason::OnlyMap)));
         }
         Ok(TargetKind::New)
     }
@@ -153,20 +165,16 @@ impl<'w> CheckedTarget<'w> {
         rt: &HostRuntime,
         copy: &Copy<'w>,
         blocks: &Range<u32>,
-    ) -> Result<CheckedTarget<'w>, Fault<'w>> {
-        let kind = TargetKind::choose(rt, copy)?;
-        let map = MapFile::of(copy, kind);
-        map.check(rt, copy, kind)?;
-        if kind.has_part() && part_of(copy).is_same(rt, &CopyName::argument(copy.to.path))? {
-            return Err(part_of(copy).fault(Reason::PartIsTarget));
-        }
+    ) -> Result<CheckedTarget<'w>, FileFault> {
+        let kind = TargetKind::checked(rt, copy)?;
+        let existing = open_existing(rt, copy, kind, blocks)?;
         Ok(CheckedTarget {
             copy: *copy,
             kind,
-            map,
+            map: MapFile::of(copy, kind),
             former: FormerMap::Void,
             keeps_map: false,
-            existing: open_existing(rt, copy, kind, blocks)?,
+            existing,
         })
     }
 
@@ -183,36 +191,58 @@ impl<'w> CheckedTarget<'w> {
         rt: &'r HostRuntime,
         blocks: &Range<u32>,
         size: u32,
-    ) -> Result<BegunCopy<'r, 'w>, Fault<'w>> {
-        let Some(map) = self.map.read(rt)? else {
-            return Err(Fault::new(self.copy.to.path, Reason::NothingToResume));
-        };
-        let is_of_copy = match self.kind {
-            TargetKind::LostBlocks => map.covers(blocks) && map.end() <= size,
-            _ => is_of(&map, blocks),
-        };
-        if !is_of_copy {
-            return Err(self.map.fault(Reason::MapOfOther));
-        }
-        self.check_subject(rt)?;
-        self.check_length(&map, size)?;
-        if self.map.is_named() {
-            self.disclaim_unnamed(rt, blocks.start..blocks.end)?;
-        }
+    ) -> Result<BegunCopy<'r, 'w>, FileFault> {
+        let map = self.resumed_map(rt, blocks, size)?;
         self.into_begun(rt, map)
     }
 
+    // Returns the map of a copy that ended early.
+    fn resumed_map(
+        &self,
+        rt: &HostRuntime,
+        blocks: &Range<u32>,
+        size: u32,
+    ) -> Result<BlockMap, FileFault> {
+        let Some(map) = self.map.read(rt)? else {
+            return Err(FileRole::Target.fault(Reason::Target(TargetReason::NothingToResume)));
+        };
+        self.check_map(rt, &map, blocks, size)?;
+        if self.map.is_named() {
+            self.disclaim_unnamed(rt, blocks.start..blocks.end)?;
+        }
+        Ok(map)
+    }
+
+    // Fails if the map isn't one of the blocks and of the file of the copy.
+    fn check_map(
+        &self,
+        rt: &HostRuntime,
+        map: &BlockMap,
+        blocks: &Range<u32>,
+        size: u32,
+    ) -> Result<(), FileFault> {
+        let is_of_copy = match self.kind {
+            TargetKind::LostBlocks => map.covers(blocks) && map.end() <= size,
+            _ => is_of(map, blocks),
+        };
+        if !is_of_copy {
+            return Err(self.map.fault(Reason::Map(MapReason::OfOther)));
+        }
+        self.check_subject(rt)?;
+        self.check_length(map, size)
+    }
+
     // Fails if the map isn't one of the file that will be written.
-    fn check_subject(&self, rt: &HostRuntime) -> Result<(), Fault<'w>> {
+    fn check_subject(&self, rt: &HostRuntime) -> Result<(), FileFault> {
         let copy = &self.copy;
         if self.kind == TargetKind::LostBlocks {
             return match self.map.tells_of_target(rt)? {
                 true => Ok(()),
-                false => Err(self.map.fault(Reason::MapOfPart)),
+                false => Err(self.map.fault(Reason::Map(MapReason::OfPart))),
             };
         }
         if !self.map.tells_of_part(rt)? {
-            return Err(part_of(copy).fault(Reason::PartOfOther));
+            return Err(part_of(copy).fault(Reason::Target(TargetReason::PartOfOther)));
         }
         match self.map.is_named() {
             true => check_no_part_map(rt, copy),
@@ -222,31 +252,27 @@ impl<'w> CheckedTarget<'w> {
 
     // Fails if the target isn't as long as its map says. Without `--force`, a map that claims no block doesn't permit to
     // overwrite a file.
-    fn check_length(&self, map: &BlockMap, size: u32) -> Result<(), Fault<'w>> {
+    fn check_length(&self, map: &BlockMap, size: u32) -> Result<(), FileFault> {
         let Some(file) = &self.existing else {
             return Ok(());
         };
-        let path = self.copy.to.path;
         let bytes = file.bytes();
         let blocks = map.finished_end();
         if !self.holds(map) {
             let name = name_of(&self.copy, self.kind);
-            return Err(name.fault(Reason::ShorterThanMap { bytes, blocks }));
+            return Err(name.fault(Reason::Target(TargetReason::ShorterThanMap { bytes, blocks })));
         }
         if self.kind != TargetKind::LostBlocks || self.copy.device.is_some() {
             return Ok(());
         }
         if self.copy.blocks.is_none() && bytes > 512 * u64::from(size) {
-            return Err(Fault::new(
-                path,
-                Reason::LongerThanMap {
-                    bytes,
-                    blocks: size,
-                },
-            ));
+            return Err(FileRole::Target.fault(Reason::Target(TargetReason::LongerThanMap {
+                bytes,
+                blocks: size,
+            })));
         }
         if blocks == 0 && bytes > 0 && !self.copy.force {
-            return Err(Fault::new(path, Reason::Exists));
+            return Err(FileRole::Target.fault(Reason::Exists));
         }
         Ok(())
     }
@@ -264,42 +290,70 @@ impl<'w> CheckedTarget<'w> {
         mut self,
         rt: &'r HostRuntime,
         blocks: &Range<u32>,
-    ) -> Result<BegunCopy<'r, 'w>, Fault<'w>> {
+    ) -> Result<BegunCopy<'r, 'w>, FileFault> {
         let map = self.begun_map(rt, blocks)?;
         self.into_begun(rt, map)
     }
 
     // Saves the map of a copy that begins. An existing target is written in place if none can be saved.
-    fn begun_map(&mut self, rt: &HostRuntime, blocks: &Range<u32>) -> Result<BlockMap, Fault<'w>> {
-        let Range { start, end } = *blocks;
+    fn begun_map(&mut self, rt: &HostRuntime, blocks: &Range<u32>) -> Result<BlockMap, FileFault> {
         if self.map.is_named() {
-            self.disclaim_unnamed(rt, start..end)?;
-        } else if self.kind.has_part() {
-            match self.map.begin(rt, start..end) {
-                Err(fault) if self.kind == TargetKind::Overwrite && fault.forbids_names() => {
-                    self.stay_in_place()
-                }
-                Err(fault) => return Err(of_folder(&self.copy, fault)),
-                Ok(map) => return Ok(map),
-            }
+            self.disclaim_unnamed(rt, blocks.start..blocks.end)?;
+        } else if let Some(map) = self.begun_part_map(rt, blocks)? {
+            return Ok(map);
         }
         self.former = self.former_map(rt)?;
-        if !self.kind.has_part() {
-            let is_whole = self.kind.is_whole();
-            match self.map.disclaim(rt, start..end)? {
-                Some(map) if !is_whole && map.covers(blocks) && self.holds(&map) => {
-                    self.keeps_map = true;
-                    return Ok(map);
-                }
-                _ if self.map.is_named() => {}
-                _ => return Ok(BlockMap::new(rt.alloc(), start..end)?),
-            }
+        match self.kind.has_part() {
+            true => self.map.begin(rt, blocks.start..blocks.end),
+            false => self.begun_own_map(rt, blocks),
         }
-        self.map.begin(rt, start..end)
+    }
+
+    // Saves the map of a copy that begins, if its target has another name meanwhile. An existing target keeps its own one
+    // if none can be saved.
+    fn begun_part_map(
+        &mut self,
+        rt: &HostRuntime,
+        blocks: &Range<u32>,
+    ) -> Result<Option<BlockMap>, FileFault> {
+        if !self.kind.has_part() {
+            return Ok(None);
+        }
+        match self.map.begin(rt, blocks.start..blocks.end) {
+            Ok(map) => Ok(Some(map)),
+            Err(fault) if self.kind == TargetKind::Overwrite && fault.forbids_names() => {
+                self.stay_in_place();
+                Ok(None)
+            }
+            Err(fault) => Err(of_folder(fault)),
+        }
+    }
+
+    // Returns the map of a copy that begins, and whose target keeps its own name. The map that it has is kept if it tells
+    // of more blocks.
+    fn begun_own_map(
+        &mut self,
+        rt: &HostRuntime,
+        blocks: &Range<u32>,
+    ) -> Result<BlockMap, FileFault> {
+        let Range { start, end } = *blocks;
+        match self.map.disclaim(rt, start..end)? {
+            Some(map) if self.can_keep(&map, blocks) => {
+                self.keeps_map = true;
+                Ok(map)
+            }
+            _ if self.map.is_named() => self.map.begin(rt, start..end),
+            _ => Ok(BlockMap::new(rt.alloc(), start..end)?),
+        }
+    }
+
+    // Returns whether a map that the target has can tell of these blocks too.
+    fn can_keep(&self, map: &BlockMap, blocks: &Range<u32>) -> bool {
+        !self.kind.is_whole() && map.covers(blocks) && self.holds(map)
     }
 
     // Returns what the file of the map holds. A named one may tell of an incomplete copy that will be replaced.
-    fn former_map(&self, rt: &HostRuntime) -> Result<FormerMap, Fault<'w>> {
+    fn former_map(&self, rt: &HostRuntime) -> Result<FormerMap, FileFault> {
         if self.kind.has_part() && part_of(&self.copy).found(rt)?.is_some() {
             return Ok(FormerMap::Void);
         }
@@ -310,7 +364,7 @@ impl<'w> CheckedTarget<'w> {
     }
 
     // Lets no map that isn't named claim one of these blocks, which will be written.
-    fn disclaim_unnamed(&self, rt: &HostRuntime, blocks: Range<u32>) -> Result<(), Fault<'w>> {
+    fn disclaim_unnamed(&self, rt: &HostRuntime, blocks: Range<u32>) -> Result<(), FileFault> {
         let unnamed = Copy {
             map: None,
             ..self.copy
@@ -331,7 +385,7 @@ impl<'w> CheckedTarget<'w> {
     pub(crate) fn begin_unmapped<'r>(
         mut self,
         rt: &'r HostRuntime,
-    ) -> Result<BegunCopy<'r, 'w>, Fault<'w>> {
+    ) -> Result<BegunCopy<'r, 'w>, FileFault> {
         let (start, end) = match self.copy.blocks {
             Some(range) => (range.start, range.end),
             None => (0, u32::MAX),
@@ -358,68 +412,100 @@ impl<'w> CheckedTarget<'w> {
         mut self,
         rt: &'r HostRuntime,
         map: BlockMap,
-    ) -> Result<BegunCopy<'r, 'w>, Fault<'w>> {
+    ) -> Result<BegunCopy<'r, 'w>, FileFault> {
         let failures = Failures::none(rt.alloc())?;
-        let made = self.make(rt);
-        if made.is_err() && !self.kind.resumes() {
-            self.map.restore(rt, &self.former)?;
-        }
-        let file = made?;
-        let target = CopyTarget {
+        let file = self.make_or_restore(rt)?;
+        let handle = FileRole::Target.of_call(file.handle())?;
+        let target = self.into_target(rt, handle, failures);
+        Ok(BegunCopy { target, file, map })
+    }
+
+    // Returns the target of a copy that begins, with a handle of its file.
+    fn into_target<'r>(
+        self,
+        rt: &'r HostRuntime,
+        file: File,
+        failures: Failures,
+    ) -> CopyTarget<'r, 'w> {
+        let CheckedTarget {
+            copy,
+            kind,
+            map,
+            former,
+            keeps_map,
+            ..
+        } = self;
+        CopyTarget {
             rt,
-            copy: self.copy,
-            kind: self.kind,
-            map: self.map,
-            former: self.former,
-            keeps_map: self.keeps_map,
-            file: Fault::of_call(self.copy.to.path, file.handle())?,
+            copy,
+            kind,
+            map,
+            former,
+            keeps_map,
+            file,
             failures,
             copied: Cell::new(0),
             stage: Cell::new(Stage::Copying),
             lasts: Cell::new(false),
-        };
-        Ok(BegunCopy { target, file, map })
+        }
+    }
+
+    // Makes the target. If that fails, lets the map be as it was.
+    fn make_or_restore(&mut self, rt: &HostRuntime) -> Result<TargetFile, FileFault> {
+        let made = self.make(rt);
+        if made.is_err() && !self.kind.resumes() {
+            self.map.restore(rt, &self.former)?;
+        }
+        made
     }
 
     // Makes a new target, empties one that an earlier copy left, or gives an existing one its other name.
-    fn make(&mut self, rt: &HostRuntime) -> Result<TargetFile, Fault<'w>> {
-        let to = self.copy.to.path;
+    fn make(&mut self, rt: &HostRuntime) -> Result<TargetFile, FileFault> {
         let part = part_of(&self.copy).path(rt.alloc())?;
-        let Some(mut file) = self.existing.take() else {
-            return opened(
-                &CopyName::argument(to),
+        match self.existing.take() {
+            Some(file) => self.prepare(rt, file, part.as_str()),
+            None => opened(
+                &target_of(&self.copy),
                 TargetFile::create(rt, part.as_str()),
-            );
-        };
+            ),
+        }
+    }
+
+    // Empties a file that an earlier copy left, or gives an existing target its other name.
+    fn prepare(
+        &mut self,
+        rt: &HostRuntime,
+        mut file: TargetFile,
+        part: &str,
+    ) -> Result<TargetFile, FileFault> {
         match self.kind {
-            TargetKind::New => Fault::of_call(to, file.empty())?,
-            TargetKind::Overwrite => self.give_part_name(rt, part.as_str())?,
+            TargetKind::New => FileRole::Target.of_call(file.empty())?,
+            TargetKind::Overwrite => self.give_part_name(rt, part)?,
             _ => {}
         }
         Ok(file)
     }
 
     // Gives an existing target its other name. It keeps its own one if its folder permits no other.
-    fn give_part_name(&mut self, rt: &HostRuntime, part: &str) -> Result<(), Fault<'w>> {
+    fn give_part_name(&mut self, rt: &HostRuntime, part: &str) -> Result<(), FileFault> {
         let to = self.copy.to.path;
-        match Fault::of_call(to, fs::rename(rt, to, part)) {
-            Err(fault) if fault.forbids_names() => {
-                if !self.map.is_named() {
-                    remove_old_part_map(rt, &self.copy)?;
-                }
-                self.stay_in_place();
-                if !self.map.is_named() {
-                    self.former = self.former_map(rt)?;
-                }
-                return self.disclaim_unnamed(rt, 0..u32::MAX);
-            }
-            renamed => renamed?,
+        match FileRole::Target.of_call(fs::rename(rt, to, part)) {
+            Ok(()) => FileRole::Target.of_call(lasting::sync_renamed(rt, to, part)),
+            Err(fault) if fault.forbids_names() => self.keep_name(rt),
+            Err(fault) => Err(fault),
         }
-        let synced = lasting::sync_folder(rt, to);
-        if synced.is_err() {
-            let _ = fs::rename(rt, part, to);
+    }
+
+    // Lets an existing target keep its own name. So its map has another name too.
+    fn keep_name(&mut self, rt: &HostRuntime) -> Result<(), FileFault> {
+        if !self.map.is_named() {
+            remove_old_part_map(rt, &self.copy)?;
         }
-        Fault::of_call(to, synced)
+        self.stay_in_place();
+        if !self.map.is_named() {
+            self.former = self.former_map(rt)?;
+        }
+        self.disclaim_unnamed(rt, 0..u32::MAX)
     }
 }
 
@@ -512,7 +598,7 @@ impl<'r, 'w> CopyTarget<'r, 'w> {
     }
 
     /// Prints what an interrupt leaves of the copy, if standard error is a terminal.
-    pub(crate) fn announce(&self, is_resumable: bool) -> Result<(), Fault<'w>> {
+    pub(crate) fn announce(&self, is_resumable: bool) -> Result<(), FileFault> {
         if !self.rt.stderr().is_terminal() {
             return Ok(());
         }
@@ -530,34 +616,33 @@ impl<'r, 'w> CopyTarget<'r, 'w> {
     }
 
     /// Puts all that was written on the disk, with a length of at least that many blocks.
-    pub(crate) fn sync(&self, blocks: u32) -> Result<(), Fault<'w>> {
-        let path = self.copy.to.path;
-        let found = Fault::of_call(path, self.file.metadata())?;
+    pub(crate) fn sync(&self, blocks: u32) -> Result<(), FileFault> {
+        let found = FileRole::Target.of_call(self.file.metadata())?;
         if found.is_file() && found.len() < 512 * u64::from(blocks) {
-            set_blocks(path, &self.file, blocks)?;
+            FileRole::Target.of_call(set_blocks(&self.file, blocks))?;
         }
         if let Err(error) = self.file.sync_data() {
             self.stage.set(Stage::Checking);
-            return Err(Fault::new(path, Reason::SyncFailed(error)));
+            return Err(FileRole::Target.fault(Reason::Image(ImageReason::SyncFailed(error))));
         }
         Ok(())
     }
 
     /// Puts the name of the file on the disk, after its content. Then a map may claim its blocks.
-    pub(crate) fn sync_name(&self) -> Result<(), Fault<'w>> {
+    pub(crate) fn sync_name(&self) -> Result<(), FileFault> {
         let path = self.copy.to.path;
         if !self.lasts.get() && self.kind.has_part() {
-            Fault::of_call(path, lasting::sync_folder(self.rt, path))?;
+            FileRole::Target.of_call(lasting::sync_folder(self.rt, path))?;
         }
         self.lasts.set(true);
         Ok(())
     }
 
     /// Gives the target the length of the source, if all blocks are copied, and begins to check it.
-    pub(crate) fn set_length(&self, blocks: u32) -> Result<(), Fault<'w>> {
+    pub(crate) fn set_length(&self, blocks: u32) -> Result<(), FileFault> {
         self.stage.set(Stage::Checking);
         if self.kind.is_whole() {
-            set_blocks(self.copy.to.path, &self.file, blocks)?;
+            FileRole::Target.of_call(set_blocks(&self.file, blocks))?;
         }
         Ok(())
     }
@@ -568,17 +653,17 @@ impl<'r, 'w> CopyTarget<'r, 'w> {
     }
 
     /// Fails if somebody else has made a file with the target's own name. It is overwritten only with `--force`.
-    pub(crate) fn check_name(&self) -> Result<(), Fault<'w>> {
+    pub(crate) fn check_name(&self) -> Result<(), FileFault> {
         let path = self.copy.to.path;
         let is_new = matches!(self.kind, TargetKind::New | TargetKind::Resume);
         if is_new && !self.copy.force && fs::symlink_metadata(self.rt, path).is_ok() {
-            return Err(Fault::new(path, Reason::Exists));
+            return Err(FileRole::Target.fault(Reason::Exists));
         }
         Ok(())
     }
 
     /// Gives a complete target its own name. Before that no map tells of what had this name, unless this copy saved it.
-    pub(crate) fn complete(&self, saved_map: bool) -> Result<(), Fault<'w>> {
+    pub(crate) fn complete(&self, saved_map: bool) -> Result<(), FileFault> {
         self.check_name()?;
         if self.kind.is_whole() && (self.map.is_named() || !saved_map) {
             self.map.retire(self.rt, &self.copy)?;
@@ -587,20 +672,20 @@ impl<'r, 'w> CopyTarget<'r, 'w> {
     }
 
     // Gives the target its own name.
-    fn give_name(&self) -> Result<(), Fault<'w>> {
+    fn give_name(&self) -> Result<(), FileFault> {
         let path = self.copy.to.path;
         if self.has_part_name() {
             let part = part_of(&self.copy).path(self.rt.alloc())?;
-            Fault::of_call(path, fs::rename(self.rt, part.as_str(), path))?;
+            FileRole::Target.of_call(fs::rename(self.rt, part.as_str(), path))?;
             self.stage.set(Stage::Named);
-            Fault::of_call(path, lasting::sync_folder(self.rt, path))?;
+            FileRole::Target.of_call(lasting::sync_folder(self.rt, path))?;
         }
         self.stage.set(Stage::Named);
         Ok(())
     }
 
     /// Removes the map of the incomplete copy, after the target got its own name.
-    pub(crate) fn discard_part_map(&self) -> Result<(), Fault<'w>> {
+    pub(crate) fn discard_part_map(&self) -> Result<(), FileFault> {
         match self.kind {
             TargetKind::LostBlocks if self.map.is_named() => Ok(()),
             TargetKind::LostBlocks => remove_old_part_map(self.rt, &self.copy),
@@ -613,13 +698,21 @@ impl<'r, 'w> CopyTarget<'r, 'w> {
         self.kind.has_part() && self.stage.get() != Stage::Named
     }
 
-    /// Undoes what was made of a target on which nothing was copied. Of any other it prints what is left of the copy of
-    /// these blocks.
+    /// Ends a copy of these blocks after a fault, which it prints. Undoes what was made of a target on which nothing was
+    /// copied, and prints what is left of any other.
     pub(crate) fn abandon(
         &self,
+        fault: FileFault,
         blocks: Range<u32>,
         resumption: Resumption,
-    ) -> Result<(), Fault<'w>> {
+    ) -> Result<Outcome, FileFault> {
+        fault.named(&self.copy).print(self.rt);
+        self.leave(blocks, resumption)?;
+        Ok(Outcome::FaultReported)
+    }
+
+    // Undoes what was made of a target on which nothing was copied. Prints what is left of any other.
+    fn leave(&self, blocks: Range<u32>, resumption: Resumption) -> Result<(), FileFault> {
         if self.is_untouched() {
             return self.undo();
         }
@@ -652,7 +745,7 @@ impl<'r, 'w> CopyTarget<'r, 'w> {
     }
 
     // Removes a new target, or gives an existing one its own name, and lets the map be as it was.
-    fn undo(&self) -> Result<(), Fault<'w>> {
+    fn undo(&self) -> Result<(), FileFault> {
         let part = part_of(&self.copy).path(self.rt.alloc())?;
         match self.kind {
             TargetKind::New => drop(fs::remove_file(self.rt, part.as_str())),
@@ -662,7 +755,7 @@ impl<'r, 'w> CopyTarget<'r, 'w> {
     }
 
     // Prints a line that names the incomplete copy, or how lost blocks can be skipped.
-    fn print_rest(&self, resumption: Resumption) -> Result<(), Fault<'w>> {
+    fn print_rest(&self, resumption: Resumption) -> Result<(), FileFault> {
         let path = EscapedName(self.copy.to.path);
         let is_in_place = self.copy.device.is_some() || self.kind == TargetKind::InPlace;
         if is_in_place && self.failures.was_written() {
@@ -691,6 +784,11 @@ fn names_other(copy: &Copy<'_>) -> bool {
     }
 }
 
+// Returns the name of a target.
+fn target_of<'w>(copy: &Copy<'w>) -> CopyName<'w> {
+    CopyName::argument(FileRole::Target, copy.to.path)
+}
+
 // Returns the name of a target while it is incomplete.
 fn part_of<'w>(copy: &Copy<'w>) -> CopyName<'w> {
     CopyName::derived(copy.to.path, Suffix::Part)
@@ -701,23 +799,23 @@ fn name_of<'w>(copy: &Copy<'w>, kind: TargetKind) -> CopyName<'w> {
     if kind.has_part() {
         part_of(copy)
     } else {
-        CopyName::argument(copy.to.path)
+        target_of(copy)
     }
 }
 
 // Fails if the source is the target of the copy, complete or not.
-fn check_source<'w>(rt: &HostRuntime, copy: &Copy<'w>) -> Result<(), Fault<'w>> {
-    let source = CopyName::argument(copy.from.path);
-    let target = CopyName::argument(copy.to.path);
+fn check_source<'w>(rt: &HostRuntime, copy: &Copy<'w>) -> Result<(), FileFault> {
+    let source = CopyName::argument(FileRole::Source, copy.from.path);
+    let target = target_of(copy);
     if source.is_same(rt, &target)? || source.is_same(rt, &part_of(copy))? {
-        return Err(Fault::new(copy.to.path, Reason::SameFile));
+        return Err(FileRole::Target.fault(Reason::Target(TargetReason::SameFile)));
     }
     Ok(())
 }
 
 // Fails if a copy over an existing target saved its first map, or began to, and ended before that got its other name. The
 // target is then one of an earlier copy, and so is its map.
-fn check_begun<'w>(rt: &HostRuntime, copy: &Copy<'w>) -> Result<(), Fault<'w>> {
+fn check_begun<'w>(rt: &HostRuntime, copy: &Copy<'w>) -> Result<(), FileFault> {
     if copy.map.is_some() || MapFile::of_target(copy).read(rt)?.is_none() {
         return Ok(());
     }
@@ -726,39 +824,59 @@ fn check_begun<'w>(rt: &HostRuntime, copy: &Copy<'w>) -> Result<(), Fault<'w>> {
         _ => has_new_part_map(rt, copy)?,
     };
     match is_begun {
-        true => Err(Fault::new(copy.to.path, Reason::NotBegun)),
+        true => Err(FileRole::Target.fault(Reason::Target(TargetReason::NotBegun))),
         false => Ok(()),
     }
 }
 
+// Fails if an existing target is a device that `--device` doesn't name, or none that it names.
+fn check_device(copy: &Copy<'_>, is_device: bool) -> Result<(), Reason> {
+    match (is_device, copy.device) {
+        (true, None) => Err(Reason::Target(TargetReason::Device)),
+        (false, Some(_)) => Err(Reason::Target(TargetReason::NoDevice)),
+        _ => Ok(()),
+    }
+}
+
+// Fails if a copy may not overwrite an existing target that is no device.
+fn check_overwritten<'w>(
+    rt: &HostRuntime,
+    copy: &Copy<'w>,
+    metadata: &Metadata,
+    tries_lost: bool,
+) -> Result<(), FileFault> {
+    check_part(rt, copy, metadata)?;
+    FileRole::Target.of(check_existing(copy.force || tries_lost, metadata))
+}
+
 // Fails if a copy over a whole target would replace a file with its other name that isn't an incomplete copy. Without
 // `--force` it replaces none.
-fn check_part<'w>(rt: &HostRuntime, copy: &Copy<'w>, metadata: &Metadata) -> Result<(), Fault<'w>> {
+fn check_part<'w>(rt: &HostRuntime, copy: &Copy<'w>, metadata: &Metadata) -> Result<(), FileFault> {
     let is_overwritten = copy.blocks.is_none() && !copy.resumes && metadata.is_file();
     if !is_overwritten || part_of(copy).found(rt)?.is_none() {
         return Ok(());
     }
     if !has_part_map(rt, copy)? && !has_named_part_map(rt, copy)? {
-        return Err(part_of(copy).fault(Reason::NoPart));
+        return Err(part_of(copy).fault(Reason::Target(TargetReason::NoPart)));
     }
     match copy.force {
         true => Ok(()),
-        false => Err(Fault::new(copy.to.path, Reason::BothExist)),
+        false => Err(FileRole::Target.fault(Reason::Target(TargetReason::BothExist))),
     }
 }
 
 // Returns whether there is a named map that tells of the incomplete copy.
-fn has_named_part_map<'w>(rt: &HostRuntime, copy: &Copy<'w>) -> Result<bool, Fault<'w>> {
+fn has_named_part_map<'w>(rt: &HostRuntime, copy: &Copy<'w>) -> Result<bool, FileFault> {
     let map = MapFile::of_incomplete(copy);
     Ok(copy.map.is_some() && map.read_if_map(rt)?.is_some() && map.tells_of_part(rt)?)
 }
 
 // Fails if the folder of a new target isn't there.
-fn check_folder<'w>(rt: &HostRuntime, path: &'w str) -> Result<(), Fault<'w>> {
-    let folder = Fault::of_call(path, fs::metadata(rt, lasting::folder_of(path)))?;
+fn check_folder<'w>(rt: &HostRuntime, path: &'w str) -> Result<(), FileFault> {
+    let folder = FileRole::Target.of_call(fs::metadata(rt, lasting::folder_of(path)))?;
     match folder.is_dir() {
         true => Ok(()),
-        false => Err(Fault::new(path, Reason::NoSuchFile)),
+        false => Err(FileRole::Target.fault(Reason::NoSuchFile)),
     }
 }
 
@@ -768,11 +886,11 @@ fn is_of(map: &BlockMap, blocks: &Range<u32>) -> bool {
 }
 
 // Returns the fault of the first map of a new target. If the system doesn't make that file, it is a fault of the target.
-fn of_folder<'w>(copy: &Copy<'w>, fault: Fault<'w>) -> Fault<'w> {
+fn of_folder(fault: FileFault) -> FileFault {
     match fault.reason {
         Reason::NoSuchFile | Reason::PermissionDenied | Reason::System(_)
-            if fault.suffix == Suffix::PartMap => { Fault::new(copy.to.path, fault.reason) }
-        reason => Fault::of_derived(fault.name, fault.suffix, reason),
+            if fault.suffix == Suffix::PartMap => { FileRole::Target.fault(fault.reason) }
+        reason => FileFault { reason, ..fault },
     }
 }
 
@@ -782,7 +900,7 @@ fn open_existing<'w>(
     copy: &Copy<'w>,
     kind: TargetKind,
     blocks: &Range<u32>,
-) -> Result<Option<TargetFile>, Fault<'w>> {
+) -> Result<Option<TargetFile>, FileFault> {
     match kind {
         TargetKind::New => part_to_empty(rt, copy, blocks),
         TargetKind::Resume => Ok(Some(open_part(rt, copy)?)),
@@ -791,7 +909,7 @@ fn open_existing<'w>(
                 drop(open_part(rt, copy)?);
             }
             let file = TargetFile::open(rt, copy.to.path, Access::Write);
-            Ok(Some(opened(&CopyName::argument(copy.to.path), file)?))
+            Ok(Some(opened(&target_of(copy), file)?))
         }
         TargetKind::Blocks | TargetKind::LostBlocks | TargetKind::Device => {
             Ok(Some(open_with_blocks(rt, copy, kind, blocks.end)?))
@@ -805,7 +923,7 @@ fn part_to_empty<'w>(
     rt: &HostRuntime,
     copy: &Copy<'w>,
     blocks: &Range<u32>,
-) -> Result<Option<TargetFile>, Fault<'w>> {
+) -> Result<Option<TargetFile>, FileFault> {
     if part_of(copy).found(rt)?.is_none() {
         return Ok(None);
     }
@@ -813,14 +931,16 @@ fn part_to_empty<'w>(
         return Ok(Some(open_part(rt, copy)?));
     }
     let reason = match MapFile::of_incomplete(copy).read(rt) {
-        Ok(Some(map)) if is_of(&map, blocks) && !copy.from.is_stream() => Reason::PartExists,
-        _ => Reason::PartWithoutMap,
+        Ok(Some(map)) if is_of(&map, blocks) && !copy.from.is_stream() => Reason::Target(
+            TargetReason::PartExists,
+        ),
+        _ => Reason::Target(TargetReason::PartWithoutMap),
     };
     Err(part_of(copy).fault(reason))
 }
 
 // Opens what an earlier copy left of a target.
-fn open_part<'w>(rt: &HostRuntime, copy: &Copy<'w>) -> Result<TargetFile, Fault<'w>> {
+fn open_part<'w>(rt: &HostRuntime, copy: &Copy<'w>) -> Result<TargetFile, FileFault> {
     let part = part_of(copy);
     let path = part.path(rt.alloc())?;
     part.found(rt)?;
@@ -831,7 +951,7 @@ fn open_part<'w>(rt: &HostRuntime, copy: &Copy<'w>) -> Result<TargetFile, Fault<
 fn opened<'w>(
     name: &CopyName<'w>,
     file: Result<TargetFile, OpenError>,
-) -> Result<TargetFile, Fault<'w>> {
+) -> Result<TargetFile, FileFault> {
     match file {
         Ok(file) => Ok(file),
         Err(error) => Err(name.fault(reason(error))),
@@ -845,17 +965,13 @@ fn open_with_blocks<'w>(
     copy: &Copy<'w>,
     kind: TargetKind,
     end: u32,
-) -> Result<TargetFile, Fault<'w>> {
-    let path = copy.to.path;
+) -> Result<TargetFile, FileFault> {
     let access = if copy.device.is_some() {
         Access::WriteDevice
     } else {
         Access::Write
     };
-    let file = opened(
-        &CopyName::argument(path),
-        TargetFile::open(rt, path, access),
-    )?;
+    let file = opened(&target_of(copy), TargetFile::open(rt, copy.to.path, access))?;
     let becomes_longer = copy.device.is_none()
         && copy.blocks.is_none()
         && kind == TargetKind::LostBlocks;
@@ -864,10 +980,12 @@ fn open_with_blocks<'w>(
     }
     let blocks = match file.whole_blocks() {
         Ok(blocks) => blocks,
-        Err(error) => return Err(Fault::new(path, reason(error))),
+        Err(error) => return Err(FileRole::Target.fault(reason(error))),
     };
     match copy.blocks.or(BlockRange::between(0, end)) {
-        Some(range) if end > blocks => Err(Fault::new(path, Reason::PastEnd { range, blocks })),
+        Some(range) if end > blocks => Err(FileRole::Target.fault(Reason::Image(
+            ImageReason::PastEnd { range, blocks },
+        ))),
         _ => Ok(file),
     }
 }

@@ -1,13 +1,12 @@
 //! `uda50 trace`: prints each turn of the port.
 
 use crate::fault::Fault;
-use crate::notes::{RunNotes, ScriptText};
+use crate::notes::RunNotes;
 use crate::outcome::Outcome;
-use crate::run::script_name;
-use crate::script::{Drives, Job, execute_script, open_drives};
-use crate::streams::{Noting, open_script};
+use crate::script::{Job, execute_script, open_drives};
+use crate::streams::{InputStream, Noting};
 use std::io;
-use std::io::{Read, Write};
+use std::io::Write;
 use uda_driver::{Trace, Watch};
 use uda_packet::status;
 use uda_script_run::{Channels, ReportStyle};
@@ -23,48 +22,10 @@ pub(crate) fn trace<'w, W: Write>(
 ) -> Result<Outcome, Fault<'w>> {
     let notes = RunNotes::new(rt.alloc())?;
     let drives = open_drives(rt, units, &notes)?;
-    if script == "-" {
-        let no_data: &[u8] = &[];
-        let text = notes.text(rt.alloc(), rt.stdin())?;
-        trace_job(rt, job(script, units, &notes, text), no_data, drives, out)
-    } else {
-        let text = notes.text(rt.alloc(), open_script(rt, script)?)?;
-        trace_job(
-            rt,
-            job(script, units, &notes, text),
-            rt.stdin(),
-            drives,
-            out,
-        )
-    }
-}
-
-fn job<'j, 'w, T: Read + Drop>(
-    script: &'w str,
-    units: &'j [Option<ImageName<'w>>],
-    notes: &'j RunNotes,
-    text: ScriptText<'j, T>,
-) -> Job<'j, 'w, T> {
-    Job {
-        name: script_name(script),
-        text,
-        notes,
-        units,
-        style: ReportStyle::PLAIN,
-    }
-}
-
-// Executes a script, and prints the turns.
-fn trace_job<'w, T: Read + Drop, R: Read + Drop, W: Write>(
-    rt: &HostRuntime,
-    job: Job<'_, 'w, T>,
-    input: R,
-    drives: Drives,
-    out: &mut W,
-) -> Result<Outcome, Fault<'w>> {
-    let notes = job.notes;
+    let job = Job::open(rt, script, units, &notes, ReportStyle::PLAIN)?;
+    let data = InputStream::of_data(rt, script);
     let mut channels = Channels {
-        input: Noting::new(input, &notes.input),
+        input: Noting::new(data, &notes.input),
         out: io::sink(),
         report: io::sink(),
         watch: Printer {

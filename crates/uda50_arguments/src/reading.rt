@@ -67,14 +67,29 @@ fn read_numbered<'w>(
     arguments: &'w [&'w str],
     drives: &'w [&'static str],
 ) -> ParsedArguments<'w> {
-    let Ok(matches) = match_arguments(alloc, arguments, Values::new(drives, Numbers::Any)) else {
-        return read_decimal(alloc, verb, arguments, drives);
-    };
-    match read_matches(alloc, &matches) {
-        Err(_error) if !has_prefixed_number(&matches) => {
-            read_decimal(alloc, verb, arguments, drives)
-        }
-        read => parsed(read),
+    match read_any_numbers(alloc, arguments, drives) {
+        Some(read) => parsed(read),
+        None => read_decimal(alloc, verb, arguments, drives),
+    }
+}
+
+// Reads arguments with numbers of any form. Returns `None` if they are wrong and no number begins with 0x or 0o.
+fn read_any_numbers<'w>(
+    alloc: Global,
+    arguments: &'w [&'w str],
+    drives: &'w [&'static str],
+) -> Option<Result<Task<'w>, Error>> {
+    match match_arguments(alloc, arguments, Values::new(drives, Numbers::Any)) {
+        Ok(matches) => read_prefixed(alloc, &matches),
+        Err(_error) => None,
+    }
+}
+
+// Reads what clap has parsed. Returns `None` if it is wrong and no number begins with 0x or 0o.
+fn read_prefixed<'w>(alloc: Global, matches: &ArgMatches<'w>) -> Option<Result<Task<'w>, Error>> {
+    match read_matches(alloc, matches) {
+        Err(_error) if !has_prefixed_number(matches) => None,
+        read => Some(read),
     }
 }
 

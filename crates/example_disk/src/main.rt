@@ -2,9 +2,6 @@
 //! written and read. A last Read is for a block that it doesn't have.
 #![tactic(auto)]
 
-#[cfg(test)]
-mod tests;
-
 use anyhow::Result;
 use uda_exec::{Exec, PENDING};
 use uda_image::{Drive, MemImage};

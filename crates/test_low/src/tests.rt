@@ -1,5 +1,6 @@
-//! Memory and slices, packets, images, also over a file in memory, the executor over files, and the port over any
-//! stores.
+//! Memory and slices, packets, images, also over a file in memory, the executor over files and over any stores, and
+//! the port over any stores.
+mod callers;
 mod files;
 mod images;
 mod mem_file;

@@ -9,7 +9,6 @@ ghost use Rattle.uda_exec.specs.Commands.{is_transfer, memory_write_length};
 ghost use Rattle.uda_exec.specs.Effect.{passes_checks};
 ghost use Rattle.uda_exec.specs.Execution.{Executes, world_of};
 
-use super::read;
 use std::alloc::Global;
 use std::test::Fail;
 use uda_exec::Exec;
@@ -140,7 +139,12 @@ fn commands_alone(rt: HostRuntime) -> Result<(), Fail> {
         command(2, Op::Online { soft: None }),
     );
     assert_eq!(rt; online.map(|end| end.status), Some(0));
-    let read = execute_alone(&mut exec, &mut memory, command(3, read(0x0200, 1)));
+    let block = Op::Read {
+        bytes: 512,
+        address: 0x0200,
+        lbn: 1,
+    };
+    let read = execute_alone(&mut exec, &mut memory, command(3, block));
     assert_eq!(rt; read.map(|end| end.status), Some(0));
     assert_eq!(rt; memory.window(0x0200, 512), Some([0x11; 512].as_slice()));
     Ok(())

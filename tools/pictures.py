@@ -289,13 +289,10 @@ CRATES = {
     "uda50_show": (4, 7, "what it prints"),
     "uda50_script_text": (4, 3, "text of scripts"),
     "uda_plain": (0, 2, "in-order run"),
-    "example_disk": (0, 3.72, ""),
-    "test_low": (0, 5.14, ""),
-    "example_port": (0, 4.78, ""),
+    "test_low": (0, 5, ""),
     "scenarios": (0, 5.5, ""),
     "test_driver": (0, 7.36, ""),
-    "example_driver": (0, 7, ""),
-    "example_file": (0, 6.28, ""),
+    "example": (0, 7, ""),
     "layers": (0, 6.64, ""),
     "test_growths": (0, 7.82, ""),
     "test_agreement": (0, 8.18, ""),
@@ -310,7 +307,7 @@ LANES = {("uda_driver", "uda_posting"): 500, ("uda_script_run", "uda_grammar"): 
 # the arrows that go over the top and down at the right, each with the x where it goes up, its y, and the x where it goes down
 OVER = {("workloads", "uda50_show"): (270, 85, 1169)}
 PROGRAMS = {"uda", "uda50", "uda_c"}
-AROUND = re.compile(r"^test_|^example_|^layers$|^workloads$|^scenarios$")
+AROUND = re.compile(r"^test_|^example$|^layers$|^workloads$|^scenarios$")
 
 
 def uses():

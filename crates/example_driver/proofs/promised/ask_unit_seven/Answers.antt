@@ -1,8 +1,0 @@
-use Rattle.example_driver.proofs.Unknown.{told_unknown}
-use Rattle.example_driver.proofs.promised.ask_unit_seven.Goals as goal
-
-pub returns : goal.returns
-returns g c = record {
-  unknown = told_unknown _ _ _ c.in_ok-answers.ensures.four_units.0 c.in_ok-answers.ensures.answer_forms.counted
-      c.in_ok-answers.ensures.in_order_run_up_to_data;
-}

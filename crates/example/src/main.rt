@@ -1,5 +1,5 @@
-//! Examples of the use of executor, port and driver. Each is a module of its own, from which a program can begin.
-//! The arguments name one:
+//! Examples of the use of the executor, the port and the driver. Each is a module of its own, from which a program can
+//! begin. The arguments name one:
 //!
 //!     example disk
 //!     example port
@@ -14,7 +14,7 @@ mod driver;
 mod file;
 mod port;
 
-use anyhow::Result;
+use anyhow::{Result, bail};
 use std::env;
 
 fn main(rt: HostRuntime) -> Result<()> {
@@ -31,10 +31,7 @@ fn run(rt: &HostRuntime, words: &[&str]) -> Result<()> {
         ["port"] => port::run(rt),
         ["driver"] => driver::run(rt),
         ["file", source, target] => file::run(rt, source, target),
-        _ => {
-            eprintln!(rt; "usage: example [disk | port | driver | file SOURCE TARGET]")?;
-            Ok(())
-        }
+        _ => bail!("usage: example [disk | port | driver | file SOURCE TARGET]"),
     }
 }
 

@@ -32,10 +32,17 @@ pub(crate) fn run(rt: &HostRuntime) -> Result<()> {
 // Copies one disk to the other, and executes requests for both.
 fn copied(rt: &HostRuntime) -> Result<()> {
     let mut driver = start(rt.alloc())?;
-    if !copy(&mut driver, BLOCKS)? {
+    copy_and_ask(rt, &mut driver)
+}
+
+// Copies one disk to the other, and executes requests for both, through a driver.
+fn copy_and_ask(rt: &HostRuntime, driver: &mut Driver<MemImage>) -> Result<()>
+    requires able { CanCopy (units_of driver.old) 10 }
+{
+    if !copy(driver, BLOCKS)? {
         bail!("not copied");
     }
-    asked(rt, &mut driver)
+    asked(rt, driver)
 }
 
 // Executes requests for both disks, and for a unit that doesn't exist.
@@ -57,9 +64,17 @@ fn asked(rt: &HostRuntime, driver: &mut Driver<MemImage>) -> Result<()> {
 // Executes a run over stores that never fail.
 fn surely(rt: &HostRuntime) -> Result<()> {
     let mut driver = start(rt.alloc())?;
-    let answers = run_infallible(&mut driver, &[protect(0), read(0, 9, 512)])?;
+    ask_surely(rt, &mut driver)
+}
+
+// Executes a run that doesn't fail, and reads a whole block.
+fn ask_surely(rt: &HostRuntime, driver: &mut Driver<MemImage>) -> Result<()>
+    requires faithful { AllFaithful (units_of driver.old) }
+    requires infallible { (u : ℕ) → is_infallible (slice_get (units_of driver.old) u) ≡ true }
+{
+    let answers = run_infallible(driver, &[protect(0), read(0, 9, 512)])?;
     print(rt, &answers)?;
-    whole(rt, &mut driver)
+    whole(rt, driver)
 }
 
 // Reads a whole block.

@@ -14,10 +14,15 @@ use uda_port::Port;
 pub(crate) fn run(rt: &HostRuntime) -> Result<()> {
     let mut port = port_of_a_guest(rt.alloc())?;
     let mut memory = HostMemory::new(rt.alloc(), 4096)?;
-    start_up(rt, &mut port, &mut memory)?;
-    post(&mut memory);
-    serve(rt, &mut port, &mut memory)?;
-    if let Some(end) = end_message(&memory) {
+    emulate(rt, &mut port, &mut memory)
+}
+
+// Executes the guest, and prints what it sees.
+fn emulate(rt: &HostRuntime, port: &mut Port<MemImage>, memory: &mut HostMemory) -> Result<()> {
+    start_up(rt, port, memory)?;
+    post(memory);
+    serve(rt, port, memory)?;
+    if let Some(end) = end_message(memory) {
         println!(rt; "{end}")?;
     }
     println!(rt; "{port:?}")?;

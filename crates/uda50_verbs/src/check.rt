@@ -40,9 +40,10 @@ fn next_line<'w>(
     name: &'w str,
     lines: &mut LineReader<InputStream>,
 ) -> Result<Option<ScriptLine>, Fault<'w>> {
-    lines
-        .next_line()
-        .map_err(|error| Fault::new(name, Reason::of_stream(error)))
+    match lines.next_line() {
+        Ok(line) => Ok(line),
+        Err(error) => Err(Fault::new(name, Reason::of_stream(error))),
+    }
 }
 
 // Prints the fault of a line, if it has a mistake, and returns whether it has one.

@@ -19,8 +19,8 @@ pub(crate) const STANDARD_OUTPUT: &str = "standard output";
 pub(crate) const STANDARD_ERROR: &str = "standard error";
 
 /// The end of the name of a file, if that is made from another one's.
-#[derive(Clone, Copy, Debug, PartialEq, Eq)]
-pub enum Suffix {
+#[derive(Clone, Copy, PartialEq, Eq)]
+pub(crate) enum Suffix {
     /// It is the other name itself.
     None,
     /// The file is an incomplete copy.
@@ -39,7 +39,7 @@ pub enum Suffix {
 
 impl Suffix {
     /// Returns the text.
-    pub fn text(self) -> &'static str {
+    pub(crate) fn text(self) -> &'static str {
         match self {
             Suffix::None => "",
             Suffix::Part => ".part",
@@ -52,7 +52,7 @@ impl Suffix {
     }
 
     /// Returns the suffix of the file to which a map with this one is written first.
-    pub fn of_new(self) -> Suffix {
+    pub(crate) fn of_new(self) -> Suffix {
         match self {
             Suffix::Map | Suffix::MapNew => Suffix::MapNew,
             Suffix::PartMap | Suffix::PartMapNew => Suffix::PartMapNew,
@@ -62,24 +62,24 @@ impl Suffix {
 }
 
 /// A fault, with the file or stream that it concerns.
-#[derive(Debug, Drop)]
-pub struct Fault<'w> {
+#[derive(Drop)]
+pub(crate) struct Fault<'w> {
     /// The path of the file, or the name of the stream.
-    pub name: &'w str,
+    pub(crate) name: &'w str,
     /// What follows the path in the name of the file.
-    pub suffix: Suffix,
+    pub(crate) suffix: Suffix,
     /// The reason.
-    pub reason: Reason,
+    pub(crate) reason: Reason,
 }
 
 impl<'w> Fault<'w> {
     /// Makes a fault of a file or a stream.
-    pub fn new(name: &'w str, reason: Reason) -> Fault<'w> {
+    pub(crate) fn new(name: &'w str, reason: Reason) -> Fault<'w> {
         Fault::of_derived(name, Suffix::None, reason)
     }
 
     /// Makes a fault of a file whose name is another one's with a suffix.
-    pub fn of_derived(name: &'w str, suffix: Suffix, reason: Reason) -> Fault<'w> {
+    pub(crate) fn of_derived(name: &'w str, suffix: Suffix, reason: Reason) -> Fault<'w> {
         Fault {
             name,
             suffix,
@@ -93,7 +93,7 @@ impl<'w> Fault<'w> {
     }
 
     /// Makes the fault of a failed call of the system on a file.
-    pub fn system(name: &'w str, error: io::Error) -> Fault<'w> {
+    pub(crate) fn system(name: &'w str, error: io::Error) -> Fault<'w> {
         Fault::new(name, Reason::of(error))
     }
 
@@ -119,7 +119,7 @@ impl<'w> Fault<'w> {
     }
 
     /// Returns whether the fault is only that the reader of standard output closed it.
-    pub fn is_closed_output(&self) -> bool {
+    pub(crate) fn is_closed_output(&self) -> bool {
         match &self.reason {
             Reason::System(error) => {
                 self.name == STANDARD_OUTPUT && error.kind() == ErrorKind::BrokenPipe

@@ -9,7 +9,7 @@ use std::io::ErrorKind;
 use uda50_arguments::Copy;
 
 /// What a fault concerns: a file of a copy, or of `create`, which has only a target.
-#[derive(Clone, Copy, Debug, PartialEq, Eq)]
+#[derive(Clone, Copy)]
 pub(crate) enum FileRole {
     /// The image to read.
     Source,
@@ -62,7 +62,7 @@ impl FileRole {
 }
 
 /// A fault, with the file that it concerns.
-#[derive(Debug, Drop)]
+#[derive(Drop)]
 pub(crate) struct FileFault {
     /// The file, or the one from whose name its name is made.
     pub(crate) role: FileRole,

@@ -251,12 +251,10 @@ impl<'a, 'w> ImageCopy<'a, 'w> {
 
     // Starts a driver over both images, and brings them online.
     fn copier(&self, source: Image, target: Image) -> Result<Copier<Image>, FileFault> {
-        let Ok(driver) = Driver::start(self.rt.alloc(), drives_of(source, target)) else {
-            return Err(FileFault::no_memory());
-        };
-        Copier::new(self.rt.alloc(), driver, self.copy.skips_lost).map_err(|error| self.fault(
-            error,
-        ))
+        match Driver::start(self.rt.alloc(), drives_of(source, target)) {
+            Ok(driver) => self.of(Copier::new(self.rt.alloc(), driver, self.copy.skips_lost)),
+            Err(_error) => Err(FileFault::no_memory()),
+        }
     }
 
     // Copies the blocks that the record doesn't have, and skips those that are zeros in both images.
@@ -293,7 +291,7 @@ impl<'a, 'w> ImageCopy<'a, 'w> {
     ) -> Result<(), FileFault> {
         let copied = copier.copy(blocks, record);
         record.check()?;
-        copied.map_err(|error| self.fault(error))
+        self.of(copied)
     }
 
     // Compares the blocks of both images, if that is asked for.
@@ -310,7 +308,7 @@ impl<'a, 'w> ImageCopy<'a, 'w> {
         let mut progress = CopyProgress::start(self.rt, copy.to.path, blocks);
         let compared = self.compare_finished(copier, ended, &mut progress);
         progress.end();
-        compared.map_err(|error| self.fault(error))
+        self.of(compared)
     }
 
     // Compares the blocks that were copied. Lost blocks are not read once more.
@@ -331,6 +329,14 @@ impl<'a, 'w> ImageCopy<'a, 'w> {
             at = lost.end;
         }
         Ok(())
+    }
+
+    // Returns a result, with a fault in place of its error.
+    fn of<T>(&self, done: Result<T, CopyError>) -> Result<T, FileFault> {
+        match done {
+            Ok(value) => Ok(value),
+            Err(error) => Err(self.fault(error)),
+        }
     }
 
     // Returns the fault for an error, with the file that it concerns.

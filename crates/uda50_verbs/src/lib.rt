@@ -34,9 +34,3 @@ mod trace;
 mod unreadable;
 
 pub use entry::{program, unreadable_arguments};
-pub use fault::{Fault, Suffix};
-pub use outcome::Outcome;
-pub use reason::{
-    CopyOption, CopyReason, ImageReason, InputReason, MapReason, Reason, RecordPlace, ScriptReason,
-    StreamLength, TargetReason,
-};

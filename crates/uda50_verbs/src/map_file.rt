@@ -25,7 +25,7 @@ const BEGINNING: &str = "# Mapfile. Created by uda50\n";
 const OF_PART: &str = "# Blocks of the ";
 
 /// What a map tells of.
-#[derive(Clone, Copy, Debug, PartialEq, Eq)]
+#[derive(Clone, Copy)]
 enum Subject {
     // The target with its own name. No line of the map says otherwise.
     Target,
@@ -51,7 +51,7 @@ impl Subject {
 }
 
 /// The names of the map of a copy.
-#[derive(Clone, Copy, Debug)]
+#[derive(Clone, Copy)]
 pub(crate) struct MapFile<'w> {
     // The name during the copy, and afterwards.
     during: CopyName<'w>,

@@ -13,7 +13,7 @@ use std::{fs, io};
 const LINKS: u32 = 40;
 
 /// A name that a copy uses: that of an argument, or one that is made from it.
-#[derive(Clone, Copy, Debug)]
+#[derive(Clone, Copy)]
 pub(crate) struct CopyName<'w> {
     // The argument, and which one it is.
     base: &'w str,

@@ -1,6 +1,7 @@
 //! The reasons of faults.
 
 use std::io::ErrorKind;
+use std::fmt::Display;
 use std::{fmt, io};
 use thiserror::Error;
 use uda_image::StoreError;
@@ -10,76 +11,84 @@ use uda50_script_text::{ByteOrderMark, Mistake};
 use uda50_show::{ContainerRecord, Counted, DriveTypeEntry, ForeignFormat, Grouped, TokenError};
 
 /// The reason why a file can't be used, or a verb can't continue.
-#[derive(Debug, Drop, Error)]
-pub enum Reason {
+#[derive(Drop)]
+pub(crate) enum Reason {
     /// An allocation failed.
-    #[error("out of memory")]
     NoMemory,
     /// There is no file.
-    #[error("no such file")]
     NoSuchFile,
     /// The system denied permission to open the file.
-    #[error("permission denied")]
     PermissionDenied,
     /// The file to make exists already.
-    #[error("exists already; --force overwrites it")]
     Exists,
     /// The path is a folder, a device, a pipe or a socket.
-    #[error("not a plain file")]
     NotPlain,
     /// The image to write has the prefix `lock:`.
-    #[error("write protected")]
     Protected,
     /// Another process or unit holds the file's lock.
-    #[error("in use by another process")]
     InUse,
     /// The device to write is mounted, or in use in another way.
-    #[error("is mounted or in use by the system")]
     Mounted,
     /// A stream is named where there has to be an image.
-    #[error("is a stream, and not an image")]
     NoImage,
     /// A stream can't be read.
-    #[error("cannot be read")]
     Unreadable,
     /// A stream can't be written.
-    #[error("cannot be written")]
     Unwritable,
     /// A stream of a script can't be read or written.
-    #[error("{0}")]
     Stream(io::Error),
     /// The file to read is a folder.
-    #[error("is a folder")]
     Folder,
     /// Raw blocks would be written to a terminal.
-    #[error("is a terminal; --force writes raw blocks to it")]
     Terminal,
     /// An image can't be used.
-    #[error(transparent)]
     Image(ImageReason),
     /// A copy can't continue.
-    #[error(transparent)]
     Copy(CopyReason),
     /// The target of a copy can't be written, or its copy can't be resumed.
-    #[error(transparent)]
     Target(TargetReason),
     /// A map of a copy can't be read or written.
-    #[error(transparent)]
     Map(MapReason),
     /// A script can't be executed.
-    #[error(transparent)]
     Script(ScriptReason),
     /// An input can't be printed.
-    #[error(transparent)]
     Input(InputReason),
     /// A call of the system failed.
-    #[error("{0}")]
     System(io::Error),
+}
+
+/// Writes a text such as `no such file`.
+impl fmt::Display for Reason {
+    fn fmt<W: fmt::Write>(&self, f: &mut fmt::Formatter<W>) -> fmt::Result {
+        let text = match self {
+            Reason::NoMemory => "out of memory",
+            Reason::NoSuchFile => "no such file",
+            Reason::PermissionDenied => "permission denied",
+            Reason::Exists => "exists already; --force overwrites it",
+            Reason::NotPlain => "not a plain file",
+            Reason::Protected => "write protected",
+            Reason::InUse => "in use by another process",
+            Reason::Mounted => "is mounted or in use by the system",
+            Reason::NoImage => "is a stream, and not an image",
+            Reason::Unreadable => "cannot be read",
+            Reason::Unwritable => "cannot be written",
+            Reason::Folder => "is a folder",
+            Reason::Terminal => "is a terminal; --force writes raw blocks to it",
+            Reason::Image(reason) => return reason.fmt(f),
+            Reason::Copy(reason) => return reason.fmt(f),
+            Reason::Target(reason) => return reason.fmt(f),
+            Reason::Map(reason) => return reason.fmt(f),
+            Reason::Script(reason) => return reason.fmt(f),
+            Reason::Input(reason) => return reason.fmt(f),
+            Reason::Stream(error) | Reason::System(error) => return error.fmt(f),
+        };
+        f.write_str(text)
+    }
 }
 
 impl Reason {
     /// Returns the reason for an error of the system.
-    pub fn of(error: io::Error) -> Reason {
+    pub(crate) fn of(error: io::Error) -> Reason {
         match Reason::of_kind(error.kind()) {
             Some(reason) => reason,
             None => Reason::System(error),
@@ -109,7 +118,7 @@ impl Reason {
 
 /// The reason why an image can't be used.
 #[derive(Debug, Drop, Error)]
-pub enum ImageReason {
+pub(crate) enum ImageReason {
     /// The length is not a multiple of 512.
     #[error("{} is not a multiple of 512{}", Counted::bytes(*.0), length_guess(*.0))]
     Length(u64),
@@ -170,7 +179,7 @@ pub enum ImageReason {
 
 /// The reason why a copy can't continue.
 #[derive(Debug, Drop, Error)]
-pub enum CopyReason {
+pub(crate) enum CopyReason {
     /// A block of the copy differs from that of the source.
     #[error("block {0} differs from the source's")]
     Differs(u32),
@@ -195,40 +204,29 @@ pub enum CopyReason {
 }
 
 /// The reason why the target of a copy can't be written, or its copy can't be resumed.
-#[derive(Debug, Drop, Error)]
-pub enum TargetReason {
+#[derive(Drop)]
+pub(crate) enum TargetReason {
     /// The target of a copy is its source.
-    #[error("is the source of the copy")]
     SameFile,
     /// A copy that ended early left this file.
-    #[error("exists already; --resume goes on with it, --force begins anew")]
     PartExists,
     /// A copy that ended early, and can't be resumed, left this file.
-    #[error("exists already; --force begins anew")]
     PartWithoutMap,
     /// There is no copy to go on with.
-    #[error("no copy to resume: there is no map of one")]
     NothingToResume,
     /// There is the map of a copy, and not its target.
-    #[error("no copy to resume: there is only a map of one")]
     OnlyMap,
     /// The target of a copy is as it was before that.
-    #[error("no copy to resume: the last one ended before it wrote anything")]
     NotBegun,
     /// The target of a copy and its incomplete copy exist already.
-    #[error("exists already, and so does its incomplete copy; --force overwrites both")]
     BothExist,
     /// There is a file with the name of the incomplete copy, and no map of it.
-    #[error("exists already, and is no incomplete copy with a map; remove it, or give it another name")]
     NoPart,
     /// A named map isn't said to be that of the incomplete copy.
-    #[error("the map doesn't say that it is of this file; if it is, give the file the name of the target")]
     PartOfOther,
     /// The incomplete copy would be the target.
-    #[error("is another name of the target")]
     PartIsTarget,
     /// The complete copy has more blocks than its source.
-    #[error("has {} bytes, and its map only {}", Grouped(*.bytes), Counted::blocks(*.blocks))]
     LongerThanMap {
         /// The length.
         bytes: u64,
@@ -236,7 +234,6 @@ pub enum TargetReason {
         blocks: u32,
     },
     /// The incomplete copy has fewer blocks than its map says.
-    #[error("has only {} of the {} bytes that its map says are copied", Grouped(*.bytes), Grouped(512 * u64::from(*.blocks)))]
     ShorterThanMap {
         /// The length.
         bytes: u64,
@@ -244,54 +241,94 @@ pub enum TargetReason {
         blocks: u32,
     },
     /// A name that is made from the target's is that of a link.
-    #[error("is a link, which a copy doesn't follow")]
     Link,
     /// The target is a link, and there is no file.
-    #[error("is a link to a file that doesn't exist")]
     LinkToNowhere,
     /// Links lead to each other.
-    #[error("is a link that leads to no file")]
     LinksInCircle,
     /// The target has no name.
-    #[error("has an empty name")]
     EmptyName,
     /// The target is a device.
-    #[error("is a device; --device writes to it")]
     Device,
     /// The target that `--device` names is none.
-    #[error("is no device, and --device is for devices")]
     NoDevice,
     /// The option `--device` names another file.
-    #[error("--device has to name the file to write")]
     OtherDevice,
 }
 
+/// Writes a text such as `is the source of the copy`.
+impl fmt::Display for TargetReason {
+    fn fmt<W: fmt::Write>(&self, f: &mut fmt::Formatter<W>) -> fmt::Result {
+        let text = match self {
+            TargetReason::SameFile => "is the source of the copy",
+            TargetReason::PartExists => "exists already; --resume goes on with it, --force begins anew",
+            TargetReason::PartWithoutMap => "exists already; --force begins anew",
+            TargetReason::NothingToResume => "no copy to resume: there is no map of one",
+            TargetReason::OnlyMap => "no copy to resume: there is only a map of one",
+            TargetReason::NotBegun => "no copy to resume: the last one ended before it wrote anything",
+            TargetReason::BothExist => {
+                "exists already, and so does its incomplete copy; --force overwrites both"
+            }
+            TargetReason::NoPart => {
+                "exists already, and is no incomplete copy with a map; remove it, or give it another name"
+            }
+            TargetReason::PartOfOther => {
+                "the map doesn't say that it is of this file; if it is, give the file the name of the target"
+            }
+            TargetReason::PartIsTarget => "is another name of the target",
+            TargetReason::LongerThanMap { bytes, blocks } => {
+                return write!(f, "has {} bytes, and its map only {}", Grouped(*bytes), Counted::blocks(*blocks));
+            }
+            TargetReason::ShorterThanMap { bytes, blocks } => {
+                return write!(f, "has only {} of the {} bytes that its map says are copied", Grouped(*bytes), Grouped(512 * u64::from(*blocks)));
+            }
+            TargetReason::Link => "is a link, which a copy doesn't follow",
+            TargetReason::LinkToNowhere => "is a link to a file that doesn't exist",
+            TargetReason::LinksInCircle => "is a link that leads to no file",
+            TargetReason::EmptyName => "has an empty name",
+            TargetReason::Device => "is a device; --device writes to it",
+            TargetReason::NoDevice => "is no device, and --device is for devices",
+            TargetReason::OtherDevice => "--device has to name the file to write",
+        };
+        f.write_str(text)
+    }
+}
+
 /// The reason why a map of a copy can't be read or written.
-#[derive(Debug, Drop, Error)]
-pub enum MapReason {
+#[derive(Drop)]
+pub(crate) enum MapReason {
     /// A map tells of the incomplete copy, and not of the target.
-    #[error("is the map of an incomplete copy")]
     OfPart,
     /// There is a file in the place of a map.
-    #[error("is no map, and a copy would replace it")]
     NoMap,
     /// A map of blocks can't be read.
-    #[error("{0}")]
     Invalid(MapError),
     /// A map is not a text.
-    #[error("the map is not a text in UTF-8")]
     NoText,
     /// A map has blocks that the source doesn't have.
-    #[error("the map is not one of the blocks to copy")]
     OfOther,
     /// A map would be written over a file of the copy.
-    #[error("is a file of the copy, and not its map")]
     IsImage,
+}
+
+/// Writes a text such as `is a file of the copy, and not its map`.
+impl fmt::Display for MapReason {
+    fn fmt<W: fmt::Write>(&self, f: &mut fmt::Formatter<W>) -> fmt::Result {
+        let text = match self {
+            MapReason::OfPart => "is the map of an incomplete copy",
+            MapReason::NoMap => "is no map, and a copy would replace it",
+            MapReason::Invalid(error) => return error.fmt(f),
+            MapReason::NoText => "the map is not a text in UTF-8",
+            MapReason::OfOther => "the map is not one of the blocks to copy",
+            MapReason::IsImage => "is a file of the copy, and not its map",
+        };
+        f.write_str(text)
+    }
 }
 
 /// The reason why a script can't be executed.
 #[derive(Debug, Drop, Error)]
-pub enum ScriptReason {
+pub(crate) enum ScriptReason {
     /// The image of a unit is that of an earlier unit too.
     #[error("is given twice, for units {0} and {1}")]
     GivenTwice(usize, usize),
@@ -319,7 +356,7 @@ pub enum ScriptReason {
 
 /// The reason why an input can't be printed.
 #[derive(Debug, Drop, Error)]
-pub enum InputReason {
+pub(crate) enum InputReason {
     /// A token is neither a byte nor a word.
     #[error("line {line}, word {word}: {error}")]
     Token {
@@ -346,7 +383,7 @@ pub enum InputReason {
 
 /// An option of `copy` that needs two images.
 #[derive(Clone, Copy, Debug, PartialEq, Eq)]
-pub enum CopyOption {
+pub(crate) enum CopyOption {
     /// `--continue`
     Continue,
     /// `--verify`
@@ -373,7 +410,7 @@ impl fmt::Display for CopyOption {
 
 /// The place of a record in a file whose length is not a multiple of 512.
 #[derive(Clone, Copy, Debug, PartialEq, Eq)]
-pub enum RecordPlace {
+pub(crate) enum RecordPlace {
     /// The last 512 bytes.
     LastBytes,
     /// The last whole block.
@@ -391,11 +428,11 @@ impl fmt::Display for RecordPlace {
 
 /// The length of a stream that ended.
 #[derive(Clone, Copy, Debug, PartialEq, Eq)]
-pub struct StreamLength {
+pub(crate) struct StreamLength {
     /// The number of its whole blocks.
-    pub blocks: u32,
+    pub(crate) blocks: u32,
     /// The number of the bytes after them.
-    pub bytes: usize,
+    pub(crate) bytes: usize,
 }
 
 /// Writes a text such as `1 block and 488 bytes`.

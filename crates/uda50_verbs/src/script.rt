@@ -79,7 +79,10 @@ fn execute_on<'w, R: Read, W: Write, V: Write, H: Watch>(
         style,
     } = job;
     let done = run_buffered_text(rt.alloc(), style, text, channels, &mut driver);
-    let outcome = done.map_err(|error| notes.fault(name, error));
+    let outcome = match done {
+        Ok(outcome) => Ok(outcome),
+        Err(error) => Err(notes.fault(name, error)),
+    };
     print_failures(rt, units, &notes.failures);
     sync(rt, driver.into_stores(), units, &notes.failures, outcome)
 }

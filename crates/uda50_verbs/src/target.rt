@@ -24,7 +24,7 @@ use uda50_files::{Access, Failures, OpenError, TargetFile};
 use uda50_show::EscapedName;
 
 /// What a copy does with its target.
-#[derive(Clone, Copy, Debug, PartialEq, Eq)]
+#[derive(Clone, Copy, PartialEq, Eq)]
 pub(crate) enum TargetKind {
     /// A new file is made.
     New,
@@ -540,7 +540,7 @@ pub(crate) struct CopyTarget<'r, 'w> {
 }
 
 // How far a copy is.
-#[derive(Clone, Copy, Debug, PartialEq, Eq)]
+#[derive(Clone, Copy, PartialEq, Eq)]
 enum Stage {
     // Its blocks are copied.
     Copying,
@@ -551,7 +551,7 @@ enum Stage {
 }
 
 /// What can be done after a copy ended early.
-#[derive(Clone, Copy, Debug, PartialEq, Eq)]
+#[derive(Clone, Copy, PartialEq, Eq)]
 pub(crate) enum Resumption {
     /// It can't be resumed.
     Impossible,

@@ -79,10 +79,8 @@ pub(crate) fn verb_grammar<'w>(
     verb: &Verb,
     values: Values<'w>,
 ) -> Result<Command<'w>, AllocError> {
-    let arguments = arguments(alloc, verb, values)?;
-    let groups = groups(alloc, verb)?;
-    let command = with_arguments(alloc, verb, arguments)?;
-    command.groups(groups)
+    let command = with_arguments(alloc, verb, arguments(alloc, verb, values)?)?;
+    command.groups(groups(alloc, verb)?)
 }
 
 // Builds a verb with its arguments.
@@ -155,15 +153,16 @@ fn positional<'w>(
     form: &Positional,
     numbers: Numbers,
 ) -> Result<Arg<'w>, AllocError> {
-    let described = described(alloc, argument);
     match form {
-        Positional::Value => Ok(described.required(true)),
-        Positional::Values { most } => Ok(several(described, *most).required(true)),
+        Positional::Value => Ok(described(alloc, argument).required(true)),
+        Positional::Values { most } => Ok(several(alloc, argument, *most).required(true)),
         Positional::ValuesUnless { most, option } => {
-            several(described, *most).required_unless_present(option)
+            several(alloc, argument, *most).required_unless_present(option)
         }
-        Positional::ValueOr(default) => Ok(described.default_value(default)),
-        Positional::Number { least } => Ok(with_number(described, *least, numbers)),
+        Positional::ValueOr(default) => Ok(described(alloc, argument).default_value(default)),
+        Positional::Number { least } => {
+            Ok(with_number(described(alloc, argument), *least, numbers))
+        }
     }
 }
 
@@ -172,9 +171,11 @@ fn described<'w>(alloc: Global, argument: &Argument) -> Arg<'w> {
     Arg::new(alloc, argument.name).help(argument.help)
 }
 
-// Gives an argument values up to a number of them.
-fn several<'w>(arg: Arg<'w>, most: usize) -> Arg<'w> {
-    arg.num_args(1..=most).action(ArgAction::Append)
+// Builds an argument with values, up to a number of them.
+fn several<'w>(alloc: Global, argument: &Argument, most: usize) -> Arg<'w> {
+    described(alloc, argument)
+        .num_args(1..=most)
+        .action(ArgAction::Append)
 }
 
 // Builds an option without a value.
@@ -240,9 +241,12 @@ fn one_of<'w>(arg: Arg<'w>, names: &'w [&'w str]) -> Arg<'w> {
 // Makes the value of an argument a number of blocks.
 fn with_number<'w>(arg: Arg<'w>, least: u32, numbers: Numbers) -> Arg<'w> {
     match numbers {
-        Numbers::Decimal => arg.value_parser(value_parser!(u32).range(
-            i64::from(least)..=i64::from(MAX_BLOCKS),
-        )),
+        Numbers::Decimal => arg.value_parser(number_parser(least)),
         Numbers::Any => arg,
     }
+}
+
+// Builds the parser of a number of blocks.
+fn number_parser<'w>(least: u32) -> ValueParser<'w> {
+    value_parser!(u32).range(i64::from(least)..=i64::from(MAX_BLOCKS))
 }

@@ -90,15 +90,23 @@ fn end_of_target(rt: &HostRuntime, copy: &Copy<'_>) -> Result<String, FileFault>
         return Ok(String::from_str(rt.alloc(), path)?);
     }
     let end = end_of_links(rt, FileRole::Target, path)?;
-    if fs::metadata(rt, path).is_err() {
-        let part = CopyName::derived(end.as_str(), Suffix::Part).path(rt.alloc())?;
-        if !copy.resumes || fs::metadata(rt, part.as_str()).is_err() {
-            return Err(FileRole::Target.fault(Reason::Target(TargetReason::LinkToNowhere)));
-        }
-    } else if !copy.force && !copy.resumes {
-        return Err(FileRole::Target.fault(Reason::Exists));
-    }
+    check_end(rt, copy, end.as_str())?;
     Ok(end)
+}
+
+// Fails if a copy may not write the file to which the link of its target leads.
+fn check_end(rt: &HostRuntime, copy: &Copy<'_>, end: &str) -> Result<(), FileFault> {
+    if fs::metadata(rt, copy.to.path).is_ok() {
+        return match copy.force || copy.resumes {
+            true => Ok(()),
+            false => Err(FileRole::Target.fault(Reason::Exists)),
+        };
+    }
+    let part = CopyName::derived(end, Suffix::Part).path(rt.alloc())?;
+    match copy.resumes && fs::metadata(rt, part.as_str()).is_ok() {
+        true => Ok(()),
+        false => Err(FileRole::Target.fault(Reason::Target(TargetReason::LinkToNowhere))),
+    }
 }
 
 /// Returns the blocks to copy, after a check that the source has all of them.

@@ -34,3 +34,4 @@ mod trace;
 mod unreadable;
 
 pub use entry::{program, unreadable_arguments};
+pub use outcome::Outcome;

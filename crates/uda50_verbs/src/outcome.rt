@@ -3,8 +3,8 @@
 use uda_script_run::ScriptOutcome;
 
 /// The outcome of a verb that had no unreported fault.
-#[derive(Clone, Copy, PartialEq, Eq)]
-pub(crate) enum Outcome {
+#[derive(Clone, Copy, Debug, PartialEq, Eq)]
+pub enum Outcome {
     /// All succeeded.
     Done,
     /// A request failed, blocks were lost, or a packet was invalid.
@@ -29,7 +29,7 @@ impl Outcome {
     }
 
     /// Returns the exit status.
-    pub(crate) fn status(self) -> u8
+    pub fn status(self) -> u8
         ensures status { result ≡ exit_status self }
     {
         match self {

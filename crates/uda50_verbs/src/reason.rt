@@ -1,7 +1,7 @@
 //! The reasons of faults.
 
-use std::io::ErrorKind;
 use std::fmt::Display;
+use std::io::ErrorKind;
 use std::{fmt, io};
 use thiserror::Error;
 use uda_image::StoreError;
@@ -261,11 +261,13 @@ impl fmt::Display for TargetReason {
     fn fmt<W: fmt::Write>(&self, f: &mut fmt::Formatter<W>) -> fmt::Result {
         let text = match self {
             TargetReason::SameFile => "is the source of the copy",
-            TargetReason::PartExists => "exists already; --resume goes on with it, --force begins anew",
+            TargetReason::PartExists =>
+                "exists already; --resume goes on with it, --force begins anew",
             TargetReason::PartWithoutMap => "exists already; --force begins anew",
             TargetReason::NothingToResume => "no copy to resume: there is no map of one",
             TargetReason::OnlyMap => "no copy to resume: there is only a map of one",
-            TargetReason::NotBegun => "no copy to resume: the last one ended before it wrote anything",
+            TargetReason::NotBegun =>
+                "no copy to resume: the last one ended before it wrote anything",
             TargetReason::BothExist => {
                 "exists already, and so does its incomplete copy; --force overwrites both"
             }
@@ -277,10 +279,20 @@ impl fmt::Display for TargetReason {
             }
             TargetReason::PartIsTarget => "is another name of the target",
             TargetReason::LongerThanMap { bytes, blocks } => {
-                return write!(f, "has {} bytes, and its map only {}", Grouped(*bytes), Counted::blocks(*blocks));
+                return write!(
+                    f,
+                    "has {} bytes, and its map only {}",
+                    Grouped(*bytes),
+                    Counted::blocks(*blocks)
+                );
             }
             TargetReason::ShorterThanMap { bytes, blocks } => {
-                return write!(f, "has only {} of the {} bytes that its map says are copied", Grouped(*bytes), Grouped(512 * u64::from(*blocks)));
+                return write!(
+                    f,
+                    "has only {} of the {} bytes that its map says are copied",
+                    Grouped(*bytes),
+                    Grouped(512 * u64::from(*blocks))
+                );
             }
             TargetReason::Link => "is a link, which a copy doesn't follow",
             TargetReason::LinkToNowhere => "is a link to a file that doesn't exist",

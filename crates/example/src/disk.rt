@@ -12,12 +12,12 @@ pub(crate) fn run(rt: &HostRuntime) -> Result<()> {
     let store = MemImage::new(rt.alloc(), 1000)?;
     let mut exec = Exec::new([Some(Drive { store, hard: false }), None, None, None]);
     let mut memory = HostMemory::new(rt.alloc(), 65_536)?;
+    *memory.block_within(0x1000) = [0x55; 512];
     execute(rt, &mut exec, &mut memory)
 }
 
 // Executes the commands with a memory, and prints whether the Read has the bytes of the Write.
 fn execute(rt: &HostRuntime, exec: &mut Exec<MemImage>, memory: &mut HostMemory) -> Result<()> {
-    *memory.block_within(0x1000) = [0x55; 512];
     for (reference, op) in [
         (1, Op::Online { soft: None }),
         (2, write(0x1000, 999)),

@@ -37,6 +37,7 @@ fn copied(rt: &HostRuntime) -> Result<()> {
 
 // Copies one disk to the other, and executes requests for both, through a driver.
 fn copy_and_ask(rt: &HostRuntime, driver: &mut Driver<MemImage>) -> Result<()>
+    requires faithful { AllFaithful (units_of driver.old) }
     requires able { CanCopy (units_of driver.old) 10 }
 {
     if !copy(driver, BLOCKS)? {

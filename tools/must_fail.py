@@ -1,4 +1,5 @@
-"""Reads files of must-fail edits, and makes the edits in a folder with their crate. checks/edits tells what an edit is."""
+"""Reads files of must-fail edits, makes the edits in a folder with their crate, and runs the tests that an edit names.
+checks/edits tells what an edit is."""
 import copy
 import functools
 import re
@@ -24,12 +25,12 @@ class Unusable(Exception):
 
 
 class Function:
-    """A function: its module, the type of its impl, or the trait in which it is, the trait of its impl, and its name. Of
-    these it has those that are not None."""
+    """A function. It has a module and a name. A method also has its type, or the trait that declares it. A method of a
+    trait's impl has both."""
 
     def __init__(self, module, of_type, of_trait, name):
         self.module, self.of_type, self.of_trait, self.name = module, of_type, of_trait, name
-        self.owner = of_type and of_type + (of_trait or "")
+        self.owner = (of_type or "") + (of_trait or "")
 
     def short_name(self):
         """Returns the function's name as a check prints it, or the end of that."""
@@ -39,10 +40,10 @@ class Function:
         """Returns the function's copy with this number."""
         return Function(self.module, self.of_type, self.of_trait, f"{self.name}_copy_{number}")
 
-    def proof_folders(self, crate):
-        """Returns the folders in the crate's folder that can have the function's proof files."""
-        above = self.owner or self.module.partition("::")[2].rpartition("::")[2] or "proofs"
-        return [it for it in (crate / "proofs").rglob(self.name) if it.is_dir() and it.parent.name == above]
+    def is_called_in(self, text):
+        """Returns whether a text in its module, or in its impl, calls it."""
+        before = rf"\b(?:self\.|Self::|{self.of_type}::)" if self.owner else r"(?<![.:\w])(?<!\bfn )"
+        return bool(re.search(rf"{before}{self.name}\(", text))
 
     def full_name(self, names):
         """Returns the function's name among those that a check printed, or None. A check names a method by its type, in
@@ -124,9 +125,9 @@ class Edit:
         # The other functions that use a constant that it changes. An edit of anything else is tried by itself.
         self.users = self.users_of_constants()
         self.is_alone = self.users is None
-        self.can_be_copied = self.has_one_function()
-        # The number of the copy of its function in which it is made, or None where the function stands.
-        self.copy = None
+        self.can_be_copied = self.fits_a_copy()
+        # The number of the copy of its function in which it is made, if it is made in a copy, and the edit itself.
+        self.copy, self.original = None, self
 
     def __str__(self):
         return f"{self.crate}/{self.path.name}"
@@ -144,17 +145,31 @@ class Edit:
                 raise Unusable(f"{self}: it changes a clause, and so what the proofs are of: {old}")
             yield file, text.index(old), old, new
 
-    def has_one_function(self):
-        """Returns whether it changes only one function, which is no method of a trait, and must break that one."""
-        names = {it and it.short_name() for it in self.functions}
-        return len(names) == 1 and None not in names and not (
-            self.fails or self.functions[0].of_trait or len(self.functions[0].proof_folders(TOP / "crates" / self.crate)) > 1
-        )
+    def fits_a_copy(self):
+        """Returns whether it can be made in a copy of its function: it changes only this one and must break it, and the
+        function has a name of its own, is no method of a trait, and doesn't call itself."""
+        places = list(self.places())
+        spans = {(file, function_span(self.source(file), at, old)) for file, at, old, _ in places}
+        if self.fails or None in self.functions or len(spans) > 1 or self.functions[0].of_trait or not self.proof_path():
+            return False
+        file, at, old, _ = places[0]
+        texts = [function_text(self.source(file), at, old), *(new for *_, new in places)]
+        return not any(map(self.functions[0].is_called_in, texts))
+
+    def source(self, file):
+        """Returns the text of a file of its crate."""
+        return (TOP / "crates" / self.crate / file).read_text(encoding="utf-8")
+
+    def proof_path(self):
+        """Returns the names of the folders below proofs/ that lead to the proof files of its first function, or None if
+        the function's name isn't known."""
+        name = self.functions[0].full_name(functions_of(self.crate))
+        return name and name.split("::")[1:]
 
     def copied(self, number):
         """Returns the edit as it is made in the copy of its function with this number."""
         other = copy.copy(self)
-        other.copy, other.original = number, self
+        other.copy = number
         other.functions = [it.copied(number) for it in self.functions]
         return other
 
@@ -165,7 +180,7 @@ class Edit:
             yield from places
             return
         file, at, old, _ = places[0]
-        text = (TOP / "crates" / self.crate / file).read_text(encoding="utf-8")
+        text = self.source(file)
         start, end = function_span(text, at, old)
         made = replaced(text, places)[start : end + sum(len(new) - len(old) for *_, old, new in places)]
         name = self.functions[0].name
@@ -199,8 +214,8 @@ class Edit:
         return self.fails or [it.short_name() for it in self.functions if it]
 
     def meets(self, other):
-        """Returns whether a function that one edit changes or must break is one of the other's, and not because both can
-        be made in copies of it."""
+        """Returns whether the edits can't share a round: a function that one of them changes or must break is also one of
+        the other's, and not both can be made in copies."""
         if self.can_be_copied and other.can_be_copied:
             return False
         own, others = ({*it.asked(), *(f.short_name() for f in [*it.functions, *it.users] if f)} for it in (self, other))
@@ -253,9 +268,9 @@ def calls_in(text):
 
 
 def function_span(text, at, old):
-    """Returns where the function in whose body the place is begins, with its attributes, and where it ends. They are
-    equal if there is none."""
-    lines = text.splitlines(keepends=True)
+    """Returns where the function in whose body the place is begins, with the comments and attributes above it, and where
+    it ends. They are equal if there is none."""
+    lines = re.findall(r"[^\n]*\n|[^\n]+", text)
     first = last = text[: at + len(old) - len(old.lstrip())].count("\n")
     while first > 0 and not re.match(FN, lines[first]):
         first -= 1
@@ -264,7 +279,7 @@ def function_span(text, at, old):
     indent = lines[first][: len(lines[first]) - len(lines[first].lstrip())]
     while last < len(lines) - 1 and not lines[last].startswith(f"{indent}}}"):
         last += 1
-    while first > 0 and lines[first - 1].lstrip().startswith("#["):
+    while first > 0 and lines[first - 1].lstrip().startswith(("#[", "//")):
         first -= 1
     return len("".join(lines[:first])), len("".join(lines[: last + 1]))
 
@@ -280,7 +295,7 @@ def function_at(crate, file, at, old):
     text = (TOP / "crates" / crate / file).read_text(encoding="utf-8")
     before = text[: at + len(old) - len(old.lstrip())].split("\n")
     line = text.split("\n")[len(before) - 1]
-    function = owner = None
+    function = owner = header = None
     # Goes outwards by lines with less indentation: to the function, and then to its impl or trait.
     left = len(line) - len(line.lstrip()) + 1
     for line in reversed([*before[:-1], line]):
@@ -290,13 +305,15 @@ def function_at(crate, file, at, old):
         left = indent
         if found := re.match(FN, line):
             function = function or found[1]
-        elif found := re.match(r"\s*(?:impl|(?:pub(?:\([a-z]+\))? )?trait)\b(.*)", line):
-            owner = found[1]
+        elif found := re.match(r"\s*(?:pub(?:\([a-z]+\))? )?(impl|trait)\b(.*)", line):
+            owner, header = found[1], found[2]
     if not function:
         return None
-    module, words = module_of(crate, file), words_of(owner or "")
+    module, words = module_of(crate, file), words_of(header or "")
     if "for" in words:
         return Function(module, words[-1], words[words.index("for") - 1], function)
+    if owner == "trait":
+        return Function(module, None, words[0], function)
     return Function(module, words[0] if words else None, None, function)
 
 
@@ -308,21 +325,23 @@ def module_of(crate, file):
 
 @functools.cache
 def functions_of(crate):
-    """Returns the functions of a crate, by the names that a check prints. Those that a macro makes aren't among them, nor
-    the methods of a type if several have its name."""
+    """Returns the functions in the sources of a crate, tests among them, by the names that a check prints. Functions that
+    a macro makes are missing, and so are those that a trait declares, and methods of a type whose name several have."""
     folder = TOP / "crates" / crate
     texts = {str(it.relative_to(folder)): it.read_text(encoding="utf-8") for it in folder.glob("src/**/*.rt")}
     types = defaultdict(list)
     for file, text in texts.items():
-        for found in re.finditer(r"(?m)^(?:pub(?:\([a-z]+\))? )?(?:struct|enum|trait) (\w+)", text):
+        for found in re.finditer(r"(?m)^(?:pub(?:\([a-z]+\))? )?(?:struct|enum) (\w+)", text):
             types[found[1]].append(module_of(crate, file))
     names = set()
     for file, text in texts.items():
         for found in re.finditer(rf"(?m)^{FN}", text):
             function = function_at(crate, file, found.start(), found[0])
-            modules = types[function.of_type] if function.of_type else [function.module]
-            if len(modules) == 1:
-                names.add("::".join([*modules, *[function.owner] * bool(function.owner), function.name]))
+            # A method is named in its type's module, one of a trait's impl in the impl's.
+            is_inherent = function.of_type and not function.of_trait
+            modules = types[function.of_type] if is_inherent else [function.module]
+            if len(modules) == 1 and (function.of_type or not function.of_trait):
+                names.add("::".join(filter(None, [*modules, function.owner, function.name])))
     return sorted(names)
 
 

@@ -311,7 +311,7 @@ def function_at(crate, file, at, old):
         return None
     module, words = module_of(crate, file), words_of(header or "")
     if "for" in words:
-        return Function(module, words[-1], words[words.index("for") - 1], function)
+        return Function(module, words[-1], words[words.index("for") - 1] + parameters_of_trait(header), function)
     if owner == "trait":
         return Function(module, None, words[0], function)
     return Function(module, words[0] if words else None, None, function)
@@ -368,6 +368,13 @@ def users_of(crate, constant):
                 return None
             users.append(function)
     return users
+
+
+def parameters_of_trait(header):
+    """Returns the type parameters of an impl's trait, as a check prints them after the trait's name: `IoError` for
+    `From<io::Error>`."""
+    found = re.search(r"<([^<>]*)> for ", header)
+    return "".join(it[0].upper() + it[1:] for it in re.findall(r"\w+", found[1])) if found else ""
 
 
 def words_of(header):

@@ -427,8 +427,10 @@ module _ {S : Type 0} {h : Inside S} (host : HostInvariant h) (before : PortStat
         length-append h.port.exec.pending (unfetched h),
       )
       none_waits (e ∷ rest) is =
-          let first = ap (λ (ends : List Reply). next_by (slice_get ends 0) h.port.profile h.port.guest
-          h.port.exec.units) is in
+          let none : attention_text h.port ≡ None =
+          ap (λ (p : Profile). attention_by p h.port.guest h.port.exec.units) host.port.strict in
+          let first = ap (λ (t : Option (List ℕ)). next_by t (option_map (end_text h.port) (slice_get h.port.waiting 0)))
+          none ∙ ap (λ (ends : List Reply). option_map (end_text h.port) (slice_get ends 0)) is in
           let free = goes.rest.1.0 (end_text h.port e) first in
           not_both (responses_seen host) free.is_next refl free.not_owned
 

@@ -45,7 +45,7 @@ use Rattle.uda_port.specs.declared.turn_at.Fate.TheVariants.{Usual, FailsInFetch
 use Rattle.uda_port.specs.Ring.{is_owned, RingState, descriptor_address, descriptor_at, next_descriptor, memory_returned, returned_word}
 use Rattle.uda_port.specs.Interrupt.{ring_before, indicator_at, any_flagged, any_owned, memory_with_indicator, IsBelow, word_below, is_ring_transition}
 use Rattle.uda_port.specs.Packet.{HasText, HasPacket, IsPacketAt, DeclaresRoom, HasRoom, packet_put, text_address}
-use Rattle.uda_port.specs.Report.{end_text, attention_text, next_text, next_by}
+use Rattle.uda_port.specs.Report.{end_text, next_text}
 use Rattle.uda_port.specs.Guest.{attention_set}
 use Rattle.uda_port.specs.Port.{PortState, command_indicator, response_indicator, interrupts_after, next_grant, lacks_credit}
 use Rattle.uda_port.specs.Fetch.{Takes, HostOwnsNext}
@@ -57,7 +57,7 @@ use Rattle.uda_port.specs.Turn.{ExecutesFor, TurnEffect, RunningTurn, FetchRule,
 use Rattle.uda_port.specs.MemoryUse.{descriptor_ranges, packet_range, indicator_range, returned_range, NONE_WRITTEN, no_use, has_text, has_room, written_by_fetch, fetch_use, command_use, written_by_delivery, delivery_use, message_use, later_use, next_size, use_without_fetch, use_found, use_running, use_in, use_of, fate_at, fate_in, fate_of, CanFail, EffectBy, EffectWithout, written_by_fate, written_of, Agrees, AgreesInDescriptors, IsLocal, HasSoundRings}
 use Rattle.uda_port.proofs.PortSteps.{reads_no_ring, reads_no_packet}
 use Rattle.uda_port.proofs.RingLaws.{takes_first}
-use Rattle.uda_port.proofs.TurnLaws.{executes_for}
+use Rattle.uda_port.proofs.TurnLaws.{executes_for, attention_first, first_text}
 
 -- ---- what is read
 
@@ -822,19 +822,15 @@ port_delivered old new indicator = record old {
   deliveries = old.deliveries + 1;
 }
 
-first_text : (old new : PortState) (e : Reply) → old.waiting ≡ e ∷ new.waiting
-    → next_text old ≡ Some (end_text old e)
-first_text old new e is =
-    ap (λ (w : List Reply). next_by (slice_get w 0) old.profile old.guest old.exec.units) is
-
 delivered_local : (old : PortState) (memory : List ℕ) (j : ℕ) (new : PortState) (memory_after : List ℕ)
     → old.exec.pending ≡ [] → DeliversOne old memory new memory_after
     → Local old (use_without_fetch old memory j) memory memory_after
     (λ other after. DeliversOne old other new after)
 delivered_local old memory j new memory_after idle x =
     put_local old memory j (next_grant old.deliveries) (end_text old x.end) new.responses memory_after idle
-    (first_text old new x.end x.first) x.puts _ (λ other same there. record {
+    (first_text old x.end x.none_due (ap (λ (w : List Reply). slice_get w 0) x.first)) x.puts _ (λ other same there. record {
       end = x.end;
+      none_due = x.none_due;
       first = x.first;
       puts = there;
       legible = x.legible;
@@ -848,21 +844,15 @@ port_notified old new drive indicator = record old {
   guest = attention_set old.guest drive false;
 }
 
-notice_text : (old : PortState) (text : List ℕ) → old.waiting ≡ [] → attention_text old ≡ Some text
-    → next_text old ≡ Some text
-notice_text old text none message =
-    ap (λ (w : List Reply). next_by (slice_get w 0) old.profile old.guest old.exec.units) none ∙ message
-
 notified_local : (old : PortState) (memory : List ℕ) (j : ℕ) (new : PortState) (memory_after : List ℕ)
     → old.exec.pending ≡ [] → NotifiesOne old memory new memory_after
     → Local old (use_without_fetch old memory j) memory memory_after
     (λ other after. NotifiesOne old other new after)
 notified_local old memory j new memory_after idle x =
     put_local old memory j 0 x.text new.responses memory_after idle
-    (notice_text old x.text x.none_waits x.message) x.puts _ (λ other same there. record {
+    (attention_first old x.text x.message) x.puts _ (λ other same there. record {
       drive = x.drive;
       text = x.text;
-      none_waits = x.none_waits;
       due = x.due;
       message = x.message;
       puts = there;

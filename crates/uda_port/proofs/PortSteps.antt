@@ -5,7 +5,7 @@ use Rattle.std.proofs.lemmas.Bool.{and_from, lt-ltb, true≢false}
 use Rattle.uda_packet.specs.declared.guest_end.Identity.{Identity}
 use Rattle.uda_port.specs.declared.interrupt.Interrupts.{Interrupts}
 use Rattle.uda_port.specs.declared.phase.Fatal.{Fatal}
-use Rattle.uda_port.specs.declared.phase.Fatal.TheVariants.{RingWrite, InitializationError, RingRead, PacketRead, InvalidConnection, CreditsExceeded}
+use Rattle.uda_port.specs.declared.phase.Fatal.TheVariants.{RingWrite, InitializationError, RingRead, PacketRead, PacketWrite, InvalidConnection, CreditsExceeded}
 use Rattle.uda_port.specs.declared.phase.Phase.{Phase}
 use Rattle.uda_port.specs.declared.phase.Phase.TheVariants.{Step1, Step2, Step3, Wrap, PurgeTest, PollTest, Step4, Running, Dead}
 use Rattle.uda_port.specs.declared.port.Port.TheInside.{Inside}
@@ -464,6 +464,10 @@ any_packet_read : (profile : Profile) → has_phase profile (Dead PacketRead) �
 any_packet_read Strict = refl
 any_packet_read (Compatible identity) = refl
 
+any_packet_write : (profile : Profile) → has_phase profile (Dead PacketWrite) ≡ true
+any_packet_write Strict = refl
+any_packet_write (Compatible identity) = refl
+
 any_connection : (profile : Profile) → has_phase profile (Dead InvalidConnection) ≡ true
 any_connection Strict = refl
 any_connection (Compatible identity) = refl
@@ -473,6 +477,9 @@ reads_no_ring profile phase runs = runs_into profile phase RingRead runs refl (a
 
 pub reads_no_packet : (profile : Profile) (phase : Phase) → phase ≡ Running → CanDie profile phase PacketRead
 reads_no_packet profile phase runs = runs_into profile phase PacketRead runs refl (any_packet_read profile)
+
+pub writes_no_packet : (profile : Profile) (phase : Phase) → phase ≡ Running → CanDie profile phase PacketWrite
+writes_no_packet profile phase runs = runs_into profile phase PacketWrite runs refl (any_packet_write profile)
 
 pub finds_no_connection : (profile : Profile) (phase : Phase) → phase ≡ Running
     → CanDie profile phase InvalidConnection

@@ -436,6 +436,7 @@ module _ (k : Counts) (old : PortState) (begun : nat_lt 0 k.deliveries ≡ nat_l
         counts = more;
         leads = record {
           end = d.end;
+          none_due = d.none_due;
           first = d.first;
           puts = subst (λ (n : ℕ). Puts (granted n) old.responses memory
               (end_text old d.end) new.responses memory_after)
@@ -474,7 +475,6 @@ module _ (k : Counts) (old : PortState) (begun : nat_lt 0 k.deliveries ≡ nat_l
     leads = record {
       drive = rule.drive;
       text = rule.text;
-      none_waits = rule.none_waits;
       due = rule.due;
       message = rule.message;
       puts = rule.puts;

@@ -1,7 +1,7 @@
 -- What the definitions that depend on the profile say in the strict profile, which sets no interrupt
 -- indicator.
 use Rattle.std.proofs.Common.{◌≡◌, ℕ, ◌+◌, ◌-◌, ◌*◌, List, [], ◌∷◌, length, None, Err, refl}
-use Rattle.std.specs.Prelude.{◌==◌, ◌&&◌, nat_le, nat_lt, replicate, if◌then◌else◌}
+use Rattle.std.specs.Prelude.{◌==◌, ◌&&◌, nat_le, nat_lt, option_map, replicate, slice_get, if◌then◌else◌}
 use Rattle.uda_mem.specs.Put.{put}
 use Rattle.uda_packet.specs.declared.end.End.{End}
 use Rattle.uda_packet.specs.Bad.{invalid_length_end}
@@ -20,7 +20,7 @@ use Rattle.uda_packet.specs.Guest.{reply_to_bad, asked_as}
 use Rattle.uda_packet.specs.Reply.{basic_reply}
 use Rattle.uda_exec.specs.Disks.{ExecState}
 use Rattle.uda_port.specs.Packet.{DeclaresRoom, HasRoom}
-use Rattle.uda_port.specs.Report.{text_by}
+use Rattle.uda_port.specs.Report.{text_by, attention_text, end_text, next_text}
 use Rattle.uda_port.specs.declared.guest.Guest.{Guest}
 use Rattle.uda_disk.specs.Units.{Units}
 use Rattle.uda_port.specs.Interrupt.{memory_with_indicator}
@@ -91,6 +91,13 @@ module _ (old : PortState) (strict : old.profile ≡ Strict) where
 
   strict_responses : (memory : List ℕ) → response_indicator old memory ≡ None
   strict_responses memory = rw strict refl
+
+  -- no attention message is due, so the next text is that of the first queued end message
+  strict_attention : attention_text old ≡ None
+  strict_attention = rw strict refl
+
+  strict_next : next_text old ≡ option_map (end_text old) (slice_get old.waiting 0)
+  strict_next = rw strict refl
 
 -- without an indicator, memory and interrupts are unchanged
 untold_memory : (memory : List ℕ) → memory_with_indicator memory None ≡ memory

@@ -26,7 +26,7 @@ traces_from old other new (Aborted e) exec waiting it =
     (it.0, it.1 ∙ ap (λ (w : List Reply). w ++ it.0 ∷ e ∷ []) waiting)
 traces_from old other new (Executed e) exec waiting it = it ∙ ap (λ (w : List Reply). w ++ e ∷ []) waiting
 traces_from old other new (Delivered e) exec waiting it = sym waiting ∙ it
-traces_from old other new Notified exec waiting it = sym waiting ∙ it
+traces_from old other new Notified exec waiting it = it ∙ waiting
 traces_from old other new Idle exec waiting it = tt
 traces_from old other new (Dead cause) exec waiting it = it
 

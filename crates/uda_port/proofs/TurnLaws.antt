@@ -1,6 +1,6 @@
 -- The effect of a turn from the effects of its rules.
-use Rattle.std.proofs.Common.{◌≡◌, ℕ, zero, suc, Bool, true, false, List, [], ◌∷◌, length, None, refl, sym, ap, ◌∙◌, subst}
-use Rattle.std.specs.Prelude.{slice_get, remove, Result, Ok, Err, ◌==◌, ◌&&◌, not, if◌then◌else◌}
+use Rattle.std.proofs.Common.{◌≡◌, ℕ, zero, suc, Bool, true, false, List, [], ◌∷◌, length, Option, Some, None, refl, sym, ap, ◌∙◌, subst}
+use Rattle.std.specs.Prelude.{slice_get, option_map, remove, Result, Ok, Err, ◌==◌, ◌&&◌, not, if◌then◌else◌}
 use Rattle.uda_packet.specs.Bad.{invalid_length_end}
 use Rattle.uda_packet.specs.Guest.{asked_as, reply_to_bad}
 use Rattle.uda_packet.specs.Reading.{read_command}
@@ -21,6 +21,7 @@ use Rattle.uda_port.specs.declared.phase.Fatal.{Fatal}
 use Rattle.uda_port.specs.declared.turn.Turn.{Turn}
 use Rattle.uda_port.specs.declared.turn.Turn.TheVariants.{Fetched, Executed, Delivered, Notified, Idle, Dead}
 use Rattle.uda_port.specs.Port.{PortState, lacks_credit}
+use Rattle.uda_port.specs.Report.{attention_text, end_text, next_by, next_text}
 use Rattle.uda_port.specs.Turn.{port_turn_on, GoesOn, InRest, FirstRuleEffect, RunningTurn, ExecutesFor, ExecutesStrictly}
 
 pub running_turn : (old : PortState) (memory : List ℕ) (turn : Turn) (new : PortState) (memory_after : List ℕ)
@@ -43,6 +44,24 @@ goes_on old memory (Ok Notified) new memory_after goes = goes
 goes_on old memory (Ok Idle) new memory_after goes = goes
 goes_on old memory (Ok Dead) new memory_after goes = goes
 goes_on old memory (Err cause) new memory_after goes = InRest goes
+
+-- the next text is that of an attention message that is due, or else of the first queued end message
+pub attention_first : (port : PortState) (text : List ℕ) → attention_text port ≡ Some text
+    → next_text port ≡ Some text
+attention_first port text due =
+    ap (λ (t : Option (List ℕ)). next_by t (option_map (end_text port) (slice_get port.waiting 0))) due
+
+pub first_text : (port : PortState) (e : Reply) → attention_text port ≡ None → slice_get port.waiting 0 ≡ Some e
+    → next_text port ≡ Some (end_text port e)
+first_text port e none is =
+    ap (λ (t : Option (List ℕ)). next_by t (option_map (end_text port) (slice_get port.waiting 0))) none
+    ∙ ap (option_map (end_text port)) is
+
+pub no_text : (port : PortState) → attention_text port ≡ None → slice_get port.waiting 0 ≡ None
+    → next_text port ≡ None
+no_text port none is =
+    ap (λ (t : Option (List ℕ)). next_by t (option_map (end_text port) (slice_get port.waiting 0))) none
+    ∙ ap (option_map (end_text port)) is
 
 -- a list without a first member is empty
 pub none_first : {A : Type 0} (xs : List A) → slice_get xs 0 ≡ None → xs ≡ []

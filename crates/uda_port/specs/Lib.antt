@@ -14,6 +14,7 @@ pub mod Startup
 pub mod StartupUse
 pub mod Trace
 pub mod Turn
+pub mod Attention
 pub mod MemoryUse
 pub mod Events
 pub mod Display

@@ -58,10 +58,10 @@ end_text port e = text_by port.profile port.guest port.exec.units e
 abbrev pub attention_text : PortState → Option (List ℕ)
 attention_text port = attention_by port.profile port.guest port.exec.units
 
--- the next text to deliver: that of the first queued end message, or else of an attention message
-abbrev pub next_by : Option Reply → Profile → Guest → Units → Option (List ℕ)
-next_by (Some e) profile guest units = Some (text_by profile guest units e)
-next_by None profile guest units = attention_by profile guest units
+-- the next text to deliver: that of an attention message that is due, or else of the first queued end message
+abbrev pub next_by : Option (List ℕ) → Option (List ℕ) → Option (List ℕ)
+next_by (Some attention) end = Some attention
+next_by None end = end
 
 abbrev pub next_text : PortState → Option (List ℕ)
-next_text port = next_by (slice_get port.waiting 0) port.profile port.guest port.exec.units
+next_text port = next_by (attention_text port) (option_map (end_text port) (slice_get port.waiting 0))

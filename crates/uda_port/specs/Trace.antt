@@ -62,7 +62,7 @@ Traces (Answered end) old new = IsAtOnce end.body × (new.waiting ≡ old.waitin
 Traces (Aborted end) old new = (taken : Reply) × (new.waiting ≡ old.waiting ++ taken ∷ end ∷ [])
 Traces (Executed end) old new = new.waiting ≡ old.waiting ++ end ∷ []
 Traces (Delivered end) old new = old.waiting ≡ end ∷ new.waiting
-Traces Notified old new = old.waiting ≡ []
+Traces Notified old new = new.waiting ≡ old.waiting
 Traces Idle old new = Unit
 Traces (Dead cause) old new = new.phase ≡ DeadPhase cause
 

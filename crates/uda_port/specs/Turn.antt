@@ -1,7 +1,7 @@
 -- The complete effect of a turn: the first of its rules that fits.
 -- UDA50 Programmer's Documentation Kit: command ring polling, message envelopes, credits, fatal errors.
 use Rattle.std.specs.Prelude.{◌≡◌, ℕ, ◌+◌, ◌-◌, ◌<◌, Bool, true, false, ◌&&◌, ◌||◌, not, List, [], ◌∷◌, ◌++◌, length}
-use Rattle.std.specs.Prelude.{Some, Result, Ok, Err}
+use Rattle.std.specs.Prelude.{Some, None, Result, Ok, Err}
 use Rattle.uda_packet.specs.declared.guest_command.GuestCommand.{GuestCommand}
 use Rattle.uda_packet.specs.declared.end.End.{End}
 use Rattle.uda_packet.specs.declared.reply.Reply.{Reply}
@@ -169,7 +169,8 @@ ExecuteRule old memory true new memory_after = (j : ℕ) × ExecutesOne j old me
 ExecuteRule old memory false new memory_after =
     (old.exec.pending ≡ []) × Unchanged old memory new memory_after
 
--- ---- rule 3: the first queued end message is delivered, and a port whose host had no credit polls again
+-- ---- rule 3: if no attention message is due, the first queued end message is delivered, and a port whose host had
+-- ---- no credit polls again
 
 -- the settings of the delivery of an end message
 abbrev pub delivery_of : PortState → List ℕ → Delivery
@@ -182,6 +183,7 @@ delivery_of port memory = record {
 pub record DeliversOne (old : PortState) (memory : List ℕ) (new : PortState)
     (memory_after : List ℕ) : Type 0 where
   pub end : Reply
+  pub none_due : attention_text old ≡ None
   pub first : old.waiting ≡ end ∷ new.waiting
   pub puts :
       Puts (delivery_of old memory) old.responses memory (end_text old end) new.responses memory_after
@@ -222,7 +224,7 @@ DeliverRule old memory (Err PacketWrite) new memory_after =
     ResponseUnwritable old memory × Unchanged old memory new memory_after
 DeliverRule old memory (Err _) new memory_after = ⊥
 
--- ---- rule 3 without a queued end message: an attention message is delivered
+-- ---- rule 3 if an attention message is due: it is delivered before the queued end messages
 
 -- the settings of its delivery: no credits
 abbrev pub notice_of : PortState → List ℕ → Delivery
@@ -232,7 +234,6 @@ pub record NotifiesOne (old : PortState) (memory : List ℕ) (new : PortState)
     (memory_after : List ℕ) : Type 0 where
   pub drive : ℕ
   pub text : List ℕ
-  pub none_waits : old.waiting ≡ []
   pub due : first_due old.guest.attentions ≡ Some drive
   pub message : attention_text old ≡ Some text
   pub puts : Puts (notice_of old memory) old.responses memory text new.responses memory_after

@@ -6,6 +6,7 @@
 mod alloc_error;
 mod area;
 mod at_once;
+mod attention;
 mod block_use;
 mod descriptor;
 mod drives;
@@ -30,6 +31,7 @@ mod turn;
 mod turn_at;
 
 pub use alloc_error::PortAllocError;
+pub use attention::attention_arrives;
 pub use descriptor::Descriptor;
 pub use guest::Guest;
 pub use interrupt::Interrupts;

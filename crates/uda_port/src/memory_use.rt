@@ -200,9 +200,9 @@ impl<S: BlockStore> Port<S> {
         ensures size { result ≡ next_size self.now }
         ensures short { IfSome result (λ n. n ≤ 48) }
     {
-        match self.waiting.front() {
-            Some(end) => Some(self.end_text(end).size),
-            None => Some(self.notice()?.message.size),
+        match self.notice() {
+            Some(notice) => Some(notice.message.size),
+            None => Some(self.end_text(self.waiting.front()?).size),
         }
     }
 

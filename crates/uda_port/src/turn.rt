@@ -13,6 +13,8 @@ ghost use Rattle.uda_port.specs.Interrupt.{IsBelow};
 ghost use Rattle.uda_port.specs.Turn.{FetchRule, ExecutesOne, ExecuteRule, DeliverRule, NotifyRule, LaterRulesEffect, FirstRuleEffect, RunningTurn};
 ghost use Rattle.uda_port.specs.Turn.{TurnEffect, delivery_of, may_fetch, port_turn_on, port_not_polling};
 ghost use Rattle.uda_port.specs.MemoryUse.{IsChoice, ExecutesChosen};
+ghost use Rattle.uda_port.specs.Attention.{MayNotify, goes_before_ends, turns_to_notify, ComesNearer};
+ghost use Rattle.uda_port.specs.Attention.{MOST_TURNS_TO_NOTIFY};
 ghost use Rattle.uda_port.specs.Trace.{Reports, ReportsIf};
 ghost use Rattle.uda_port.specs.declared.turn.Turn.TheVariants.{Fetched, Executed, Idle as IdleTurn};
 ghost use Rattle.uda_port.specs.declared.trace.Trace.TheVariants.{Idle, Dead as TraceDead};
@@ -102,7 +104,7 @@ impl<S: BlockStore> Port<S> {
     ///   indicator is 4 bytes below the ring base, the response indicator 2 bytes. The port also raises an
     ///   interrupt request ([`take_interrupt`](Port::take_interrupt)).
     /// - While the host has no credit, it doesn't fetch. After the next delivery it polls again.
-    /// - If no end message is queued, it delivers an attention message that is due.
+    /// - In rule 3 it delivers an attention message that is due before the queued end messages.
     ///
     /// A port in initialization returns [`Turn::Idle`], and a dead one [`Turn::Dead`]. Neither changes
     /// anything.
@@ -111,6 +113,8 @@ impl<S: BlockStore> Port<S> {
     #[tactic(auto, using(crate::proofs::Length::wholes))]
     pub fn turn(&mut self, memory: &mut HostMemory) -> Turn
         ensures effect { TurnEffect self.old.phase self.old memory.old result self.new memory.new }
+        ensures attention { MayNotify self.old memory.old → goes_before_ends result ≡ true }
+        ensures attention_nearer { MayNotify self.old memory.old → ComesNearer self.old result self.new }
         ensures credits { CreditsAgree self.new }
         ensures four_units { length self.new.exec.units ≡ 4 }
         ensures well_formed { AreWellFormed self.new.exec.units }
@@ -124,6 +128,8 @@ impl<S: BlockStore> Port<S> {
     pub fn turn_in(&mut self, memory: &mut [u8]) -> Turn
         requires memory { IsMemory memory.old }
         ensures effect { TurnEffect self.old.phase self.old memory.old result self.new memory.new }
+        ensures attention { MayNotify self.old memory.old → goes_before_ends result ≡ true }
+        ensures attention_nearer { MayNotify self.old memory.old → ComesNearer self.old result self.new }
         ensures credits { CreditsAgree self.new }
         ensures four_units { length self.new.exec.units ≡ 4 }
         ensures well_formed { AreWellFormed self.new.exec.units }
@@ -135,9 +141,11 @@ impl<S: BlockStore> Port<S> {
     }
 
     /// States the invariant of every port: it has four units, each of them well formed, its credits are
-    /// consistent, and [`restore`](Port::restore) accepts its state.
+    /// consistent, and [`restore`](Port::restore) accepts its state. At most 34 turns with a free response descriptor
+    /// go by until no attention message is due ([`attention_arrives`](crate::attention_arrives)).
     pub fn keep(&self)
         ensures credits { CreditsAgree self.now }
+        ensures attention { turns_to_notify self.now ≤ MOST_TURNS_TO_NOTIFY }
         ensures possible { HasPossibleState self.now }
         ensures four_units { length self.now.exec.units ≡ 4 }
         ensures well_formed { AreWellFormed self.now.exec.units }
@@ -245,8 +253,8 @@ impl<S: BlockStore> Port<S> {
         if self.execute(memory, choice, trace) {
             return Ok(Turn::Executed);
         }
-        let Some(end) = self.waiting.front().copied() else {
-            return match self.notify(memory) {
+        if let Some(notice) = self.notice() {
+            return match self.notify(memory, &notice) {
                 Err(cause) => Err(cause),
                 Ok(true) => {
                     *trace = Trace::Notified;
@@ -254,6 +262,9 @@ impl<S: BlockStore> Port<S> {
                 }
                 Ok(false) => Ok(idle(trace)),
             };
+        }
+        let Some(end) = self.waiting.front().copied() else {
+            return Ok(idle(trace));
         };
         match self.deliver(memory, end) {
             Err(cause) => Err(cause),
@@ -388,10 +399,11 @@ impl<S: BlockStore> Port<S> {
         *trace = Trace::Executed(end);
     }
 
-    // Applies the third rule: delivers the first queued end message, if the port owns the next response
-    // descriptor.
+    // Applies the third rule if no attention message is due: delivers the first queued end message, if the port owns
+    // the next response descriptor.
     fn deliver(&mut self, memory: &mut [u8], end: Reply) -> Result<bool, Fatal>
         requires memory { IsMemory memory.old }
+        requires none_due { attention_text self.old ≡ None }
         requires first { slice_get self.old.waiting 0 ≡ Some end }
         requires running { self.old.phase ≡ Running }
         ensures effect { DeliverRule self.old memory.old result self.new memory.new }
@@ -425,19 +437,19 @@ impl<S: BlockStore> Port<S> {
         self.lacks_credit() || self.polling
     }
 
-    // Delivers the first attention message that is due, if no end message is queued and the port owns the
-    // next response descriptor. That is rare, so the function isn't inlined.
+    // Applies the third rule if an attention message is due: delivers it, if the port owns the next response
+    // descriptor. That is rare, so the function isn't inlined.
     #[inline(never)]
-    fn notify(&mut self, memory: &mut [u8]) -> Result<bool, Fatal>
+    fn notify(&mut self, memory: &mut [u8], notice: &Notice) -> Result<bool, Fatal>
         requires memory { IsMemory memory.old }
-        requires none { self.old.waiting ≡ [] }
+        requires text { attention_text self.old ≡ Some (take notice.now.message.size notice.now.message.text) }
+        requires due { first_due self.old.guest.attentions ≡ Some notice.now.drive }
+        requires within { notice.now.message.size ≤ 48 }
+        requires guests { self.old.profile ≢ Strict }
         requires running { self.old.phase ≡ Running }
         ensures effect { NotifyRule self.old memory.old result self.new memory.new }
         ensures cause { IfErr result (λ cause. CanDie self.new.profile self.new.phase cause) }
     {
-        let Some(notice) = self.notice() else {
-            return Ok(false);
-        };
         let descriptor = match self.responses.next(memory) {
             NextDescriptor::OwnedByPort(descriptor) => descriptor,
             NextDescriptor::OwnedByHost => return Ok(false),
@@ -447,8 +459,7 @@ impl<S: BlockStore> Port<S> {
             credits: 0,
             ..self.delivery(memory, descriptor)
         };
-        let message = &notice.message;
-        if !put_message(&mut self.responses, memory, descriptor, delivery, message) {
+        if !put_message(&mut self.responses, memory, descriptor, delivery, &notice.message) {
             return Err(Fatal::PacketWrite);
         }
         self.guest.set_attention(usize::from(notice.drive), false);

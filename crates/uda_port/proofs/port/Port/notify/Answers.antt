@@ -1,13 +1,14 @@
 use Rattle.std.proofs.Common.{rules, take, refl, arith}
 use Rattle.uda_port.proofs.PossibleLaws.{by_indicator, rings_move, no_rest, unset_by_set}
-use Rattle.uda_port.proofs.PortSteps.{reads_no_ring}
+use Rattle.uda_port.proofs.TurnLaws.{attention_first}
+use Rattle.uda_port.proofs.PortSteps.{reads_no_ring, writes_no_packet}
 use Rattle.uda_port.proofs.port.Port.notify.Goals as goal
 
 pub returns-in-OutsideMemory-clause-effect : goal.returns-in-OutsideMemory-clause-effect
 returns-in-OutsideMemory-clause-effect g c = (
   record {
-    text = take c.in-Some.notice.message.size c.in-Some.notice.message.text;
-    is_next = search rules;
+    text = take c.args.notice.now.message.size c.args.notice.now.message.text;
+    is_next = attention_first c.args.self.now _ c.requires.text;
     no_descriptor = search rules;
   },
   search rules,
@@ -58,3 +59,7 @@ invariant_of-self-2 g c = record {
 
 pub returns-in-OutsideMemory-clause-cause : goal.returns-in-OutsideMemory-clause-cause
 returns-in-OutsideMemory-clause-cause g c = reads_no_ring _ _ c.requires.running
+
+pub returns-then-not-put_message-clause-cause : goal.returns-then-not-put_message-clause-cause
+returns-then-not-put_message-clause-cause g c =
+    writes_no_packet c.self.inside.profile c.self.inside.phase (rw (← c.self.view_is) at c.requires.running)

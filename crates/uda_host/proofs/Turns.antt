@@ -1,6 +1,6 @@
 -- The effect of a port's turn on its host.
 use Rattle.std.proofs.Common.{◌≡◌, ℕ, zero, suc, ◌^◌, ◌+◌, ◌-◌, ◌/◌, ◌%◌, ◌<◌, ◌≤◌, Bool, true, false, List, [], ◌∷◌, ◌++◌, length, drop, Option, Some, None, refl, sym, ap, ap₂, ◌∙◌, arith, subst, length-append}
-use Rattle.std.specs.Prelude.{Result, Ok, Err, slice_get, remove, nat_eq, ◌&&◌, ◌||◌, not, map, All, if◌then◌else◌}
+use Rattle.std.specs.Prelude.{Result, Ok, Err, option_map, slice_get, remove, nat_eq, ◌&&◌, ◌||◌, not, map, All, if◌then◌else◌}
 use Rattle.std.proofs.Math.Seq.{get_or-append_seam}
 use Rattle.std.proofs.lemmas.Bool.{le-leb, lt-leb}
 use Rattle.std.proofs.lemmas.List.{append-nil, append_assoc, length_push, length-drop, drop-drop, map-append, length-map}
@@ -27,7 +27,7 @@ use Rattle.uda_port.specs.declared.phase.Fatal.{Fatal}
 use Rattle.uda_port.specs.declared.phase.Fatal.TheVariants.{PacketRead, PacketWrite, RingRead, CreditsExceeded, InvalidConnection}
 use Rattle.uda_port.specs.Ring.{is_owned, address_of, returned_word, RingState, descriptor_address, next_descriptor, ring_advanced}
 use Rattle.uda_port.specs.Packet.{HasRoom, text_address}
-use Rattle.uda_port.specs.Report.{end_text, text_by, attention_by, next_by}
+use Rattle.uda_port.specs.Report.{end_text, text_by, attention_by, attention_text, next_by}
 use Rattle.uda_port.specs.Fetch.{Takes}
 use Rattle.uda_port.specs.Delivery.{Puts}
 use Rattle.uda_packet.specs.declared.reply.Reply.{Reply}

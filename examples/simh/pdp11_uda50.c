@@ -110,12 +110,13 @@ static struct {
 /* Events of the simulator before a step of the start-up and before the last one, as RQ has them. */
 static int32 rq_itime = 200, rq_itime4 = 10;
 
-/* Events of the simulator between turns, and after one that executed a command, as RQ has them; how many turns an
-   event has. */
+/* Events of the simulator between an event and the next one, and after an event whose last turn executed a command, as
+   RQ has them; how many turns an event has. A command takes three, so with four the commands of three busy units take
+   about the time that they take with RQ. */
 #if defined(VM_VAX)
-static int32 rq_qtime = 100, rq_xtime = 200, rq_turns = 1;
+static int32 rq_qtime = 100, rq_xtime = 200, rq_turns = 4;
 #else
-static int32 rq_qtime = 200, rq_xtime = 500, rq_turns = 1;
+static int32 rq_qtime = 200, rq_xtime = 500, rq_turns = 4;
 #endif
 
 #if defined(VM_VAX)
@@ -472,7 +473,7 @@ static uint32 tell_file(UNIT *unit)
     uint32 number = number_of(unit);
 
     if (is_called(unit))
-        return uda50_attach_called(&it->uda, number, (uint32)(unit->capac / BLOCK), is_locked(unit));
+        return uda50_attach_called(&it->uda, number, unit->capac / BLOCK, is_locked(unit));
     return unit->flags & UNIT_ATT ? uda50_file_attach(&it->uda, number, &it->files[number]) : UDA50_OK;
 }
 

@@ -10,7 +10,7 @@ INSTRUCTIONS = {
     "bsbb": (0x10, "B"), "brb": (0x11, "B"), "bneq": (0x12, "B"), "beql": (0x13, "B"), "bgeq": (0x18, "B"),
     "blss": (0x19, "B"), "bsbw": (0x30, "W"), "brw": (0x31, "W"), "bbc": (0xE1, "lbB"), "sobgtr": (0xF5, "lB"),
     "ashl": (0x78, "bll"), "rotl": (0x9C, "bll"), "extzv": (0xEF, "lbbl"),
-    "movzbl": (0x9A, "bl"), "movab": (0x9E, "bl"), "cmpw": (0xB1, "ww"), "movw": (0xB0, "ww"), "bitw": (0xB3, "ww"),
+    "movzbl": (0x9A, "bl"), "movzwl": (0x3C, "wl"), "movab": (0x9E, "bl"), "cmpw": (0xB1, "ww"), "movw": (0xB0, "ww"), "bitw": (0xB3, "ww"),
     "clrw": (0xB4, "w"), "tstw": (0xB5, "w"), "addw2": (0xA0, "ww"), "addl2": (0xC0, "ll"), "bisl2": (0xC8, "ll"),
     "movl": (0xD0, "ll"), "cmpl": (0xD1, "ll"), "clrl": (0xD4, "l"), "tstl": (0xD5, "l"), "incl": (0xD6, "l"),
     "decl": (0xD7, "l"), "mtpr": (0xDA, "ll"), "mfpr": (0xDB, "ll"),

@@ -7,7 +7,7 @@ use Rattle.uda_disk.proofs.Slots.{slice_get-set_same, slice_get-set_other}
 use Rattle.uda_disk.specs.declared.mode.Mode.{Mode}
 use Rattle.uda_disk.specs.Units.{UnitState, Units, FixedAttributes, attributes_of, unit_attributes}
 use Rattle.uda_exec.specs.declared.drive_unit.UnitInfo.{UnitInfo}
-use Rattle.uda_exec.specs.Drives.{DriveState, fresh_unit, reset_unit, info_of, info_at}
+use Rattle.uda_exec.specs.Drives.{DriveState, drive_in, fresh_unit, reset_unit, info_of, info_at}
 use Rattle.uda_exec.specs.Saved.{unit_fits as unit_fits_image, units_fit, infos_of, units_restored, has_commands}
 use Rattle.uda_packet.specs.declared.drive_type.DriveType.{DriveType}
 use Rattle.uda_packet.specs.declared.drive_type.DriveType.TheVariants.{Ra81}
@@ -33,7 +33,7 @@ use Rattle.uda_port.specs.declared.saved.Saved.{Saved}
 use Rattle.uda_port.specs.declared.saved.RestoreError.{RestoreError}
 use Rattle.uda_port.specs.Saved.{RestoreEffect, saved_port}
 use Rattle.uda_port.specs.Startup.{has_bit, after_wrap_request, area_of, has_area, refuses_second, refuses_third, asks_test, after_sa_write, failed_port}
-use Rattle.uda_port.specs.Turn.{port_turn_on, port_with_message, port_not_polling, may_fetch, ExecutesOne, TurnEffect, RunningTurn, GoesOn, Fails, InFetch, InRest, FetchRule}
+use Rattle.uda_port.specs.Turn.{port_turn_on, port_with_message, port_not_polling, may_fetch, ExecutesOne, ExecutesFor, FetchesOne, TurnEffect, RunningTurn, GoesOn, Fails, InFetch, InRest, FetchRule}
 use Rattle.uda_port.specs.declared.memory_use.Access.{Access}
 use Rattle.uda_port.specs.declared.memory_use.Missing.{Missing}
 use Rattle.uda_port.specs.declared.turn_at.Fate.{Fate}
@@ -44,11 +44,37 @@ use Rattle.uda_port.proofs.MemoryUseLaws.{fate_fails}
 use Rattle.uda_c.specs.ControllerState.{ControllerState}
 use Rattle.uda_c.specs.Controllers.{controller_at_start, unit_with, with_store}
 use Rattle.uda_image.specs.Store.{StoreState}
-use Rattle.uda_c.specs.Fits.{UnitNotice, unit_fits, notice_of, fits_at, is_as_attached, FitsController, numbers_fit, fits_in, fits_controller}
+use Rattle.uda_c.specs.Fits.{UnitNotice, unit_fits, notice_of, fits_at, is_as_attached, can_rest, image_fits, FitsController, numbers_fit, fits_in, fits_controller}
 use Rattle.uda_c.proofs.FaithfulUnits.{turn_natures, effect_natures}
+use Rattle.uda_c.proofs.ModeSteps.{online_at, rests_at, online_steps, rest_steps}
+use Rattle.uda_port.proofs.TurnBlockChanges.{units_with}
 
 abbrev AllFit : PortState → Type 0
 AllFit port = (u : ℕ) → u < 4 → fits_at port u ≡ true
+
+-- what holds of a unit with an image
+record Fits (profile : Profile) (phase : Phase) (n : UnitNotice) (mode : Mode) : Type 0 where
+  hard : (not (read_only_by profile (Some n.kind)) || mode.hard) ≡ true
+  run : (has_run phase || is_as_attached mode) ≡ true
+  told : not (mode.online && n.due) ≡ true
+  rests : can_rest profile mode ≡ true
+
+parts_of : (profile : Profile) (phase : Phase) (n : UnitNotice) (info : UnitInfo)
+    → image_fits profile phase n info ≡ true → Fits profile phase n info.mode
+unfolding image_fits
+parts_of profile phase n info is =
+    let hard = and_parts (not (read_only_by profile (Some n.kind)) || info.mode.hard) _ is in
+    let run = and_parts (has_run phase || is_as_attached info.mode) _ hard.1 in
+    let told = and_parts (not (info.mode.online && n.due)) (can_rest profile info.mode) run.1 in
+    record { hard = hard.0; run = run.0; told = told.0; rests = told.1 }
+
+fits_of : (profile : Profile) (phase : Phase) (n : UnitNotice) (info : UnitInfo) → Fits profile phase n info.mode
+    → image_fits profile phase n info ≡ true
+unfolding image_fits
+fits_of profile phase n info fits =
+    and_from (not (read_only_by profile (Some n.kind)) || info.mode.hard) _ fits.hard
+    (and_from (has_run phase || is_as_attached info.mode) _ fits.run
+    (and_from (not (info.mode.online && n.due)) (can_rest profile info.mode) fits.told fits.rests))
 
 -- ---- attention messages
 
@@ -83,6 +109,24 @@ none_at_start (suc (suc (suc (suc u)))) = refl
 
 -- ---- a turn
 
+-- a unit that is online while an attention message is due for it was online before
+abbrev OnlineBefore : PortState → PortState → Type 0
+OnlineBefore old new =
+    (u : ℕ) → is_due new.guest.attentions u ≡ true → online_at (slice_get new.exec.units u) ≡ true
+    → online_at (slice_get old.exec.units u) ≡ true
+
+-- in the strict profile no available unit becomes software-protected
+abbrev RestsAfter : PortState → PortState → Type 0
+RestsAfter old new =
+    old.profile ≡ Strict → (u : ℕ) → rests_at (slice_get old.exec.units u) ≡ true
+    → rests_at (slice_get new.exec.units u) ≡ true
+
+same_online : (old new : PortState) → new.exec.units ≡ old.exec.units → OnlineBefore old new
+same_online old new same u due is = sym (ap (λ (us : Units). online_at (slice_get us u)) same) ∙ is
+
+same_rests : (old new : PortState) → new.exec.units ≡ old.exec.units → RestsAfter old new
+same_rests old new same strict u is = ap (λ (us : Units). rests_at (slice_get us u)) same ∙ is
+
 -- a port that has run has the same units, but their modes, and no more attention messages are due
 record Keeps (old new : PortState) : Type 0 where
   profile : new.profile ≡ old.profile
@@ -90,6 +134,8 @@ record Keeps (old new : PortState) : Type 0 where
   less : IsLess new.guest.attentions old.guest.attentions
   attributes : unit_attributes new.exec.units ≡ unit_attributes old.exec.units
   run : has_run new.phase ≡ true
+  online : OnlineBefore old new
+  rests : RestsAfter old new
 
 not_due : (old new : Bool) → (new ≡ true → old ≡ true) → not old ≡ true → not new ≡ true
 not_due old true less none = absurd (true≢false (sym none ∙ ap not (less refl)))
@@ -106,25 +152,54 @@ abbrev is_there : Option (Option FixedAttributes) → Bool
 is_there (Some (Some attributes)) = true
 is_there _ = false
 
+kept_told : (x due y new : Bool) → (new ≡ true → due ≡ true) → (new ≡ true → y ≡ true → x ≡ true)
+    → not (x && due) ≡ true → not (y && new) ≡ true
+kept_told x due false new less before is = refl
+kept_told x due true false less before is = refl
+kept_told x due true true less before is =
+    let no : not (true && true) ≡ true = subst (λ (b : Bool). not (b && true) ≡ true) (before refl refl)
+    (subst (λ (b : Bool). not (x && b) ≡ true) (less refl) is) in
+    absurd (true≢false (sym no))
+
+kept_rests : (profile : Profile) (x y : Mode)
+    → (profile ≡ Strict → can_rest Strict x ≡ true → can_rest Strict y ≡ true) → can_rest profile x ≡ true
+    → can_rest profile y ≡ true
+kept_rests Strict x y rests is = rests refl is
+kept_rests (Compatible identity) x y rests is = refl
+
+-- what a step keeps of one unit
+record KeepsUnit (profile : Profile) (next : Phase) (n m : UnitNotice) (a b : Option (Option UnitState)) : Type 0 where
+  kind : m.kind ≡ n.kind
+  less : m.due ≡ true → n.due ≡ true
+  same : attributes_at b ≡ attributes_at a
+  run : has_run next ≡ true
+  online : m.due ≡ true → online_at b ≡ true → online_at a ≡ true
+  rests : profile ≡ Strict → rests_at a ≡ true → rests_at b ≡ true
+
 kept_at : (profile : Profile) (phase next : Phase) (n m : UnitNotice) (a b : Option (Option UnitState))
-    → m.kind ≡ n.kind → (m.due ≡ true → n.due ≡ true) → attributes_at b ≡ attributes_at a → has_run next ≡ true
-    → unit_fits profile phase n (info_at a) ≡ true → unit_fits profile next m (info_at b) ≡ true
-kept_at profile phase next n m (Some (Some x)) (Some (Some y)) kind less same run is =
-    let parts = and_parts (not (read_only_by profile (Some n.kind)) || x.mode.hard) _ is in
-    let hard : y.mode.hard ≡ x.mode.hard = ap hard_at same in
-    and_from _ _ (rw (kind, hard) parts.0) (or_left (has_run next) (is_as_attached y.mode) run)
-kept_at profile phase next n m (Some (Some x)) (Some None) kind less same run is =
-    absurd (true≢false (sym (ap is_there same)))
-kept_at profile phase next n m (Some (Some x)) None kind less same run is =
-    absurd (true≢false (sym (ap is_there same)))
-kept_at profile phase next n m (Some None) (Some (Some y)) kind less same run is =
-    absurd (true≢false (ap is_there same))
-kept_at profile phase next n m None (Some (Some y)) kind less same run is =
-    absurd (true≢false (ap is_there same))
-kept_at profile phase next n m (Some None) (Some None) kind less same run is = not_due n.due m.due less is
-kept_at profile phase next n m (Some None) None kind less same run is = not_due n.due m.due less is
-kept_at profile phase next n m None (Some None) kind less same run is = not_due n.due m.due less is
-kept_at profile phase next n m None None kind less same run is = not_due n.due m.due less is
+    → KeepsUnit profile next n m a b → unit_fits profile phase n (info_at a) ≡ true
+    → unit_fits profile next m (info_at b) ≡ true
+kept_at profile phase next n m (Some (Some x)) (Some (Some y)) k is =
+    let parts = parts_of profile phase n (info_of x) is in
+    let hard : y.mode.hard ≡ x.mode.hard = ap hard_at k.same in
+    fits_of profile next m (info_of y) (record {
+      hard = rw (k.kind, hard) parts.hard;
+      run = or_left (has_run next) (is_as_attached y.mode) k.run;
+      told = kept_told x.mode.online n.due y.mode.online m.due k.less k.online parts.told;
+      rests = kept_rests profile x.mode y.mode k.rests parts.rests;
+    })
+kept_at profile phase next n m (Some (Some x)) (Some None) k is =
+    absurd (true≢false (sym (ap is_there k.same)))
+kept_at profile phase next n m (Some (Some x)) None k is =
+    absurd (true≢false (sym (ap is_there k.same)))
+kept_at profile phase next n m (Some None) (Some (Some y)) k is =
+    absurd (true≢false (ap is_there k.same))
+kept_at profile phase next n m None (Some (Some y)) k is =
+    absurd (true≢false (ap is_there k.same))
+kept_at profile phase next n m (Some None) (Some None) k is = not_due n.due m.due k.less is
+kept_at profile phase next n m (Some None) None k is = not_due n.due m.due k.less is
+kept_at profile phase next n m None (Some None) k is = not_due n.due m.due k.less is
+kept_at profile phase next n m None None k is = not_due n.due m.due k.less is
 
 attributes_of_slot : (units : Units) (u : ℕ)
     → attributes_at (slice_get units u) ≡ slice_get (unit_attributes units) u
@@ -140,7 +215,14 @@ kept_fits old new keeps all u less =
     (info_at (slice_get new.exec.units u)) ≡ true) (sym keeps.profile)
     (kept_at old.profile old.phase new.phase (notice_of old.guest.types old.guest.attentions u)
     (notice_of new.guest.types new.guest.attentions u) (slice_get old.exec.units u) (slice_get new.exec.units u)
-    kind (keeps.less u) same keeps.run (all u less))
+    (record {
+      kind = kind;
+      less = keeps.less u;
+      same = same;
+      run = keeps.run;
+      online = keeps.online u;
+      rests = λ strict. keeps.rests strict u;
+    }) (all u less))
 
 -- what a fetch does to the drive types and the due attention messages
 flags_kinds : (profile : Profile) (p : Packet) (m : Result GuestCommand Reply) (g : Guest)
@@ -184,12 +266,14 @@ run_by a b same is = ap has_run same ∙ is
 record Died (old before : PortState) (cause : Fatal) : Type 0 where
   profile : before.profile ≡ old.profile
   guest : before.guest ≡ old.guest
+  units : before.exec.units ≡ old.exec.units
   of_turn : is_of_turn cause ≡ true
 
 died_by : (old before : PortState) (cause : Fatal) → before ≡ old → is_of_turn cause ≡ true → Died old before cause
 died_by old before cause same of_turn = record {
   profile = ap (λ (p : PortState). p.profile) same;
   guest = ap (λ (p : PortState). p.guest) same;
+  units = ap (λ (p : PortState). p.exec.units) same;
   of_turn = of_turn;
 }
 
@@ -200,11 +284,13 @@ fetch_died RingRead old memory new after line = died_by old new RingRead line.1.
 fetch_died CreditsExceeded old memory new after line = record {
   profile = ap (λ (p : PortState). p.profile) line.taken.others;
   guest = ap (λ (p : PortState). p.guest) line.taken.others;
+  units = ap (λ (p : PortState). p.exec.units) line.taken.others;
   of_turn = refl;
 }
 fetch_died InvalidConnection old memory new after line = record {
   profile = ap (λ (p : PortState). p.profile) line.taken.others;
   guest = ap (λ (p : PortState). p.guest) line.taken.others;
+  units = ap (λ (p : PortState). p.exec.units) line.taken.others;
   of_turn = refl;
 }
 fetch_died PacketWrite old memory new after line = absurd line
@@ -216,11 +302,13 @@ rest_died : (cause : Fatal) (old : PortState) (memory : List ℕ) (new : PortSta
 rest_died PacketWrite old memory new after goes = record {
   profile = ap (λ (p : PortState). p.profile) goes.rest.1.1.state;
   guest = ap (λ (p : PortState). p.guest) goes.rest.1.1.state;
+  units = ap (λ (p : PortState). p.exec.units) goes.rest.1.1.state;
   of_turn = refl;
 }
 rest_died RingRead old memory new after goes = record {
   profile = ap (λ (p : PortState). p.profile) goes.rest.1.1.state;
   guest = ap (λ (p : PortState). p.guest) goes.rest.1.1.state;
+  units = ap (λ (p : PortState). p.exec.units) goes.rest.1.1.state;
   of_turn = refl;
 }
 rest_died PacketRead old memory new after goes = absurd goes.rest.1
@@ -242,6 +330,26 @@ message_phase : (old : PortState) (m : Result GuestCommand Reply) → (port_with
 message_phase old (Ok c) = refl
 message_phase old (Err r) = refl
 
+-- an Online that ends its unit's being available drops its attention message
+told_online : (online : Bool) (g : Guest) (drive u : ℕ) → online ≡ true → drive ≡ u
+    → is_due (if online then attention_set g drive false else g).attentions u ≡ false
+told_online true g drive u is here =
+    subst (λ (k : ℕ). is_due (set g.attentions drive false) k ≡ false) here (none_at g.attentions drive)
+told_online false g drive u is here = absurd (true≢false (sym is))
+
+executed_online : (j : ℕ) (old : PortState) (memory : List ℕ) (new : PortState) (after : List ℕ)
+    → ExecutesOne j (port_not_polling (port_turn_on old)) memory new after → OnlineBefore old new
+executed_online j old memory new after goes u due is =
+    by (online_steps old.profile j old.exec memory goes.end new.exec after goes.executes u is)
+  where
+    by : (online_at (slice_get old.exec.units u) ≡ true) ⊎ ((is_online_now goes.end ≡ true) × (goes.end.unit ≡ u))
+        → online_at (slice_get old.exec.units u) ≡ true
+    by (inl before) = before
+    by (inr now) =
+        let gone = ap (λ (p : PortState). is_due p.guest.attentions u) goes.others
+        ∙ told_online (is_online_now goes.end) old.guest goes.end.unit u now.0 now.1 in
+        absurd (true≢false (sym due ∙ gone))
+
 executed_keeps : (j : ℕ) (old : PortState) (memory : List ℕ) (new : PortState) (after : List ℕ)
     → old.phase ≡ Running → ExecutesOne j (port_not_polling (port_turn_on old)) memory new after
     → unit_attributes new.exec.units ≡ unit_attributes old.exec.units → Keeps old new
@@ -253,7 +361,16 @@ executed_keeps j old memory new after runs goes same = record {
       (sym (ap (λ (p : PortState). is_due p.guest.attentions u) goes.others) ∙ is);
   attributes = same;
   run = run_by Running new.phase (ap (λ (p : PortState). p.phase) goes.others ∙ runs) refl;
+  online = executed_online j old memory new after goes;
+  rests = λ strict u is.
+      let strictly = subst (λ (p : Profile). ExecutesFor p j old.exec memory goes.end new.exec after) strict goes.executes in
+      rest_steps j old.exec memory goes.end new.exec after strictly u is;
 }
+
+fetched_units : (old : PortState) (memory : List ℕ) (new : PortState) (after : List ℕ)
+    → FetchesOne (port_turn_on old) memory new after → new.exec.units ≡ old.exec.units
+fetched_units old memory new after goes =
+    ap (λ (p : PortState). p.exec.units) goes.others ∙ units_with (port_turn_on old) (message_in old.profile goes.packet)
 
 running_keeps : (turn : Turn) (old : PortState) (memory : List ℕ) (new : PortState) (after : List ℕ)
     → old.phase ≡ Running → RunningTurn old memory turn new after
@@ -267,6 +384,8 @@ running_keeps Fetched old memory new after runs goes same = record {
   attributes = same;
   run = run_by Running new.phase
       (ap (λ (p : PortState). p.phase) goes.others ∙ message_phase (port_turn_on old) (message_in old.profile goes.packet) ∙ runs) refl;
+  online = same_online old new (fetched_units old memory new after goes);
+  rests = same_rests old new (fetched_units old memory new after goes);
 }
 running_keeps Executed old memory new after runs goes same =
     executed_keeps goes.rest.0 old memory new after runs goes.rest.1 same
@@ -278,6 +397,8 @@ running_keeps Delivered old memory new after runs goes same =
       less = less_by _ _ (ap (λ (p : PortState). p.guest.attentions) others);
       attributes = same;
       run = run_by Running new.phase (ap (λ (p : PortState). p.phase) others ∙ runs) refl;
+      online = same_online old new (ap (λ (p : PortState). p.exec.units) others);
+      rests = same_rests old new (ap (λ (p : PortState). p.exec.units) others);
     }
 running_keeps Notified old memory new after runs goes same =
     let others = goes.rest.1.others in
@@ -288,6 +409,8 @@ running_keeps Notified old memory new after runs goes same =
           (sym (ap (λ (p : PortState). is_due p.guest.attentions u) others) ∙ is);
       attributes = same;
       run = run_by Running new.phase (ap (λ (p : PortState). p.phase) others ∙ runs) refl;
+      online = same_online old new (ap (λ (p : PortState). p.exec.units) others);
+      rests = same_rests old new (ap (λ (p : PortState). p.exec.units) others);
     }
 running_keeps Idle old memory new after runs goes same =
     let state = goes.rest.1.1.state in
@@ -297,6 +420,8 @@ running_keeps Idle old memory new after runs goes same =
       less = less_by _ _ (ap (λ (p : PortState). p.guest.attentions) state);
       attributes = same;
       run = run_by Running new.phase (ap (λ (p : PortState). p.phase) state ∙ runs) refl;
+      online = same_online old new (ap (λ (p : PortState). p.exec.units) state);
+      rests = same_rests old new (ap (λ (p : PortState). p.exec.units) state);
     }
 running_keeps DeadTurn old memory new after runs goes same =
     let died = fails_died goes.cause (port_turn_on old) memory goes.before after goes.fails in
@@ -307,6 +432,8 @@ running_keeps DeadTurn old memory new after runs goes same =
           ∙ ap (λ (g : Guest). g.attentions) died.guest);
       attributes = same;
       run = ap (λ (p : PortState). has_run p.phase) goes.died ∙ died.of_turn;
+      online = same_online old new (ap (λ (p : PortState). p.exec.units) goes.died ∙ died.units);
+      rests = same_rests old new (ap (λ (p : PortState). p.exec.units) goes.died ∙ died.units);
     }
 
 same_fits : (old new : PortState) → new ≡ old → AllFit old → AllFit new
@@ -365,6 +492,8 @@ failing_keeps cause old new of_turn died = record {
   less = less_by _ _ (ap (λ (p : PortState). p.guest.attentions) died);
   attributes = ap (λ (p : PortState). unit_attributes p.exec.units) died;
   run = ap (λ (p : PortState). has_run p.phase) died ∙ of_turn;
+  online = same_online old new (ap (λ (p : PortState). p.exec.units) died);
+  rests = same_rests old new (ap (λ (p : PortState). p.exec.units) died);
 }
 
 fails_running : (phase : Phase) (missing : Missing) (polls : Bool) (access : Access)
@@ -440,8 +569,13 @@ later_fits : (profile : Profile) (phase next : Phase) (n : UnitNotice) (info : O
     → unit_fits profile next n info ≡ true
 later_fits profile phase next n None run is = is
 later_fits profile phase next n (Some info) run is =
-    let parts = and_parts (not (read_only_by profile (Some n.kind)) || info.mode.hard) _ is in
-    and_from _ _ parts.0 (or_grow (has_run phase) (has_run next) (is_as_attached info.mode) run parts.1)
+    let parts = parts_of profile phase n info is in
+    fits_of profile next n info (record {
+      hard = parts.hard;
+      run = or_grow (has_run phase) (has_run next) (is_as_attached info.mode) run parts.run;
+      told = parts.told;
+      rests = parts.rests;
+    })
 
 moved_fits : (old new : PortState) → Moves old new → FitsController old → FitsController new
 moved_fits old new moves is = record {
@@ -541,13 +675,24 @@ served_fits old new i is fits =
     subst FitsController (sym is)
     (moved_fits old (record old { interrupts = i }) (record { profile = refl; guest = refl; exec = refl; run = λ run. run }) fits)
 
+-- a unit as it was attached
+fresh_rests : (profile : Profile) (hard : Bool)
+    → can_rest profile (record { online = false; hard = hard; soft = false }) ≡ true
+fresh_rests Strict hard = refl
+fresh_rests (Compatible identity) hard = refl
+
 -- a write to IP
 started_at : (profile : Profile) (phase : Phase) (n m : UnitNotice) (slot : Option (Option UnitState))
     → m.kind ≡ n.kind → m.due ≡ false → unit_fits profile phase n (info_at slot) ≡ true
     → unit_fits profile Step1 m (info_at (option_map reset_unit slot)) ≡ true
 started_at profile phase n m (Some (Some unit)) kind none is =
-    let parts = and_parts (not (read_only_by profile (Some n.kind)) || unit.mode.hard) _ is in
-    and_from _ _ (rw kind parts.0) refl
+    let parts = parts_of profile phase n (info_of unit) is in
+    fits_of profile Step1 m (info_of (fresh_unit (drive_in unit))) (record {
+      hard = rw kind parts.hard;
+      run = refl;
+      told = refl;
+      rests = fresh_rests profile unit.mode.hard;
+    })
 started_at profile phase n m (Some None) kind none is = ap not none
 started_at profile phase n m None kind none is = ap not none
 
@@ -574,6 +719,21 @@ protected_by profile (kind ∷ kinds) (suc u) hard = protected_by profile kinds 
 protected_by Strict [] u hard = refl
 protected_by (Compatible identity) [] u hard = refl
 
+put_drive : (old : PortState) (u : ℕ) (drive : DriveState)
+    → unit_fits old.profile old.phase
+    (notice_of old.guest.types (set old.guest.attentions u (attention_due old true)) u)
+    (info_at (Some (option_map fresh_unit (drive_put old u (Some drive))))) ≡ true
+put_drive old u drive =
+    let hard = read_only_by old.profile (slice_get old.guest.types u) || drive.hard in
+    fits_of old.profile old.phase
+    (notice_of old.guest.types (set old.guest.attentions u (attention_due old true)) u)
+    (info_of (fresh_unit (record { store = drive.store; hard = hard }))) (record {
+      hard = protected_by old.profile old.guest.types u drive.hard;
+      run = or_right (has_run old.phase) true refl;
+      told = refl;
+      rests = fresh_rests old.profile hard;
+    })
+
 -- the unit that gets a drive, or none
 put_same : (old : PortState) (u : ℕ) (drive : Option DriveState) → u < length old.exec.units
     → fits_at (port_with_drive old u drive) u ≡ true
@@ -582,7 +742,7 @@ put_same old u None within =
     rw slot (ap not (none_at old.guest.attentions u))
 put_same old u (Some drive) within =
     let slot = slice_get-set_same old.exec.units u (option_map fresh_unit (drive_put old u (Some drive))) within in
-    rw slot (and_from _ _ (protected_by old.profile old.guest.types u drive.hard) (or_right (has_run old.phase) true refl))
+    rw slot (put_drive old u drive)
 
 put_at : (old : PortState) (u : ℕ) (drive : Option DriveState) → u < length old.exec.units → (k : ℕ)
     → fits_at old k ≡ true → (k ≡ u) ⊎ (k ≢ u) → fits_at (port_with_drive old u drive) k ≡ true

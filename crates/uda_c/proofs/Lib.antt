@@ -7,6 +7,7 @@ pub mod RunLaws
 pub mod FailingUnits
 pub mod Lending
 pub mod FaithfulUnits
+pub mod ModeSteps
 pub mod FittingUnits
 pub mod SavedUnits
 pub mod MapTurns

@@ -34,13 +34,23 @@ numbers_fit (Compatible identity) = nat_le identity.first_unit LAST_FIRST_UNIT
 abbrev pub is_as_attached : Mode → Bool
 is_as_attached mode = not mode.online && not mode.soft
 
--- No attention message is due for a unit without an image. The image of a unit whose type is read-only is
--- write-protected. Until the port runs, each unit is as it was attached.
+-- an available unit of the strict profile isn't software-protected
+abbrev pub can_rest : Profile → Mode → Bool
+can_rest Strict mode = mode.online || not mode.soft
+can_rest (Compatible identity) mode = true
+
+-- A unit with an image. The image is write-protected if the unit's type is read-only. Until the port runs, the unit is as
+-- it was attached. No attention message is due while it is online.
+unfoldable pub image_fits : Profile → Phase → UnitNotice → UnitInfo → Bool
+image_fits profile phase notice info =
+    (not (read_only_by profile (Some notice.kind)) || info.mode.hard)
+    && ((has_run phase || is_as_attached info.mode)
+    && (not (info.mode.online && notice.due) && can_rest profile info.mode))
+
+-- any unit; for one without an image no attention message is due
 abbrev pub unit_fits : Profile → Phase → UnitNotice → Option UnitInfo → Bool
 unit_fits profile phase notice None = not notice.due
-unit_fits profile phase notice (Some info) =
-    (not (read_only_by profile (Some notice.kind)) || info.mode.hard)
-    && (has_run phase || is_as_attached info.mode)
+unit_fits profile phase notice (Some info) = image_fits profile phase notice info
 
 abbrev pub notice_of : List DriveType → List Bool → ℕ → UnitNotice
 notice_of kinds attentions u = record { kind = get_or kinds u Ra81; due = is_due attentions u }

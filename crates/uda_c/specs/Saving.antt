@@ -4,7 +4,7 @@ use Rattle.std.specs.Prelude.{Option, Some, None, Result, Ok, Err}
 use Rattle.uda_disk.specs.Units.{UnitState}
 use Rattle.uda_exec.specs.declared.drive_unit.UnitInfo.{UnitInfo}
 use Rattle.uda_exec.specs.Drives.{drives_in}
-use Rattle.uda_exec.specs.Saved.{exec_fits}
+use Rattle.uda_exec.specs.Saved.{exec_fits, has_commands}
 use Rattle.uda_port.specs.declared.saved.RestoreError.{RestoreError}
 use Rattle.uda_port.specs.declared.saved.RestoreError.TheVariants.{Inconsistent, OtherDrives}
 use Rattle.uda_port.specs.Port.{PortState}
@@ -90,14 +90,16 @@ restore_status (Ok done) = Done
 restore_status (Err (refusal.Bytes cause)) = refusal_of_bytes cause
 restore_status (Err refusal.CallWithoutDrive) = BadState
 restore_status (Err refusal.UnfitUnits) = BadState
+restore_status (Err refusal.OpWithoutCommand) = BadState
 restore_status (Err (refusal.Port cause)) = refusal_of_state cause
 
--- the bytes are those of this state, each of its calls that are to fail is one of a unit with a drive, and its units
--- fit a controller
+-- the bytes are those of this state. Each of its calls that are to fail is one of a unit with a drive, its units fit a
+-- controller, and each of its additional operations has its command
 pub record IsState (bytes : List ℕ) (state : SavedState) : Type 0 where
   pub read : IsRead bytes state
   pub drives : has_drives state ≡ true
   pub fits : fits_controller state.port ≡ true
+  pub ops : has_commands state.port.exec ≡ true
 
 -- the controller continues from the state
 pub record IsContinued (old : ControllerState) (bytes : List ℕ) (new : ControllerState) : Type 0 where
@@ -119,6 +121,14 @@ pub record HasUnfitUnits (bytes : List ℕ) : Type 0 where
   pub drives : has_drives state ≡ true
   pub unfit : fits_controller state.port ≡ false
 
+-- an additional operation has no command
+pub record HasOpWithoutCommand (bytes : List ℕ) : Type 0 where
+  pub state : SavedState
+  pub read : IsRead bytes state
+  pub drives : has_drives state ≡ true
+  pub fits : fits_controller state.port ≡ true
+  pub no_command : has_commands state.port.exec ≡ false
+
 -- no port continues from the state, or none with these images
 pub record IsNotContinued (cause : RestoreError) (old : ControllerState) (bytes : List ℕ) : Type 0 where
   pub state : SavedState
@@ -131,6 +141,7 @@ RestoreOutcome (Ok done) old bytes new = IsContinued old bytes new
 RestoreOutcome (Err (refusal.Bytes cause)) old bytes new = BytesEffect bytes (Err cause) × (new ≡ old)
 RestoreOutcome (Err refusal.CallWithoutDrive) old bytes new = HasCallWithoutDrive bytes × (new ≡ old)
 RestoreOutcome (Err refusal.UnfitUnits) old bytes new = HasUnfitUnits bytes × (new ≡ old)
+RestoreOutcome (Err refusal.OpWithoutCommand) old bytes new = HasOpWithoutCommand bytes × (new ≡ old)
 RestoreOutcome (Err (refusal.Port cause)) old bytes new = IsNotContinued cause old bytes × (new ≡ old)
 
 pub record Restores (old : ControllerState) (bytes : List ℕ) (answer : CallStatus) (new : ControllerState)

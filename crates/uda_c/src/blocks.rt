@@ -18,7 +18,7 @@ use uda_image::Drive;
 
 impl Controller {
     /// Attaches an image of `blocks` blocks that C reads and writes by calls of its own.
-    pub fn attach_called(&mut self, unit: u32, blocks: u32, hard: bool) -> CallStatus
+    pub fn attach_called(&mut self, unit: u32, blocks: u64, hard: bool) -> CallStatus
         ensures attaches { AttachesCalled self.old (unit, (blocks, hard)) result self.new }
     {
         let unit = unit as usize;

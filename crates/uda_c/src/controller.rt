@@ -24,7 +24,7 @@ use crate::call_status::CallStatus;
 use crate::fits::{fits_controller, numbers_fit};
 use crate::lent::BorrowedBytes;
 use crate::map::{MapRegisters, MappedBus};
-use crate::saving::{RestoreRefusal, calls_have_drives};
+use crate::saving::{RestoreRefusal, calls_have_drives, ops_have_commands};
 use crate::slot::Slot;
 use crate::turn_use::TurnUse;
 use crate::unit_image::UnitImage;
@@ -291,6 +291,9 @@ impl Controller {
         }
         if !fits_controller(&state.port) {
             return Err(RestoreRefusal::UnfitUnits);
+        }
+        if !ops_have_commands(&state.port.exec) {
+            return Err(RestoreRefusal::OpWithoutCommand);
         }
         match self.port.restore(&state.port) {
             Ok(()) => {

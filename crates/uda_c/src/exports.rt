@@ -548,7 +548,7 @@ pub extern "C" fn uda50_write_sa_mapped(
 pub extern "C" fn uda50_attach_called(
     handle: &mut Handle,
     unit: u32,
-    blocks: u32,
+    blocks: u64,
     write_protected: bool,
 ) -> u32
     ensures attaches { OnHandle handle.old.value handle.new.value (result ≡ status_code NoController)

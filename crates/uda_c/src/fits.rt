@@ -3,7 +3,7 @@
 //!
 //! MSCP Basic Disk Functions Manual: unit states, unit numbers, attention messages, write protection.
 ghost use Rattle.std.specs.Prelude.{◌≡◌, Some};
-ghost use Rattle.uda_c.specs.Fits.{numbers_fit, is_as_attached, unit_fits, units_fit, fits_controller};
+ghost use Rattle.uda_c.specs.Fits.{numbers_fit, is_as_attached, can_rest, image_fits, unit_fits, units_fit, fits_controller};
 ghost use Rattle.uda_port.specs.Port.{read_only_by};
 
 use uda_disk::Mode;
@@ -63,11 +63,18 @@ fn unit_fits(
 {
     match unit {
         None => !due,
-        Some(info) => {
-            (!is_read_only(profile, kind) || info.mode.hard)
-                && (phase.has_run() || is_as_attached(info.mode))
-        }
+        Some(info) => image_fits(profile, phase, kind, due, info),
     }
+}
+
+// Returns the same of a unit with an image.
+#[tactic(auto, unfolding(crate::specs::Fits::image_fits))]
+fn image_fits(profile: Profile, phase: Phase, kind: DriveType, due: bool, info: UnitInfo) -> bool
+    ensures { result ≡ image_fits profile phase (record { kind = kind; due = due }) info }
+{
+    (!is_read_only(profile, kind) || info.mode.hard)
+        && ((phase.has_run() || is_as_attached(info.mode))
+            && (!(info.mode.online && due) && can_rest(profile, info.mode)))
 }
 
 // Returns whether a unit of this type is read-only in the profile.
@@ -77,6 +84,16 @@ fn is_read_only(profile: Profile, kind: DriveType) -> bool
     match profile {
         Profile::Strict => false,
         Profile::Compatible(_) => kind.traits().is_read_only,
+    }
+}
+
+// Returns whether an available unit of the profile can have the mode: in the strict profile none is software-protected.
+fn can_rest(profile: Profile, mode: Mode) -> bool
+    ensures { result ≡ can_rest profile mode }
+{
+    match profile {
+        Profile::Strict => mode.online || !mode.soft,
+        Profile::Compatible(_) => true,
     }
 }
 

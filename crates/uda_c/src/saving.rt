@@ -2,9 +2,10 @@
 ghost use Rattle.std.specs.Prelude.{◌≡◌};
 ghost use Rattle.uda_c.specs.Saving.{calls_have_drives, call_has_drive, refusal_of_bytes, refusal_of_state};
 ghost use Rattle.uda_c.specs.Saving.{restore_status, ControllerIsSaved};
+ghost use Rattle.uda_exec.specs.Saved.{has_commands};
 
 use crate::call_status::CallStatus;
-use uda_exec::UnitInfo;
+use uda_exec::{SavedExec, UnitInfo};
 use uda_port::RestoreError;
 use uda_saved::BytesError;
 
@@ -18,6 +19,8 @@ pub enum RestoreRefusal {
     /// A unit of the state doesn't fit its phase, its type or its attention message, or the numbers of the units
     /// wrap past 65,535.
     UnfitUnits,
+    /// An additional operation is listed without its command.
+    OpWithoutCommand,
     /// The port can't continue from the state.
     Port(RestoreError),
 }
@@ -29,7 +32,11 @@ pub fn restore_status(outcome: Result<(), RestoreRefusal>) -> CallStatus
     match outcome {
         Ok(()) => CallStatus::Done,
         Err(RestoreRefusal::Bytes(cause)) => refusal_of_bytes(cause),
-        Err(RestoreRefusal::CallWithoutDrive | RestoreRefusal::UnfitUnits) => CallStatus::BadState,
+        Err(
+            RestoreRefusal::CallWithoutDrive
+            | RestoreRefusal::UnfitUnits
+            | RestoreRefusal::OpWithoutCommand,
+        ) => CallStatus::BadState,
         Err(RestoreRefusal::Port(cause)) => refusal_of_state(cause),
     }
 }
@@ -79,6 +86,13 @@ fn call_has_drive(unit: Option<UnitInfo>, call: Option<u32>) -> bool
         (None, Some(_)) => false,
         _ => true,
     }
+}
+
+/// Returns whether each additional operation that is listed has its pending command.
+pub fn ops_have_commands(exec: &SavedExec) -> bool
+    ensures { result ≡ has_commands exec.now }
+{
+    exec.guest_ops.len() <= exec.pending.len()
 }
 
 /// States the law of save and restore: a controller with the images of a saved one, restored from its bytes, has

@@ -41,10 +41,11 @@ impl UnitImage {
 
     /// Returns an image of this many blocks that C reads and writes by calls of its own. Returns None if they
     /// are more than a store can have.
-    pub fn of_calls(alloc: Global, blocks: u32) -> Option<UnitImage>
+    pub fn of_calls(alloc: Global, blocks: u64) -> Option<UnitImage>
         ensures fits { is_some result ≡ nat_le blocks store_limit }
         ensures state { IfSome result (λ image. unit_state image ≡ zero_state blocks) }
     {
+        let blocks = u32::try_from(blocks).ok()?;
         let image = CalledImage::new(alloc, blocks)?;
         Some(UnitImage::Called(image))
     }

@@ -1,5 +1,5 @@
 -- How soon an attention message that is due is delivered: what the effect of a turn says of it.
-use Rattle.std.proofs.Common.{◌≡◌, ◌≤◌, ◌<◌, ℕ, zero, suc, ◌+◌, Bool, true, false, List, [], ◌∷◌, ◌++◌, length, Option, Some, None, arith, refl, sym, ap, ◌∙◌, subst, min}
+use Rattle.std.proofs.Common.{◌≡◌, ◌≤◌, ◌<◌, ℕ, zero, suc, ◌+◌, Bool, true, false, List, [], ◌∷◌, ◌++◌, length, Option, Some, None, arith, refl, sym, ap, ◌∙◌, subst}
 use Rattle.std.proofs.lemmas.List.{length-append, length-take, length-drop}
 use Rattle.std.specs.Prelude.{is_some, IsSome, set, take, drop, remove, slice_get, Result, Ok, Err, if◌then◌else◌}
 use Rattle.std.specs.List.{position_or_len, before_first, after_first}
@@ -10,7 +10,6 @@ use Rattle.uda_packet.specs.declared.reply.ReplyBody.{ReplyBody}
 use Rattle.uda_packet.specs.declared.reply.ReplyBody.TheVariants as body
 use Rattle.uda_exec.specs.Commands.{is_controller}
 use Rattle.uda_exec.specs.Disks.{ExecState}
-use Rattle.uda_exec.specs.Execution.{TakesOut}
 use Rattle.uda_exec.specs.Named.{is_named}
 use Rattle.uda_port.specs.declared.descriptor.Descriptor.{Descriptor}
 use Rattle.uda_port.specs.declared.guest.Guest.{Guest}
@@ -22,7 +21,7 @@ use Rattle.uda_port.specs.declared.turn.Turn.{Turn}
 use Rattle.uda_port.specs.declared.turn.Turn.TheVariants.{Fetched, Executed, Delivered, Notified, Idle, Dead}
 use Rattle.uda_port.specs.AtOnce.{exec_for, exec_at_once}
 use Rattle.uda_port.specs.Attention.{MayNotify, goes_before_ends, one_if, due_count, turns_to_notify, ComesNearer}
-use Rattle.uda_port.specs.Attention.{MOST_TURNS_TO_NOTIFY, UndeliveredTurn, UndeliveredTurns, AttentionArrives}
+use Rattle.uda_port.specs.Attention.{MOST_TURNS_TO_NOTIFY, UndeliveredTurn, AttentionArrives}
 use Rattle.uda_port.specs.Guest.{is_due, first_due, is_online_now, guest_after}
 use Rattle.uda_port.specs.Message.{message_in, flags_kept}
 use Rattle.uda_port.specs.Port.{PortState, CreditsAgree, credits_granted}
@@ -247,7 +246,7 @@ lives_nearer old Dead new lives it = absurd (lives refl)
 
 one_nearer : (old new : PortState) → UndeliveredTurn old new → turns_to_notify new < turns_to_notify old
 one_nearer old new t =
-    let on = record old { polling = t.polling } in
+    let on = record old { polling = t.polling; interrupts = t.interrupts } in
     let may : MayNotify on t.memory = record {
       runs = t.may.runs;
       due = t.may.due;

@@ -1,5 +1,5 @@
 -- What a turn does, it does in each memory that agrees where the turn reads.
-use Rattle.std.proofs.Common.{◌≡◌, ℕ, ◌+◌, ◌-◌, ◌%◌, ◌<◌, ◌≤◌, min, Bool, true, false, List, [], ◌∷◌, length, Option, Some, None, Ok, Err, refl, sym, ap, ap₂, subst, ◌∙◌, arith, zero-le, length-append}
+use Rattle.std.proofs.Common.{◌≡◌, ℕ, zero, suc, ◌+◌, ◌-◌, ◌%◌, ◌<◌, ◌≤◌, min, Bool, true, false, List, [], ◌∷◌, length, Option, Some, None, Ok, Err, refl, sym, ap, ap₂, subst, ◌∙◌, arith, zero-le, length-append}
 use Rattle.std.specs.Prelude.{◌&&◌, ◌||◌, ◌++◌, All, nat_eq, nat_le, option_map, slice_get, if◌then◌else◌}
 use Rattle.std.proofs.lemmas.Bool.{eq-eqb, eqb-true, leb-true, le-leb}
 use Rattle.std.proofs.lemmas.List.Elements.{All-nil, All-cons, All-head, All-tail}
@@ -17,7 +17,7 @@ use Rattle.uda_packet.specs.declared.guest_command.GuestOp.{GuestOp}
 use Rattle.uda_packet.specs.declared.guest_command.GuestOp.TheVariants.{Basic}
 use Rattle.uda_packet.specs.declared.reply.Reply.{Reply}
 use Rattle.uda_exec.specs.declared.buffer_use.BufferUse.{BufferUse}
-use Rattle.uda_exec.specs.BufferUse.{used_length, changed_length, buffer_use, buffer_use_at}
+use Rattle.uda_exec.specs.BufferUse.{changed_length, buffer_use, buffer_use_at}
 use Rattle.uda_exec.specs.Commands.{buffer_start}
 use Rattle.uda_exec.specs.Disks.{ExecState}
 use Rattle.uda_exec.specs.GuestExecution.{ExecutesAs, ExecutesGuestAt}
@@ -54,7 +54,7 @@ use Rattle.uda_port.specs.Message.{message_in, flags_kept}
 use Rattle.uda_port.specs.Possible.{has_phase, CanDie}
 use Rattle.uda_port.specs.Startup.{failed_port}
 use Rattle.uda_port.specs.Turn.{ExecutesFor, TurnEffect, RunningTurn, FetchRule, DeliverRule, FetchesOne, TakesPacket, NothingToFetch, NothingToDeliver, ExecutesOne, DeliversOne, NotifiesOne, Fails, InFetch, InRest, Dies, Stopped, may_fetch, fetching_of, port_turn_on, port_not_polling, port_with_message}
-use Rattle.uda_port.specs.MemoryUse.{descriptor_ranges, packet_range, indicator_range, returned_range, NONE_WRITTEN, no_use, has_text, has_room, written_by_fetch, fetch_use, command_use, written_by_delivery, delivery_use, message_use, later_use, next_size, use_without_fetch, use_found, use_running, use_in, use_of, fate_at, fate_in, fate_of, CanFail, EffectBy, EffectWithout, written_by_fate, written_of, Agrees, AgreesInDescriptors, IsLocal, HasSoundRings}
+use Rattle.uda_port.specs.MemoryUse.{descriptor_ranges, packet_range, indicator_range, returned_range, NONE_WRITTEN, no_use, has_text, has_room, written_by_fetch, fetch_use, looked_up, command_use, written_by_delivery, delivery_use, message_use, later_use, next_size, use_without_fetch, use_found, use_running, use_in, use_of, fate_at, fate_in, fate_of, CanFail, EffectBy, EffectWithout, written_by_fate, written_of, Agrees, AgreesInDescriptors, IsLocal, HasSoundRings}
 use Rattle.uda_port.proofs.PortSteps.{reads_no_ring, reads_no_packet}
 use Rattle.uda_port.proofs.RingLaws.{takes_first}
 use Rattle.uda_port.proofs.TurnLaws.{executes_for, attention_first, first_text}
@@ -650,6 +650,23 @@ buffer_is exec j c stands =
     as_asked : Command → GuestOp → GuestCommand
     as_asked c op = record { command = c; op = op }
 
+nothing_in : (memory other : List ℕ) (at : ℕ) → part other at 0 ≡ part memory at 0
+unfolding part
+nothing_in memory other at = refl
+
+-- memories with the same bytes where a command looks have the same where it reads
+used_in : (memory other : List ℕ) (u : BufferUse) → length other ≡ length memory
+    → SameIn memory other (range_in memory u.start (looked_up u))
+    → part other u.start u.used ≡ part memory u.start u.used
+used_in memory other u long same = by u.used refl
+  where
+    by : (n : ℕ) → u.used ≡ n → part other u.start n ≡ part memory u.start n
+    by zero is = nothing_in memory other u.start
+    by (suc n) is =
+        let all : looked_up u ≡ suc n = omega (arith, is) in
+        part_in memory other u.start (suc n) long
+        (subst (λ (m : ℕ). SameIn memory other (range_in memory u.start m)) all same)
+
 executed_local : (old : PortState) (memory : List ℕ) (j : ℕ) (new : PortState) (memory_after : List ℕ)
     → (old.profile ≡ Strict → old.exec.guest_ops ≡ []) → ExecutesOne j old memory new memory_after
     → Local old (command_use memory (buffer_use_at old.exec j)) memory memory_after
@@ -678,7 +695,7 @@ executed_local old memory j new memory_after strict x =
     (sym (ap (command_use memory) (buffer_is old.exec j c g.taken.stands))) (record {
       only = changes ∙ sym (carry memory);
       elsewhere = λ other s.
-          let shared = part_in memory other start (used_length op c.op) s.same_length s.same_body in
+          let shared = used_in memory other u s.same_length s.same_body in
           let there = executes_as_elsewhere op c old.exec.units new.exec.units memory other memory_after x.end
           s.same_length shared g.executes in
           record {
@@ -1227,7 +1244,7 @@ module _ (port : PortState) (memory other : List ℕ) (j : ℕ) (s : SameDescrip
 
   command_there : (u : Option BufferUse) → (command_use other u).body ≡ (command_use memory u).body
   command_there None = refl
-  command_there (Some u) = range_there u.start u.used
+  command_there (Some u) = range_there u.start (looked_up u)
 
   later_there : (pending : List Command) (size : Option ℕ)
       → (later_use port other j pending size).body ≡ (later_use port memory j pending size).body

@@ -42,7 +42,7 @@ units_at_once : (profile : Profile) (r : Reply) (exec : ExecState) → (exec_at_
 units_at_once Strict r exec = refl
 units_at_once (Compatible identity) r exec = units_for r.body r exec
 
-units_with : (old : PortState) (message : Result GuestCommand Reply)
+pub units_with : (old : PortState) (message : Result GuestCommand Reply)
     → (port_with_message old message).exec.units ≡ old.exec.units
 units_with old (Ok c) = refl
 units_with old (Err r) = units_at_once old.profile r old.exec

@@ -2,6 +2,7 @@
 -- MSCP Basic Disk Functions Manual: attention messages. UDA50 Programmer's Documentation Kit: credits.
 use Rattle.std.specs.Prelude.{◌≡◌, ℕ, zero, suc, ◌+◌, ◌*◌, ◌<◌, ◌≤◌, Bool, true, false, List, length, IsSome, ⊤}
 use Rattle.uda_port.specs.declared.descriptor.Descriptor.{Descriptor}
+use Rattle.uda_port.specs.declared.interrupt.Interrupts.{Interrupts}
 use Rattle.uda_port.specs.declared.phase.Phase.TheVariants.{Running}
 use Rattle.uda_port.specs.declared.turn.Turn.{Turn}
 use Rattle.uda_port.specs.declared.turn.Turn.TheVariants.{Fetched, Executed, Delivered, Notified, Idle, Dead}
@@ -53,14 +54,17 @@ ComesNearer old turn new = turns_to_notify new < turns_to_notify old
 
 -- ---- the law
 
--- such a turn, after which the port isn't dead; before it the host may have changed memory and started polling
+-- Such a turn, after which the port isn't dead. Before it the host may have changed memory and read IP, and its processor
+-- may have taken an interrupt.
 pub record UndeliveredTurn (old new : PortState) : Type 0 where
   pub memory : List ℕ
   pub may : MayNotify old memory
   pub polling : Bool
+  pub interrupts : Interrupts
   pub turn : Turn
   pub memory_after : List ℕ
-  pub goes : TurnEffect old.phase (record old { polling = polling }) memory turn new memory_after
+  pub goes : TurnEffect old.phase (record old { polling = polling; interrupts = interrupts }) memory turn new
+      memory_after
   pub lives : turn ≡ Dead → ⊥
 
 -- n such turns, one after another

@@ -1,6 +1,6 @@
 -- What a turn reads and writes of host memory. A caller with memory through map registers copies only that.
 -- UDA50 Programmer's Documentation Kit: command ring polling, message envelopes, UNIBUS addresses.
-use Rattle.std.specs.Prelude.{◌≡◌, ◌≤◌, ◌<◌, ℕ, ◌+◌, ◌-◌, ◌%◌, Bool, true, false, ◌&&◌, nat_eq, nat_le, List, [], ◌∷◌, length}
+use Rattle.std.specs.Prelude.{◌≡◌, ◌≤◌, ◌<◌, ℕ, ◌+◌, ◌-◌, ◌%◌, min, max, Bool, true, false, ◌&&◌, nat_eq, nat_le, List, [], ◌∷◌, length}
 use Rattle.std.specs.Prelude.{Option, Some, None, option_map, if◌then◌else◌, All, ⊤}
 use Rattle.uda_mem.specs.declared.range.ByteRange.{ByteRange}
 use Rattle.uda_mem.specs.Ranges.{EMPTY_RANGE, range_in, SameIn, carried}
@@ -92,12 +92,17 @@ fetch_use port memory at = record {
   written = written_by_fetch port memory (has_text memory at 48);
 }
 
+-- The number of bytes that a command looks up at its buffer's address: all that it uses. A transfer of 0 bytes looks up
+-- one, since its address may lead nowhere. Address 0 is never past the end of memory.
+abbrev pub looked_up : BufferUse → ℕ
+looked_up u = max u.used (min u.start 1)
+
 -- a command uses its buffer
 abbrev pub command_use : List ℕ → Option BufferUse → MemoryUse
 command_use memory None = no_use Execute
 command_use memory (Some u) = record {
   access = Execute;
-  body = range_in memory u.start u.used;
+  body = range_in memory u.start (looked_up u);
   written = range_in memory u.start u.changed ∷ EMPTY_RANGE ∷ EMPTY_RANGE ∷ EMPTY_RANGE ∷ [];
 }
 

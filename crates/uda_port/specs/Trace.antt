@@ -53,7 +53,7 @@ IsAtOnce _ = Unit
 --   the last in the queue.
 -- - The end message of an Abort follows that of the command that it removed.
 -- - A delivered end message was the first in the queue.
--- - No end message was queued when an attention message was delivered.
+-- - An attention message that was delivered leaves the queue unchanged.
 -- - A dead port is dead of this cause.
 abbrev pub Traces : Trace → PortState → PortState → Type 0
 Traces (Fetched command) old new = IsPending command old new

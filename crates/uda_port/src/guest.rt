@@ -1,7 +1,7 @@
 //! State that only a compatible port has: drive types, controller flags and due attention messages.
 //!
 //! MSCP Basic Disk Functions Manual: controller flags, unit identifiers.
-ghost use Rattle.std.specs.Prelude.{◌≡◌, slice_get, option_map};
+ghost use Rattle.std.specs.Prelude.{◌≡◌, is_some, length, slice_get, option_map};
 ghost use Rattle.uda_port.specs.Guest.{GUEST_AT_FIRST, guest_restarted, unit_reported, asks_attention};
 ghost use Rattle.uda_port.specs.Guest.{attention_set, is_due, first_due, guest_after, is_online_now};
 
@@ -71,7 +71,18 @@ impl Guest {
         }
     }
 
+    /// Returns whether an attention message is due for any drive.
+    #[inline(always)]
+    pub(crate) fn is_any_due(&self) -> bool
+        ensures due { result ≡ is_some (first_due self.now.attentions) }
+        ensures types { length self.now.types ≡ 4 }
+    {
+        let _ = self.types.len();
+        self.first_due().is_some()
+    }
+
     /// Returns the first drive for which an attention message is due, or None.
+    #[inline(always)]
     pub(crate) fn first_due(&self) -> Option<u16>
         ensures { result ≡ first_due self.now.attentions }
     {
@@ -89,6 +100,7 @@ impl Guest {
     }
 
     // Returns whether an attention message is due for a drive.
+    #[inline(always)]
     pub(crate) fn is_due(&self, drive: usize) -> bool
         ensures { result ≡ is_due self.now.attentions drive }
     {

@@ -56,8 +56,8 @@ impl<S: BlockStore> Port<S> {
         self.credits
     }
 
-    /// Returns whether an attention message is due for a unit: it is delivered when no end message is queued and the
-    /// port owns the next response descriptor. A dead port keeps what was due at its fatal error.
+    /// Returns whether an attention message is due for a unit. It is delivered in the next turn that neither fetches nor
+    /// executes, and finds a response descriptor of the port's. A dead port keeps what was due at its fatal error.
     ///
     /// MSCP Basic Disk Functions Manual: attention messages.
     pub fn is_attention_due(&self, unit: usize) -> bool

@@ -13,7 +13,7 @@ ghost use Rattle.uda_port.specs.Turn.{may_fetch};
 ghost use Rattle.uda_port.specs.MemoryUse.{IsPlace, descriptor_ranges, packet_range, indicator_range, returned_range};
 ghost use Rattle.uda_port.specs.MemoryUse.{no_use, fetch_use, written_by_fetch, has_text, command_use, delivery_use};
 ghost use Rattle.uda_port.specs.MemoryUse.{written_by_delivery, has_room, use_without_fetch, use_running, use_of};
-ghost use Rattle.uda_port.specs.MemoryUse.{next_size, AgreesInDescriptors};
+ghost use Rattle.uda_port.specs.MemoryUse.{looked_up, next_size, AgreesInDescriptors};
 
 use crate::descriptor::Descriptor;
 use crate::packet::{TEXT, has_room, has_text};
@@ -45,7 +45,8 @@ pub enum Access {
 pub struct MemoryUse {
     /// What the turn does.
     pub access: Access,
-    /// The packet, or the buffer of the command. The turn reads or writes it, or part of it.
+    /// The packet, or the buffer of the command. The turn reads or writes it, or part of it. Of a transfer of 0 bytes it
+    /// is one byte: the turn doesn't read it, but its address must lead somewhere.
     pub body: ByteRange,
     /// What the turn writes, in this order. Some of the ranges may be empty.
     pub written: [ByteRange; 4],
@@ -289,10 +290,17 @@ fn command_use(memory: &[u8], buffer: Option<BufferUse>) -> MemoryUse
 {
     let mut uses = no_use(Access::Execute);
     if let Some(buffer) = buffer {
-        uses.body = ByteRange::clipped(buffer.start, buffer.used, memory);
+        uses.body = ByteRange::clipped(buffer.start, looked_up(buffer), memory);
         uses.written[0] = ByteRange::clipped(buffer.start, buffer.changed, memory);
     }
     uses
+}
+
+// Returns the number of bytes that a command looks up at its buffer's address.
+fn looked_up(buffer: BufferUse) -> u32
+    ensures { result ≡ looked_up buffer }
+{
+    buffer.used.max(buffer.start.min(1))
 }
 
 // Returns the range of a packet with a text of `size` bytes at an address.

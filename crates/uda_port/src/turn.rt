@@ -2,7 +2,7 @@
 //!
 //! UDA50 Programmer's Documentation Kit: command ring polling, message envelopes, credits.
 ghost use Rattle.std.specs.Prelude.{◌≡◌, ◌≢◌, ◌+◌, ◌<◌, ◌≤◌, IfSome, IfOk, IfErr, IsNone, ◌↔◌, ℕ, option_map, slice_get, [], ◌∷◌, ◌++◌, length};
-ghost use Rattle.std.specs.Prelude.{take, Some, true, ◌||◌};
+ghost use Rattle.std.specs.Prelude.{take, Some, IsSome, is_some, true, ◌||◌};
 ghost use Rattle.uda_mem.specs.Slices.{IsMemory};
 ghost use Rattle.uda_disk.specs.Units.{AreWellFormed};
 ghost use Rattle.uda_exec.specs.Disks.{PENDING_LIMIT};
@@ -253,8 +253,8 @@ impl<S: BlockStore> Port<S> {
         if self.execute(memory, choice, trace) {
             return Ok(Turn::Executed);
         }
-        if let Some(notice) = self.notice() {
-            return match self.notify(memory, &notice) {
+        if self.has_notice() {
+            return match self.notify(memory) {
                 Err(cause) => Err(cause),
                 Ok(true) => {
                     *trace = Trace::Notified;
@@ -440,16 +440,16 @@ impl<S: BlockStore> Port<S> {
     // Applies the third rule if an attention message is due: delivers it, if the port owns the next response
     // descriptor. That is rare, so the function isn't inlined.
     #[inline(never)]
-    fn notify(&mut self, memory: &mut [u8], notice: &Notice) -> Result<bool, Fatal>
+    fn notify(&mut self, memory: &mut [u8]) -> Result<bool, Fatal>
         requires memory { IsMemory memory.old }
-        requires text { attention_text self.old ≡ Some (take notice.now.message.size notice.now.message.text) }
-        requires due { first_due self.old.guest.attentions ≡ Some notice.now.drive }
-        requires within { notice.now.message.size ≤ 48 }
-        requires guests { self.old.profile ≢ Strict }
+        requires due { IsSome (attention_text self.old) }
         requires running { self.old.phase ≡ Running }
         ensures effect { NotifyRule self.old memory.old result self.new memory.new }
         ensures cause { IfErr result (λ cause. CanDie self.new.profile self.new.phase cause) }
     {
+        let Some(notice) = self.notice() else {
+            return Ok(false);
+        };
         let descriptor = match self.responses.next(memory) {
             NextDescriptor::OwnedByPort(descriptor) => descriptor,
             NextDescriptor::OwnedByHost => return Ok(false),
@@ -465,6 +465,17 @@ impl<S: BlockStore> Port<S> {
         self.guest.set_attention(usize::from(notice.drive), false);
         self.interrupts.note(self.profile, delivery.indicator);
         Ok(true)
+    }
+
+    /// Returns whether an attention message is due.
+    #[inline(always)]
+    pub(crate) fn has_notice(&self) -> bool
+        ensures due { result ≡ is_some (attention_text self.now) }
+    {
+        match self.profile {
+            Profile::Strict => false,
+            Profile::Compatible(_) => self.guest.is_any_due(),
+        }
     }
 
     /// Returns the next attention message that is due, or None.

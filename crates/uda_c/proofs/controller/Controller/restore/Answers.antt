@@ -16,6 +16,20 @@ returns-then-not-fits_controller c = record {
   );
 }
 
+pub returns-then-not-ops_have_commands : goal.returns-then-not-ops_have_commands
+returns-then-not-ops_have_commands c = record {
+  restores = (
+    record {
+      state = c.in-Ok.state;
+      read = c.in-Ok.ensures.effect;
+      drives = sym c.calls_have_drives.ensures ∙ c.if-not-calls_have_drives.false;
+      fits = sym c.fits_controller.ensures ∙ c.if-not-fits_controller.false;
+      no_command = sym c.ops_have_commands.ensures ∙ c.if-not-ops_have_commands.true;
+    },
+    refl,
+  );
+}
+
 pub invariant_of-self : goal.invariant_of-self
 invariant_of-self c = (
   restored_faithful c.in-Ok.state.port c.self.inside.port c.restore.result c.restore.new.self c.restore.ensures.effect
@@ -40,6 +54,7 @@ returns-in-Ok-restore c = record {
       read = c.in-Ok.ensures.effect;
       drives = sym c.calls_have_drives.ensures ∙ c.if-not-calls_have_drives.false;
       fits = sym c.fits_controller.ensures ∙ c.if-not-fits_controller.false;
+      ops = sym c.ops_have_commands.ensures ∙ c.if-not-ops_have_commands.false;
     };
     fits = rw (← c.self.view_is) c.in-Ok-restore.ensures.effect.0;
     restored = rw (← c.self.view_is, c.set_failing_calls.ensures.set, c.in-Ok-restore.ensures.effect.1) refl;
@@ -55,6 +70,7 @@ returns-in-Err-restore c = record {
         read = c.in-Ok.ensures.effect;
         drives = sym c.calls_have_drives.ensures ∙ c.if-not-calls_have_drives.false;
         fits = sym c.fits_controller.ensures ∙ c.if-not-fits_controller.false;
+        ops = sym c.ops_have_commands.ensures ∙ c.if-not-ops_have_commands.false;
       };
       refused = rw (← c.self.view_is) c.in-Err-restore.ensures.effect.0;
     },

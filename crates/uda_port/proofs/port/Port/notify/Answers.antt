@@ -7,8 +7,8 @@ use Rattle.uda_port.proofs.port.Port.notify.Goals as goal
 pub returns-in-OutsideMemory-clause-effect : goal.returns-in-OutsideMemory-clause-effect
 returns-in-OutsideMemory-clause-effect g c = (
   record {
-    text = take c.args.notice.now.message.size c.args.notice.now.message.text;
-    is_next = attention_first c.args.self.now _ c.requires.text;
+    text = take c.in-Some.notice.message.size c.in-Some.notice.message.text;
+    is_next = attention_first c.args.self.now _ (search rules);
     no_descriptor = search rules;
   },
   search rules,

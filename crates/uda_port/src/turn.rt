@@ -459,7 +459,8 @@ impl<S: BlockStore> Port<S> {
             credits: 0,
             ..self.delivery(memory, descriptor)
         };
-        if !put_message(&mut self.responses, memory, descriptor, delivery, &notice.message) {
+        let message = &notice.message;
+        if !put_message(&mut self.responses, memory, descriptor, delivery, message) {
             return Err(Fatal::PacketWrite);
         }
         self.guest.set_attention(usize::from(notice.drive), false);

@@ -1,4 +1,4 @@
-/* uda50_blocks.c: turns with images that are read and written by calls. See uda50_blocks.h. */
+/* uda50_blocks.c: turns with called images, which are read and written by calls. See uda50_blocks.h. */
 #include "uda50_blocks.h"
 
 enum { BLOCK = 512, PIECE = 32 };

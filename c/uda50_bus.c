@@ -2,6 +2,9 @@
 #include "uda50_bus.h"
 
 #include <string.h>
+#ifdef UDA50_DEBUG
+#include <assert.h>
+#endif
 
 enum { RANGES = 4 };
 
@@ -45,6 +48,45 @@ static void fetch_descriptors(uda50 *handle, const uda50_bus *bus, uda50_turn_us
         turn->missing |= UDA50_MISSING_RESPONSE;
 }
 
+#ifdef UDA50_DEBUG
+static uint32_t add_bytes(uint32_t sum, const uda50_bus *bus, uda50_range range)
+{
+    for (uint32_t n = 0; n < range.bytes; n++)
+        sum = (sum ^ bus->window[range.at + n]) * 16777619;
+    return sum;
+}
+
+/* Returns a sum of what a turn has read into the window. */
+static uint32_t sum_of(const uda50_bus *bus, const uda50_turn_use *turn)
+{
+    uint32_t sum = 1;
+
+    for (int i = 0; i < RANGES; i++)
+        sum = add_bytes(sum, bus, turn->descriptors[i]);
+    return add_bytes(sum, bus, turn->body);
+}
+#endif
+
+/* Notes what a turn has read into the window, in a range that the turn fills later. Does nothing without UDA50_DEBUG. */
+static void note_window(const uda50_bus *bus, uda50_turn_use *turn)
+{
+#ifdef UDA50_DEBUG
+    turn->written[0].at = bus->read == NULL ? 0 : sum_of(bus, turn);
+#else
+    (void)bus, (void)turn;
+#endif
+}
+
+/* Fails if the window has changed since it was noted. Does nothing without UDA50_DEBUG. */
+static void expect_window(const uda50_bus *bus, const uda50_turn_use *turn)
+{
+#ifdef UDA50_DEBUG
+    assert(bus->read == NULL || turn->written[0].at == sum_of(bus, turn));
+#else
+    (void)bus, (void)turn;
+#endif
+}
+
 uint32_t uda50_bus_begin_turn(uda50 *handle, const uda50_bus *bus, uda50_turn_use *turn)
 {
     uint32_t status;
@@ -54,13 +96,16 @@ uint32_t uda50_bus_begin_turn(uda50 *handle, const uda50_bus *bus, uda50_turn_us
     status = uda50_get_body(handle, bus->window, bus->length, turn);
     if (status == UDA50_OK && !fetch(bus, turn->body))
         turn->missing |= UDA50_MISSING_BODY;
+    note_window(bus, turn);
     return status;
 }
 
 uint32_t uda50_bus_end_turn(uda50 *handle, const uda50_bus *bus, uda50_turn_use *turn)
 {
-    uint32_t status = uda50_turn_at(handle, bus->window, bus->length, turn);
+    uint32_t status;
 
+    expect_window(bus, turn);
+    status = uda50_turn_at(handle, bus->window, bus->length, turn);
     for (int i = 0; i < RANGES; i++)
         store(bus, turn->written[i]);
     return status;

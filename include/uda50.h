@@ -1,8 +1,8 @@
 /* uda50.h: a simulated UDA50 disk controller, for an emulator of a PDP-11 or a VAX.
 
-   The functions are in groups: lifecycle, drives, registers, turns, memory through map registers, memory by calls,
-   images by calls, inspection, save and restore, and failures for tests. The project's docs/C.md shows how an emulator
-   uses them, and docs/PORT.md says what the controller does.
+   The functions are in groups: lifecycle, drives, registers, turns, mapped memory, memory by calls, called images,
+   inspection, save and restore, and failures for tests. The project's docs/C.md shows how an emulator uses them, and
+   docs/PORT.md says what the controller does.
 
    A `uda50` is the handle of one controller. Set it to zero before its first use, pass its address, and neither copy
    it nor write into it. Every function accepts every handle. On a handle without a controller, each function except
@@ -22,7 +22,7 @@
 
    One call at a time uses a handle. A handle may go from one thread to another, if a lock or the start or end of a
    thread orders the calls. Threads may use different handles at once. No call blocks. Only uda50_new, uda50_new_as,
-   uda50_lend_blocks, uda50_format_last_turn and the turns and words over map registers allocate memory. */
+   uda50_lend_blocks, uda50_format_last_turn and the turns and words over mapped memory allocate memory. */
 #ifndef UDA50_H
 #define UDA50_H
 
@@ -50,8 +50,8 @@ enum { UDA50_UNITS = 4, UDA50_MAX_BLOCKS = 2147483647 };
    is empty, as one that is set to zero.
 
    The struct says who has the bytes. uda50_attach takes them and leaves the struct empty. uda50_detach and uda50_free
-   put them into an empty struct. While a unit has the bytes, nothing else reads, writes or frees them. An image by
-   calls has no bytes in memory, and no struct. */
+   put them into an empty struct. While a unit has the bytes, nothing else reads, writes or frees them. A called
+   image has no bytes in memory, and no struct. */
 typedef struct {
     uint8_t *at;
     size_t length;
@@ -79,7 +79,7 @@ enum {
     UDA50_OTHER_IMAGES = 77,     /* the images aren't as many and as long as the saved ones, or not as protected */
     UDA50_BAD_FIRST_UNIT = 78,   /* first_unit is above 65,532: the last unit's would be above 65,535 */
     UDA50_BAD_MAP = 79,          /* `page` or `scale` of a map is above 31 */
-    UDA50_OTHER_KIND = 80,       /* the unit's image is in memory and the call needs one by calls, or the reverse; or a use
+    UDA50_OTHER_KIND = 80,       /* the unit's image is in memory and the call needs a called one, or the reverse; or a use
                                     of blocks is another one */
     UDA50_NOWHERE = 81           /* an address leads nowhere; all others were copied */
 };
@@ -159,7 +159,7 @@ uint32_t uda50_new(uda50 *handle, bool compatible);
 uint32_t uda50_new_as(uda50 *handle, uint32_t bus, uint16_t first_unit);
 
 /* Frees the controller and returns its images. images[n], which must be empty, is then the image of unit n, as the
-   commands left it. It stays empty if the unit has none, or one by calls. Returns UDA50_OK, or the first that holds of
+   commands left it. It stays empty if the unit has none, or a called one. Returns UDA50_OK, or the first that holds of
    UDA50_NO_CONTROLLER and UDA50_NOT_EMPTY. */
 uint32_t uda50_free(uda50 *handle, uda50_image images[UDA50_UNITS]);
 
@@ -178,7 +178,7 @@ uint32_t uda50_attach(uda50 *handle, uint32_t unit, uda50_image *image, bool wri
 uint32_t uda50_set_type(uda50 *handle, uint32_t unit, uint32_t drive_type);
 
 /* Detaches a unit's image. *image, which must be empty, is then that image, as the commands left it. It stays empty if
-   the image is one by calls. Returns UDA50_OK, or the first that holds of UDA50_NO_CONTROLLER, UDA50_NO_SUCH_UNIT,
+   the image is a called one. Returns UDA50_OK, or the first that holds of UDA50_NO_CONTROLLER, UDA50_NO_SUCH_UNIT,
    UDA50_NOT_ATTACHED and UDA50_NOT_EMPTY. */
 uint32_t uda50_detach(uda50 *handle, uint32_t unit, uda50_image *image);
 
@@ -225,9 +225,9 @@ uint32_t uda50_turn(uda50 *handle, uint8_t *memory, size_t length);
    `attentions` of uda50_get_state isn't 0. */
 uint32_t uda50_run(uda50 *handle, uint32_t turns, uint8_t *memory, size_t length);
 
-/* ---- Memory through map registers ---- */
+/* ---- Mapped memory ---- */
 
-/* Map registers, through which a bus reaches the guest's memory. Bus address a leads to byte
+/* Map registers, through which a bus reaches the guest's memory, which is mapped memory then. Bus address a leads to byte
        ((registers[a >> page] & frame) << scale) + (a & ((1 << page) - 1))
    of memory, if that register exists and has all bits of `valid` set, and the byte is in memory. Otherwise it leads
    nowhere. Two registers may lead to one page. Set to zero what a machine doesn't have.
@@ -249,7 +249,7 @@ typedef struct {
     uint32_t in_memory;
 } uda50_map;
 
-/* These do what uda50_turn, uda50_run and uda50_write_sa do, in memory of any length through map registers. A turn first
+/* These do what uda50_turn, uda50_run and uda50_write_sa do, in mapped memory, which may have any length. A turn first
    reads from the bus what it may need: four descriptors, and a packet or a buffer. Then it writes the ranges that it may
    have changed, in the order of a controller's writes, and the bytes of each by rising address. Of the rest of memory it
    reads only registers that lie there.
@@ -288,9 +288,9 @@ uint32_t uda50_write_mapped(uint8_t *memory, size_t length, const uda50_map *map
      2. it copies the range of uda50_get_body;
      3. it sets `missing`, and calls uda50_turn_at with the struct of these calls;
      4. it copies the written ranges to the guest's memory, in their order.
-   A byte whose address leads nowhere is 0 in the window. The rest of the window has no influence, and stays as it is. For
-   a word for SA it asks uda50_get_zeroed, tests the addresses of that range, calls uda50_write_sa_at, and copies out the
-   range that this fills in. */
+   From the first of these steps to the last, no other controller uses the window. A byte whose address leads nowhere is 0
+   in the window. The rest of the window has no influence, and stays as it is. For a word for SA it asks uda50_get_zeroed,
+   tests the addresses of that range, calls uda50_write_sa_at, and copies out the range that this fills in. */
 
 /* Bytes from a bus address on. `bytes` may be 0. Otherwise all of them are within the window. */
 typedef struct {
@@ -322,7 +322,7 @@ uint32_t uda50_get_descriptors(uda50 *handle, const uint8_t *window, size_t leng
 uint32_t uda50_get_body(uda50 *handle, const uint8_t *window, size_t length, uda50_turn_use *turn);
 
 /* Runs one turn, and fills the written ranges of *turn. Returns as uda50_turn does. A missing address is treated
-   as by the calls over map registers. */
+   as by the calls over mapped memory. */
 uint32_t uda50_turn_at(uda50 *handle, uint8_t *window, size_t length, uda50_turn_use *turn);
 
 /* Fills *area with the range that the word sets to zero if it is written to SA. Returns UDA50_OK or
@@ -334,12 +334,12 @@ uint32_t uda50_get_zeroed(uda50 *handle, uint16_t word, const uint8_t *window, s
 uint32_t uda50_write_sa_at(uda50 *handle, uint16_t word, uint8_t *window, size_t length, bool missing,
                            uda50_range *area);
 
-/* ---- Images by calls ---- */
+/* ---- Called images ---- */
 
 /* For images that the emulator reads and writes by calls of its own, such as overlays, compressed files, and files whose
    blocks may fail. uda50_blocks.h makes the calls of this group in their order; most emulators use that, and not these.
 
-   Such an image has a size and no bytes. Before each turn the emulator reads or writes the blocks that the turn uses, and
+   A called image has a size and no bytes. Before each turn the emulator reads or writes the blocks that the turn uses, and
    says which it could. For a turn:
      1. it does the steps 1 and 2 of memory by calls, and sets `missing`. Memory that is one array is its own window,
         and of these steps only uda50_get_body is left, with `missing` = 0;
@@ -365,7 +365,7 @@ enum {
     UDA50_WRITES = 3  /* a Write or an Erase */
 };
 
-/* The blocks that a turn uses of an image by calls. If there are none, `use` is UDA50_NO_BLOCKS and all else 0. */
+/* The blocks that a turn uses of a called image. If there are none, `use` is UDA50_NO_BLOCKS and all else 0. */
 typedef struct {
     uint32_t use;   /* UDA50_NO_BLOCKS to UDA50_WRITES */
     uint32_t unit;  /* 0 to 3 */
@@ -373,13 +373,12 @@ typedef struct {
     uint32_t count; /* how many blocks */
 } uda50_blocks;
 
-/* Attaches an image of this many blocks to unit 0 to 3, which the emulator reads and writes by calls of its own.
-   Otherwise it does what uda50_attach does. Returns UDA50_OK, or the first that holds of UDA50_NO_CONTROLLER,
-   UDA50_NO_SUCH_UNIT, UDA50_ALREADY_ATTACHED, UDA50_BAD_LENGTH, which is 0 blocks, and UDA50_TOO_LARGE, which is more
-   than UDA50_MAX_BLOCKS. */
-uint32_t uda50_attach_called(uda50 *handle, uint32_t unit, uint32_t blocks, bool write_protected);
+/* Attaches a called image of this many blocks to unit 0 to 3. Otherwise it does what uda50_attach does. Returns UDA50_OK,
+   or the first that holds of UDA50_NO_CONTROLLER, UDA50_NO_SUCH_UNIT, UDA50_ALREADY_ATTACHED, UDA50_BAD_LENGTH and
+   UDA50_TOO_LARGE. UDA50_BAD_LENGTH is 0 blocks, and UDA50_TOO_LARGE any number above UDA50_MAX_BLOCKS. */
+uint32_t uda50_attach_called(uda50 *handle, uint32_t unit, uint64_t blocks, bool write_protected);
 
-/* Fills *blocks with what the next turn uses of an image by calls, if it executes the command at `place` of *turn with
+/* Fills *blocks with what the next turn uses of a called image, if it executes the command at `place` of *turn with
    these bits of `missing`. From then on no block of that unit is ready. Returns UDA50_OK, or the first that holds of
    UDA50_NO_CONTROLLER, UDA50_BAD_LENGTH and UDA50_TOO_LARGE. */
 uint32_t uda50_get_blocks(uda50 *handle, const uint8_t *window, size_t length, const uda50_turn_use *turn,
@@ -463,10 +462,10 @@ enum { UDA50_STATE_LENGTH = 1576, UDA50_STATE_VERSION = 1 };
 uint32_t uda50_save(uda50 *handle, uint8_t *state, size_t length);
 
 /* Continues from a saved state. Make a controller and attach the images first, to the units that had one, as long and
-   as write-protected as they were; an RRD40's image is write-protected. The controller's own state is dropped, also
-   its profile, bus, first unit and drive types: the saved drive types replace those that were set. If images and guest
-   memory have the bytes that they had when the state was saved, the guest sees from then on what it would have seen.
-   There is no last turn.
+   as write-protected as they were. The image of a compatible controller's RRD40 was write-protected. The controller's
+   own state is dropped, also its profile, bus, first unit and drive types: the saved drive types replace those that were
+   set. If images and guest memory have the bytes that they had when the state was saved, the guest sees from then on what
+   it would have seen. There is no last turn.
 
    Returns UDA50_OK, or the first that holds of UDA50_NO_CONTROLLER, UDA50_OTHER_VERSION, UDA50_BAD_LENGTH,
    UDA50_BAD_STATE and UDA50_OTHER_IMAGES. So a state of another version may have any length.
@@ -481,7 +480,7 @@ uint32_t uda50_restore(uda50 *handle, const uint8_t *state, size_t length);
    or writes one block; reads and writes are counted together, from 1. A transfer that meets the failure ends with
    status 0x000B, a drive error, and the byte count of the blocks before. If it is a Write or an Erase, the first 256
    bytes of that block are then new and the last 256 are old. A Read leaves that block's part of the buffer as it was.
-   The unit's mode doesn't change. A later call replaces an earlier one, and uda50_detach ends it. An image by calls is
+   The unit's mode doesn't change. A later call replaces an earlier one, and uda50_detach ends it. A called image is
    UDA50_OTHER_KIND: there the emulator says itself which blocks fail. Returns UDA50_OK, or the first that holds of
    UDA50_NO_CONTROLLER, UDA50_NO_SUCH_UNIT, UDA50_NOT_ATTACHED and UDA50_OTHER_KIND. */
 uint32_t uda50_inject_failure(uda50 *handle, uint32_t unit, uint32_t call);

@@ -277,7 +277,7 @@ CRATES = {
     "uda_c": (3, 6.6, "library for C"),
     "uda_saved": (2, 5.5, "saved state as bytes"),
     "uda_bus": (2, 6.2, "map registers of a bus"),
-    "uda_called": (3, 1, "images by calls"),
+    "uda_called": (3, 1, "called images"),
     "c_box": (3, 4.5, "box as its pointer"),
     "uda_posting": (2, 4.4, "requests by commands"),
     "uda_grammar": (3, 2, "parser of scripts"),

@@ -1,7 +1,7 @@
-/* blocks.c: turns with images by calls, compared with those of a controller with the same images in memory.
+/* blocks.c: turns with called images, compared with those of a controller with the same images in memory.
    First each command with each of its blocks failing; what must write nothing; blocks that aren't ready; large commands,
-   and missing memory. Then random guests of both profiles, with memory that is one array, by calls or through map
-   registers. Any block may fail. Both controllers must do the same. What the calls moved must be what the end messages
+   and missing memory. Then random guests of both profiles, with memory that is one array, by calls or mapped.
+   Any block may fail. Both controllers must do the same. What the calls moved must be what the end messages
    say.
    Usage: blocks [GUESTS [ROUNDS]] */
 #include <stdint.h>
@@ -35,7 +35,7 @@ typedef struct machine {
     int way;
 } machine;
 
-static machine called, held; /* images by calls, and in memory */
+static machine called, held; /* called images, and images in memory */
 
 /* ---- Memory that the library gets ---- */
 
@@ -54,7 +54,7 @@ void *__wrap_realloc(void *at, size_t bytes)
     return allocations++ < allowed ? __real_realloc(at, bytes) : NULL;
 }
 
-/* ---- The images by calls ---- */
+/* ---- The called images ---- */
 
 /* What the calls of a turn moved. The one after `fails_after` blocks fails. */
 static struct {
@@ -189,7 +189,7 @@ static void attach(machine *it, uint32_t unit)
         EXPECT(uda50_attach(&it->uda, unit, &image, unit == 2), UDA50_OK);
 }
 
-/* A struct gets the bytes of an image in memory, and stays empty for one by calls. */
+/* A struct gets the bytes of an image in memory, and stays empty for a called image. */
 static void expect_image(const machine *it, uint32_t unit, uda50_image image)
 {
     bool empty = it == &called && unit < 3;
@@ -239,7 +239,7 @@ static uint32_t plain_turn(machine *it)
                               : uda50_turn_mapped(&it->uda, it->physical, PHYSICAL, &it->map);
 }
 
-/* A turn of the controller with images in memory. Of a unit whose other image is one by calls the same block
+/* A turn of the controller with images in memory. Of a unit whose other image is a called one the same block
    fails. */
 static uint32_t held_turn(void)
 {
@@ -275,7 +275,7 @@ static void expect_told(uint32_t result)
         EXPECT(told.status == 0 && (told.bytes + BLOCK - 1) / BLOCK == count, true);
 }
 
-/* A turn of the controller with images by calls. Whatever is in a window has no influence. */
+/* A turn of the controller with called images. Whatever is in a window has no influence. */
 static uint32_t called_turn(void)
 {
     uint32_t result;
@@ -681,6 +681,32 @@ static void ended_runs(void)
     EXPECT(uda50_blocks_run(&called.uda, 2, &called.bus, images), UDA50_IDLE);
 }
 
+/* A run goes on after an attention message. */
+static void run_after_attention(void)
+{
+    uda50_state state;
+
+    begin(CALLS);
+    post(posted % COMMANDS, (command){ SET_CONTROLLER, 0, 1, 0x800000, 0 }); /* it asks for attention messages */
+    EXPECT(executed(1), 0);
+    give_response(posted % RESPONSES);
+    give_response((posted + 1) % RESPONSES);
+    give_response((posted + 2) % RESPONSES);
+    show();
+    for (uint32_t unit = 1; unit < UDA50_UNITS; unit++) {
+        detach(&called, unit);
+        attach(&called, unit);
+    }
+    EXPECT(uda50_get_state(&called.uda, &state), UDA50_OK);
+    EXPECT(state.attentions, 0xe);
+    EXPECT(uda50_blocks_run(&called.uda, 2, &called.bus, images), UDA50_NOTIFIED);
+    EXPECT(uda50_get_state(&called.uda, &state), UDA50_OK);
+    EXPECT(state.attentions, 8);
+    EXPECT(uda50_blocks_run(&called.uda, TURNS, &called.bus, images), UDA50_IDLE);
+    EXPECT(uda50_get_state(&called.uda, &state), UDA50_OK);
+    EXPECT(state.attentions, 0);
+}
+
 static void statuses_of_images(void)
 {
     static uint8_t block[BLOCK];
@@ -699,6 +725,10 @@ static void statuses_of_images(void)
     EXPECT(uda50_detach(uda, 1, &empty), UDA50_OK);
     EXPECT(uda50_attach_called(uda, 1, 0, false), UDA50_BAD_LENGTH);
     EXPECT(uda50_attach_called(uda, 1, (uint32_t)UDA50_MAX_BLOCKS + 1, false), UDA50_TOO_LARGE);
+    EXPECT(uda50_attach_called(uda, 1, ((uint64_t)1 << 32) + 5, false), UDA50_TOO_LARGE);
+    EXPECT(uda50_attach_called(uda, 1, (uint64_t)1 << 32, false), UDA50_TOO_LARGE);
+    EXPECT(uda50_attach_called(uda, 1, UINT64_MAX, false), UDA50_TOO_LARGE);
+    EXPECT(uda50_detach(uda, 1, &empty), UDA50_NOT_ATTACHED);
     EXPECT(uda50_lend_blocks(uda, 1, 0, block, BLOCK), UDA50_NOT_ATTACHED);
     EXPECT(uda50_allow_blocks(uda, 1, UDA50_CHECKS, 1), UDA50_NOT_ATTACHED);
     EXPECT(uda50_attach_called(uda, 1, sizes[1], false), UDA50_OK);
@@ -1055,6 +1085,7 @@ int main(int count, char **arguments)
     statuses_of_images();
     statuses_of_turns();
     ended_runs();
+    run_after_attention();
     missing_memory();
     copies();
     refused_copies();

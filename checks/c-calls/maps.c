@@ -1,5 +1,5 @@
-/* maps.c: turns over memory through map registers. First what a hole does, by what it hits; registers that lead to
-   one page, or lie in memory; and the end of memory. Then random guests. Over a map without holes a controller does what
+/* maps.c: turns over mapped memory. First what a hole does, by what it hits; transfers of 0 bytes; registers that lead
+   to one page, or lie in memory; and the end of memory. Then random guests. Over a map without holes a controller does what
    it does over one array. Over any map uda50_turn_mapped does what uda50_bus_turn does by calls that go byte by byte,
    whatever is in the window of those.
    Usage: maps [MAPS [EVENTS]] */
@@ -10,10 +10,11 @@
 
 enum { PAGE_BITS = 9, PAGES = SIZE / BLOCK, FRAMES = PAGES + 8, DISK = 16 * BLOCK, SCALE = 4 };
 enum { FRAME = 0x0fffffff, PHYSICAL = FRAMES * BLOCK };
+enum { ACCESS = 16, ERASE = 18, COMPARE = 32 };
 
 static const uint32_t VALID = 0x80000000;
 
-/* A controller with an image, and its guest's memory through map registers. The bus has calls that go byte by byte. */
+/* A controller with an image, and its guest's mapped memory. The bus has calls that go byte by byte. */
 typedef struct {
     uda50 uda;
     uint8_t disk[DISK], physical[PHYSICAL], window[SIZE];
@@ -106,10 +107,15 @@ static uint32_t turn(machine *it)
                         : uda50_turn_mapped(&it->uda, it->physical, it->length, &it->map);
 }
 
+static uint32_t run_turns(machine *it, uint32_t turns)
+{
+    return it->by_calls ? uda50_bus_run(&it->uda, turns, &it->bus)
+                        : uda50_run_mapped(&it->uda, turns, it->physical, it->length, &it->map);
+}
+
 static uint32_t run(machine *it)
 {
-    return it->by_calls ? uda50_bus_run(&it->uda, 100, &it->bus)
-                        : uda50_run_mapped(&it->uda, 100, it->physical, it->length, &it->map);
+    return run_turns(it, 100);
 }
 
 static void write_sa(machine *it, uint16_t word)
@@ -219,6 +225,71 @@ static void holes(machine *it)
     EXPECT(uda50_read_sa(&it->uda), 0x8006);
 }
 
+/* Executes a transfer of 0 bytes whose buffer has this address, on a bus without the page of `missing`. Returns its
+   status. */
+static uint32_t status_of_none(machine *it, uint8_t opcode, uint32_t buffer, uint32_t missing)
+{
+    begin(it);
+    post(1, (command){ opcode, 0, 2, 0, 1 });
+    put32(command_at(1) + 16, buffer);
+    show(it);
+    it->registers[missing / BLOCK] &= ~VALID;
+    uda50_read_ip(&it->uda);
+    EXPECT(run(it), UDA50_IDLE);
+    see(it);
+    return get16(response_at(1) + 10);
+}
+
+/* The address of a transfer of 0 bytes is looked up as one byte. Address 0 and the end of the bus always pass. */
+static void no_bytes(machine *it)
+{
+    static const uint8_t opcodes[] = { READ, WRITE, COMPARE };
+    static uint8_t disk[DISK];
+
+    memcpy(disk, it->disk, DISK);
+    for (uint32_t n = 0; n < sizeof opcodes; n++) {
+        EXPECT(status_of_none(it, opcodes[n], BUFFER, BUFFER), 0x69);
+        EXPECT(status_of_none(it, opcodes[n], BUFFER + BLOCK - 2, BUFFER), 0x69);
+        EXPECT(status_of_none(it, opcodes[n], BUFFER, BUFFER + BLOCK), 0);
+        EXPECT(status_of_none(it, opcodes[n], BUFFER + BLOCK, BUFFER), 0);
+        EXPECT(status_of_none(it, opcodes[n], 0, 0), 0);
+        EXPECT(status_of_none(it, opcodes[n], 2, 0), 0x69);
+        EXPECT(status_of_none(it, opcodes[n], SIZE - 2, SIZE - 2), 0x69);
+        EXPECT(status_of_none(it, opcodes[n], SIZE, SIZE - 2), 0);
+        EXPECT(status_of_none(it, opcodes[n], SIZE + 2, 0), 0x69);
+    }
+    EXPECT(status_of_none(it, ACCESS, BUFFER, BUFFER), 0); /* it has no buffer */
+    EXPECT(status_of_none(it, ERASE, BUFFER, BUFFER), 0);
+    EXPECT(memcmp(disk, it->disk, DISK), 0);
+}
+
+/* The same over one array, of which only the end can be missing. */
+static uint32_t status_in_array(uint8_t opcode, uint32_t buffer)
+{
+    start(&flat);
+    for (uint32_t n = 0; n < 2; n++) {
+        give_response(n);
+        post(n, (command){ n == 0 ? ONLINE : opcode, 0, n, 0, 1 });
+        put32(command_at(n) + 16, n == 0 ? 0 : buffer);
+        uda50_read_ip(&flat);
+        EXPECT(uda50_run(&flat, 100, memory, SIZE), UDA50_IDLE);
+    }
+    return get16(response_at(1) + 10);
+}
+
+static void no_bytes_in_array(void)
+{
+    static const uint8_t opcodes[] = { READ, WRITE, COMPARE };
+
+    for (uint32_t n = 0; n < sizeof opcodes; n++) {
+        EXPECT(status_in_array(opcodes[n], 0), 0);
+        EXPECT(status_in_array(opcodes[n], BUFFER), 0);
+        EXPECT(status_in_array(opcodes[n], SIZE - 2), 0);
+        EXPECT(status_in_array(opcodes[n], SIZE), 0);
+        EXPECT(status_in_array(opcodes[n], SIZE + 2), 0x69);
+    }
+}
+
 /* The buffer of a response is on a page of its own, which is missing. */
 static void missing_response(machine *it)
 {
@@ -282,6 +353,55 @@ static void ended_run(machine *it)
     reads = 0;
     EXPECT(run(it), UDA50_IDLE);
     EXPECT(reads <= 5, true);
+}
+
+/* A run takes as many turns as it gets: none, one, or two. */
+static void counted_run(machine *it)
+{
+    static uint8_t before[UDA50_STATE_LENGTH], after[UDA50_STATE_LENGTH];
+
+    begin(it);
+    post(1, read_two);
+    show(it);
+    uda50_read_ip(&it->uda);
+    reads = 0;
+    EXPECT(uda50_save(&it->uda, before, sizeof before), UDA50_OK);
+    EXPECT(run_turns(it, 0), UDA50_IDLE);
+    EXPECT(uda50_save(&it->uda, after, sizeof after), UDA50_OK);
+    EXPECT(memcmp(before, after, sizeof before), 0);
+    EXPECT(reads, 0);
+    EXPECT(run_turns(it, 1), UDA50_FETCHED);
+    EXPECT(run_turns(it, 0), UDA50_IDLE);
+    EXPECT(run_turns(it, 2), UDA50_DELIVERED);
+    EXPECT(run(it), UDA50_IDLE);
+}
+
+/* A run goes on after an attention message. */
+static void run_after_attention(machine *it)
+{
+    static uint8_t disk[BLOCK];
+    uda50_image image = { disk, BLOCK };
+    uda50_state state;
+
+    begin(it);
+    post(1, (command){ SET_CONTROLLER, 0, 2, 0x800000, 0 }); /* it asks for attention messages */
+    show(it);
+    uda50_read_ip(&it->uda);
+    EXPECT(run(it), UDA50_IDLE);
+    EXPECT(uda50_attach(&it->uda, 1, &image, false), UDA50_OK);
+    EXPECT(uda50_attach_called(&it->uda, 2, 1, false), UDA50_OK);
+    EXPECT(uda50_get_state(&it->uda, &state), UDA50_OK);
+    EXPECT(state.attentions, 6);
+    EXPECT(run_turns(it, 2), UDA50_NOTIFIED);
+    EXPECT(uda50_get_state(&it->uda, &state), UDA50_OK);
+    EXPECT(state.attentions, 0);
+    EXPECT(uda50_detach(&it->uda, 1, &image), UDA50_OK);
+    EXPECT(uda50_detach(&it->uda, 2, &(uda50_image){ NULL, 0 }), UDA50_OK);
+    EXPECT(uda50_attach(&it->uda, 1, &image, false), UDA50_OK);
+    give_response(0);
+    show(it);
+    EXPECT(run(it), UDA50_IDLE); /* a turn of the message, and one that does nothing */
+    EXPECT(uda50_detach(&it->uda, 1, &image), UDA50_OK);
 }
 
 /* The area of the rings is missing at the third word. */
@@ -401,12 +521,15 @@ static void registers_in_memory(machine *it)
 static void known_guests(machine *it)
 {
     holes(it);
+    no_bytes(it);
     missing_response(it);
     missing_response_ring(it);
     missing_before(it);
     missing_area(it);
     zeroed_area(it);
     ended_run(it);
+    counted_run(it);
+    run_after_attention(it);
     shared_pages(it);
     writes_in_order(it);
     end_of_memory(it);
@@ -660,6 +783,7 @@ int main(int count, char **arguments)
     EXPECT(uda50_attach(&flat, 0, &image, false), UDA50_OK);
     known_guests(&mapped);
     known_guests(&other);
+    no_bytes_in_array();
     refused_maps(&mapped);
     refused_uses(&mapped);
     told_ranges(&mapped);

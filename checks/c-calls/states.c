@@ -270,6 +270,90 @@ static void impossible_at_work(uint8_t *state)
     CHANGED(19, 1, UDA50_BAD_STATE);             /* a request without a vector */
 }
 
+/* More operations are listed than commands are pending. */
+static void operations_without_commands(const uint8_t *saved)
+{
+    static uint8_t state[STATE];
+
+    memcpy(state, saved, STATE);
+    EXPECT(state[21], 2);
+    CHANGED(22, 3, UDA50_BAD_STATE);
+    CHANGED(22, 15, UDA50_BAD_STATE);
+    CHANGED(22, 16, UDA50_BAD_STATE);
+    state[60] = 17; /* that cause comes before other images */
+    CHANGED(22, 3, UDA50_BAD_STATE);
+    refused(&second, state, UDA50_OTHER_IMAGES, __LINE__);
+}
+
+/* An attention message may be due for an available unit, and not for an online one. */
+static void attention_for_an_online_unit(const uint8_t *saved)
+{
+    static uint8_t state[STATE];
+
+    memcpy(state, saved, STATE);
+    EXPECT(state[57], 1);
+    EXPECT(state[65], 0);
+    state[12] = 0x80; /* the guest asks for attention messages */
+    CHANGED(28, 1, UDA50_BAD_STATE);
+    state[29] = 1;
+    CHANGED(65, 1, UDA50_BAD_STATE);
+    EXPECT(uda50_restore(&second.uda, state, STATE), UDA50_OK);
+    state[29] = 0;
+    state[65] = 1;
+    EXPECT(uda50_restore(&second.uda, state, STATE), UDA50_OK);
+    state[57] = 0;
+    state[28] = 1;
+    EXPECT(uda50_restore(&second.uda, state, STATE), UDA50_OK);
+}
+
+/* A strict controller has started up, with the images of `second`. */
+static void strict_state(uint8_t *state)
+{
+    static const uint16_t words[] = { 0x8000, BASE, 0, 1 };
+    uda50_image images[UDA50_UNITS] = { { NULL, 0 } };
+
+    EXPECT(uda50_new(&worker.uda, false), UDA50_OK);
+    for (uint32_t unit = 0; unit < second.units; unit++)
+        attach(&worker, unit, worker.disks[unit], lengths[unit], unit == 1);
+    for (int n = 0; n < 4; n++)
+        uda50_write_sa(&worker.uda, words[n], worker.memory, SIZE);
+    save(&worker, state);
+    EXPECT(uda50_free(&worker.uda, images), UDA50_OK);
+}
+
+/* Only an online unit of a strict controller has software protection. One of a compatible controller keeps it. */
+static void protection_of_an_available_unit(const uint8_t *saved)
+{
+    static uint8_t state[STATE];
+
+    strict_state(state);
+    EXPECT(state[2] == 7 && state[8] == 0, true);
+    EXPECT(uda50_restore(&second.uda, state, STATE), UDA50_OK);
+    CHANGED(59, 1, UDA50_BAD_STATE);
+    CHANGED(67, 1, UDA50_BAD_STATE);
+    state[57] = state[59] = 1;
+    EXPECT(uda50_restore(&second.uda, state, STATE), UDA50_OK);
+    CHANGED(57, 0, UDA50_BAD_STATE);
+    memcpy(state, saved, STATE);
+    EXPECT(state[8], 1);
+    state[57] = 0;
+    state[59] = 1;
+    EXPECT(uda50_restore(&second.uda, state, STATE), UDA50_OK);
+}
+
+/* States that break one rule of a controller, and the same states without that. Then `second` continues from the state
+   that it had. */
+static void rules_of_a_controller(void)
+{
+    static uint8_t saved[STATE];
+
+    save(&second, saved);
+    operations_without_commands(saved);
+    attention_for_an_online_unit(saved);
+    protection_of_an_available_unit(saved);
+    EXPECT(uda50_restore(&second.uda, saved, STATE), UDA50_OK);
+}
+
 /* The same of the state of a new controller, which has no images. */
 static void impossible_at_first(void)
 {
@@ -340,6 +424,7 @@ static void refusals(void)
     EXPECT(uda50_get_last_turn(&second.uda, &turn), UDA50_OK);
     EXPECT(turn.kind, UDA50_NO_TURN);
     impossible_at_work(state);
+    rules_of_a_controller();
     play_both(&first, &second, 1000);
 }
 

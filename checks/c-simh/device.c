@@ -262,13 +262,35 @@ static void attach(DEVICE *device, int number, char *path)
     PRINTED("");
 }
 
+int __real_close(int descriptor), __wrap_close(int descriptor);
+
+static const char *refused_path; /* of an attach that is refused, while it goes on */
+static long refused_length;
+
+/* Closes a descriptor. If the file of such an attach isn't locked then, it must be as long as it was. */
+int __wrap_close(int descriptor)
+{
+    int result = __real_close(descriptor), reason = errno, other = refused_path == NULL ? -1 : open(refused_path, O_RDWR);
+
+    if (other >= 0) {
+        if (flock(other, LOCK_EX | LOCK_NB) == 0)
+            EXPECT(length_of(refused_path), refused_length);
+        __real_close(other);
+    }
+    errno = reason;
+    return result;
+}
+
 /* An attach is refused. Then no descriptor is left, and the file is as long as it was, and not locked. */
 static void expect_refused(DEVICE *device, char *path, long length, int line)
 {
     int next = open(".", O_RDONLY), descriptor;
 
     close(next);
+    refused_path = path;
+    refused_length = length;
     expect((unsigned long)device->attach(device->units, path), SCPE_OPENERR, "the attach", line);
+    refused_path = NULL;
     expect(device->units->flags & UNIT_ATT, 0, "attached", line);
     expect((unsigned long)length_of(path), (unsigned long)length, "the length", line);
     descriptor = open(path, O_RDWR);

@@ -1,5 +1,6 @@
 /* host.c: a disk that is an overlay. A block is read from a base file, which stays as it is, until the guest writes it.
-   Then it is in a second file. Usage: host BASE OVERLAY; it prints what a guest's commands end with. */
+   Then it is in a second file. That has a bit for each block after its blocks, and so it keeps them for the next run.
+   Usage: host BASE OVERLAY; it prints what a guest's commands end with. */
 #include "uda50_blocks.h"
 #include <stdio.h>
 #include <string.h>
@@ -7,6 +8,19 @@ enum { BLOCK = 512, BLOCKS = 8, SIZE = 32768, RINGS = 0x1000, RESPONSE = 0x2004,
 static FILE *base, *second;
 static uint8_t bits[BLOCKS / 8], memory[SIZE]; /* a bit for each block of `second`, and the guest's memory */
 static uda50 uda;
+
+/* Opens the second file, which may be new, and reads its bits. A new file has none. */
+static bool open_second(const char *path)
+{
+    FILE *made = fopen(path, "ab");
+    return made != NULL && fclose(made) == 0 && (second = fopen(path, "rb+")) != NULL
+           && fseek(second, BLOCKS * BLOCK, SEEK_SET) == 0 && (fread(bits, sizeof bits, 1, second) == 1 || !ferror(second));
+}
+
+static bool write_at(long at, const uint8_t *from, size_t bytes)
+{
+    return fseek(second, at, SEEK_SET) == 0 && fwrite(from, bytes, 1, second) == 1 && fflush(second) == 0;
+}
 
 static uint32_t read_blocks(void *context, uint32_t lbn, uint32_t count, uint8_t *to)
 {
@@ -23,9 +37,10 @@ static uint32_t write_blocks(void *context, uint32_t lbn, uint32_t count, const 
 {
     uint8_t *written = context;
     for (uint32_t n = 0; n < count; n++, lbn++, from += BLOCK) {
-        if (fseek(second, (long)lbn * BLOCK, SEEK_SET) != 0 || fwrite(from, BLOCK, 1, second) != 1 || fflush(second) != 0)
+        uint8_t byte = (uint8_t)(written[lbn / 8] | 1 << lbn % 8);
+        if (!write_at((long)lbn * BLOCK, from, BLOCK) || !write_at(BLOCKS * BLOCK + lbn / 8, &byte, 1))
             return n;
-        written[lbn / 8] |= (uint8_t)(1 << lbn % 8);
+        written[lbn / 8] = byte;
     }
     return count;
 }
@@ -44,13 +59,14 @@ static void post(const char *name, uint8_t opcode, uint8_t lbn)
 
 int main(int argc, char **argv)
 {
-    if (argc != 3 || (base = fopen(argv[1], "rb")) == NULL || (second = fopen(argv[2], "wb+")) == NULL
-        || uda50_new(&uda, true) != UDA50_OK || uda50_attach_called(&uda, 0, BLOCKS, false) != UDA50_OK)
+    if (argc != 3 || (base = fopen(argv[1], "rb")) == NULL || !open_second(argv[2]) || uda50_new(&uda, true) != UDA50_OK
+        || uda50_attach_called(&uda, 0, BLOCKS, false) != UDA50_OK)
         return 1;
     for (int n = 0; n < 4; n++)
         uda50_write_sa(&uda, (const uint16_t[]){0x8000, RINGS, 0, 1}[n], memory, SIZE);
     post("Online", 9, 0);
     post("Read", 33, 1);
+    post("Read", 33, 2);
     memcpy(memory + BUFFER, "written", 8);
     post("Write", 34, 2);
     post("Read", 33, 2);

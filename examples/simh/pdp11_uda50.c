@@ -276,7 +276,7 @@ static bool has_calls(controller *it)
     return false;
 }
 
-/* Turns of a controller with files that are read and written by calls. All controllers share the window. */
+/* Turns of a controller with files that are read and written by calls. All controllers use the window, one after the other. */
 static uint32 run_with_calls(controller *it, uint32 turns, const uda50_map *map)
 {
     static uint8 window[WINDOW];
@@ -575,7 +575,8 @@ static off_t length_of(UNIT *unit)
 }
 
 /* Makes a file as long as its drive, unless another program has it locked. *before is the length that it had. If it
-   returns UDA50_FILE_ROOM, errno is the system's reason. */
+   returns UDA50_FILE_ROOM, errno is the system's reason. It ends its lock, since uda50_file_open takes one by another
+   descriptor. If another program is faster, the attach fails, and the file stays longer. */
 static int extend(UNIT *unit, off_t *before)
 {
     int descriptor = fileno(unit->fileref);
@@ -591,16 +592,28 @@ static int extend(UNIT *unit, off_t *before)
     return reason == 0 ? UDA50_FILE_OK : UDA50_FILE_ROOM;
 }
 
-/* Cuts a file back that `extend` made longer, unless another program has it locked by now. */
+/* Cuts a file back that `extend` made longer. */
 static void cut_back(UNIT *unit, off_t before)
 {
-    int descriptor = fileno(unit->fileref);
-
-    if (before < 0 || before >= (off_t)unit->capac || !lock_file(unit, LOCK_EX))
-        return;
-    if (length_of(unit) == (off_t)unit->capac && ftruncate(descriptor, before) != 0)
+    if (before >= 0 && before < (off_t)unit->capac && length_of(unit) == (off_t)unit->capac
+        && ftruncate(fileno(unit->fileref), before) != 0)
         perror(unit->filename);
-    flock(descriptor, LOCK_UN);
+}
+
+/* Closes a file and cuts it back. If it was open, a copy of its descriptor keeps the lock meanwhile. If not, it is cut back
+   unless another program has it locked by now. */
+static void close_and_cut_back(UNIT *unit, uda50_file *file, off_t before)
+{
+    int kept = file->is_open ? dup(file->descriptor) : -1;
+
+    uda50_file_close(file);
+    if (kept >= 0) {
+        cut_back(unit, before);
+        close(kept);
+    } else if (before >= 0 && lock_file(unit, LOCK_EX)) {
+        cut_back(unit, before);
+        flock(fileno(unit->fileref), LOCK_UN);
+    }
 }
 
 /* Prints what is wrong with a unit's file. If its room can't be reserved, errno is the system's reason. */
@@ -632,8 +645,7 @@ static bool map_file(UNIT *unit)
         file->image.length = (size_t)unit->capac;
     if (fault == UDA50_FILE_OK || fault == UDA50_FILE_NO_RESERVE)
         return true;
-    uda50_file_close(file);
-    cut_back(unit, before);
+    close_and_cut_back(unit, file, before);
     return false;
 }
 

@@ -1,6 +1,8 @@
 /* device.c: tests examples/simh/pdp11_uda50.c without SIMH, of which pdp11_defs.h here has what that file uses:
    which unit is booted, a state that doesn't fit, a change of the bus, files that are locked or have no room, and files
-   whose blocks fail, with the UNIBUS map off and on.
+   whose blocks fail, with the UNIBUS map off and on. It is linked with --wrap of the system calls by which a file is
+   locked, made longer, mapped and closed. After each of them in an attach, another open file description tries to lock
+   the file.
    Usage: device [full]    with `full`, ./small is a tmpfs of 2 MB, and ./bare a ramfs */
 #include "pdp11_defs.h"
 #undef printf
@@ -13,6 +15,7 @@
 #include <fcntl.h>
 #include <stdarg.h>
 #include <sys/file.h>
+#include <sys/mman.h>
 #include <sys/stat.h>
 #include <unistd.h>
 
@@ -250,35 +253,89 @@ static void set_way(uint32 flag)
         rq_dev.units[n].flags = (rq_dev.units[n].flags & ~(uint32)MMAP) | flag;
 }
 
+/* ---- system calls ---- */
+
+int __real_close(int descriptor), __wrap_close(int descriptor);
+int __real_flock(int descriptor, int operation), __wrap_flock(int descriptor, int operation);
+int __real_ftruncate(int descriptor, off_t length), __wrap_ftruncate(int descriptor, off_t length);
+int __real_fallocate(int descriptor, int mode, off_t from, off_t length);
+int __wrap_fallocate(int descriptor, int mode, off_t from, off_t length);
+void *__real_mmap(void *at, size_t length, int access, int flags, int descriptor, off_t from);
+void *__wrap_mmap(void *at, size_t length, int access, int flags, int descriptor, off_t from);
+
+static const char *watched_path; /* while an attach goes on */
+static long watched_length;
+static bool map_fails, reserve_fails;
+static int failing_length; /* which of the next calls that set a length fails, or 0 */
+
+/* Looks at the file of an attach after a call: if another program can lock it now, it must be as long as it was. Returns
+   the result of the call, and leaves errno. */
+static int seen(int result)
+{
+    int reason = errno, other = watched_path == NULL ? -1 : open(watched_path, O_RDWR);
+
+    if (other >= 0) {
+        if (__real_flock(other, LOCK_EX | LOCK_NB) == 0)
+            EXPECT(length_of(watched_path), watched_length);
+        __real_close(other);
+    }
+    errno = reason;
+    return result;
+}
+
+int __wrap_close(int descriptor)
+{
+    return seen(__real_close(descriptor));
+}
+
+int __wrap_flock(int descriptor, int operation)
+{
+    return seen(__real_flock(descriptor, operation));
+}
+
+int __wrap_ftruncate(int descriptor, off_t length)
+{
+    errno = EFBIG;
+    return seen(failing_length > 0 && --failing_length == 0 ? -1 : __real_ftruncate(descriptor, length));
+}
+
+int __wrap_fallocate(int descriptor, int mode, off_t from, off_t length)
+{
+    errno = ENOSPC;
+    return seen(reserve_fails ? -1 : __real_fallocate(descriptor, mode, from, length));
+}
+
+void *__wrap_mmap(void *at, size_t length, int access, int flags, int descriptor, off_t from)
+{
+    void *map = map_fails ? MAP_FAILED : __real_mmap(at, length, access, flags, descriptor, from);
+
+    seen(0);
+    return map;
+}
+
+/* ---- attaches ---- */
+
+static t_stat watched_attach(UNIT *unit, DEVICE *device, char *path)
+{
+    t_stat status;
+
+    watched_path = path;
+    watched_length = length_of(path) < 0 ? 0 : length_of(path);
+    status = device->attach(unit, path);
+    watched_path = NULL;
+    return status;
+}
+
 static const char no_reservations[] = "RQ: the file system can't reserve room\n";
 
 /* Attaches a file. The file system of the current folder may be one that can't reserve room. */
 static void attach(DEVICE *device, int number, char *path)
 {
     EXPECT(rq_set_type(device->units + number, UDA50_RX50, NULL, NULL), SCPE_OK);
-    EXPECT(device->attach(device->units + number, path), SCPE_OK);
+    EXPECT(watched_attach(device->units + number, device, path), SCPE_OK);
     if (strcmp(printed, no_reservations) == 0)
         printed[0] = '\0';
     PRINTED("");
-}
-
-int __real_close(int descriptor), __wrap_close(int descriptor);
-
-static const char *refused_path; /* of an attach that is refused, while it goes on */
-static long refused_length;
-
-/* Closes a descriptor. If the file of such an attach isn't locked then, it must be as long as it was. */
-int __wrap_close(int descriptor)
-{
-    int result = __real_close(descriptor), reason = errno, other = refused_path == NULL ? -1 : open(refused_path, O_RDWR);
-
-    if (other >= 0) {
-        if (flock(other, LOCK_EX | LOCK_NB) == 0)
-            EXPECT(length_of(refused_path), refused_length);
-        __real_close(other);
-    }
-    errno = reason;
-    return result;
 }
 
 /* An attach is refused. Then no descriptor is left, and the file is as long as it was, and not locked. */
@@ -287,10 +344,7 @@ static void expect_refused(DEVICE *device, char *path, long length, int line)
     int next = open(".", O_RDONLY), descriptor;
 
     close(next);
-    refused_path = path;
-    refused_length = length;
-    expect((unsigned long)device->attach(device->units, path), SCPE_OPENERR, "the attach", line);
-    refused_path = NULL;
+    expect((unsigned long)watched_attach(device->units, device, path), SCPE_OPENERR, "the attach", line);
     expect(device->units->flags & UNIT_ATT, 0, "attached", line);
     expect((unsigned long)length_of(path), (unsigned long)length, "the length", line);
     descriptor = open(path, O_RDWR);
@@ -394,6 +448,32 @@ static void locked_files(uint32 way)
     EXPECT(rq_dev.detach(rq_dev.units), SCPE_OK);
     rq_dev.units->flags &= ~(uint32)LOCKED;
     close(other);
+}
+
+/* A mapped file that is refused isn't locked, and is as long as it was, also if it was made longer before. Only one that
+   can't be cut back stays longer. */
+static void refused_files(void)
+{
+    EXPECT(rq_set_type(rq_dev.units, UDA50_RX50, NULL, NULL), SCPE_OK);
+    make_file("short", RX50 + 1);
+    REFUSED(&rq_dev, "short", RX50 + 1);
+    PRINTED("RQ: the length is no multiple of 512\n");
+    make_file("short", 1000);
+    failing_length = 1;
+    REFUSED(&rq_dev, "short", 1000);
+    PRINTED("RQ: no room can be reserved: File too large\n");
+    map_fails = true;
+    REFUSED(&rq_dev, "short", 1000);
+    PRINTED("RQ: the file can't be mapped\n");
+    map_fails = false;
+    reserve_fails = true;
+    REFUSED(&rq_dev, "short", 1000);
+    PRINTED("RQ: no room can be reserved: No space left on device\n");
+    failing_length = 2;
+    EXPECT(rq_dev.attach(rq_dev.units, "short"), SCPE_OPENERR);
+    PRINTED("RQ: no room can be reserved: No space left on device\nRQ: the file can't be cut back: File too large\n");
+    EXPECT(length_of("short"), RX50);
+    reserve_fails = false;
 }
 
 /* The way of a file can't be changed while it is attached. */
@@ -587,6 +667,7 @@ int main(int argc, char **argv)
         buses();
         locked_files(n == 0 ? 0 : MMAP);
     }
+    refused_files();
     attached_way();
     if (argc > 1 && strcmp(argv[1], "full") == 0) {
         full_disk();

@@ -25,8 +25,32 @@ static int lock(const uda50_file *file)
     return UDA50_FILE_OK;
 }
 
-/* Maps a locked file. A file without bytes has no map. */
-static int map(uda50_file *file)
+/* Sets the length of a file. A signal doesn't end that. Returns whether it is done; if not, errno is the reason. */
+static bool set_length(const uda50_file *file, size_t length)
+{
+    int result;
+
+    do
+        result = ftruncate(file->descriptor, (off_t)length);
+    while (result != 0 && errno == EINTR);
+    return result == 0;
+}
+
+/* Cuts a file back that was made this long and has no map, unless its length has changed. Returns false if a call
+   fails; then errno is the reason. */
+static bool cut_back(const uda50_file *file, size_t length)
+{
+    struct stat status;
+
+    if (file->before == length)
+        return true;
+    if (fstat(file->descriptor, &status) != 0)
+        return false;
+    return status.st_size != (off_t)length || set_length(file, file->before);
+}
+
+/* Maps a locked file, and makes a shorter one this long before. A file without bytes has no map. */
+static int map(uda50_file *file, uint64_t length)
 {
     int access = file->read_only ? PROT_READ : PROT_READ | PROT_WRITE;
     struct stat status;
@@ -34,23 +58,29 @@ static int map(uda50_file *file)
 
     if (fstat(file->descriptor, &status) != 0)
         return UDA50_FILE_OPEN;
-    if (status.st_size % BLOCK != 0)
+    file->before = (size_t)status.st_size;
+    if (length < file->before)
+        length = file->before;
+    if (length % BLOCK != 0)
         return UDA50_FILE_LENGTH;
-    if (status.st_size / BLOCK > UDA50_MAX_BLOCKS)
+    if (length / BLOCK > UDA50_MAX_BLOCKS)
         return UDA50_FILE_TOO_LARGE;
-    if (status.st_size == 0)
+    if (length != file->before && !set_length(file, (size_t)length))
+        return UDA50_FILE_ROOM;
+    if (length == 0)
         return UDA50_FILE_OK;
-    at = mmap(NULL, (size_t)status.st_size, access, MAP_SHARED, file->descriptor, 0);
+    at = mmap(NULL, (size_t)length, access, MAP_SHARED, file->descriptor, 0);
     if (at == MAP_FAILED)
-        return UDA50_FILE_MAP;
+        return cut_back(file, (size_t)length) ? UDA50_FILE_MAP : UDA50_FILE_CUT;
     file->map = at;
-    file->length = (size_t)status.st_size;
+    file->length = (size_t)length;
     file->image.at = file->map;
     file->image.length = file->length;
     return UDA50_FILE_OK;
 }
 
-int uda50_file_open(uda50_file *file, const char *path, bool read_only)
+/* Opens a file for either call that does. If that fails, errno is the reason of the fault, also if the close fails. */
+static int begin(uda50_file *file, const char *path, uint64_t length, bool read_only)
 {
     /* O_NONBLOCK is for a FIFO, which is refused afterwards; a regular file is the same with it. */
     int flags = (read_only ? O_RDONLY : O_RDWR) | O_CLOEXEC | O_NONBLOCK | O_NOCTTY;
@@ -64,12 +94,25 @@ int uda50_file_open(uda50_file *file, const char *path, bool read_only)
     file->read_only = read_only;
     fault = lock(file);
     if (fault == UDA50_FILE_OK)
-        fault = map(file);
+        fault = map(file, length);
     if (fault != UDA50_FILE_OK) {
+        int reason = errno;
+
         close(file->descriptor);
         *file = closed;
+        errno = reason;
     }
     return fault;
+}
+
+int uda50_file_open(uda50_file *file, const char *path, bool read_only)
+{
+    return begin(file, path, 0, read_only);
+}
+
+int uda50_file_open_longer(uda50_file *file, const char *path, uint64_t length)
+{
+    return begin(file, path, length, false);
 }
 
 /* The first call asks for all of the file, since most file systems undo a call that fails. Each signal halves what the
@@ -106,7 +149,8 @@ int uda50_file_sync(uda50_file *file)
     return UDA50_FILE_OK;
 }
 
-int uda50_file_close(uda50_file *file)
+/* Closes a file for either call that does. */
+static int end(uda50_file *file, bool cuts)
 {
     int fault = uda50_file_sync(file);
 
@@ -114,10 +158,22 @@ int uda50_file_close(uda50_file *file)
         return UDA50_FILE_OK;
     if (file->length != 0)
         munmap(file->map, file->length);
+    if (cuts && !cut_back(file, file->length) && fault == UDA50_FILE_OK)
+        fault = UDA50_FILE_CUT;
     if (close(file->descriptor) != 0)
         fault = UDA50_FILE_SYNC;
     *file = closed;
     return fault;
+}
+
+int uda50_file_close(uda50_file *file)
+{
+    return end(file, false);
+}
+
+int uda50_file_close_cut(uda50_file *file)
+{
+    return end(file, true);
 }
 
 const char *uda50_file_text(int fault)
@@ -139,6 +195,8 @@ const char *uda50_file_text(int fault)
         return "no room can be reserved";
     case UDA50_FILE_NO_RESERVE:
         return "the file system can't reserve room";
+    case UDA50_FILE_CUT:
+        return "the file can't be cut back";
     default:
         return "what was written can't be written out";
     }

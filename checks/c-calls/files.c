@@ -22,7 +22,7 @@ static int passing; /* how often it succeeds before */
 static const char *failing_too = ""; /* another call, which fails with EIO */
 static size_t mapped; /* the bytes of the last map */
 static bool is_watched, stays_longer;
-static long free_length; /* of a watched file, whenever it isn't locked */
+static long free_length; /* of a watched file while it isn't locked */
 enum { SHORT = 1000, LONG = 4 * BLOCK };
 
 int __real_open(const char *path, int flags, ...);
@@ -54,8 +54,8 @@ static bool is_free(void)
     return result;
 }
 
-/* Logs a call with its flags, and with `!` if the file is watched and isn't locked. Then it must have the length that
-   it has for good. A file that can't be cut back has that of LONG after its close. Returns whether the call is to fail. */
+/* Logs a call with its flags, and with `!` if the file is watched and isn't locked. Then the file must be as long as
+   free_length; one that stays longer has LONG bytes after its close. Returns whether the call is to fail. */
 static bool fails(const char *call, const char *flags)
 {
     bool is_locked = !is_watched || !is_free();

@@ -268,8 +268,8 @@ static long watched_length;
 static bool map_fails, reserve_fails;
 static int failing_length; /* which of the next calls that set a length fails, or 0 */
 
-/* Looks at the file of an attach after a call: if another program can lock it now, it must be as long as it was. Returns
-   the result of the call, and leaves errno. */
+/* Looks at the file of an attach after a call: if another program can lock it now, it must be as long as it was.
+   Returns the result of the call, and leaves errno. */
 static int seen(int result)
 {
     int reason = errno, other = watched_path == NULL ? -1 : open(watched_path, O_RDWR);

@@ -20,8 +20,6 @@
 
 #include <errno.h>
 #include <sys/file.h>
-#include <sys/stat.h>
-#include <unistd.h>
 
 #if !defined(__BYTE_ORDER__) || __BYTE_ORDER__ != __ORDER_LITTLE_ENDIAN__
 #error "the guest's memory is lent as bytes: a little-endian host is needed"
@@ -560,93 +558,33 @@ t_stat rq_deposit(t_value value, t_addr address, UNIT *unit, int32 switches)
     return address + sizeof word == sizeof it->state ? restore_state(it) : SCPE_OK;
 }
 
-/* Takes the lock that uda50_file_open takes, by SIMH's own descriptor: while the length of a file is changed, or as long
-   as it is read and written by calls. */
-static bool lock_file(UNIT *unit, int kind)
-{
-    return flock(fileno(unit->fileref), kind | LOCK_NB) == 0 || errno != EWOULDBLOCK;
-}
-
-static off_t length_of(UNIT *unit)
-{
-    struct stat status;
-
-    return fstat(fileno(unit->fileref), &status) == 0 && S_ISREG(status.st_mode) ? status.st_size : -1;
-}
-
-/* Makes a file as long as its drive, unless another program has it locked. *before is the length that it had. If it
-   returns UDA50_FILE_ROOM, errno is the system's reason. It ends its lock, since uda50_file_open takes one by another
-   descriptor. If another program is faster, the attach fails, and the file stays longer. */
-static int extend(UNIT *unit, off_t *before)
-{
-    int descriptor = fileno(unit->fileref);
-    int reason = 0;
-
-    if (!lock_file(unit, LOCK_EX))
-        return UDA50_FILE_LOCKED;
-    *before = length_of(unit);
-    if (*before >= 0 && *before < (off_t)unit->capac && ftruncate(descriptor, (off_t)unit->capac) != 0)
-        reason = errno;
-    flock(descriptor, LOCK_UN);
-    errno = reason;
-    return reason == 0 ? UDA50_FILE_OK : UDA50_FILE_ROOM;
-}
-
-/* Cuts a file back that `extend` made longer. */
-static void cut_back(UNIT *unit, off_t before)
-{
-    if (before >= 0 && before < (off_t)unit->capac && length_of(unit) == (off_t)unit->capac
-        && ftruncate(fileno(unit->fileref), before) != 0)
-        perror(unit->filename);
-}
-
-/* Closes a file and cuts it back. If it was open, a copy of its descriptor keeps the lock meanwhile. If not, it is cut back
-   unless another program has it locked by now. */
-static void close_and_cut_back(UNIT *unit, uda50_file *file, off_t before)
-{
-    int kept = file->is_open ? dup(file->descriptor) : -1;
-
-    uda50_file_close(file);
-    if (kept >= 0) {
-        cut_back(unit, before);
-        close(kept);
-    } else if (before >= 0 && lock_file(unit, LOCK_EX)) {
-        cut_back(unit, before);
-        flock(fileno(unit->fileref), LOCK_UN);
-    }
-}
-
-/* Prints what is wrong with a unit's file. If its room can't be reserved, errno is the system's reason. */
+/* Prints what is wrong with a unit's file. If its room can't be reserved, or if it can't be cut back, errno is the
+   system's reason. */
 static void print_fault(UNIT *unit, int fault)
 {
-    const char *reason = fault == UDA50_FILE_ROOM ? strerror(errno) : "";
-    const char *between = fault == UDA50_FILE_ROOM ? ": " : "";
+    bool has_reason = fault == UDA50_FILE_ROOM || fault == UDA50_FILE_CUT;
+    const char *reason = has_reason ? strerror(errno) : "";
 
-    printf("%s: %s%s%s\n", of_unit(unit)->device->name, uda50_file_text(fault), between, reason);
+    printf("%s: %s%s%s\n", of_unit(unit)->device->name, uda50_file_text(fault), has_reason ? ": " : "", reason);
 }
 
 /* Maps a unit's file, which SIMH has attached. If it may be written, it is made as long as its drive before, and its
    room is reserved. If the file system can't reserve room, a line says so: there a full disk may end the program. If
-   anything else fails, a line says so too, and the file is closed and as long as it was. */
+   anything else fails, a line says so too, and the file can't be used. SIMH's own descriptor has no lock, since the
+   library takes one by another descriptor. */
 static bool map_file(UNIT *unit)
 {
     uda50_file *file = &of_unit(unit)->files[number_of(unit)];
-    bool read_only = is_locked(unit);
-    off_t before = -1;
-    int fault = read_only ? UDA50_FILE_OK : extend(unit, &before);
+    int fault = is_locked(unit) ? uda50_file_open(file, unit->filename, true)
+                                : uda50_file_open_longer(file, unit->filename, unit->capac);
 
-    if (fault == UDA50_FILE_OK)
-        fault = uda50_file_open(file, unit->filename, read_only);
     if (fault == UDA50_FILE_OK)
         fault = uda50_file_reserve(file);
     if (fault != UDA50_FILE_OK)
         print_fault(unit, fault);
     if (file->image.length > unit->capac)
         file->image.length = (size_t)unit->capac;
-    if (fault == UDA50_FILE_OK || fault == UDA50_FILE_NO_RESERVE)
-        return true;
-    close_and_cut_back(unit, file, before);
-    return false;
+    return fault == UDA50_FILE_OK || fault == UDA50_FILE_NO_RESERVE;
 }
 
 /* Prints an I/O error as RQ does. The turn's event stops the simulator. Returns how many blocks were moved before. */
@@ -684,10 +622,11 @@ static uint32_t write_blocks(void *context, uint32_t lbn, uint32_t count, const 
     return written < count * BLOCK ? note_error(unit, written) : count;
 }
 
-/* Prepares a unit's file, which SIMH has attached, for calls. It has no buffer, so each call tells what failed. */
+/* Prepares a unit's file, which SIMH has attached, for calls. SIMH's own descriptor takes the lock that uda50_file_open
+   takes. The file has no buffer, so each call tells what failed. */
 static bool call_file(UNIT *unit)
 {
-    if (!lock_file(unit, is_locked(unit) ? LOCK_SH : LOCK_EX)) {
+    if (flock(fileno(unit->fileref), (is_locked(unit) ? LOCK_SH : LOCK_EX) | LOCK_NB) != 0 && errno == EWOULDBLOCK) {
         print_fault(unit, UDA50_FILE_LOCKED);
         return false;
     }
@@ -705,6 +644,7 @@ static void announce(controller *it)
     sim_activate(TICK(it), tmr_poll * clk_tps);
 }
 
+/* If the attach fails, the file is as long as it was. */
 t_stat rq_attach(UNIT *unit, char *path)
 {
     t_stat status = attach_unit(unit, path);
@@ -714,7 +654,8 @@ t_stat rq_attach(UNIT *unit, char *path)
         return status;
     is_ready = unit->flags & UNIT_MMAP ? map_file(unit) : call_file(unit);
     if (!is_ready || tell_type(unit) != UDA50_OK || tell_file(unit) != UDA50_OK) {
-        uda50_file_close(&of_unit(unit)->files[number_of(unit)]);
+        if (uda50_file_close_cut(&of_unit(unit)->files[number_of(unit)]) == UDA50_FILE_CUT)
+            print_fault(unit, UDA50_FILE_CUT);
         detach_unit(unit);
         return SCPE_OPENERR;
     }

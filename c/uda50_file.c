@@ -79,7 +79,18 @@ static int map(uda50_file *file, uint64_t length)
     return UDA50_FILE_OK;
 }
 
-/* Opens a file for either call that does. If that fails, errno is the reason of the fault, also if the close fails. */
+/* Closes the descriptor, and leaves errno as it is. Returns whether that succeeds. */
+static bool close_descriptor(const uda50_file *file)
+{
+    int reason = errno;
+    bool is_closed = close(file->descriptor) == 0;
+
+    errno = reason;
+    return is_closed;
+}
+
+/* Opens a file for either call that does. After UDA50_FILE_ROOM and UDA50_FILE_CUT errno is the system's reason, also if
+   the close fails. */
 static int begin(uda50_file *file, const char *path, uint64_t length, bool read_only)
 {
     /* O_NONBLOCK is for a FIFO, which is refused afterwards; a regular file is the same with it. */
@@ -96,11 +107,8 @@ static int begin(uda50_file *file, const char *path, uint64_t length, bool read_
     if (fault == UDA50_FILE_OK)
         fault = map(file, length);
     if (fault != UDA50_FILE_OK) {
-        int reason = errno;
-
-        close(file->descriptor);
+        close_descriptor(file);
         *file = closed;
-        errno = reason;
     }
     return fault;
 }
@@ -149,7 +157,7 @@ int uda50_file_sync(uda50_file *file)
     return UDA50_FILE_OK;
 }
 
-/* Closes a file for either call that does. */
+/* Closes a file for either call that does. After UDA50_FILE_CUT errno is the system's reason. */
 static int end(uda50_file *file, bool cuts)
 {
     int fault = uda50_file_sync(file);
@@ -160,7 +168,7 @@ static int end(uda50_file *file, bool cuts)
         munmap(file->map, file->length);
     if (cuts && !cut_back(file, file->length) && fault == UDA50_FILE_OK)
         fault = UDA50_FILE_CUT;
-    if (close(file->descriptor) != 0)
+    if (!close_descriptor(file))
         fault = UDA50_FILE_SYNC;
     *file = closed;
     return fault;

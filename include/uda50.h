@@ -308,7 +308,8 @@ enum {
 /* What the next turn uses of the guest's memory. Only `missing` is the emulator's to set. */
 typedef struct {
     uda50_range descriptors[4]; /* the next one of the command ring, the one before it; the same of the response ring */
-    uda50_range body;           /* the packet, or the buffer of a command or a message */
+    uda50_range body;           /* the packet, or the buffer of a command or a message; at most one byte of it for a
+                                   transfer of 0 bytes */
     uda50_range written[4];     /* what the turn may have changed, in the order of its writes */
     uint32_t place;             /* the command that the turn executes, if it executes one, by its index */
     uint32_t missing;

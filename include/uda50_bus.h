@@ -30,8 +30,8 @@ typedef struct {
 } uda50_bus;
 
 /* These do what uda50_turn, uda50_run and uda50_write_sa do in memory that is one array. A turn first reads from the bus
-   what it may need: four descriptors, and a packet or a buffer. Then it writes the ranges that it may have changed, in the
-   order of a controller's writes.
+   what it may need: four descriptors, and a packet or a buffer. For a transfer of 0 bytes that is at most one byte, at
+   its buffer's address. Then it writes the ranges that it may have changed, in the order of a controller's writes.
 
    An address that leads nowhere is treated as by the calls over mapped memory. */
 uint32_t uda50_bus_turn(uda50 *handle, const uda50_bus *bus);
@@ -49,7 +49,9 @@ void uda50_bus_write_sa(uda50 *handle, uint16_t word, const uda50_bus *bus);
      - No other controller uses the window.
      - A reset may happen: uda50_write_ip. It drops the command. Then the second half does nothing, writes nothing and
        returns UDA50_IDLE, and it may be left out. uda50_get_written returns UDA50_BAD_LENGTH. Blocks that the emulator
-       has written stay written, and no end message tells of them. Blocks that it has lent or allowed have no effect.
+       has written stay written, and no end message tells of them. Blocks that it has lent or allowed for the command
+       have no effect on a later turn for which it calls uda50_get_blocks. After that call it neither lends nor allows
+       blocks of the dropped command: they would count for the new one.
      - Nothing else changes the controller, except the calls of uda50.h that make blocks ready. */
 uint32_t uda50_bus_begin_turn(uda50 *handle, const uda50_bus *bus, uda50_turn_use *turn);
 uint32_t uda50_bus_end_turn(uda50 *handle, const uda50_bus *bus, uda50_turn_use *turn);

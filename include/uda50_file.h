@@ -87,6 +87,8 @@ int uda50_file_close(uda50_file *file);
    before: after it has unmapped the file, and before it releases the lock. What was written past that length is lost.
    It cuts nothing off if somebody else has changed the length since.
 
+   A child by fork never calls it: it would shorten the file under its parent's map, and the parent may end by SIGBUS.
+
    Returns what uda50_file_close does, or UDA50_FILE_CUT if the file stays longer; then errno is the system's reason. If
    both faults happen, it returns UDA50_FILE_SYNC. The file is closed in each case. */
 int uda50_file_close_cut(uda50_file *file);

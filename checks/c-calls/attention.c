@@ -1,14 +1,40 @@
 /* attention.c: a guest that always has a command under way gets its attention messages all the same, within 34 turns that
-   each find a free response descriptor. */
+   each find a free response descriptor. It takes its turns over one array, by calls, or over mapped memory. */
 #include "guest.h"
+#include "uda50_bus.h"
 
 enum { ATTENTION = 0x40, ASKS_ATTENTION = 0x800000, CREDITS = 15, MOST_TURNS = 34, MOMENTS = 100, LIMIT = 10000 };
+enum { PAGES = SIZE / BLOCK };
 
 static uint8_t disks[UDA50_UNITS][BLOCK];
 static uda50 uda;
 
 /* The guest's next response and command, its commands without an end message, its Reads, and its attention messages. */
 static uint32_t response, place, outstanding, reads, messages;
+
+/* A bus whose addresses lead to the same ones of memory. */
+static uint32_t registers[PAGES];
+static const uda50_map map = { .registers = registers, .count = PAGES, .page = 9, .frame = SIZE - 1 };
+static uda50_mapped mapped = { memory, SIZE, &map };
+static uint8_t window[SIZE];
+static const uda50_bus bus = { uda50_mapped_read, uda50_mapped_write, &mapped, window, SIZE };
+
+static uint32_t turn_of_array(void)
+{
+    return uda50_turn(&uda, memory, SIZE);
+}
+
+static uint32_t turn_by_calls(void)
+{
+    return uda50_bus_turn(&uda, &bus);
+}
+
+static uint32_t turn_of_mapped(void)
+{
+    return uda50_turn_mapped(&uda, memory, SIZE, &map);
+}
+
+static uint32_t (*take_turn)(void);
 
 static void attach(uint32_t unit)
 {
@@ -68,7 +94,7 @@ static void post_read(uint32_t most)
 static void turn(uint32_t most)
 {
     post_read(most);
-    uda50_turn(&uda, memory, SIZE);
+    EXPECT(take_turn() < UDA50_DEAD, true);
     take_responses();
 }
 
@@ -95,13 +121,24 @@ static uint32_t turns_to_notify(uint32_t most, uint32_t moment, uint32_t volumes
     return turns;
 }
 
-int main(void)
+/* Tests guests whose turns are taken in this way. */
+static void test(uint32_t (*turns)(void))
 {
+    take_turn = turns;
     for (uint32_t moment = 0; moment < MOMENTS && failures == 0; moment++) {
         EXPECT(turns_to_notify(1, moment, 1) <= 3, true); /* one Read at a time: a fetch, an execution, and the message */
         for (uint32_t volumes = 1; volumes < UDA50_UNITS; volumes++)
             EXPECT(turns_to_notify(CREDITS, moment, volumes) <= MOST_TURNS, true);
     }
     EXPECT(turns_to_notify(CREDITS, 0, 3), 2 * CREDITS + 3);
+}
+
+int main(void)
+{
+    for (uint32_t n = 0; n < PAGES; n++)
+        registers[n] = n * BLOCK;
+    test(turn_of_array);
+    test(turn_by_calls);
+    test(turn_of_mapped);
     return ended();
 }

@@ -1,16 +1,19 @@
 /* children.c: what a child by fork keeps of a file that is open in its parent. It has the map and the lock too, until
-   both processes have closed the file, or the child ends or executes a program. */
+   both processes have closed the file, or the child ends or executes a program. A child that cuts the file back shortens
+   that of its parent. */
 #define _POSIX_C_SOURCE 200809L
 #include "guest.h"
 #include "uda50_file.h"
 
 #include <stdlib.h>
+#include <sys/stat.h>
 #include <sys/wait.h>
 #include <unistd.h>
 
 static const char path[] = "disk";
 static uda50 handle;
 static uda50_file file;
+static uint64_t longer; /* the length to which the parent makes the file longer */
 static int to_child[2], from_child[2];
 static pid_t child;
 
@@ -32,6 +35,15 @@ static void close_copy(void)
 
     EXPECT(uda50_free(&handle, images), UDA50_OK);
     EXPECT(uda50_file_close(&file), UDA50_FILE_OK);
+}
+
+/* Does what a child never does. */
+static void close_and_cut(void)
+{
+    uda50_image images[UDA50_UNITS] = { { NULL, 0 } };
+
+    EXPECT(uda50_free(&handle, images), UDA50_OK);
+    EXPECT(uda50_file_close_cut(&file), UDA50_FILE_OK);
 }
 
 static void execute(void)
@@ -62,7 +74,7 @@ static void start_child(void (*act)(void))
 {
     char byte = 'b';
 
-    EXPECT(uda50_file_open(&file, path, false), UDA50_FILE_OK);
+    EXPECT(uda50_file_open_longer(&file, path, longer), UDA50_FILE_OK);
     EXPECT(uda50_new(&handle, true), UDA50_OK);
     EXPECT(uda50_file_attach(&handle, 0, &file), UDA50_OK);
     EXPECT(pipe(to_child) == 0 && pipe(from_child) == 0, true);
@@ -103,6 +115,13 @@ static int other_open(void)
     return fault;
 }
 
+static off_t length_of(void)
+{
+    struct stat status;
+
+    return stat(path, &status) == 0 ? status.st_size : -1;
+}
+
 int main(void)
 {
     FILE *made = fopen(path, "wb");
@@ -137,6 +156,19 @@ int main(void)
     close_file();
     EXPECT(other_open(), UDA50_FILE_OK);
     end_child();
+
+    longer = 2 * BLOCK;
+    start_child(close_copy);
+    EXPECT(length_of(), 2 * BLOCK);
+    end_child();
+    EXPECT(uda50_free(&handle, (uda50_image[UDA50_UNITS]){ { NULL, 0 } }), UDA50_OK);
+    EXPECT(uda50_file_close_cut(&file), UDA50_FILE_OK);
+    EXPECT(length_of(), BLOCK);
+
+    start_child(close_and_cut);
+    EXPECT(length_of(), BLOCK); /* under the map of the parent */
+    end_child();
+    close_file();
     unlink(path);
     return ended();
 }

@@ -91,10 +91,12 @@ int __wrap_open(const char *path, int flags, ...)
     return fails("open", name) ? -1 : __real_open(path, flags);
 }
 
+/* A close that succeeds may change errno too. */
 int __wrap_close(int descriptor)
 {
     int result = __real_close(descriptor);
 
+    errno = EDOM;
     return fails("close", "") ? -1 : result;
 }
 
@@ -673,6 +675,15 @@ static void failed_cuts(void)
     EXPECT(uda50_file_close_cut(&file), UDA50_FILE_SYNC);
     CALLS("sync unmap length:1000 close! ");
     FREE(LONG);
+    EXPECT(open_longer(SHORT, LONG), UDA50_FILE_OK);
+    calls[0] = '\0';
+    free_length = LONG;
+    fail("length", EPERM, 0);
+    failing_too = "close";
+    EXPECT(uda50_file_close_cut(&file), UDA50_FILE_SYNC);
+    EXPECT(errno, EPERM);
+    CALLS("sync unmap length:1000 close! ");
+    FREE(LONG);
     times = 2;
     fail("length", EINTR, 0);
     EXPECT(open_longer(SHORT, LONG), UDA50_FILE_OK);
@@ -759,7 +770,8 @@ static void texts(void)
         "done", "the file can't be opened", "the length is no multiple of 512",
         "the file has more than 2147483647 blocks",
         "the file can't be mapped", "what was written can't be written out", "the file is in use",
-        "no room can be reserved", "the file system can't reserve room", "the file can't be cut back",
+        "no room can be reserved", "the file system can't reserve room",
+        "the file can't be cut back",
     };
 
     for (int fault = UDA50_FILE_OK; fault <= UDA50_FILE_CUT; fault++)

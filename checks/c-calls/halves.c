@@ -1,7 +1,7 @@
 /* halves.c: what may happen between the two halves of a turn by calls, and what may not. A reset leaves the second half
-   nothing to do. A store of the guest into the buffer of a Read that then fails is lost. Two controllers use one window one
-   after the other. If c/uda50_bus.c is compiled with UDA50_DEBUG, a window that changes within a turn is an assertion that
-   fails. */
+   nothing to do. Blocks of the dropped command that are made ready too late count for the next one. A store of the guest
+   into the buffer of a Read that then fails is lost. Two controllers use one window one after the other. If c/uda50_bus.c
+   is compiled with UDA50_DEBUG, a window that changes within a turn is an assertion that fails. */
 #define _DEFAULT_SOURCE
 #include "guest.h"
 #include "uda50_bus.h"
@@ -64,6 +64,18 @@ static uda50_blocks begin(uda50 *it, uint8_t opcode, uda50_turn_use *turn)
     return blocks;
 }
 
+/* Makes `count` blocks from block `first` on ready for a Read, which gets bytes of 0x55, or for a Write. */
+static void make_ready(uint8_t opcode, uint32_t first, uint32_t count)
+{
+    uint8_t bytes[2 * BLOCK];
+
+    memset(bytes, 0x55, sizeof bytes);
+    if (opcode == READ)
+        EXPECT(uda50_lend_blocks(&uda, 0, first, bytes, count * BLOCK), UDA50_OK);
+    else
+        EXPECT(uda50_allow_blocks(&uda, 0, UDA50_WRITES, count), UDA50_OK);
+}
+
 /* After a reset the turn does nothing and writes nothing. Its blocks are gone. The calls that make them ready are
    accepted. */
 static void reset_between(uint8_t opcode)
@@ -72,15 +84,9 @@ static void reset_between(uint8_t opcode)
     uda50_turn_use turn;
     uda50_blocks blocks = begin(&uda, opcode, &turn);
 
-    if (opcode == READ)
-        EXPECT(uda50_lend_blocks(&uda, 0, 1, bytes, BLOCK), UDA50_OK);
-    else
-        EXPECT(uda50_allow_blocks(&uda, 0, blocks.use, 1), UDA50_OK);
+    make_ready(opcode, 1, 1);
     uda50_write_ip(&uda, 0);
-    if (opcode == READ)
-        EXPECT(uda50_lend_blocks(&uda, 0, 2, bytes, BLOCK), UDA50_OK);
-    else
-        EXPECT(uda50_allow_blocks(&uda, 0, blocks.use, 1), UDA50_OK);
+    make_ready(opcode, 2, 1);
     EXPECT(uda50_get_written(&uda, window, SIZE, &turn, 0, bytes, BLOCK), UDA50_BAD_LENGTH);
     EXPECT(uda50_get_blocks(&uda, window, SIZE, &turn, &blocks), UDA50_OK);
     EXPECT(blocks.use, UDA50_NO_BLOCKS);
@@ -93,6 +99,29 @@ static void reset_between(uint8_t opcode)
     EXPECT(uda50_save(&uda, after, sizeof after), UDA50_OK);
     EXPECT(memcmp(state, after, sizeof state), 0);
     EXPECT(uda50_read_sa(&uda) & 0x0800, 0x0800); /* step 1 */
+}
+
+/* A reset drops a command, and the guest gives the same one again. Blocks that were made ready for the first have no
+   effect on the second if uda50_get_blocks came after them. Blocks that are made ready after that call count for the
+   second: it ends as if the emulator had moved them. */
+static void ready_too_late(uint8_t opcode, uint32_t count)
+{
+    uda50_turn_use turn;
+    uda50_turn_record told;
+
+    begin(&uda, opcode, &turn);
+    make_ready(opcode, 1, 1);
+    uda50_write_ip(&uda, 0);
+    make_ready(opcode, 2, 1);
+    begin(&uda, opcode, &turn);
+    if (count != 0)
+        make_ready(opcode, 1, count);
+    EXPECT(uda50_bus_end_turn(&uda, &bus, &turn), UDA50_EXECUTED);
+    EXPECT(uda50_get_last_turn(&uda, &told), UDA50_OK);
+    EXPECT(told.status, count == 2 ? 0 : DRIVE_ERROR);
+    EXPECT(told.bytes, count * BLOCK);
+    for (uint32_t n = 0; n < 2 * BLOCK; n++)
+        EXPECT(memory[BUFFER + n], opcode == READ && n < count * BLOCK ? 0x55 : 0x11);
 }
 
 /* A turn without its second half has not happened: the next turn is the same. */
@@ -184,6 +213,10 @@ int main(void)
     make(&other);
     reset_between(READ);
     reset_between(WRITE);
+    for (uint32_t count = 0; count <= 2; count++) {
+        ready_too_late(READ, count);
+        ready_too_late(WRITE, count);
+    }
     left_out();
     store_between();
     one_after_the_other();

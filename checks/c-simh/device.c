@@ -1,7 +1,7 @@
 /* device.c: tests examples/simh/pdp11_uda50.c without SIMH, of which pdp11_defs.h here has what that file uses:
    which unit is booted, a state that doesn't fit, a change of the bus, files that are locked or have no room, and files
    whose blocks fail, with the UNIBUS map off and on. It is linked with --wrap of the system calls by which a file is
-   locked, made longer, mapped and closed. After each of them in an attach, another open file description tries to lock
+   locked, made longer, mapped, written out and closed. After each of them in an attach, another open file description tries to lock
    the file.
    Usage: device [full]    with `full`, ./small is a tmpfs of 2 MB, and ./bare a ramfs */
 #include "pdp11_defs.h"
@@ -262,10 +262,11 @@ int __real_fallocate(int descriptor, int mode, off_t from, off_t length);
 int __wrap_fallocate(int descriptor, int mode, off_t from, off_t length);
 void *__real_mmap(void *at, size_t length, int access, int flags, int descriptor, off_t from);
 void *__wrap_mmap(void *at, size_t length, int access, int flags, int descriptor, off_t from);
+int __real_msync(void *at, size_t length, int flags), __wrap_msync(void *at, size_t length, int flags);
 
 static const char *watched_path; /* while an attach goes on */
 static long watched_length;
-static bool map_fails, reserve_fails;
+static bool map_fails, reserve_fails, sync_fails;
 static int failing_length; /* which of the next calls that set a length fails, or 0 */
 
 /* Looks at the file of an attach after a call: if another program can lock it now, it must be as long as it was.
@@ -313,6 +314,12 @@ void *__wrap_mmap(void *at, size_t length, int access, int flags, int descriptor
     return map;
 }
 
+int __wrap_msync(void *at, size_t length, int flags)
+{
+    errno = EIO;
+    return seen(sync_fails ? -1 : __real_msync(at, length, flags));
+}
+
 /* ---- attaches ---- */
 
 static t_stat watched_attach(UNIT *unit, DEVICE *device, char *path)
@@ -325,6 +332,10 @@ static t_stat watched_attach(UNIT *unit, DEVICE *device, char *path)
     watched_path = NULL;
     return status;
 }
+
+#define NO_ROOM "RQ: no room can be reserved: "
+#define FULL NO_ROOM "No space left on device\n"
+#define NOT_SAVED "RQ: what was written can't be written out\n"
 
 static const char no_reservations[] = "RQ: the file system can't reserve room\n";
 
@@ -461,19 +472,26 @@ static void refused_files(void)
     make_file("short", 1000);
     failing_length = 1;
     REFUSED(&rq_dev, "short", 1000);
-    PRINTED("RQ: no room can be reserved: File too large\n");
+    PRINTED(NO_ROOM "File too large\n");
     map_fails = true;
     REFUSED(&rq_dev, "short", 1000);
     PRINTED("RQ: the file can't be mapped\n");
     map_fails = false;
     reserve_fails = true;
     REFUSED(&rq_dev, "short", 1000);
-    PRINTED("RQ: no room can be reserved: No space left on device\n");
-    failing_length = 2;
-    EXPECT(rq_dev.attach(rq_dev.units, "short"), SCPE_OPENERR);
-    PRINTED("RQ: no room can be reserved: No space left on device\nRQ: the file can't be cut back: File too large\n");
-    EXPECT(length_of("short"), RX50);
-    reserve_fails = false;
+    PRINTED(FULL);
+    for (int n = 0; n < 2; n++) {
+        make_file("short", 1000);
+        sync_fails = n == 1;
+        failing_length = 2;
+        EXPECT(rq_dev.attach(rq_dev.units, "short"), SCPE_OPENERR);
+        PRINTED(n == 0 ? FULL "RQ: the file can't be cut back: File too large\n" : FULL NOT_SAVED);
+        EXPECT(length_of("short"), RX50);
+    }
+    make_file("short", 1000);
+    REFUSED(&rq_dev, "short", 1000);
+    PRINTED(FULL NOT_SAVED);
+    sync_fails = reserve_fails = false;
 }
 
 /* The way of a file can't be changed while it is attached. */
@@ -628,14 +646,12 @@ static void expect_written(const char *path)
    filled and the guest writes each block. */
 static void full_disk(void)
 {
-    static const char no_room[] = "RQ: no room can be reserved: No space left on device\n";
-
     EXPECT(rq_set_type(rq_dev.units, UDA50_RD51, NULL, NULL), SCPE_OK);
     REFUSED(&rq_dev, "small/new", 0);
-    PRINTED(no_room);
+    PRINTED(FULL);
     make_file("small/disk", 1024);
     REFUSED(&rq_dev, "small/disk", 1024);
-    PRINTED(no_room);
+    PRINTED(FULL);
     attach(&rq_dev, 0, "small/disk");
     fill("small/rest");
     EXPECT(written(&rq_dev, 0, RX50 / BLOCK), 0);

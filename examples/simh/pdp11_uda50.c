@@ -644,7 +644,7 @@ static void announce(controller *it)
     sim_activate(TICK(it), tmr_poll * clk_tps);
 }
 
-/* If the attach fails, the file is as long as it was. */
+/* If the attach fails, the file is as long as it was, or the last line says what failed. */
 t_stat rq_attach(UNIT *unit, char *path)
 {
     t_stat status = attach_unit(unit, path);
@@ -654,8 +654,10 @@ t_stat rq_attach(UNIT *unit, char *path)
         return status;
     is_ready = unit->flags & UNIT_MMAP ? map_file(unit) : call_file(unit);
     if (!is_ready || tell_type(unit) != UDA50_OK || tell_file(unit) != UDA50_OK) {
-        if (uda50_file_close_cut(&of_unit(unit)->files[number_of(unit)]) == UDA50_FILE_CUT)
-            print_fault(unit, UDA50_FILE_CUT);
+        int fault = uda50_file_close_cut(&of_unit(unit)->files[number_of(unit)]);
+
+        if (fault != UDA50_FILE_OK)
+            print_fault(unit, fault);
         detach_unit(unit);
         return SCPE_OPENERR;
     }

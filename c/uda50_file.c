@@ -79,16 +79,6 @@ static int map(uda50_file *file, uint64_t length)
     return UDA50_FILE_OK;
 }
 
-/* Closes the descriptor, and leaves errno as it is. Returns whether that succeeds. */
-static bool close_descriptor(const uda50_file *file)
-{
-    int reason = errno;
-    bool is_closed = close(file->descriptor) == 0;
-
-    errno = reason;
-    return is_closed;
-}
-
 /* Opens a file for either call that does. After UDA50_FILE_ROOM and UDA50_FILE_CUT errno is the system's reason, also if
    the close fails. */
 static int begin(uda50_file *file, const char *path, uint64_t length, bool read_only)
@@ -107,8 +97,11 @@ static int begin(uda50_file *file, const char *path, uint64_t length, bool read_
     if (fault == UDA50_FILE_OK)
         fault = map(file, length);
     if (fault != UDA50_FILE_OK) {
-        close_descriptor(file);
+        int reason = errno;
+
+        close(file->descriptor);
         *file = closed;
+        errno = reason;
     }
     return fault;
 }
@@ -161,6 +154,7 @@ int uda50_file_sync(uda50_file *file)
 static int end(uda50_file *file, bool cuts)
 {
     int fault = uda50_file_sync(file);
+    int reason;
 
     if (!file->is_open)
         return UDA50_FILE_OK;
@@ -168,8 +162,11 @@ static int end(uda50_file *file, bool cuts)
         munmap(file->map, file->length);
     if (cuts && !cut_back(file, file->length) && fault == UDA50_FILE_OK)
         fault = UDA50_FILE_CUT;
-    if (!close_descriptor(file))
+    reason = errno;
+    if (close(file->descriptor) != 0)
         fault = UDA50_FILE_SYNC;
+    else
+        errno = reason;
     *file = closed;
     return fault;
 }

@@ -681,7 +681,7 @@ static void failed_cuts(void)
     fail("length", EPERM, 0);
     failing_too = "close";
     EXPECT(uda50_file_close_cut(&file), UDA50_FILE_SYNC);
-    EXPECT(errno, EPERM);
+    EXPECT(errno, EIO);
     CALLS("sync unmap length:1000 close! ");
     FREE(LONG);
     times = 2;

@@ -661,29 +661,28 @@ static void expect_failed_cut(const char *call, int with, int fault, const char 
 
 #define FAILED_CUT(call, with, fault, wanted) expect_failed_cut(call, with, fault, wanted, __LINE__)
 
+/* The cut fails, and so does another call. */
+static void failed_cut_and(const char *call, int with)
+{
+    EXPECT(open_longer(SHORT, LONG), UDA50_FILE_OK);
+    calls[0] = '\0';
+    free_length = LONG;
+    fail("length", EPERM, 0);
+    failing_too = call;
+    EXPECT(uda50_file_close_cut(&file), UDA50_FILE_SYNC);
+    EXPECT(errno, with);
+    CALLS("sync unmap length:1000 close! ");
+    FREE(LONG);
+}
+
 static void failed_cuts(void)
 {
     FAILED_CUT("sync", EIO, UDA50_FILE_SYNC, "sync unmap length:1000 close! ");
     FAILED_CUT("length", EIO, UDA50_FILE_CUT, "sync unmap length:1000 close! ");
     FAILED_CUT("look", EIO, UDA50_FILE_CUT, "sync unmap look close! ");
     FAILED_CUT("close", EIO, UDA50_FILE_SYNC, "sync unmap length:1000 close! ");
-    EXPECT(open_longer(SHORT, LONG), UDA50_FILE_OK);
-    calls[0] = '\0';
-    free_length = LONG;
-    fail("length", EPERM, 0);
-    failing_too = "sync";
-    EXPECT(uda50_file_close_cut(&file), UDA50_FILE_SYNC);
-    CALLS("sync unmap length:1000 close! ");
-    FREE(LONG);
-    EXPECT(open_longer(SHORT, LONG), UDA50_FILE_OK);
-    calls[0] = '\0';
-    free_length = LONG;
-    fail("length", EPERM, 0);
-    failing_too = "close";
-    EXPECT(uda50_file_close_cut(&file), UDA50_FILE_SYNC);
-    EXPECT(errno, EIO);
-    CALLS("sync unmap length:1000 close! ");
-    FREE(LONG);
+    failed_cut_and("sync", EPERM);
+    failed_cut_and("close", EIO);
     times = 2;
     fail("length", EINTR, 0);
     EXPECT(open_longer(SHORT, LONG), UDA50_FILE_OK);

@@ -1,24 +1,38 @@
 -- What the calls on a file did, if it has been honest.
-use Rattle.std.proofs.Common.{◌≡◌, ◌+◌, ◌*◌, ◌<◌, ◌≤◌, ◌∷◌, ◌++◌, ◌∙◌, ℕ, Bool, List, Option, Some, None, true, false, length, take, drop, refl, sym, ap, subst, arith, length-append, length-take, length-drop}
+use Rattle.std.proofs.Common.{◌≡◌, ◌+◌, ◌*◌, ◌<◌, ◌≤◌, ◌∷◌, ◌++◌, ◌∙◌, ℕ, Bool, List, Option, Some, None, true, length, take, drop, refl, sym, ap, subst, arith, length-append, length-take, length-drop, inl, inr}
 use Rattle.std.specs.Prelude.{slice_get, slice_set, IfSome}
 use Rattle.std.specs.List.{concat}
-use Rattle.std.proofs.lemmas.Bool.{and_parts}
+use Rattle.std.proofs.lemmas.Bool.{and_parts, cases_Bool}
 use Rattle.std.proofs.lemmas.List.{take_all, set-get_or}
 use Rattle.std.proofs.lemmas.Option.{get_or_from_slice_get}
 use Rattle.std.proofs.lemmas.Slice.Eq.{bytes_eq-Decides}
 use Rattle.uda_mem.specs.Put.{part, put}
+use Rattle.uda_mem.proofs.PutLaws.{length-part-le, put-part}
 use Rattle.uda_image.specs.FileCall.{FileCall, read, written, asked, declined, failed, failed_write}
-use Rattle.uda_image.specs.Store.{KeepsAttributes, ReadsBlock, WritesBlock, FailsToRead, FailsToWrite}
+use Rattle.uda_image.specs.declared.trace.FileTrace.{FileTrace}
+use Rattle.uda_image.specs.Store.{KeepsAttributes, ReadsBlock, WritesBlock, FailsToRead, FailsToWrite, is_sound}
 use Rattle.uda_image.specs.AtOnce.{ReadsBlocks, ReadsNone, WritesBlocks}
-use Rattle.uda_image.specs.File.{block_left, ReadsAt, WritesAt}
-use Rattle.uda_image.specs.Image.{block_count_of, block_of, blocks_of, with_block, OpenImage, file_block_count, holding, file_state, IsAsKnown}
+use Rattle.uda_image.specs.File.{block_left, ReadsAt, WritesAt, IsDoneAt, ChangesAtMost}
+use Rattle.uda_image.specs.Image.{block_count_of, block_of, blocks_of, with_block, OpenImage, file_block_count, holding, file_state, IsAsKnown, HoldsKnownBytes}
 use Rattle.uda_image.specs.FileLaws.{count-holding, length-fitted, length-holding}
 use Rattle.uda_image.proofs.ImageLaws.{slice_get-blocks_of, blocks_of-with_block, length-block_of}
 use Rattle.uda_image.proofs.AtOnceLaws.{concat-part_blocks, blocks_of-put}
 
 -- the file after one call more
-abbrev after : FileCall → OpenImage → OpenImage
+abbrev pub after : FileCall → OpenImage → OpenImage
 after call image = record image { calls = call ∷ image.calls }
+
+-- an image with this file and trace, after a call
+abbrev pub called : OpenImage → Option (List ℕ) → Bool → Bool → FileTrace → OpenImage
+called old content never_fails unsynced trace = record old {
+  content = content;
+  never_fails = never_fails;
+  unsynced = unsynced;
+  held = trace.held;
+  blocks_left = trace.blocks_left;
+  known = trace.known;
+  calls = trace.calls;
+}
 
 -- a read after which the file is honest found it honest, and returned its bytes
 module _ (image : OpenImage) (n : ℕ) (to : List ℕ) (h : (file_state (after (read n to) image)).honest ≡ true) where
@@ -61,20 +75,20 @@ failed_keeps old new is = rw is (record {
   never_fails_stays = refl;
 })
 
-pub written_keeps : (old new : OpenImage) (w : Bool) (content : Option (List ℕ)) (n : ℕ) (bytes : List ℕ)
-    → new ≡ record old { written = w; content = content; calls = written n bytes ∷ old.calls }
+pub written_keeps : (old new : OpenImage) (w u : Bool) (content : Option (List ℕ)) (n : ℕ) (bytes : List ℕ)
+    → new ≡ record old { written = w; content = content; unsynced = u; calls = written n bytes ∷ old.calls }
     → KeepsAttributes (file_state old) (file_state new)
-written_keeps old new w content n bytes is = rw is (record {
+written_keeps old new w u content n bytes is = rw is (record {
   size_stays = refl;
   faithful_stays = refl;
   honest_before = λ h. h;
   never_fails_stays = refl;
 })
 
-pub failed_write_keeps : (old new : OpenImage) (w : Bool) (content : Option (List ℕ)) (n : ℕ)
-    → new ≡ record old { written = w; content = content; calls = failed_write n ∷ old.calls }
+pub failed_write_keeps : (old new : OpenImage) (w u : Bool) (content : Option (List ℕ)) (n : ℕ)
+    → new ≡ record old { written = w; content = content; unsynced = u; calls = failed_write n ∷ old.calls }
     → KeepsAttributes (file_state old) (file_state new)
-failed_write_keeps old new w content n is = rw is (record {
+failed_write_keeps old new w u content n is = rw is (record {
   size_stays = refl;
   faithful_stays = refl;
   honest_before = λ h. h;
@@ -101,9 +115,9 @@ declined_keeps old new was bytes is = rw is (record {
   never_fails_stays = refl;
 })
 
-pub refused_keeps : (old new : OpenImage) (w : Bool) (content : Option (List ℕ))
-    → new ≡ record old { written = w; content = content } → KeepsAttributes (file_state old) (file_state new)
-refused_keeps old new w content is = rw is (record {
+pub refused_keeps : (old new : OpenImage) (w u : Bool) (content : Option (List ℕ))
+    → new ≡ record old { written = w; content = content; unsynced = u } → KeepsAttributes (file_state old) (file_state new)
+refused_keeps old new w u content is = rw is (record {
   size_stays = refl;
   faithful_stays = refl;
   honest_before = λ h. h;
@@ -171,11 +185,11 @@ refused_one old new n is on_unit =
     })
 
 -- writes
-pub written_many : (old new : OpenImage) (w : Bool) (content : Option (List ℕ)) (n count : ℕ) (from : List ℕ)
-    → new ≡ record old { written = w; content = content; calls = written n from ∷ old.calls }
+pub written_many : (old new : OpenImage) (w u : Bool) (content : Option (List ℕ)) (n count : ℕ) (from : List ℕ)
+    → new ≡ record old { written = w; content = content; unsynced = u; calls = written n from ∷ old.calls }
     → n + count ≤ file_block_count old → length from ≡ 512 * count
     → WritesBlocks (file_state old) n count (file_state new) from
-written_many old new w content n count from is on_unit long = rw is (record {
+written_many old new w u content n count from is on_unit long = rw is (record {
   written = ap (λ (b : List (List ℕ)). record (file_state old) { blocks = b })
       (blocks_of-put (holding old).bytes n count from (rw (count-holding old) on_unit) long);
   calls = record { before = tt; sooner = refl };
@@ -205,19 +219,19 @@ blocks_of-put_one image n block on_unit long =
     ap blocks_of (put-is-with_block bytes n block (block_within bytes n inside) long)
     ∙ blocks_of-with_block bytes n block inside long
 
-pub written_one : (old new : OpenImage) (w : Bool) (content : Option (List ℕ)) (n : ℕ) (from : List ℕ)
-    → new ≡ record old { written = w; content = content; calls = written n from ∷ old.calls }
+pub written_one : (old new : OpenImage) (w u : Bool) (content : Option (List ℕ)) (n : ℕ) (from : List ℕ)
+    → new ≡ record old { written = w; content = content; unsynced = u; calls = written n from ∷ old.calls }
     → n < file_block_count old → length from ≡ 512 → WritesBlock (file_state old) n (file_state new) from
-written_one old new w content n from is on_unit long = rw is (record {
+written_one old new w u content n from is on_unit long = rw is (record {
   written = ap (λ (b : List (List ℕ)). record (file_state old) { blocks = b })
       (blocks_of-put_one old n from on_unit long);
   calls = record { before = tt; sooner = refl };
 })
 
-pub failed_one : (old new : OpenImage) (w : Bool) (content : Option (List ℕ)) (n : ℕ)
-    → new ≡ record old { written = w; content = content; calls = failed_write n ∷ old.calls }
+pub failed_one : (old new : OpenImage) (w u : Bool) (content : Option (List ℕ)) (n : ℕ)
+    → new ≡ record old { written = w; content = content; unsynced = u; calls = failed_write n ∷ old.calls }
     → n < file_block_count old → FailsToWrite (file_state old) n (file_state new)
-failed_one old new w content n is on_unit =
+failed_one old new w u content n is on_unit =
     let block = block_left old.blocks_left (holding old).failed_writes in
     let long : length block ≡ 512 = length-fitted 1 (drop (512 * (holding old).failed_writes) old.blocks_left) in
     rw is (record {
@@ -237,67 +251,100 @@ module _ (old : OpenImage) where
 
   known_read_at : (content : Option (List ℕ)) (n : ℕ) (to : List ℕ) (done : Type 0)
       → 512 * n + length to ≤ 512 * file_block_count old → ReadsAt content (512 * n) to done
+      → done
       → IfSome content (λ bytes. ((holding old).bytes ≡ bytes) × ((holding old).honest ≡ true))
       → IfSome content (λ bytes. ((holding old).bytes ≡ bytes) × ((holding (after (read n to) old)).honest ≡ true))
-  known_read_at None n to done within reads known = tt
-  known_read_at (Some bytes) n to done within reads known =
-      let came = (reads (omega (arith, full bytes known.0, within))).1 in
+  known_read_at None n to done within reads did known = tt
+  known_read_at (Some bytes) n to done within reads did known =
+      let came = reads (omega (arith, full bytes known.0, within)) did in
       (known.0, rw (known.1, known.0) ((bytes_eq-Decides (part bytes (512 * n) (length to)) to).1 (sym came)))
 
   known_write_at : (content content_after : Option (List ℕ)) (n : ℕ) (from : List ℕ) (done : Type 0)
       → 512 * n + length from ≤ 512 * file_block_count old → (content ≡ None → content_after ≡ None)
-      → WritesAt content (512 * n) from content_after done
+      → WritesAt content (512 * n) from content_after done → done
       → IfSome content (λ bytes. ((holding old).bytes ≡ bytes) × ((holding old).honest ≡ true))
       → IfSome content_after (λ bytes.
       (put (holding old).bytes (512 * n) from ≡ bytes) × ((holding old).honest ≡ true))
-  known_write_at None content_after n from done within unknown writes known = rw (unknown refl) tt
-  known_write_at (Some bytes) content_after n from done within unknown writes known =
-      let did = (writes (omega (arith, full bytes known.0, within))).1 in
-      rw did (ap (λ (b : List ℕ). put b (512 * n) from) known.0, known.1)
-
-  -- a write that isn't done: the content isn't known
-  pub not_known : (content content_after : Option (List ℕ)) (n : ℕ) (from : List ℕ) (done : Type 0)
-      (P : List ℕ → Type 0) → 512 * n + length from ≤ 512 * file_block_count old
-      → (content ≡ None → content_after ≡ None) → WritesAt content (512 * n) from content_after done
-      → (done → false ≡ true)
-      → IfSome content (λ bytes. ((holding old).bytes ≡ bytes) × ((holding old).honest ≡ true))
-      → IfSome content_after P
-  not_known None content_after n from done P within unknown writes undone known = rw (unknown refl) tt
-  not_known (Some bytes) content_after n from done P within unknown writes undone known =
-      let no = undone (writes (omega (arith, full bytes known.0, within))).0 in absurd (cc)
-
-  -- a read that isn't done: the content isn't known
-  unread : (content : Option (List ℕ)) (n : ℕ) (to : List ℕ) (done : Type 0) (P : List ℕ → Type 0)
-      → 512 * n + length to ≤ 512 * file_block_count old → ReadsAt content (512 * n) to done → (done → false ≡ true)
-      → IfSome content (λ bytes. ((holding old).bytes ≡ bytes) × ((holding old).honest ≡ true)) → IfSome content P
-  unread None n to done P within reads undone known = tt
-  unread (Some bytes) n to done P within reads undone known =
-      let no = undone (reads (omega (arith, full bytes known.0, within))).0 in absurd (cc)
+  known_write_at None content_after n from done within unknown writes did known = rw (unknown refl) tt
+  known_write_at (Some bytes) content_after n from done within unknown writes did known =
+      let put_is = writes.if_done (omega (arith, full bytes known.0, within)) did in
+      rw put_is (ap (λ (b : List ℕ). put b (512 * n) from) known.0, known.1)
 
 pub known_read : (old new : OpenImage) (n : ℕ) (to : List ℕ) (done : Type 0) → new ≡ after (read n to) old
-    → n < file_block_count old → length to ≡ 512 → ReadsAt old.content (512 * n) to done → IsAsKnown old → IsAsKnown new
-known_read old new n to done is on_unit long reads known =
-    rw is (known_read_at old old.content n to done (omega (arith, on_unit, long)) reads known)
+    → n < file_block_count old → length to ≡ 512 → ReadsAt old.content (512 * n) to done → done → IsAsKnown old → IsAsKnown new
+known_read old new n to done is on_unit long reads did known =
+    rw is (known_read_at old old.content n to done (omega (arith, on_unit, long)) reads did known)
 
 pub known_reads : (old new : OpenImage) (n count : ℕ) (was to : List ℕ) (done : Type 0)
     → new ≡ record old { calls = read n to ∷ asked was ∷ old.calls } → n + count ≤ file_block_count old
-    → length to ≡ 512 * count → ReadsAt old.content (512 * n) to done → IsAsKnown old → IsAsKnown new
-known_reads old new n count was to done is on_unit long reads known =
-    rw is (known_read_at (after (asked was) old) old.content n to done (omega (arith, on_unit, long)) reads known)
+    → length to ≡ 512 * count → ReadsAt old.content (512 * n) to done → done → IsAsKnown old → IsAsKnown new
+known_reads old new n count was to done is on_unit long reads did known =
+    rw is (known_read_at (after (asked was) old) old.content n to done (omega (arith, on_unit, long)) reads did known)
 
-pub known_declined : (old new : OpenImage) (n count : ℕ) (was to : List ℕ) (done : Type 0)
-    → new ≡ record old { calls = declined to ∷ asked was ∷ old.calls } → n + count ≤ file_block_count old
-    → length to ≡ 512 * count → ReadsAt old.content (512 * n) to done → (done → false ≡ true)
-    → IsAsKnown old → IsAsKnown new
-known_declined old new n count was to done is on_unit long reads undone known =
-    rw is (unread old old.content n to done _ (omega (arith, on_unit, long)) reads undone known)
+pub known_failed : (old new : OpenImage) → new ≡ after failed old → IsAsKnown old → IsAsKnown new
+known_failed old new is known = rw is known
 
-pub known_write : (old new : OpenImage) (w : Bool) (content : Option (List ℕ)) (n : ℕ) (from : List ℕ) (done : Type 0)
-    → new ≡ record old { written = w; content = content; calls = written n from ∷ old.calls }
+pub known_write : (old new : OpenImage) (w u : Bool) (content : Option (List ℕ)) (n : ℕ) (from : List ℕ) (done : Type 0)
+    → new ≡ record old { written = w; content = content; unsynced = u; calls = written n from ∷ old.calls }
     → 512 * n + length from ≤ 512 * file_block_count old → (old.content ≡ None → content ≡ None)
-    → WritesAt old.content (512 * n) from content done → IsAsKnown old → IsAsKnown new
-known_write old new w content n from done is within unknown writes known =
-    rw is (known_write_at old old.content content n from done within unknown writes known)
+    → WritesAt old.content (512 * n) from content done → done → IsAsKnown old → IsAsKnown new
+known_write old new w u content n from done is within unknown writes did known =
+    rw is (known_write_at old old.content content n from done within unknown writes did known)
+
+-- where the bytes are known, and no call fails, a call leaves an image as it has to be
+pub holds_read : (old new : OpenImage) (n : ℕ) (to : List ℕ) (done : Type 0) → new ≡ after (read n to) old
+    → 512 * n + length to ≤ 512 * file_block_count old → ReadsAt old.content (512 * n) to done → done
+    → HoldsKnownBytes old → HoldsKnownBytes new
+holds_read old new n to done is within reads did holds =
+    let bytes = (holding old).bytes in
+    let came : to ≡ part bytes (512 * n) (length to) =
+    (rw holds.content at reads) (omega (arith, within, full old bytes refl)) did in
+    rw is (record {
+      content = holds.content;
+      honest = rw holds.honest ((bytes_eq-Decides (part bytes (512 * n) (length to)) to).1 (sym came));
+      never_fails = holds.never_fails;
+    })
+
+pub holds_failed : (old new : OpenImage) → new ≡ after failed old → HoldsKnownBytes old → HoldsKnownBytes new
+holds_failed old new is holds =
+    rw is (record { content = holds.content; honest = holds.honest; never_fails = holds.never_fails })
+
+pub holds_asked : (old new : OpenImage) (was : List ℕ) → new ≡ after (asked was) old → HoldsKnownBytes old
+    → HoldsKnownBytes new
+holds_asked old new was is holds =
+    rw is (record { content = holds.content; honest = holds.honest; never_fails = holds.never_fails })
+
+pub holds_written : (old new : OpenImage) (w u : Bool) (content : Option (List ℕ)) (n : ℕ) (from : List ℕ)
+    (done : Type 0)
+    → new ≡ record old { written = w; content = content; unsynced = u; calls = written n from ∷ old.calls }
+    → 512 * n + length from ≤ 512 * file_block_count old → WritesAt old.content (512 * n) from content done → done
+    → HoldsKnownBytes old → HoldsKnownBytes new
+holds_written old new w u content n from done is within writes did holds =
+    let bytes = (holding old).bytes in
+    let put_is : content ≡ Some (put bytes (512 * n) from) =
+    (rw holds.content at writes.if_done) (omega (arith, within, full old bytes refl)) did in
+    rw is (record { content = put_is; honest = holds.honest; never_fails = holds.never_fails })
+
+-- an image that is sound has been honest
+pub honest_if_sound : (image : OpenImage) → (image.known ≡ true → HoldsKnownBytes image)
+    → is_sound (file_state image) ≡ true → (file_state image).honest ≡ true
+honest_if_sound image holds sound = elim (cases_Bool image.known) [
+  | inl known ↦ (holds known).honest
+  | inr unknown ↦ rw unknown at sound
+]
+
+-- a call on the blocks of such an image is done
+pub done_there : (old : OpenImage) (n count : ℕ) (done : Type 0) → HoldsKnownBytes old
+    → 512 * n + count ≤ 512 * file_block_count old
+    → (old.never_fails ≡ true → IsDoneAt old.content (512 * n) count done) → done
+done_there old n count done holds within infallible =
+    (rw holds.content at (infallible holds.never_fails)) (omega (arith, within, full old (holding old).bytes refl))
+
+-- bytes that stay
+pub none_changes : (at count : ℕ) (content : Option (List ℕ)) → ChangesAtMost at count content content
+none_changes at count None = tt
+none_changes at count (Some bytes) =
+    λ within. (part bytes at count, (length-part-le bytes at count within, ap Some (sym (put-part bytes at count))))
 
 pub ruleset file_steps = (
   read_keeps,
@@ -308,4 +355,5 @@ pub ruleset file_steps = (
   declined_keeps,
   refused_keeps,
   refused_one,
+  known_failed,
 )

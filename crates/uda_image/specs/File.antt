@@ -44,12 +44,24 @@ holding_after blocks held left [] =
     record { bytes = fitted blocks held; honest = true; failures = 0; failed_writes = 0; buffer = [] }
 holding_after blocks held left (call ∷ earlier) = after_call left call (holding_after blocks held left earlier)
 
--- a read of bytes that are known: one within them is done, and returns those bytes
+-- a read of bytes that are known: one within them that is done returns those bytes
 abbrev pub ReadsAt : Option (List ℕ) → ℕ → List ℕ → Type 0 → Type 0
 ReadsAt content at to done = IfSome content (λ bytes. at + length to ≤ length bytes
-    → done × (to ≡ part bytes at (length to)))
+    → done → (to ≡ part bytes at (length to)))
 
--- a write over bytes that are known: one within them is done, and replaces those bytes
-abbrev pub WritesAt : Option (List ℕ) → ℕ → List ℕ → Option (List ℕ) → Type 0 → Type 0
-WritesAt content at from content_after done = IfSome content (λ bytes. at + length from ≤ length bytes
-    → done × (content_after ≡ Some (put bytes at from)))
+-- a call on this many of the bytes that are known, from this offset on, is done
+abbrev pub IsDoneAt : Option (List ℕ) → ℕ → ℕ → Type 0 → Type 0
+IsDoneAt content at count done = IfSome content (λ bytes. at + count ≤ length bytes → done)
+
+-- of bytes that are known, at most this many from this offset on have changed
+abbrev pub ChangesAtMost : ℕ → ℕ → Option (List ℕ) → Option (List ℕ) → Type 0
+ChangesAtMost at count content content_after = IfSome content (λ bytes. at + count ≤ length bytes
+    → (left : List ℕ) × ((length left ≡ count) × (content_after ≡ Some (put bytes at left))))
+
+-- a write over bytes that are known: one within them that is done replaces those bytes, and any other changes at
+-- most those
+pub record WritesAt (content : Option (List ℕ)) (at : ℕ) (from : List ℕ) (content_after : Option (List ℕ))
+    (done : Type 0) : Type 0 where
+  pub if_done : IfSome content (λ bytes. at + length from ≤ length bytes
+      → done → (content_after ≡ Some (put bytes at from)))
+  pub no_other : ChangesAtMost at (length from) content content_after

@@ -1,11 +1,11 @@
 -- The laws of files as stores.
-use Rattle.std.proofs.Common.{◌≡◌, ◌*◌, ℕ, List, [], ◌∷◌, ◌++◌, ◌∙◌, length, replicate, Some, true, refl, subst, arith, length-append}
+use Rattle.std.proofs.Common.{◌≡◌, ◌*◌, ℕ, List, [], ◌∷◌, ◌++◌, ◌∙◌, length, replicate, Some, true, refl, sym, ap, subst, arith, length-append}
 use Rattle.std.proofs.lemmas.List.{length-take-le, length-replicate, take-append-le, take_all}
 use Rattle.uda_mem.proofs.PutLaws.{length-put}
 use Rattle.uda_image.specs.FileCall.{FileCall, read, written, asked, declined, failed, failed_write}
 use Rattle.uda_image.specs.Store.{HasWholeBlocks}
 use Rattle.uda_image.specs.File.{fitted, block_left, holding_after}
-use Rattle.uda_image.specs.Image.{block_count_of, blocks_of, OpenImage, file_block_count, holding, IsAsKnown}
+use Rattle.uda_image.specs.Image.{block_count_of, blocks_of, OpenImage, file_block_count, holding, IsAsKnown, HoldsKnownBytes}
 use Rattle.uda_image.specs.StoreLaws.{HasWholeBlocks-blocks_of, min-le}
 
 pub length-fitted : (blocks : ℕ) (bytes : List ℕ) → length (fitted blocks bytes) ≡ 512 * blocks
@@ -45,6 +45,15 @@ pub known_at_first : (image : OpenImage) → image.calls ≡ [] → length image
     → image.content ≡ Some image.held → IsAsKnown image
 known_at_first image none long is =
     rw (is, none) (fitted-whole (file_block_count image) image.held long, refl)
+
+-- the same, and no call on the file fails
+pub holds_at_first : (image : OpenImage) → image.calls ≡ [] → length image.held ≡ 512 * file_block_count image
+    → image.content ≡ Some image.held → image.never_fails ≡ true → HoldsKnownBytes image
+holds_at_first image none long is never = record {
+  content = rw none (is ∙ ap Some (sym (fitted-whole (file_block_count image) image.held long)));
+  honest = rw none refl;
+  never_fails = never;
+}
 
 -- an open image is well formed
 pub file_blocks : (image : OpenImage) → HasWholeBlocks (file_block_count image) (blocks_of (holding image).bytes)

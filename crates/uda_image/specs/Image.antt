@@ -1,5 +1,5 @@
 -- Images in memory: the bytes of all blocks, one block after another.
-use Rattle.std.specs.Prelude.{◌≡◌, ℕ, zero, suc, ◌+◌, ◌*◌, ◌/◌, min, Bool, true, false, List, ◌++◌, take, drop}
+use Rattle.std.specs.Prelude.{◌≡◌, ℕ, zero, suc, ◌+◌, ◌*◌, ◌/◌, min, ◌&&◌, Bool, true, false, List, ◌++◌, take, drop}
 use Rattle.std.specs.Prelude.{length, Option, Some, None, IfSome}
 use Rattle.std.specs.List.{splice}
 use Rattle.std.specs.Simd.{first_chunks}
@@ -31,7 +31,7 @@ image_state bytes = record {
   size = block_count_of bytes;
   faithful = true;
   honest = true;
-  never_fails = true;
+  never_fails = record { reads = true; writes = true };
   failures = 0;
   failing_call = None;
 }
@@ -60,22 +60,26 @@ failing_state image = record {
   size = block_count_of image.bytes;
   faithful = true;
   honest = true;
-  never_fails = false;
+  never_fails = record { reads = false; writes = false };
   failures = failures_by image.left;
   failing_call = Some image.left;
 }
 
--- a file that is open as an image: its number of blocks when it was opened, whether it was opened for
--- writing, whether it was written since it was opened or last synced, and the bytes that it holds, if they are
--- known. Then what is supposed of it: the bytes that it held when it was opened, and the blocks that failed writes
--- leave. Last the calls on it since it was opened, the newest first
+-- A file that is open as an image: its number of blocks when it was opened, whether it was opened for
+-- writing, and whether it was written since it was opened or last synced. Of the file itself: the bytes that it
+-- holds, if they are known, whether no call on these fails, and whether it isn't synced. Then what is supposed of it:
+-- the bytes that it held when it was opened, the blocks that failed writes leave, and whether it is known that these
+-- were its bytes and that no call fails. Last the calls on it since it was opened, the newest first
 pub record OpenImage : Type 0 where
   pub size : ℕ
   pub writable : Bool
   pub written : Bool
   pub content : Option (List ℕ)
+  pub never_fails : Bool
+  pub unsynced : Bool
   pub held : List ℕ
   pub blocks_left : List ℕ
+  pub known : Bool
   pub calls : List FileCall
 
 -- the number of blocks of an open image
@@ -86,14 +90,21 @@ file_block_count image = min image.size store_limit
 abbrev pub holding : OpenImage → Holding
 holding image = holding_after (file_block_count image) image.held image.blocks_left image.calls
 
--- a file as a store: it promises nothing, and its calls decide whether it has been honest
+-- an open image over known bytes: the file holds what follows from its calls, has been honest, and fails no call
+pub record HoldsKnownBytes (image : OpenImage) : Type 0 where
+  pub content : image.content ≡ Some (holding image).bytes
+  pub honest : (holding image).honest ≡ true
+  pub never_fails : image.never_fails ≡ true
+
+-- A file as a store. If its bytes are known, it is faithful, and no call fails except a write to a file that was opened
+-- for reading only. Otherwise it promises nothing, and its calls decide whether it has been honest
 abbrev pub file_state : OpenImage → StoreState
 file_state image = record {
   blocks = blocks_of (holding image).bytes;
   size = file_block_count image;
-  faithful = false;
+  faithful = image.known;
   honest = (holding image).honest;
-  never_fails = false;
+  never_fails = record { reads = image.known; writes = image.writable && image.known };
   failures = (holding image).failures;
   failing_call = None;
 }

@@ -1,25 +1,38 @@
 -- A store of the blocks of a unit as contracts see it, and the effect of one call on it. MSCP Basic Disk
 -- Functions Manual: a unit is an array of logical blocks of 512 bytes, numbered from 0.
-use Rattle.std.specs.Prelude.{◌≡◌, ℕ, ◌+◌, ◌-◌, ◌<◌, Bool, true, ◌||◌, List, length, Option, Some, Result}
+use Rattle.std.specs.Prelude.{◌≡◌, ℕ, ◌+◌, ◌-◌, ◌<◌, Bool, true, ◌||◌, ◌&&◌, List, length, Option, Some, Result}
 use Rattle.std.specs.Prelude.{slice_get, slice_set, option_map, IfSome, MatchResult}
 use Rattle.std.specs.List.{All}
 use Rattle.uda_image.specs.declared.store.StoreError.{StoreError}
 
--- a store: its blocks, their number, whether it is faithful, whether it has been honest until now, whether it
--- never fails, how many of its calls have failed, and, if it is known, which call will fail: 1 is the next one,
+-- whether no read of a store fails, and whether no write does
+pub record NeverFails : Type 0 where
+  pub reads : Bool
+  pub writes : Bool
+
+-- a store: its blocks, their number, whether it is faithful, whether it has been honest until now, which calls
+-- never fail, how many of its calls have failed, and, if it is known, which call will fail: 1 is the next one,
 -- and 0 means none
 pub record StoreState : Type 0 where
   pub blocks : List (List ℕ)
   pub size : ℕ
   pub faithful : Bool
   pub honest : Bool
-  pub never_fails : Bool
+  pub never_fails : NeverFails
   pub failures : ℕ
   pub failing_call : Option ℕ
 
 -- a sound store: it is faithful, or it has been honest until now
 abbrev pub is_sound : StoreState → Bool
 is_sound store = store.faithful || store.honest
+
+-- a store that is sure to read: it is faithful, and no read fails
+abbrev pub is_sure_to_read : StoreState → Bool
+is_sure_to_read store = store.faithful && store.never_fails.reads
+
+-- a store that is sure to write: it is faithful, and no write fails
+abbrev pub is_sure_to_write : StoreState → Bool
+is_sure_to_write store = store.faithful && store.never_fails.writes
 
 -- this many calls succeed: the call that is to fail is not among them, and is now that many calls nearer
 pub record CallsSucceed (calls : ℕ) (old new : Option ℕ) : Type 0 where

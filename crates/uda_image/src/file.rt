@@ -1,13 +1,14 @@
 //! Images in files.
-ghost use Rattle.std.specs.Prelude.{length, ◌≡◌, ◌≢◌, ◌+◌, ◌*◌, ◌<◌, ◌≤◌, ◌↔◌, ◌||◌, true, false, [], ◌∷◌, Some, Ok, IsOk};
+ghost use Rattle.std.specs.Prelude.{length, ◌≡◌, ◌≢◌, ◌+◌, ◌*◌, ◌<◌, ◌≤◌, ◌↔◌, ◌||◌, ◌&&◌, true, false, [], ◌∷◌, Some, Ok, IsOk};
+ghost use Rattle.std.specs.Fs.{metadata_len};
 ghost use Rattle.std.specs.Prelude.{OnOk, OnErr, IfOk, IfErr, is_ok, if◌then◌else◌};
-ghost use Rattle.uda_image.specs.FileCall.{call_of};
 ghost use Rattle.uda_image.specs.FileCall as call;
 ghost use Rattle.uda_image.specs.Limits.{block_limit, store_limit};
 ghost use Rattle.uda_image.specs.Store.{KeepsAttributes, Reads, Writes, is_sound};
 ghost use Rattle.uda_image.specs.AtOnce.{TriesToRead, TriesToWrite};
+ghost use Rattle.uda_image.specs.File.{ChangesAtMost};
 ghost use Rattle.uda_image.specs.Image.{file_state, file_block_count, IsAsKnown};
-ghost use Rattle.uda_image.specs.StoreLaws.{min-le, no_image};
+ghost use Rattle.uda_image.specs.StoreLaws.{min-le};
 ghost use Rattle.uda_image.specs.FileLaws.{file_blocks};
 
 use crate::error::ImageError;
@@ -15,7 +16,7 @@ use crate::length::count_blocks;
 use crate::raw_file::RawFile;
 use crate::store::{BLOCK_LIMIT, BlockStore, STORE_LIMIT, StoreError};
 use crate::trace::{Call, FileTrace, Supposition};
-use std::fs::{File, OpenFile, OpenOptions, TryLockError};
+use std::fs::{File, Metadata, OpenFile, OpenOptions, TryLockError};
 use std::marker::Model;
 use std::{fmt, fs, io};
 
@@ -51,9 +52,9 @@ pub struct FileImage<F: RawFile = File> {
 }
 
 impl<F: RawFile> Model for FileImage<F> {
-    ghost use Rattle.std.specs.Prelude.{◌≤◌};
+    ghost use Rattle.std.specs.Prelude.{◌≡◌, ◌≤◌, true};
     ghost use Rattle.uda_image.specs.Limits.{store_limit};
-    ghost use Rattle.uda_image.specs.Image.{OpenImage};
+    ghost use Rattle.uda_image.specs.Image.{OpenImage, HoldsKnownBytes};
 
     ghost Value = { OpenImage };
 
@@ -62,12 +63,26 @@ impl<F: RawFile> Model for FileImage<F> {
       writable = image.writable;
       written = image.written;
       content = F.content image.file;
+      never_fails = F.never_fails image.file;
+      unsynced = F.unsynced image.file;
       held = image.trace.held;
       blocks_left = image.trace.blocks_left;
+      known = image.trace.known;
       calls = image.trace.calls;
     } };
 
-    ghost invariant = { λ image. image.size ≤ store_limit };
+    ghost invariant = { λ image. (image.size ≤ store_limit) × (image.trace.known ≡ true → HoldsKnownBytes (record {
+      size = image.size;
+      writable = image.writable;
+      written = image.written;
+      content = F.content image.file;
+      never_fails = F.never_fails image.file;
+      unsynced = F.unsynced image.file;
+      held = image.trace.held;
+      blocks_left = image.trace.blocks_left;
+      known = image.trace.known;
+      calls = image.trace.calls;
+    })) };
 }
 
 impl<F: RawFile + fmt::Debug> fmt::Debug for FileImage<F> {
@@ -156,6 +171,24 @@ impl FileImage {
         if !metadata.is_file() || !lock(&file, writable) {
             return Err(ImageError::Open);
         }
+        FileImage::of_length(file, &metadata, writable, limit)
+    }
+
+    // Makes an image of all blocks of a file, by its length, if that is one of at most `limit` blocks.
+    fn of_length(
+        file: File,
+        metadata: &Metadata,
+        writable: bool,
+        limit: u32,
+    ) -> Result<FileImage, ImageError>
+        requires limit { limit ≤ store_limit }
+        ensures size { IfOk result (λ image. 512 * image.size ≡ metadata_len metadata.now) }
+        ensures writable { IfOk result (λ image. image.writable ≡ writable) }
+        ensures written { IfOk result (λ image. image.written ≡ false) }
+        ensures no_calls { IfOk result (λ image. image.calls ≡ []) }
+        ensures within_limit { IfOk result (λ image. image.size ≤ limit) }
+        ensures errors { result ≢ Err ImageError.NoMemory }
+    {
         let size = count_blocks(metadata.len(), limit)?;
         Ok(FileImage::over(file, size, writable))
     }
@@ -170,6 +203,9 @@ impl<F: RawFile> FileImage<F> {
         ensures writable { result.writable ≡ writable }
         ensures written { result.written ≡ false }
         ensures content { result.content ≡ F.content file }
+        ensures never_fails { result.never_fails ≡ F.never_fails file }
+        ensures unsynced { result.unsynced ≡ F.unsynced file }
+        ensures unknown { result.known ≡ false }
         ensures no_calls { result.calls ≡ [] }
     {
         FileImage {
@@ -184,7 +220,11 @@ impl<F: RawFile> FileImage<F> {
     /// Returns this image, on which no call was made, with what is supposed of its file.
     pub fn supposing(self, supposed: &Supposition) -> FileImage<F>
         requires no_calls { self.calls ≡ [] }
-        ensures supposed { result ≡ record self { held = supposed.now.held; blocks_left = supposed.now.blocks_left } }
+        ensures supposed { result ≡ record self {
+          held = supposed.now.held;
+          blocks_left = supposed.now.blocks_left;
+          known = false;
+        } }
         ensures known { length supposed.now.held ≡ 512 * file_block_count self
             → self.content ≡ Some supposed.now.held → IsAsKnown result }
     {
@@ -194,28 +234,23 @@ impl<F: RawFile> FileImage<F> {
         }
     }
 
-    // Notes a call.
-    #[inline(always)]
-    fn note(&mut self, call: &Call<'_>)
-        ensures { self.new ≡ record self.old { calls = call_of call.now ∷ self.old.calls } }
+    /// Returns this image, on which no call was made, over a file that holds the supposed bytes and fails no call. It is
+    /// then faithful.
+    pub fn known(self, supposed: &Supposition) -> FileImage<F>
+        requires no_calls { self.calls ≡ [] }
+        requires content { self.content ≡ Some supposed.now.held }
+        requires whole { length supposed.now.held ≡ 512 * file_block_count self }
+        requires never_fails { self.never_fails ≡ true }
+        ensures known { result ≡ record self {
+          held = supposed.now.held;
+          blocks_left = supposed.now.blocks_left;
+          known = true;
+        } }
     {
-        self.trace.note(call);
-    }
-
-    // Notes a read of these bytes.
-    #[inline(always)]
-    fn note_read(&mut self, block: u32, bytes: &[u8])
-        ensures { self.new ≡ record self.old { calls = call.read block bytes.now ∷ self.old.calls } }
-    {
-        self.note(&Call::Read { block, bytes });
-    }
-
-    // Notes a write of these bytes.
-    #[inline(always)]
-    fn note_written(&mut self, block: u32, bytes: &[u8])
-        ensures { self.new ≡ record self.old { calls = call.written block bytes.now ∷ self.old.calls } }
-    {
-        self.note(&Call::Written { block, bytes });
+        FileImage {
+            trace: FileTrace::known(supposed),
+            ..self
+        }
     }
 
     /// Makes the system write to the medium what was written to the file, and the file's length. It does
@@ -223,7 +258,10 @@ impl<F: RawFile> FileImage<F> {
     ///
     /// Fails with `Write` if the system can't, or if it reports the error of an earlier write only now.
     pub fn sync(&mut self) -> Result<(), StoreError>
-        ensures synced { OnOk result (self.new ≡ record self.old { written = false }) }
+        ensures synced { OnOk result (self.new ≡ record self.old {
+          written = false;
+          unsynced = if self.old.written then false else self.old.unsynced;
+        }) }
         ensures unchanged { OnErr result (self.new ≡ self.old) }
         ensures idle { self.old.written ≡ false → IsOk result }
         ensures error { IfErr result (λ e. e ≡ StoreError.Write) }
@@ -248,7 +286,7 @@ impl<F: RawFile> BlockStore for FileImage<F> {
 
     ghost within_limit = { λ image. min-le image.size };
 
-    ghost is_image = { λ _. no_image };
+    ghost is_image = { λ image _. file_blocks image };
 
     ghost is_image_if_sound = { λ image _. file_blocks image };
 
@@ -265,15 +303,16 @@ impl<F: RawFile> BlockStore for FileImage<F> {
         ensures noted { self.new.calls
             ≡ (if is_ok result then call.read n to.new else call.failed) ∷ self.old.calls }
         ensures attributes { KeepsAttributes (file_state self.old) (file_state self.new) }
+        ensures infallible { self.old.known ≡ true → IsOk result }
         ensures reads_if_sound { is_sound (file_state self.new) ≡ true
             → Reads (file_state self.old) n (file_state self.new) to.new result }
         ensures known { IsAsKnown self.old → IsAsKnown self.new }
     {
         if self.file.read_exact(to, 512 * u64::from(n)).is_err() {
-            self.note(&Call::Failed);
+            self.trace.note(&Call::Failed);
             return Err(StoreError::Read);
         }
-        self.note_read(n, to);
+        self.trace.note_read(n, to);
         Ok(())
     }
 
@@ -281,27 +320,34 @@ impl<F: RawFile> BlockStore for FileImage<F> {
     fn write(&mut self, n: u32, from: &[u8; 512]) -> Result<(), StoreError>
         requires { n < file_block_count self.old }
         ensures written { self.old.writable ≡ true → self.new
-            ≡ record self.old { written = true; content = self.new.content; calls = self.new.calls } }
+            ≡ record self.old {
+              written = true;
+              content = self.new.content;
+              unsynced = self.new.unsynced;
+              calls = self.new.calls;
+            } }
         ensures read_only { self.old.writable ≡ false → result ≡ Err StoreError.Write }
         ensures unchanged { self.old.writable ≡ false → self.new ≡ record self.old { calls = self.new.calls } }
         ensures error { IfErr result (λ e. e ≡ StoreError.Write) }
         ensures noted { self.new.calls ≡ (if is_ok result then call.written n from.now
             else (if self.old.writable then call.failed_write n else call.failed)) ∷ self.old.calls }
         ensures attributes { KeepsAttributes (file_state self.old) (file_state self.new) }
+        ensures infallible { self.old.writable && self.old.known ≡ true → IsOk result }
         ensures writes_if_sound { is_sound (file_state self.new) ≡ true
             → Writes (file_state self.old) n (file_state self.new) from.now result }
-        ensures known { IsAsKnown self.old → IsAsKnown self.new }
+        ensures known { IsAsKnown self.old → IsOk result → IsAsKnown self.new }
+        ensures no_other { ChangesAtMost (512 * n) 512 self.old.content self.new.content }
     {
         if !self.writable {
-            self.note(&Call::Failed);
+            self.trace.note(&Call::Failed);
             return Err(StoreError::Write);
         }
         self.written = true;
         if self.file.write_all(from, 512 * u64::from(n)).is_err() {
-            self.note(&Call::FailedWrite { block: n });
+            self.trace.note(&Call::FailedWrite { block: n });
             return Err(StoreError::Write);
         }
-        self.note_written(n, from);
+        self.trace.note_written(n, from);
         Ok(())
     }
 
@@ -318,15 +364,15 @@ impl<F: RawFile> BlockStore for FileImage<F> {
         ensures attributes { KeepsAttributes (file_state self.old) (file_state self.new) }
         ensures reads_if_sound { is_sound (file_state self.new) ≡ true
             → TriesToRead (file_state self.old) n count (file_state self.new) to.old to.new result }
-        ensures known { IsAsKnown self.old → IsAsKnown self.new }
+        ensures known { IsAsKnown self.old → result ≡ true → IsAsKnown self.new }
     {
         let bytes = to.len();
-        self.note(&Call::Asked { bytes: to });
+        self.trace.note(&Call::Asked { bytes: to });
         if !is_whole(self.file.read_once(to, 512 * u64::from(n)), bytes) {
-            self.note(&Call::Declined { bytes: to });
+            self.trace.note(&Call::Declined { bytes: to });
             return false;
         }
-        self.note_read(n, to);
+        self.trace.note_read(n, to);
         true
     }
 
@@ -336,7 +382,12 @@ impl<F: RawFile> BlockStore for FileImage<F> {
         requires on_unit { n + count ≤ file_block_count self.old }
         requires long { length from.now ≡ 512 * count }
         ensures written { self.old.writable ≡ true → self.new
-            ≡ record self.old { written = true; content = self.new.content; calls = self.new.calls } }
+            ≡ record self.old {
+              written = true;
+              content = self.new.content;
+              unsynced = self.new.unsynced;
+              calls = self.new.calls;
+            } }
         ensures read_only { self.old.writable ≡ false → result ≡ false }
         ensures unchanged { self.old.writable ≡ false → self.new ≡ self.old }
         ensures noted { self.new.calls
@@ -344,12 +395,13 @@ impl<F: RawFile> BlockStore for FileImage<F> {
         ensures attributes { KeepsAttributes (file_state self.old) (file_state self.new) }
         ensures writes_if_sound { is_sound (file_state self.new) ≡ true
             → TriesToWrite (file_state self.old) n count (file_state self.new) from.now result }
-        ensures known { IsAsKnown self.old → IsAsKnown self.new }
+        ensures known { IsAsKnown self.old → result ≡ true → IsAsKnown self.new }
+        ensures no_other { ChangesAtMost (512 * n) (length from.now) self.old.content self.new.content }
     {
         let bytes = from.len();
         self.written |= self.writable;
         if self.writable && is_whole(self.file.write_once(from, 512 * u64::from(n)), bytes) {
-            self.note_written(n, from);
+            self.trace.note_written(n, from);
             return true;
         }
         false

@@ -46,12 +46,12 @@ impl Error for StoreError {}
 /// Contracts see a store as one value, its `state`:
 ///
 /// - its blocks and their number;
-/// - whether it is faithful, whether it has been honest until now, and whether it never fails;
+/// - whether it is faithful, whether it has been honest until now, and whether its reads and its writes never fail;
 /// - how many of its calls have failed;
 /// - if it is known, which later call will fail; no other will.
 ///
 /// A faithful store returns the data that was written last. A call of it that fails changes no block except
-/// the one that was being written. A store that never fails returns `Ok` from every call.
+/// the one that was being written. A store whose reads never fail returns `Ok` from every read, and so for writes.
 ///
 /// Another store, such as a file that other programs may change, may say that it has been honest until now. Then
 /// its calls have had the results that those of a faithful store would have had. A store that is no longer
@@ -71,7 +71,7 @@ pub trait BlockStore {
         requires { n < (state self.old).size }
         ensures attributes { KeepsAttributes (state self.old) (state self.new) }
         ensures error { IfErr result (λ e. e ≡ StoreError.Read) }
-        ensures infallible { (state self.old).never_fails ≡ true → IsOk result }
+        ensures infallible { (state self.old).never_fails.reads ≡ true → IsOk result }
         ensures long { length to.new ≡ 512 }
         ensures reads { (state self.old).faithful ≡ true
             → Reads (state self.old) n (state self.new) to.new result }
@@ -84,7 +84,7 @@ pub trait BlockStore {
         requires { n < (state self.old).size }
         ensures attributes { KeepsAttributes (state self.old) (state self.new) }
         ensures error { IfErr result (λ e. e ≡ StoreError.Write) }
-        ensures infallible { (state self.old).never_fails ≡ true → IsOk result }
+        ensures infallible { (state self.old).never_fails.writes ≡ true → IsOk result }
         ensures writes { (state self.old).faithful ≡ true
             → Writes (state self.old) n (state self.new) from.now result }
         ensures writes_if_sound { is_sound (state self.new) ≡ true

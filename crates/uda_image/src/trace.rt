@@ -1,7 +1,8 @@
 //! The trace of an image file: its calls and what came of them, which only contracts read.
-ghost use Rattle.std.specs.Prelude.{◌≡◌, ℕ, List, [], ◌∷◌};
+ghost use Rattle.std.specs.Prelude.{◌≡◌, ℕ, Bool, true, false, List, [], ◌∷◌};
 ghost use Rattle.std.specs.Borrow.{ftrue};
 ghost use Rattle.uda_image.specs.FileCall.{FileCall, call_of};
+ghost use Rattle.uda_image.specs.FileCall as call;
 ghost use Rattle.uda_image.specs.StoredCalls.{calls_code};
 
 use std::fmt;
@@ -52,12 +53,13 @@ pub enum Call<'a> {
     FailedWrite { block: u32 },
 }
 
-/// What was supposed of a file when it was opened, and the calls on it since, the newest first. It takes no
-/// memory, and its methods do nothing at run time.
+/// What was supposed of a file when it was opened, whether that is known to be so, and the calls on it since, the newest
+/// first. It takes no memory, and its methods do nothing at run time.
 #[derive(Drop)]
 pub struct FileTrace {
     pub ghost held: { List ℕ },
     pub ghost blocks_left: { List ℕ },
+    pub ghost known: { Bool },
     pub ghost calls: { List FileCall } by { calls_code },
 }
 
@@ -74,7 +76,24 @@ impl fmt::Debug for FileTrace {
 impl FileTrace {
     /// Returns the trace of a file of which this is supposed, and on which no call was made.
     pub fn new(_supposed: &Supposition) -> FileTrace
-        ensures { result ≡ record { held = _supposed.now.held; blocks_left = _supposed.now.blocks_left; calls = [] } }
+        ensures { result ≡ record {
+          held = _supposed.now.held;
+          blocks_left = _supposed.now.blocks_left;
+          known = false;
+          calls = [];
+        } }
+    {
+        FileTrace {}
+    }
+
+    /// Returns the trace of a file that is known to be as this supposition says, and on which no call was made.
+    pub fn known(_supposed: &Supposition) -> FileTrace
+        ensures { result ≡ record {
+          held = _supposed.now.held;
+          blocks_left = _supposed.now.blocks_left;
+          known = true;
+          calls = [];
+        } }
     {
         FileTrace {}
     }
@@ -93,5 +112,21 @@ impl FileTrace {
         ensures { self.new ≡ record self.old { calls = call_of call.now ∷ self.old.calls } }
     {
         *self = self.then(call);
+    }
+
+    /// Notes a read of these bytes.
+    #[inline(always)]
+    pub fn note_read(&mut self, block: u32, bytes: &[u8])
+        ensures { self.new ≡ record self.old { calls = call.read block bytes.now ∷ self.old.calls } }
+    {
+        self.note(&Call::Read { block, bytes });
+    }
+
+    /// Notes a write of these bytes.
+    #[inline(always)]
+    pub fn note_written(&mut self, block: u32, bytes: &[u8])
+        ensures { self.new ≡ record self.old { calls = call.written block bytes.now ∷ self.old.calls } }
+    {
+        self.note(&Call::Written { block, bytes });
     }
 }

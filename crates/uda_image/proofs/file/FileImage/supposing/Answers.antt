@@ -12,8 +12,11 @@ returns-clause-known g c long is =
       writable = c.self.inside.writable;
       written = c.self.inside.written;
       content = g.F.RawFile.content c.self.inside.file;
+      never_fails = g.F.RawFile.never_fails c.self.inside.file;
+      unsynced = g.F.RawFile.unsynced c.self.inside.file;
       held = c.new.result.held;
       blocks_left = c.new.result.blocks_left;
+      known = c.new.result.known;
       calls = c.new.result.calls;
     } in
     known_at_first image (ap (λ (t : FileTrace). t.calls) made)

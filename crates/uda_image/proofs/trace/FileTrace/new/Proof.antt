@@ -27,6 +27,7 @@ use denote.Triple.Entry.{on_entry, alive, Args}
 use denote.Triple.Spec.{Meets, triple_of}
 use denote.Triple.Table.{entered}
 use denote.Triple.Walked.{says, stay_none_ref, Stays, walk_of, Walks, ends_at, walked, Goes-none_ref, walk_Meets}
+use Rattle.std.proofs.Common.{false}
 use Rattle.uda_image.specs.contracts.trace.FileTrace.new.Key.{name as key}
 use Rattle.uda_image.specs.contracts.trace.FileTrace.new as f
 use Rattle.uda_image.proofs.trace.FileTrace.new.Statement as stated
@@ -56,8 +57,8 @@ module _ {M : Type 1} {𝓤 : Ura M} (𝓛 : Logic 𝓤) (mem : Memory → SProp
         qed 𝓛 (raw (alive 𝓛 f.signature κs qs) ∷ ‵ passed ∷ []) ∵ enter ! C Λ code.function (before ∷ []) _ $
         alloc_all ! (λ l. pass_all ! refl ((tt, tt), tt) $ sets ! (agg ! (no_more !)) refl (tt, tt) $
         returns ! (look_at ! 0 refl) $ free_all ! refl $
-        suffices ! _ (ends_at 𝓛 f.ended stayed (f.clauses 𝓛 mem run) bound (vstruct vnil) (record { held = a.0.now.held; blocks_left = a.0.now.blocks_left; calls = [] }) (tt, tt) (tt, tt)) $
-        says ! refl $ pure_i ! (trace.the_row.own_val (record { held = a.0.now.held; blocks_left = a.0.now.blocks_left; calls = [] }) (vstruct vnil ∷ [])) ((λ vss. (tt, tt)), tt) ((tt, (refl, tt)), tt) $
+        suffices ! _ (ends_at 𝓛 f.ended stayed (f.clauses 𝓛 mem run) bound (vstruct vnil) (record { held = a.0.now.held; blocks_left = a.0.now.blocks_left; known = false; calls = [] }) (tt, tt) (tt, tt)) $
+        says ! refl $ pure_i ! (trace.the_row.own_val (record { held = a.0.now.held; blocks_left = a.0.now.blocks_left; known = false; calls = [] }) (vstruct vnil ∷ [])) ((λ vss. (tt, tt)), tt) ((tt, (refl, tt)), tt) $
         move ! (1 ∷ 2 ∷ 0 ∷ []) $ done !)
 
   walks : Walks 𝓛 f.ended stayed (WpFn 𝓤 H C Λ code.function) (f.clauses 𝓛 mem run)

@@ -9,9 +9,9 @@ use Rattle.uda_disk.specs.declared.refusal.Refusal.TheVariants.{NotOnline, OddCo
 use Rattle.uda_disk.specs.declared.refusal.Refusal.TheVariants.{HardwareProtected, SoftwareProtected}
 use Rattle.uda_disk.specs.Disk.{Disk, Disks}
 use Rattle.uda_disk.specs.Request.{Act, Available, Status, Online, Access, Erase, Read, Write, Request, extent_of, is_writing, blocks_for}
-use Rattle.uda_disk.specs.RequestEffect.{CheckResult, Rejected, Accepted, check_at, check_by, refusal_on, Done, mode_after, disk_after, disks_by}
-use Rattle.uda_disk.specs.InOrderRun.{step, run_in_order, too_long}
-use Rattle.uda_disk.specs.Laws.{HasProtected, ProtectedStays}
+use Rattle.uda_disk.specs.RequestEffect.{CheckResult, Rejected, Accepted, check_at, check_by, refusal_on, TransferOutcome, Done, mode_after, disk_after, disks_by}
+use Rattle.uda_disk.specs.InOrderRun.{FixedRequest, step, step_as, step_of, run_in_order, run_in_order_as, too_long}
+use Rattle.uda_disk.specs.Laws.{HasProtected, ProtectedStays, ProtectedStaysWithFailures}
 use Rattle.uda_disk.proofs.Callers.{unwritten_stays}
 use Rattle.uda_disk.proofs.Slots.{slice_get-set_same, slice_get-set_other}
 
@@ -57,45 +57,54 @@ free_writes_not (Write lbn payload) disk hard none =
     (if disk.mode.soft then Some SoftwareProtected else None) hard none)
 
 -- what an accepted act leaves
-free_keeps : (act : Act) (disk other : Disk) (found : Option Refusal)
+free_keeps : (o : TransferOutcome) (act : Act) (disk other : Disk) (found : Option Refusal)
     → refusal_on (extent_of act) disk.size disk.mode ≡ found → disk.mode.hard ≡ true
     → check_by found disk ≡ Accepted other
-    → ((disk_after Done act other).blocks ≡ disk.blocks) × ((disk_after Done act other).mode.hard ≡ true)
-free_keeps act disk other (Some refusal) found hard free = absurd (cc)
-free_keeps act disk other None found hard free =
+    → ((disk_after o act other).blocks ≡ disk.blocks) × ((disk_after o act other).mode.hard ≡ true)
+free_keeps o act disk other (Some refusal) found hard free = absurd (cc)
+free_keeps o act disk other None found hard free =
     let same : disk ≡ other = cc in
-    subst (λ (d : Disk). ((disk_after Done act d).blocks ≡ disk.blocks) × ((disk_after Done act d).mode.hard ≡ true))
-    same (unwritten_stays Done act disk (free_writes_not act disk hard found), hard_stays act disk.mode hard)
+    subst (λ (d : Disk). ((disk_after o act d).blocks ≡ disk.blocks) × ((disk_after o act d).mode.hard ≡ true))
+    same (unwritten_stays o act disk (free_writes_not act disk hard found), hard_stays act disk.mode hard)
 
 module _ (u : ℕ) (blocks : List (List ℕ)) where
-  served : (r : Request) (disks : Disks) (b : CheckResult) → check_at r.act (slice_get disks r.unit) ≡ b
-      → HasProtected blocks (slice_get disks u) → HasProtected blocks (slice_get (disks_by Done r b disks) u)
-  served r disks (Rejected refusal) is h = h
-  served r disks (Accepted other) is h = elim (eqb_tells u r.unit) [
+  served : (o : TransferOutcome) (r : Request) (disks : Disks) (b : CheckResult) → check_at r.act (slice_get disks r.unit) ≡ b
+      → HasProtected blocks (slice_get disks u) → HasProtected blocks (slice_get (disks_by o r b disks) u)
+  served o r disks (Rejected refusal) is h = h
+  served o r disks (Accepted other) is h = elim (eqb_tells u r.unit) [
     | inl both ↦
         let same : u ≡ r.unit = both.1 in
         let here : slice_get disks r.unit ≡ Some (Some h.disk) = sym (ap (slice_get disks) same) ∙ h.here in
-        let kept = free_keeps r.act h.disk other _ refl h.hard (sym (ap (check_at r.act) here) ∙ is) in
+        let kept = free_keeps o r.act h.disk other _ refl h.hard (sym (ap (check_at r.act) here) ∙ is) in
         record {
-          disk = disk_after Done r.act other;
-          here = ap (slice_get (disks_by Done r (Accepted other) disks)) same
+          disk = disk_after o r.act other;
+          here = ap (slice_get (disks_by o r (Accepted other) disks)) same
               ∙ slice_get-set_same disks r.unit _ (slice_get_within disks r.unit _ here);
           hard = kept.1;
           blocks_are = kept.0 ∙ h.blocks_are;
         }
     | inr both ↦ subst (HasProtected blocks)
-        (sym (slice_get-set_other disks r.unit u (Some (disk_after Done r.act other)) both.1)) h
+        (sym (slice_get-set_other disks r.unit u (Some (disk_after o r.act other)) both.1)) h
   ]
 
-  stepped : (r : Request) (disks : Disks) (long : Bool) → too_long r ≡ long
-      → HasProtected blocks (slice_get disks u) → HasProtected blocks (slice_get (step r disks).1 u)
-  stepped r disks true is h = rw is h
-  stepped r disks false is h = rw is (served r disks _ refl h)
+  stepped : (o : TransferOutcome) (r : Request) (disks : Disks) (long : Bool) → too_long r ≡ long
+      → HasProtected blocks (slice_get disks u) → HasProtected blocks (slice_get (step_as o r disks).1 u)
+  stepped o r disks true is h = rw is h
+  stepped o r disks false is h = rw is (served o r disks _ refl h)
 
   all_served : (requests : List Request) (disks : Disks) → HasProtected blocks (slice_get disks u)
       → HasProtected blocks (slice_get (run_in_order disks requests).1 u)
   all_served [] disks h = h
-  all_served (r ∷ rest) disks h = all_served rest (step r disks).1 (stepped r disks _ refl h)
+  all_served (r ∷ rest) disks h = all_served rest (step r disks).1 (stepped Done r disks _ refl h)
+
+  all_served_as : (xs : List FixedRequest) (disks : Disks) → HasProtected blocks (slice_get disks u)
+      → HasProtected blocks (slice_get (run_in_order_as disks xs).1 u)
+  all_served_as [] disks h = h
+  all_served_as (x ∷ rest) disks h =
+      all_served_as rest (step_of x disks).1 (stepped x.outcome x.request disks _ refl h)
 
 pub protected_stays : ProtectedStays
 protected_stays requests u blocks disks h = all_served u blocks requests disks h
+
+pub protected_stays_with_failures : ProtectedStaysWithFailures
+protected_stays_with_failures xs u blocks disks h = all_served_as u blocks xs disks h

@@ -1,13 +1,13 @@
 -- What Reads and Writes that succeed have done.
-use Rattle.std.proofs.Common.{◌≡◌, ℕ, zero, suc, ◌+◌, ◌*◌, ◌%◌, ◌≤◌, Bool, true, false, List, [], ◌∷◌, length, take, drop, Option, Some, None, refl, sym, ap, ◌∙◌, arith, subst, inl, inr}
+use Rattle.std.proofs.Common.{◌≡◌, ℕ, zero, suc, ◌+◌, ◌*◌, ◌/◌, ◌%◌, ◌≤◌, Bool, true, false, List, [], ◌∷◌, ◌++◌, length, get_or, take, drop, replicate, Option, Some, None, refl, sym, ap, ap₂, ◌∙◌, arith, subst, inl, inr}
 use Rattle.std.specs.Prelude.{All, not, nat_eq, nat_le, nat_lt, slice_get, slice_set, option_map, if◌then◌else◌}
 use Rattle.std.specs.List.{concat}
 use Rattle.std.proofs.lemmas.Bool.Decides.{nat_tests, eqb_tells}
-use Rattle.std.proofs.lemmas.List.{take_all}
+use Rattle.std.proofs.lemmas.List.{take_all, take-append-le}
 use Rattle.std.proofs.lemmas.List.Elements.{All-nil, All-take, All-drop, All-head, All-tail}
 use Rattle.std.proofs.lemmas.Option.{slice_get_within, slice_get-map}
 use Rattle.uda_mem.specs.Put.{part, put}
-use Rattle.uda_mem.proofs.PutLaws.{length-part-le}
+use Rattle.uda_mem.proofs.PutLaws.{length-part-le, part-put_at}
 use Rattle.uda_image.specs.Store.{HasWholeBlocks}
 use Rattle.uda_disk.specs.declared.mode.Mode.{Mode}
 use Rattle.uda_disk.specs.declared.refusal.Refusal.{Refusal}
@@ -17,8 +17,10 @@ use Rattle.uda_disk.specs.Disk.{Disk, Disks}
 use Rattle.uda_disk.specs.Request.{Act, Read, Write, Request, Extent, extent_of, is_writing, blocks_for, in_blocks}
 use Rattle.uda_disk.specs.Answer.{Answer, TooLong, Data, Moved, status_of}
 use Rattle.uda_disk.specs.RequestEffect.{CheckResult, Rejected, Accepted, check_result, check_at, check_by, first_failed_check, refusal_on, refusal_status, TransferOutcome, Done, disk_after, disks_by, serve_by}
-use Rattle.uda_disk.specs.InOrderRun.{requests_of, too_long, step_as, step, step_of, run_in_order_as}
-use Rattle.uda_disk.specs.Laws.{blocks_in, blocks_at, size_in, size_at, HasWholeDisk, HasSameBlocks, BlocksStay, AnsweredOnSameBlocks, RunBlocksStay, SuccessfulRead, SuccessfulWrite}
+use Rattle.uda_disk.specs.InOrderRun.{FixedRequest, requests_of, too_long, step_as, step, step_of, run_in_order_as}
+use Rattle.uda_image.proofs.AtOnceLaws.{concat-chunks}
+use Rattle.uda_image.specs.StoreLaws.{length-first_chunks}
+use Rattle.uda_disk.specs.Laws.{write_and_read, WrittenIsRead, blocks_in, blocks_at, size_in, size_at, HasWholeDisk, HasSameBlocks, BlocksStay, AnsweredOnSameBlocks, RunBlocksStay, SuccessfulRead, SuccessfulWrite}
 use Rattle.uda_disk.specs.Units.{UnitState, Units, disk_of, disks_of, is_sound_at, IsWellFormedIfSound, AreWellFormedIfSound}
 use Rattle.uda_disk.proofs.Lists.{All-at}
 use Rattle.uda_disk.proofs.Callers.{whole_count, length-concat, unwritten_stays}
@@ -284,3 +286,71 @@ whole_disk units u well_formed sound =
     by (Some None) at = tt
     by (Some (Some unit)) at =
         All-at IsWellFormedIfSound units u (Some unit) well_formed at (sym (ap is_sound_at at) ∙ sound)
+
+-- ---- a Read of what was written
+
+-- the bytes of whole blocks, divided and joined again
+rejoined : (payload : List ℕ) (count : ℕ) → length payload ≡ 512 * count → concat (in_blocks payload) ≡ payload
+rejoined payload count long =
+    let zeros : List ℕ = replicate 512 0 in
+    let blocks : blocks_for (length payload) ≡ count = ap blocks_for long ∙ whole_count count in
+    concat-chunks (blocks_for (length payload)) (payload ++ zeros)
+    ∙ ap (λ (n : ℕ). take n (payload ++ zeros)) (ap (λ (n : ℕ). 512 * n) blocks ∙ sym long)
+    ∙ take-append-le (length payload) payload zeros (omega arith)
+    ∙ take_all (length payload) payload (omega arith)
+
+read_back : (o p : TransferOutcome) (u lbn count n : ℕ) (payload bytes : List ℕ) (disks : Disks)
+    → length payload ≡ 512 * count → HasWholeDisk (slice_get disks u)
+    → (step_as o (record { unit = u; act = Write lbn payload }) disks).0 ≡ Moved SUCCESS n
+    → (step_as p (record { unit = u; act = Read lbn (512 * count) })
+    (step_as o (record { unit = u; act = Write lbn payload }) disks).1).0 ≡ Data SUCCESS bytes
+    → bytes ≡ payload
+read_back o p u lbn count n payload bytes disks long whole wrote read =
+    let r : Request = record { unit = u; act = Read lbn (512 * count) } in
+    let left : Disks = (step_as o (record { unit = u; act = Write lbn payload }) disks).1 in
+    let is = successful_write o u lbn payload disks n wrote in
+    let plain = sym (ap (λ (x : Answer × Disks). x.0) (done p r left (Data SUCCESS bytes) read refl)) ∙ read in
+    let found = read_accepted u lbn (512 * count) left bytes (too_long r) (check_result left r) plain in
+    let at = accepted_at r.act (slice_get left u) found.0 found.1.0 in
+    let blocks : found.0.blocks ≡ put (blocks_at disks u) lbn (in_blocks payload) =
+    sym (ap blocks_in at.0) ∙ is.written in
+    let counted : blocks_for (length payload) ≡ count = ap blocks_for long ∙ whole_count count in
+    let size : length (in_blocks payload) ≡ count =
+    length-first_chunks (blocks_for (length payload)) (payload ++ replicate 512 0) ∙ counted in
+    let there : part found.0.blocks lbn (blocks_for (512 * count)) ≡ in_blocks payload =
+    ap₂ (λ (b : List (List ℕ)) (m : ℕ). part b lbn m) blocks (whole_count count)
+    ∙ part-put_at (blocks_at disks u) lbn count (in_blocks payload)
+    (omega (arith, is.within, counted, size, whole_size disks u whole)) (sym size) in
+    let joined : concat (part found.0.blocks lbn (blocks_for (512 * count))) ≡ payload =
+    ap concat there ∙ rejoined payload count long in
+    let all : take (512 * count) payload ≡ payload = take_all (512 * count) payload (omega (arith, long)) in
+    found.1.1 ∙ ap (λ (l : List ℕ). take (512 * count) (take (512 * count) l)) joined
+    ∙ ap (take (512 * count)) all ∙ all
+
+pub written_is_read : WrittenIsRead
+written_is_read u lbn n payload bytes units left well_formed sound even run =
+    by run.fixed run.are_requests run.gives
+  where
+    count : ℕ
+    count = length payload / 512
+    long : length payload ≡ 512 * count
+    long = omega arith
+    by : (fixed : List FixedRequest) → requests_of fixed ≡ write_and_read u lbn payload
+        → run_in_order_as (disks_of units) fixed ≡ (Moved SUCCESS n ∷ Data SUCCESS bytes ∷ [], left)
+        → bytes ≡ payload
+    by [] are gives = absurd (cc)
+    by (x ∷ []) are gives = absurd (cc)
+    by (x ∷ y ∷ z ∷ more) are gives = absurd (cc)
+    by (x ∷ y ∷ []) are gives =
+        let disks : Disks = disks_of units in
+        let first : Request = record { unit = u; act = Write lbn payload } in
+        let writes : x.request ≡ first = ap (λ (l : List Request). get_or l 0 x.request) are in
+        let reads : y.request ≡ record { unit = u; act = Read lbn (512 * count) } =
+        ap (λ (l : List Request). get_or l 1 x.request) are
+        ∙ ap (λ (m : ℕ). record { unit = u; act = Read lbn m }) long in
+        read_back x.outcome y.outcome u lbn count n payload bytes disks long (whole_disk units u well_formed sound)
+        (subst (λ (q : Request). (step_as x.outcome q disks).0 ≡ Moved SUCCESS n) writes
+        (ap (λ (a : List Answer × Disks). get_or a.0 0 TooLong) gives))
+        (subst (λ (q : Request). (step_as y.outcome q (step_as x.outcome first disks).1).0 ≡ Data SUCCESS bytes) reads
+        (subst (λ (q : Request). (step_as y.outcome y.request (step_as x.outcome q disks).1).0 ≡ Data SUCCESS bytes)
+        writes (ap (λ (a : List Answer × Disks). get_or a.0 1 TooLong) gives)))

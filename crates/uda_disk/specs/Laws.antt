@@ -8,11 +8,12 @@ use Rattle.uda_mem.specs.Put.{part, put}
 use Rattle.uda_image.specs.Store.{HasWholeBlocks}
 use Rattle.uda_disk.specs.Status.{SUCCESS}
 use Rattle.uda_disk.specs.Disk.{Disk, Disks}
+use Rattle.uda_disk.specs.Units.{Units, disks_of, is_sound_at, AreWellFormedIfSound}
 use Rattle.uda_disk.specs.Request.{Act, Read, Write, Request, Extent, extent_of, is_writing, blocks_for}
 use Rattle.uda_disk.specs.Request.{in_blocks}
 use Rattle.uda_disk.specs.Answer.{Answer, Data, Moved}
 use Rattle.uda_disk.specs.RequestEffect.{TransferOutcome, Done, answer_on, disk_after}
-use Rattle.uda_disk.specs.InOrderRun.{FixedRequest, requests_of, too_long, step_as, step, run_in_order, run_in_order_as}
+use Rattle.uda_disk.specs.InOrderRun.{FixedRequest, InOrderWithFailures, requests_of, too_long, step_as, step, run_in_order, run_in_order_as}
 
 -- no check rejects a transfer: the unit is online, the byte count even, the range on the unit, and the
 -- blocks that it would change aren't protected
@@ -85,6 +86,12 @@ abbrev pub ProtectedStays : Type 0
 ProtectedStays =
     (requests : List Request) (u : ℕ) (blocks : List (List ℕ)) (disks : Disks)
     → HasProtected blocks (slice_get disks u) → HasProtected blocks (slice_get (run_in_order disks requests).1 u)
+
+-- nor does a list of requests of which transfers may fail
+abbrev pub ProtectedStaysWithFailures : Type 0
+ProtectedStaysWithFailures =
+    (xs : List FixedRequest) (u : ℕ) (blocks : List (List ℕ)) (disks : Disks)
+    → HasProtected blocks (slice_get disks u) → HasProtected blocks (slice_get (run_in_order_as disks xs).1 u)
 
 -- the last answer of some has the last index
 abbrev pub LastHasLastPlace : Type 0
@@ -161,3 +168,17 @@ SuccessfulWrite =
     (o : TransferOutcome) (u lbn : ℕ) (payload : List ℕ) (disks : Disks) (n : ℕ)
     → (step_as o (record { unit = u; act = Write lbn payload }) disks).0 ≡ Moved SUCCESS n
     → IsWritten u lbn payload disks (step_as o (record { unit = u; act = Write lbn payload }) disks).1
+
+-- a Write of whole blocks, and a Read of the same blocks right after it
+abbrev pub write_and_read : ℕ → ℕ → List ℕ → List Request
+write_and_read u lbn payload =
+    record { unit = u; act = Write lbn payload } ∷ record { unit = u; act = Read lbn (length payload) } ∷ []
+
+-- what was written is read: if both succeed, the bytes are the payload
+abbrev pub WrittenIsRead : Type 0
+WrittenIsRead =
+    (u lbn n : ℕ) (payload bytes : List ℕ) (units : Units) (left : Disks)
+    → AreWellFormedIfSound units → is_sound_at (slice_get units u) ≡ true → length payload % 512 ≡ 0
+    → InOrderWithFailures (disks_of units) (write_and_read u lbn payload)
+    (Moved SUCCESS n ∷ Data SUCCESS bytes ∷ []) left
+    → bytes ≡ payload

@@ -1,7 +1,7 @@
 -- The units of a controller: each has a store of blocks and a mode. Requests see their disks. MSCP Basic
 -- Disk Functions Manual: unit states, write protection.
-use Rattle.std.specs.Prelude.{◌≡◌, ℕ, Bool, true, List, Option, Some, None, map, option_map, slice_get, All}
-use Rattle.uda_image.specs.Store.{StoreState, HasWholeBlocks, is_sound}
+use Rattle.std.specs.Prelude.{◌≡◌, ℕ, Bool, true, ◌&&◌, ◌||◌, List, Option, Some, None, map, option_map, slice_get, All}
+use Rattle.uda_image.specs.Store.{StoreState, NeverFails, HasWholeBlocks, is_sound}
 use Rattle.uda_disk.specs.declared.mode.Mode.{Mode}
 use Rattle.uda_disk.specs.Disk.{Disk, Disks}
 
@@ -41,10 +41,15 @@ abbrev pub AreSoundBefore : Units → Units → Type 0
 AreSoundBefore units units_after =
     (u : ℕ) → is_sound_at (slice_get units_after u) ≡ true → is_sound_at (slice_get units u) ≡ true
 
--- the store of this unit never fails; true if there is no store
+-- The store of this unit never fails: no read does, and no write, unless the drive's own switch protects it, so that
+-- none reaches its store. True if there is no store
 abbrev pub is_infallible : Option (Option UnitState) → Bool
-is_infallible (Some (Some unit)) = unit.store.never_fails
+is_infallible (Some (Some unit)) = unit.store.never_fails.reads && (unit.store.never_fails.writes || unit.mode.hard)
 is_infallible _ = true
+
+-- each unit is sure: its store is faithful, and never fails
+abbrev pub AreSure : Units → Type 0
+AreSure units = (u : ℕ) → is_faithful (slice_get units u) && is_infallible (slice_get units u) ≡ true
 
 -- the number of failed calls of this unit's store
 abbrev pub failures_at : Option (Option UnitState) → ℕ
@@ -78,7 +83,7 @@ pub record FixedAttributes : Type 0 where
   pub size : ℕ
   pub hard : Bool
   pub faithful : Bool
-  pub never_fails : Bool
+  pub never_fails : NeverFails
 
 abbrev pub attributes_of : UnitState → FixedAttributes
 attributes_of unit = record {

@@ -4,7 +4,7 @@
 //! MSCP Basic Disk Functions Manual: transfer commands, write protection.
 ghost use Rattle.uda_disk.specs.Laws.{AllowedIsDone, WholeCount, JoinedAndCut, UnwrittenStays};
 ghost use Rattle.uda_disk.specs.Laws.{WholeRead, WholeWrite, UnitRequestIsDone, FirstThenOthers};
-ghost use Rattle.uda_disk.specs.Laws.{ProtectedStays, LastHasLastPlace};
+ghost use Rattle.uda_disk.specs.Laws.{ProtectedStays, ProtectedStaysWithFailures, LastHasLastPlace, WrittenIsRead};
 
 /// States that a transfer succeeds in the in-order run if all of this holds: it isn't too long, the unit is
 /// online, the byte count is even, the range lies on the unit, and it changes nothing that is protected.
@@ -59,6 +59,17 @@ pub fn first_then_others()
 #[tactic(auto, using(crate::proofs::Protected::protected_stays))]
 pub fn protected_stays()
     ensures law { ProtectedStays }
+{}
+
+/// States that no list of requests changes those blocks if transfers may fail, either.
+#[tactic(auto, using(crate::proofs::Protected::protected_stays_with_failures))]
+pub fn protected_stays_with_failures()
+    ensures law { ProtectedStaysWithFailures }
+{}
+
+/// States that a Read right after a Write of the same blocks returns the bytes of its payload, if both succeed.
+pub fn written_is_read()
+    ensures law { WrittenIsRead }
 {}
 
 /// States that the answer that `pop` removes is the one at the last index.

@@ -149,7 +149,7 @@ impl BlockStore for RecordingImage {
       size = block_count_of store.image;
       faithful = false;
       honest = false;
-      never_fails = false;
+      never_fails = record { reads = false; writes = false };
       failures = 0;
       failing_call = None;
     } };

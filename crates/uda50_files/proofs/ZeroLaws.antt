@@ -1,10 +1,12 @@
 -- Writes to files that end in zeros.
-use Rattle.std.proofs.Common.{◌≡◌, ◌+◌, ◌-◌, ◌<◌, ◌≤◌, ℕ, List, Option, Some, None, length, take, drop, replicate, get_or, IfSome, sym, ap, subst, ◌∙◌, inl, inr, arith, length-take, length-drop}
+use Rattle.std.proofs.Common.{◌≡◌, ◌+◌, ◌-◌, ◌<◌, ◌≤◌, ℕ, List, Option, Some, None, length, take, drop, replicate, get_or, IfSome, refl, sym, ap, subst, ◌∙◌, inl, inr, arith, length-take, length-drop}
 use Rattle.std.proofs.lemmas.Bool.{cases_lt}
 use Rattle.std.proofs.lemmas.List.{same_lists, get_or-drop, get_or-take, get_or-replicate, length-replicate}
 use Rattle.std.proofs.lemmas.Grind.{same_number_lists}
 use Rattle.uda_mem.specs.Put.{put}
 use Rattle.uda_mem.proofs.PutLaws.{length-put, get_or-put_before, get_or-put_at, get_or-put_behind}
+use Rattle.uda_image.specs.File.{WritesAt}
+use Rattle.uda_image.proofs.FileSteps.{none_changes}
 use Rattle.uda50_files.specs.Zeros.{AreZeros, AreAtMost, EndsInZeros, SparseState, IsAsSupposed}
 
 -- bytes of which none is larger than 0
@@ -90,10 +92,12 @@ keeps None size from at zeros ends late are = tt
 
 follows : (content : Option (List ℕ)) (size from next at : ℕ) (ys : List ℕ) → IfSome content (EndsInZeros size from)
     → from ≤ next → at + length ys ≤ next → at + length ys ≤ size
-    → IfSome content (λ bytes. (at + length ys ≤ length bytes) × EndsInZeros size next (put bytes at ys))
+    → IfSome content (λ bytes. (at + length ys ≤ length bytes) × ((left : List ℕ) → length left ≡ length ys
+    → EndsInZeros size next (put bytes at left)))
 follows (Some bytes) size from next at ys ends later over within =
     let inside : at + length ys ≤ length bytes = omega (arith, ends.long) in
-    (inside, zeros_follow size from next at bytes ys ends later over inside)
+    (inside, λ left same.
+    zeros_follow size from next at bytes left ends later (omega (arith, over, same)) (omega (arith, inside, same)))
 follows None size from next at ys ends later over within = tt
 
 pub zeros_held : (file : SparseState) (from at : ℕ) (zeros : List ℕ) → IsAsSupposed file → file.zeros_from ≡ Some from
@@ -104,11 +108,40 @@ zeros_held file from at zeros supposed is late are =
 
 pub zeros_next : (file : SparseState) (from next at : ℕ) (ys : List ℕ) → IsAsSupposed file → file.zeros_from ≡ Some from
     → from ≤ next → at + length ys ≤ next → at + length ys ≤ file.length
-    → IfSome file.content (λ bytes. (at + length ys ≤ length bytes) × EndsInZeros file.length next (put bytes at ys))
+    → IfSome file.content (λ bytes. (at + length ys ≤ length bytes) × ((left : List ℕ) → length left ≡ length ys
+    → EndsInZeros file.length next (put bytes at left)))
 zeros_next file from next at ys supposed is later over within =
     follows file.content file.length from next at ys (subst (λ (z : Option ℕ). IfSome z (λ (f : ℕ). IfSome file.content (EndsInZeros file.length f))) is supposed) later over within
+
+-- a write, done or not, leaves zeros after its bytes
+pub ends_after : (zeros : Option ℕ) (content content_after : Option (List ℕ)) (size at : ℕ) (from : List ℕ)
+    (done : Type 0)
+    → IfSome zeros (λ next. IfSome content (λ bytes. (at + length from ≤ length bytes) × ((left : List ℕ)
+    → length left ≡ length from → EndsInZeros size next (put bytes at left))))
+    → (content ≡ None → content_after ≡ None) → WritesAt content at from content_after done
+    → IfSome zeros (λ next. IfSome content_after (EndsInZeros size next))
+ends_after None content content_after size at from done follows unknown writes = tt
+ends_after (Some next) None content_after size at from done follows unknown writes = rw (unknown refl) tt
+ends_after (Some next) (Some bytes) content_after size at from done follows unknown writes =
+    let left = writes.no_other follows.0 in rw left.1.1 (follows.1 left.0 left.1.0)
+
+-- bytes that are there already are written without a call
+pub written_already : (content : Option (List ℕ)) (at : ℕ) (from : List ℕ) (done : Type 0)
+    → IfSome content (λ bytes. at + length from ≤ length bytes → put bytes at from ≡ bytes)
+    → WritesAt content at from content done
+written_already content at from done same = record {
+  if_done = there content same;
+  no_other = none_changes at (length from) content;
+}
+  where
+    there : (c : Option (List ℕ)) → IfSome c (λ bytes. at + length from ≤ length bytes → put bytes at from ≡ bytes)
+        → IfSome c (λ bytes. at + length from ≤ length bytes → done → c ≡ Some (put bytes at from))
+    there None same = tt
+    there (Some bytes) same = λ within did. ap Some (sym (same within))
 
 pub ruleset zero_laws = (
   zeros_held,
   zeros_next,
+  ends_after,
+  written_already,
 )

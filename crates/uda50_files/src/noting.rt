@@ -1,5 +1,5 @@
 //! Files that note their failures.
-ghost use Rattle.std.specs.Prelude.{◌≡◌, None, length};
+ghost use Rattle.std.specs.Prelude.{◌≡◌, None, false, length};
 
 use crate::ahead::ReadAhead;
 use crate::failures::{Failure, Failures};
@@ -62,6 +62,10 @@ impl NotingFile {
 
 impl RawFile for NotingFile {
     ghost content = { λ _. None };
+
+    ghost never_fails = { λ _. false };
+
+    ghost unsynced = { λ _. false };
 
     fn read_exact(&mut self, to: &mut [u8], offset: u64) -> io::Result<()> {
         let done = match self.copy_ahead(to, offset) {

@@ -1,5 +1,5 @@
 //! Files in which blocks of zeros become holes.
-ghost use Rattle.std.specs.Prelude.{◌≡◌, ◌+◌, ◌≤◌, true, None, Some, length, IfSome};
+ghost use Rattle.std.specs.Prelude.{◌≡◌, ◌+◌, ◌≤◌, ℕ, List, true, None, Some, length, IfSome};
 ghost use Rattle.uda_mem.specs.Put.{put};
 ghost use Rattle.uda50_files.specs.Zeros.{AreZeros, AreAtMost, EndsInZeros};
 
@@ -28,12 +28,16 @@ impl<F: RawFile> Model for SparseFile<F> {
 
     ghost view = { λ sparse. record {
       content = F.content sparse.file;
+      never_fails = F.never_fails sparse.file;
+      unsynced = F.unsynced sparse.file;
       length = sparse.length;
       zeros_from = sparse.zeros_from;
     } };
 
     ghost invariant = { λ sparse. IsAsSupposed (record {
       content = F.content sparse.file;
+      never_fails = F.never_fails sparse.file;
+      unsynced = F.unsynced sparse.file;
       length = sparse.length;
       zeros_from = sparse.zeros_from;
     }) };
@@ -42,7 +46,13 @@ impl<F: RawFile> Model for SparseFile<F> {
 impl<F: RawFile> SparseFile<F> {
     /// Makes a file of `length` bytes in which zeros are written as all other bytes.
     pub fn dense(file: F, length: u64) -> SparseFile<F>
-        ensures file { result ≡ record { content = F.content file; length = length; zeros_from = None } }
+        ensures file { result ≡ record {
+          content = F.content file;
+          never_fails = F.never_fails file;
+          unsynced = F.unsynced file;
+          length = length;
+          zeros_from = None;
+        } }
     {
         SparseFile {
             file,
@@ -54,7 +64,13 @@ impl<F: RawFile> SparseFile<F> {
     /// Makes a file of `length` bytes whose bytes from an offset on are zeros.
     pub fn ending_in_zeros(file: F, length: u64, zeros_from: u64) -> SparseFile<F>
         requires zeros { IfSome (F.content file) (EndsInZeros length zeros_from) }
-        ensures file { result ≡ record { content = F.content file; length = length; zeros_from = Some zeros_from } }
+        ensures file { result ≡ record {
+          content = F.content file;
+          never_fails = F.never_fails file;
+          unsynced = F.unsynced file;
+          length = length;
+          zeros_from = Some zeros_from;
+        } }
     {
         SparseFile {
             file,
@@ -75,13 +91,13 @@ impl<F: RawFile> SparseFile<F> {
         }
     }
 
-    // Returns the offset from which on the file ends in zeros after a write of `from`. Returns `None` if it isn't
-    // known.
+    // Returns the offset from which on the file ends in zeros after a write of `from`, done or not. Returns `None` if it
+    // isn't known.
     #[tactic(auto, using(crate::proofs::ZeroLaws::zero_laws))]
     fn zeros_after(&self, from: &[u8], offset: u64) -> Option<u64>
         ensures zeros { IfSome result (λ next. IfSome self.now.content (λ bytes.
-            (offset + length from.now ≤ length bytes)
-            × EndsInZeros self.now.length next (put bytes offset from.now))) }
+            (offset + length from.now ≤ length bytes) × ((left : List ℕ) → length left ≡ length from.now
+            → EndsInZeros self.now.length next (put bytes offset left)))) }
     {
         match (self.zeros_from, offset.checked_add(from.len() as u64)) {
             (Some(start), Some(end)) if end <= self.length => Some(start.max(end)),
@@ -118,6 +134,10 @@ fn largest(bytes: &[u8]) -> u8
 
 impl<F: RawFile> RawFile for SparseFile<F> {
     ghost content = { λ sparse. sparse.content };
+
+    ghost never_fails = { λ sparse. sparse.never_fails };
+
+    ghost unsynced = { λ sparse. sparse.unsynced };
 
     fn read_exact(&mut self, to: &mut [u8], offset: u64) -> io::Result<()> {
         self.file.read_exact(to, offset)

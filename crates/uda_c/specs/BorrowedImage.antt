@@ -1,6 +1,6 @@
 -- Images in memory that a C program lends, as stores of blocks.
 use Rattle.std.specs.Prelude.{◌≡◌, ◌≤◌, ◌/◌, ◌%◌, ℕ, true, List, length, Option, Some, None, is_none}
-use Rattle.uda_image.specs.Store.{StoreState}
+use Rattle.uda_image.specs.Store.{StoreState, NeverFails}
 use Rattle.uda_image.specs.Image.{block_count_of, blocks_of, failures_by}
 use Rattle.uda_image.specs.Limits.{store_limit}
 
@@ -19,6 +19,10 @@ abbrev pub failures_of : Option ℕ → ℕ
 failures_of None = 0
 failures_of (Some left) = failures_by left
 
+-- neither reads nor writes fail, unless a call was set to fail
+abbrev pub never_fails_by : Option ℕ → NeverFails
+never_fails_by call = record { reads = is_none call; writes = is_none call }
+
 -- The image as a store. It is faithful. It is infallible if no call was set to fail, and otherwise only that
 -- call fails.
 abbrev pub borrowed_state : BorrowedBlocks → StoreState
@@ -27,7 +31,7 @@ borrowed_state image = record {
   size = block_count_of image.bytes;
   faithful = true;
   honest = true;
-  never_fails = is_none image.left;
+  never_fails = never_fails_by image.left;
   failures = failures_of image.left;
   failing_call = image.left;
 }
@@ -35,4 +39,4 @@ borrowed_state image = record {
 -- the store whose call of this number from now on fails, and no other; None if none fails
 abbrev pub with_failing_call : Option ℕ → StoreState → StoreState
 with_failing_call call store =
-    record store { never_fails = is_none call; failures = failures_of call; failing_call = call }
+    record store { never_fails = never_fails_by call; failures = failures_of call; failing_call = call }

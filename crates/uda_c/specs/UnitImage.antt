@@ -15,7 +15,7 @@ use Rattle.uda_c.specs.declared.block_range.Prepared.{Prepared}
 use Rattle.uda_c.specs.declared.block_range.Prepared.TheVariants.{Checked, Written}
 use Rattle.uda_c.specs.declared.unit_image.UnitImage.{UnitImage}
 use Rattle.uda_c.specs.declared.unit_image.UnitImage.TheVariants.{Lent, Called}
-use Rattle.uda_c.specs.BorrowedImage.{borrowed_state, failures_of}
+use Rattle.uda_c.specs.BorrowedImage.{borrowed_state, failures_of, never_fails_by}
 
 abbrev pub unit_state : UnitImage → StoreState
 unit_state (Lent image) = borrowed_state image
@@ -31,7 +31,7 @@ zero_state blocks = called_state (zero_image blocks)
 
 -- C reads and writes the blocks: so it isn't known which call fails
 abbrev pub is_called : StoreState → Bool
-is_called store = not store.never_fails && is_none store.failing_call
+is_called store = not store.never_fails.reads && is_none store.failing_call
 
 abbrev pub is_called_in : Option (Option UnitState) → Bool
 is_called_in (Some (Some unit)) = is_called unit.store
@@ -44,7 +44,7 @@ bytes_of_store store = if is_called store then None else Some (concat store.bloc
 -- the store whose call of this number from now on fails, and no other; one that C reads and writes stays as it is
 abbrev pub store_failing : Option ℕ → StoreState → StoreState
 store_failing call store = record store {
-  never_fails = if is_called store then store.never_fails else is_none call;
+  never_fails = if is_called store then store.never_fails else never_fails_by call;
   failures = if is_called store then store.failures else failures_of call;
   failing_call = if is_called store then store.failing_call else call;
 }

@@ -149,7 +149,7 @@ impl BlockStore for BorrowedImage {
         ensures to { to.new ≡ (if is_ok result then block_of self.old.bytes n else to.old) }
         ensures attributes { KeepsAttributes (borrowed_state self.old) (borrowed_state self.new) }
         ensures error { IfErr result (λ e. e ≡ StoreError.Read) }
-        ensures infallible { (borrowed_state self.old).never_fails ≡ true → IsOk result }
+        ensures infallible { (borrowed_state self.old).never_fails.reads ≡ true → IsOk result }
         ensures reads { Reads (borrowed_state self.old) n (borrowed_state self.new) to.new result }
         ensures long { length to.new ≡ 512 }
     {
@@ -171,7 +171,7 @@ impl BlockStore for BorrowedImage {
         } }
         ensures attributes { KeepsAttributes (borrowed_state self.old) (borrowed_state self.new) }
         ensures error { IfErr result (λ e. e ≡ StoreError.Write) }
-        ensures infallible { (borrowed_state self.old).never_fails ≡ true → IsOk result }
+        ensures infallible { (borrowed_state self.old).never_fails.writes ≡ true → IsOk result }
         ensures writes { Writes (borrowed_state self.old) n (borrowed_state self.new) from.now result }
     {
         if self.fails_now() {

@@ -24,7 +24,7 @@ called_state image = record {
   size = block_count_of image.bytes;
   faithful = true;
   honest = true;
-  never_fails = false;
+  never_fails = record { reads = false; writes = false };
   failures = image.failures;
   failing_call = None;
 }

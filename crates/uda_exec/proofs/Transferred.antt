@@ -1,11 +1,11 @@
 -- The complete effect of a transfer that succeeds, fails or is rejected; and that of a command that moves no
 -- blocks.
 use Rattle.std.proofs.Common.{◌≡◌, ℕ, suc, ◌+◌, ◌*◌, ◌<◌, ◌≤◌, zero-le, inl, inr, Bool, true, false, List, [], ◌∷◌, ◌++◌, length, get_or, take, set, refl, sym, ap, ap₂, subst, ◌∙◌, arith, add-one, add-zero, Option, Some, None, length-take, length-set}
-use Rattle.std.specs.Prelude.{if◌then◌else◌, nat_lt, replicate, unwrap_or, ◌&&◌, IfSome}
+use Rattle.std.specs.Prelude.{if◌then◌else◌, nat_eq, nat_le, nat_lt, replicate, unwrap_or, not, ◌%◌, ◌&&◌, ◌||◌, IfSome}
 use Rattle.std.specs.List.{concat}
 use Rattle.std.proofs.lemmas.List.{take_all, take_more, set_at, length-take-le, length-replicate}
 use Rattle.std.proofs.lemmas.List.Elements.{All-take, All-set}
-use Rattle.std.proofs.lemmas.Bool.{cases_lt, le-ltb}
+use Rattle.std.proofs.lemmas.Bool.{and_parts, cases_lt, le-ltb}
 use Rattle.std.proofs.lemmas.Bool.Decides.{nat_tests}
 use Rattle.uda_mem.proofs.PutLaws.{put-nil}
 use Rattle.uda_packet.specs.declared.command.Op.TheVariants as op
@@ -16,6 +16,9 @@ use Rattle.uda_disk.specs.Request as ask
 use Rattle.uda_disk.specs.Status.{SUCCESS, DRIVE_ERROR}
 use Rattle.uda_disk.specs.Answer.{status_of}
 use Rattle.uda_exec.proofs.Words.{put, Command, Op, Kind, End, EndBody, Transfer, transfer_of, changes_blocks, StoreState, KeepsAttributes, HasWholeBlocks, Mode, Refusal, Disk, Act, blocks_for, extent_of, lbn_of, UnitState, disk_of, blank_answer, block_count, transfer_buffer_length, buffer_length, blocks_asked, buffer_start, bytes_asked, changes_memory, refusal_status, first_failed_check, CheckResult, Rejected, Accepted, check_by, refusal_on, with_buffer_checks, check_with, extent_in, is_odd, is_missing, transfer_refusal, ChangesAt, asks_by, act_of, blocks_due, bytes_landing, blocks_stored, Progress, StopsAt, TransferOutcome, Done, Lost, IsWithinRange, blocks_moved, due, blocks_written, data_read, mode_after, bytes_on, answer_on, reply, plain_body, with_bytes_moved, body_for, end_for, is_accepted, transfer_status, transfer_bytes, is_lost, bytes_of, IsBodyOf, Answers, check_on, EndsTransfer, TakesEffectOn, ServesUnit}
+use Rattle.uda_disk.specs.declared.refusal.Refusal.TheVariants.{NotOnline, OddCount, BlockPastEnd, RangePastEnd, HardwareProtected}
+use Rattle.uda_disk.specs.Units.{is_infallible}
+use Rattle.uda_exec.specs.Transfers.{never_fails_in}
 use Rattle.uda_exec.specs.Execution.{CallsStore}
 use Rattle.uda_exec.proofs.Calls.{go_none}
 use Rattle.uda_exec.proofs.Changes.{changes_nothing}
@@ -209,6 +212,40 @@ passes_if t memory size mode h =
     let none = none_found _ _ _ h in
     let present : nat_lt memory (t.buffer + transfer_buffer_length t) ≡ false = none.present in
     record { on_unit = in_range (extent_in t) size mode none.nothing; in_memory = grind (arith, nat_tests) }
+
+-- a transfer that changes blocks, and passes its checks, finds no hardware protection
+unprotected_by : (online even past over writes hard : Bool) (more : Option Refusal) → writes ≡ true
+    → (if not online then Some NotOnline else if not even then Some OddCount else if past then Some BlockPastEnd
+    else if over then Some RangePastEnd else if writes && hard then Some HardwareProtected else more) ≡ None
+    → hard ≡ false
+unprotected_by false even past over writes hard more changes none = absurd (cc)
+unprotected_by true false past over writes hard more changes none = absurd (cc)
+unprotected_by true true true over writes hard more changes none = absurd (cc)
+unprotected_by true true false true writes hard more changes none = absurd (cc)
+unprotected_by true true false false true true more changes none = absurd (cc)
+unprotected_by true true false false true false more changes none = refl
+unprotected_by true true false false false hard more changes none = absurd (cc)
+
+left_of : (a b : Bool) → a || b ≡ true → b ≡ false → a ≡ true
+left_of true b one other = refl
+left_of false b one other = absurd (cc)
+
+-- so the store of an infallible unit doesn't fail in it
+never_fails_by : (kind_writes : Bool) (store : StoreState) (hard : Bool)
+    → store.never_fails.reads && (store.never_fails.writes || hard) ≡ true → (kind_writes ≡ true → hard ≡ false)
+    → (if kind_writes then store.never_fails.writes else store.never_fails.reads) ≡ true
+never_fails_by true store hard never open_to =
+    left_of store.never_fails.writes hard (and_parts store.never_fails.reads _ never).1 (open_to refl)
+never_fails_by false store hard never open_to = (and_parts store.never_fails.reads _ never).0
+
+never_fails_there : (t : Transfer) (memory : ℕ) (store : StoreState) (mode : Mode)
+    → transfer_refusal t memory store.size mode ≡ None
+    → store.never_fails.reads && (store.never_fails.writes || mode.hard) ≡ true → never_fails_in t.kind store ≡ true
+never_fails_there t memory store mode passed never =
+    let e = extent_in t in
+    never_fails_by (changes_blocks t.kind) store mode.hard never (λ changes.
+    unprotected_by mode.online (nat_eq (e.bytes % 2) 0) (nat_le store.size e.lbn)
+    (nat_lt store.size (e.lbn + blocks_for e.bytes)) e.writes mode.hard _ changes (none_found _ _ _ passed).nothing)
 
 -- the first k blocks and the content of block k
 moved-lost : (k : ℕ) (left : List ℕ) (blocks : List (List ℕ)) → k < length blocks
@@ -423,7 +460,7 @@ module _ (c : Command) (t : Transfer) (unit : UnitState) (memory : List ℕ)
           → new.blocks ≡ put unit.store.blocks t.lbn (blocks_stored t front)
           → new.failures ≡ unit.store.failures + (if is_lost o then 1 else 0)
           → CallsStore o (block_count t) unit.store.failing_call new.failing_call
-          → (unit.store.never_fails ≡ true → o ≡ Done)
+          → (is_infallible (Some (Some unit)) ≡ true → o ≡ Done)
           → TakesEffectOn c act (Accepted (disk_of unit)) unit memory
           (reply c (transfer_status o) (plain_body c.op (transfer_bytes o t.bytes)))
           (record { store = new; mode = unit.mode }) memory_left
@@ -456,7 +493,7 @@ module _ (c : Command) (t : Transfer) (unit : UnitState) (memory : List ℕ)
           takes Done due_now refl tt stand.in_memory stand.in_store
           (h.failures_stay ∙ sym (add-zero unit.store.failures)) h.calls (λ never. refl)
 
-      pub takes_lost : (k : ℕ) → k < block_count t → (unit.store.never_fails ≡ true → ⊥)
+      pub takes_lost : (k : ℕ) → k < block_count t → (never_fails_in t.kind unit.store ≡ true → ⊥)
           → StopsAt t k unit.store memory new memory_left
           → TakesEffectOn c act (Accepted (disk_of unit)) unit memory
           (reply c DRIVE_ERROR (plain_body c.op (512 * k)))
@@ -465,4 +502,4 @@ module _ (c : Command) (t : Transfer) (unit : UnitState) (memory : List ℕ)
           takes (Lost k h.left) (take k due_now ++ h.left ∷ [])
           (moved-lost k h.left due_now (omega (arith, whole)))
           (inside, h.whole) h.stand.in_memory h.stand.in_store h.counted h.calls
-          (λ never. absurd (unsure never))
+          (λ never. absurd (unsure (never_fails_there t (length memory) unit.store unit.mode passed never)))

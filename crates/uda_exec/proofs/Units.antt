@@ -1,6 +1,6 @@
 -- One command on the units of an executor.
 use Rattle.std.proofs.Common.{◌≡◌, ℕ, zero, suc, ◌<◌, ◌≤◌, Bool, true, false, List, [], ◌∷◌, length, get_or, set, Option, Some, None, inl, inr, ◌⊎◌, refl, sym, ap, ap₂, subst, ◌∙◌, add-zero}
-use Rattle.std.specs.Prelude.{option_map, slice_get, map, nat_lt, ◌&&◌}
+use Rattle.std.specs.Prelude.{option_map, slice_get, map, nat_lt, ◌&&◌, ◌||◌}
 use Rattle.std.proofs.lemmas.List.{map-set, set_past}
 use Rattle.std.proofs.lemmas.Option.{slice_get_within, slice_get-map, slice_get-get_or}
 use Rattle.std.proofs.lemmas.Bool.{cases_lt}
@@ -38,8 +38,12 @@ asked_faithful : (unit : Option (Option UnitState))
 asked_faithful (Some (Some unit)) = refl
 asked_faithful _ = refl
 
+-- so is that for an infallible unit
+abbrev never_fails : FixedAttributes → Bool
+never_fails n = n.never_fails.reads && (n.never_fails.writes || n.hard)
+
 asked_sure : (unit : Option (Option UnitState))
-    → asked (λ n. n.never_fails) (option_map (option_map attributes_of) unit) ≡ is_infallible unit
+    → asked never_fails (option_map (option_map attributes_of) unit) ≡ is_infallible unit
 asked_sure (Some (Some unit)) = refl
 asked_sure _ = refl
 
@@ -54,7 +58,7 @@ module _ (old new : List (Option UnitState)) (same : unit_attributes new ≡ uni
       ∙ asked_faithful (slice_get old u)
 
   pub sure_stays : is_infallible (slice_get new u) ≡ is_infallible (slice_get old u)
-  sure_stays = sym (asked_sure (slice_get new u)) ∙ ap (asked (λ n. n.never_fails)) attributes_stay
+  sure_stays = sym (asked_sure (slice_get new u)) ∙ ap (asked never_fails) attributes_stay
       ∙ asked_sure (slice_get old u)
 
 sound_if_faithful : (slot : Option (Option UnitState)) → is_faithful slot ≡ true → is_sound_at slot ≡ true

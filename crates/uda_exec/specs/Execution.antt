@@ -136,7 +136,7 @@ pub record TakesEffectOn (c : Command) (act : Act) (b : CheckResult) (unit : Uni
   pub failures_are : unit_after.store.failures ≡ unit.store.failures + (if is_lost outcome then 1 else 0)
   pub calls :
       CallsStore outcome (blocks_called c (is_accepted b)) unit.store.failing_call unit_after.store.failing_call
-  pub infallible : unit.store.never_fails ≡ true → outcome ≡ Done
+  pub infallible : is_infallible (Some (Some unit)) ≡ true → outcome ≡ Done
 
 -- the result of the checks of a command with this action on its unit
 abbrev pub check_on : Command → Act → UnitState → List ℕ → CheckResult

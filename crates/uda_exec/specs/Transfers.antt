@@ -1,6 +1,6 @@
 -- The blocks that a transfer moves, and its progress before block k of its range, counted from 0.
 -- MSCP Basic Disk Functions Manual: transfer commands, logical blocks.
-use Rattle.std.specs.Prelude.{◌≡◌, ℕ, true, Result, ◌+◌, ◌-◌, ◌*◌, List, [], ◌∷◌, ◌++◌, length, take}
+use Rattle.std.specs.Prelude.{◌≡◌, ℕ, Bool, true, Result, ◌+◌, ◌-◌, ◌*◌, List, [], ◌∷◌, ◌++◌, length, take}
 use Rattle.std.specs.Prelude.{slice_index_or, replicate, if◌then◌else◌}
 use Rattle.std.specs.List.{concat}
 use Rattle.uda_mem.specs.Put.{put, part}
@@ -30,6 +30,10 @@ blocks_stored t blocks = if changes_blocks t.kind then blocks else []
 -- the same of block k only: of a partial block as many bytes as the byte count includes
 abbrev pub bytes_landing_of : Transfer → ℕ → List ℕ → List ℕ
 bytes_landing_of t k block = if changes_memory t.kind then take (t.bytes - 512 * k) block else []
+
+-- whether no call of a transfer of this kind fails: those of a Write or an Erase are writes, all others are reads
+abbrev pub never_fails_in : Kind → StoreState → Bool
+never_fails_in kind store = if changes_blocks kind then store.never_fails.writes else store.never_fails.reads
 
 -- memory changed at most in n bytes from the given address on
 abbrev pub ChangesAt : List ℕ → ℕ → ℕ → List ℕ → Type 0

@@ -7,7 +7,7 @@ ghost use Rattle.uda_mem.specs.Put.{part};
 ghost use Rattle.uda_image.specs.AtOnce.{ChecksBlocks};
 ghost use Rattle.uda_image.specs.Store.{KeepsAttributes, Reads, Writes, is_sound};
 ghost use Rattle.uda_exec.specs.Commands.{block_count, transfer_buffer_length, changes_memory};
-ghost use Rattle.uda_exec.specs.Transfers.{ChangesAt, ReadsInto, MovesBlock, FailsAtBlock};
+ghost use Rattle.uda_exec.specs.Transfers.{ChangesAt, never_fails_in, ReadsInto, MovesBlock, FailsAtBlock};
 ghost use Rattle.uda_exec.specs.Transfers.{Erased, MovesOn, Progress, StopsAt};
 ghost use Rattle.uda_disk.specs.Request.{first_block};
 
@@ -47,7 +47,7 @@ fn read_whole<S: BlockStore>(store: &mut S, n: u32, to: &mut [u8]) -> Result<(),
     requires on_unit { n < (S.state store.old).size }
     requires long { length to.old ≡ 512 }
     ensures attributes { KeepsAttributes (S.state store.old) (S.state store.new) }
-    ensures infallible { (S.state store.old).never_fails ≡ true → IsOk result }
+    ensures infallible { (S.state store.old).never_fails.reads ≡ true → IsOk result }
     ensures reads { is_sound (S.state store.new) ≡ true
         → Reads (S.state store.old) n (S.state store.new) to.new result }
     ensures whole { length to.new ≡ 512 }
@@ -67,7 +67,7 @@ fn read_block<S: BlockStore>(
     requires on_unit { n < (S.state store.old).size }
     requires in_memory { address + bytes ≤ length memory.old }
     ensures attributes { KeepsAttributes (S.state store.old) (S.state store.new) }
-    ensures infallible { (S.state store.old).never_fails ≡ true → IsOk result }
+    ensures infallible { (S.state store.old).never_fails.reads ≡ true → IsOk result }
     ensures reads { ReadsInto n address bytes (S.state store.old) memory.old
         (S.state store.new) memory.new result }
 {
@@ -93,7 +93,7 @@ fn write_block<S: BlockStore>(
     requires on_unit { n < (S.state store.old).size }
     requires in_memory { address + bytes ≤ length memory.now }
     ensures attributes { KeepsAttributes (S.state store.old) (S.state store.new) }
-    ensures infallible { (S.state store.old).never_fails ≡ true → IsOk result }
+    ensures infallible { (S.state store.old).never_fails.writes ≡ true → IsOk result }
     ensures writes { is_sound (S.state store.new) ≡ true
         → Writes (S.state store.old) n (S.state store.new) (first_block (part memory.now address bytes))
         result }
@@ -121,7 +121,7 @@ fn move_block<S: BlockStore>(
     ensures attributes { KeepsAttributes (S.state store.old) (S.state store.new) }
     ensures changes { ChangesAt memory.old t.buffer
         (if changes_memory t.kind then t.bytes else 0) memory.new }
-    ensures infallible { (S.state store.old).never_fails ≡ true → IsOk result }
+    ensures infallible { never_fails_in t.kind (S.state store.old) ≡ true → IsOk result }
     ensures moves { is_sound (S.state store.new) ≡ true → MatchResult result
         (λ _. MovesBlock t k (S.state store.old) memory.old (S.state store.new) memory.new)
         (λ _. FailsAtBlock t k (S.state store.old) memory.old (S.state store.new) memory.new) }
@@ -267,7 +267,7 @@ pub fn move_blocks<S: BlockStore>(t: Transfer, store: &mut S, memory: &mut [u8])
     ensures changes { ChangesAt memory.old t.buffer
         (if changes_memory t.kind then t.bytes else 0) memory.new }
     ensures within { IfErr result (λ lost. lost.block < block_count t) }
-    ensures infallible { (S.state store.old).never_fails ≡ true → IsOk result }
+    ensures infallible { never_fails_in t.kind (S.state store.old) ≡ true → IsOk result }
     ensures moves { (0 < block_count t → (S.state store.old).faithful ≡ true) → MatchResult result
         (λ _. Progress t (block_count t) (S.state store.old) memory.old (S.state store.new) memory.new)
         (λ lost. StopsAt t lost.block (S.state store.old) memory.old (S.state store.new) memory.new) }

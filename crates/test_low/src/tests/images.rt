@@ -19,7 +19,8 @@ fn write_then_read<S: BlockStore>(
 ) -> Result<(), StoreError>
     requires { n < (S.state store.old).size }
     ensures attributes { KeepsAttributes (S.state store.old) (S.state store.new) }
-    ensures infallible { (S.state store.old).never_fails ≡ true → IsOk result }
+    ensures infallible { (S.state store.old).never_fails.reads ≡ true → (S.state store.old).never_fails.writes ≡ true
+        → IsOk result }
     ensures same { (S.state store.old).faithful ≡ true → IfOk result (λ _. to.new ≡ from.now) }
     ensures written { (S.state store.old).faithful ≡ true
         → IfOk result (λ _.

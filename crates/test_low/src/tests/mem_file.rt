@@ -13,6 +13,7 @@ use uda_image::{BlockStore, FileImage, RawFile, StoreError, Supposition};
 #[derive(Drop)]
 struct MemFile {
     bytes: Vec<u8>,
+    unsynced: bool,
 }
 
 // Returns the range of `count` bytes from `offset` on, if they are among `len` bytes.
@@ -28,6 +29,10 @@ fn range_within(offset: u64, count: usize, len: usize) -> Option<Range<usize>>
 
 impl RawFile for MemFile {
     ghost content = { λ file. Some file.bytes.items };
+
+    ghost never_fails = { λ _. true };
+
+    ghost unsynced = { λ file. file.unsynced };
 
     #[tactic(auto, unfolding(uda_mem::specs::Put::part))]
     fn read_exact(&mut self, to: &mut [u8], offset: u64) -> io::Result<()> {
@@ -45,6 +50,7 @@ impl RawFile for MemFile {
         match range_within(offset, from.len(), self.bytes.len()) {
             Some(range) => {
                 self.bytes[range].copy_from_slice(from);
+                self.unsynced = true;
                 Ok(())
             }
             None => Err(io::ErrorKind::WriteZero.into()),
@@ -64,6 +70,7 @@ impl RawFile for MemFile {
     }
 
     fn sync_data(&mut self) -> io::Result<()> {
+        self.unsynced = false;
         Ok(())
     }
 }
@@ -77,7 +84,11 @@ fn three_blocks(rt: &HostRuntime, writable: bool) -> Result<FileImage<MemFile>, 
     bytes[512..1024].fill(0x22);
     bytes[1024..].fill(0x33);
     let held = Supposition::of(&bytes, &[]);
-    Ok(FileImage::over(MemFile { bytes }, 3, writable).supposing(&held))
+    let file = MemFile {
+        bytes,
+        unsynced: false,
+    };
+    Ok(FileImage::over(file, 3, writable).supposing(&held))
 }
 
 // Reads a block of an image that holds the bytes of its file. It still holds them then.

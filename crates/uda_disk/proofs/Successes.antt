@@ -333,8 +333,10 @@ written_is_read u lbn n payload bytes units left well_formed sound even run =
   where
     count : ℕ
     count = length payload / 512
+
     long : length payload ≡ 512 * count
     long = omega arith
+
     by : (fixed : List FixedRequest) → requests_of fixed ≡ write_and_read u lbn payload
         → run_in_order_as (disks_of units) fixed ≡ (Moved SUCCESS n ∷ Data SUCCESS bytes ∷ [], left)
         → bytes ≡ payload

@@ -7,3 +7,4 @@ pub mod Loads
 pub mod Underways
 mod Told
 pub mod Spans
+pub mod SureLaw

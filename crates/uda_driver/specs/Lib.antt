@@ -8,3 +8,4 @@ pub mod Driver
 pub mod Drive
 pub mod Display
 pub mod Span
+pub mod Sure

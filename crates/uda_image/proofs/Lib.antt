@@ -4,3 +4,4 @@ pub mod ImageLaws
 pub mod AtOnceLaws
 pub mod FileSteps
 pub mod SoundLaws
+pub mod SureLaws

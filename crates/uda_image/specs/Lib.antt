@@ -5,6 +5,7 @@ pub mod Limits
 pub mod File
 pub mod Image
 pub mod AtOnce
+pub mod Sure
 pub mod StoreLaws
 pub mod FileLaws
 pub mod Display

@@ -8,6 +8,7 @@ pub mod blocks;
 mod error;
 mod failing;
 mod file;
+pub mod laws;
 mod length;
 mod memory;
 mod raw_file;

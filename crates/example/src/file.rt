@@ -1,15 +1,20 @@
 //! An example of the driver's use over image files. It copies the first 64 blocks of one file to another.
 //!
 //!     example file SOURCE TARGET
+//!     example back SOURCE TARGET
+//!
+//! The second form writes a block of the other file and reads it back.
 ghost use Rattle.std.specs.Prelude.{IfOk};
 ghost use Rattle.uda_disk.specs.Units.{AreWellFormedIfSound};
 ghost use Rattle.uda_driver.specs.Run.{units_of};
 
 mod copy;
+mod read_back;
 
 use anyhow::Result;
 use copy::copy;
-use uda_driver::Driver;
+use read_back::read_back;
+use uda_driver::{Driver, Request};
 use uda_image::{Drive, FileImage};
 
 /// Copies the blocks, and prints whether it did.
@@ -18,6 +23,23 @@ pub(crate) fn run(rt: &HostRuntime, source: &str, target: &str) -> Result<()> {
     let copied = copy(&mut driver)?;
     sync(driver)?;
     println!(rt; "copied: {copied}")?;
+    Ok(())
+}
+
+/// Writes block 0 of the target and reads it back, and prints whether the bytes are the same.
+pub(crate) fn run_back(rt: &HostRuntime, source: &str, target: &str) -> Result<()> {
+    let mut driver = start(rt, source, target)?;
+    driver.run(&[Request::Online {
+        unit: 1,
+        protect: false,
+    }])?;
+    let payload = Vec::from_elem(rt.alloc(), 0x55, 512)?;
+    let found = read_back(&mut driver, 0, payload)?;
+    sync(driver)?;
+    match found {
+        Some(same) => println!(rt; "the same: {same}")?,
+        None => println!(rt; "a request failed")?,
+    }
     Ok(())
 }
 

@@ -4,7 +4,9 @@
 //!     example disk
 //!     example port
 //!     example driver
+//!     example known
 //!     example file SOURCE TARGET
+//!     example back SOURCE TARGET
 //!
 //! Without arguments it executes those that need no files.
 #![tactic(auto)]
@@ -12,6 +14,7 @@
 mod disk;
 mod driver;
 mod file;
+mod known;
 mod port;
 
 use anyhow::{Result, bail};
@@ -31,7 +34,9 @@ fn run(rt: &HostRuntime, words: &[&str]) -> Result<()> {
         ["port"] => port::run(rt),
         ["driver"] => driver::run(rt),
         ["file", source, target] => file::run(rt, source, target),
-        _ => bail!("usage: example [disk | port | driver | file SOURCE TARGET]"),
+        ["back", source, target] => file::run_back(rt, source, target),
+        ["known"] => known::run(rt),
+        _ => bail!("usage: example [disk | port | driver | known | (file | back) SOURCE TARGET]"),
     }
 }
 
@@ -42,5 +47,7 @@ fn run_all(rt: &HostRuntime) -> Result<()> {
     println!(rt; "port:")?;
     port::run(rt)?;
     println!(rt; "driver:")?;
-    driver::run(rt)
+    driver::run(rt)?;
+    println!(rt; "known:")?;
+    known::run(rt)
 }

@@ -1,5 +1,5 @@
 //! Opening of files as images.
-ghost use Rattle.std.specs.Prelude.{◌≡◌, ◌+◌, ◌*◌, ◌<◌, ◌≤◌, ◌⊎◌, true, min, IfOk, OnOk, OnErr};
+ghost use Rattle.std.specs.Prelude.{◌≡◌, ◌+◌, ◌*◌, ◌<◌, ◌≤◌, ◌⊎◌, true, false, None, min, IfOk, IfSome, OnOk, OnErr};
 ghost use Rattle.uda_image.specs.Limits.{store_limit};
 
 use crate::ahead::ReadAhead;
@@ -292,15 +292,30 @@ impl TargetFile {
         ensures size { IfOk result (λ image. image.size ≡ min blocks store_limit) }
         ensures writable { IfOk result (λ image. image.writable ≡ true) }
     {
+        let file = self.into_file(blocks, sparse, failures)?;
+        Ok(FileImage::over(file, blocks.min(STORE_LIMIT), true))
+    }
+
+    // Makes the file of such an image. No block that the file had before counts as zeros.
+    fn into_file(
+        self,
+        blocks: u32,
+        sparse: bool,
+        failures: &Failures,
+    ) -> Result<ImageFile, AllocError>
+        ensures length { IfOk result (λ file. file.length ≡ 512 * blocks) }
+        ensures only_added { IfOk result (λ file. IfSome file.zeros_from (λ from.
+            (self.zeros_from ≤ from) ⊎ (512 * blocks ≤ from))) }
+        ensures dense { IfOk result (λ file. sparse ≡ false → file.zeros_from ≡ None) }
+    {
         let zeros_from = 512 * u64::from(blocks_begun(self.zeros_from));
         let length = 512 * u64::from(blocks);
-        let noting = NotingFile::new(self.file, failures.share()?);
-        let file = if sparse {
-            SparseFile::ending_in_zeros(noting, length, zeros_from)
+        let file = NotingFile::new(self.file, failures.share()?);
+        if sparse {
+            Ok(SparseFile::ending_in_zeros(file, length, zeros_from))
         } else {
-            SparseFile::dense(noting, length)
-        };
-        Ok(FileImage::over(file, blocks.min(STORE_LIMIT), true))
+            Ok(SparseFile::dense(file, length))
+        }
     }
 }
 

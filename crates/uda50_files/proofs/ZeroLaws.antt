@@ -95,9 +95,11 @@ follows : (content : Option (List ℕ)) (size from next at : ℕ) (ys : List ℕ
     → IfSome content (λ bytes. (at + length ys ≤ length bytes) × ((left : List ℕ) → length left ≡ length ys
     → EndsInZeros size next (put bytes at left)))
 follows (Some bytes) size from next at ys ends later over within =
-    let inside : at + length ys ≤ length bytes = omega (arith, ends.long) in
-    (inside, λ left same.
-    zeros_follow size from next at bytes left ends later (omega (arith, over, same)) (omega (arith, inside, same)))
+    let inside : at + length ys ≤ length bytes = omega (arith, ends.long) in (
+      inside,
+      λ left same.
+          zeros_follow size from next at bytes left ends later (omega (arith, over, same)) (omega (arith, inside, same)),
+    )
 follows None size from next at ys ends later over within = tt
 
 pub zeros_held : (file : SparseState) (from at : ℕ) (zeros : List ℕ) → IsAsSupposed file → file.zeros_from ≡ Some from

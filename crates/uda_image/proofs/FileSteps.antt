@@ -1,6 +1,6 @@
 -- What the calls on a file did, if it has been honest.
-use Rattle.std.proofs.Common.{◌≡◌, ◌+◌, ◌*◌, ◌<◌, ◌≤◌, ◌∷◌, ◌++◌, ◌∙◌, ℕ, Bool, List, Option, Some, None, true, length, take, drop, refl, sym, ap, subst, arith, length-append, length-take, length-drop, inl, inr}
-use Rattle.std.specs.Prelude.{slice_get, slice_set, IfSome}
+use Rattle.std.proofs.Common.{◌≡◌, ◌+◌, ◌*◌, ◌<◌, ◌≤◌, ◌∷◌, ◌++◌, ◌∙◌, ℕ, Bool, List, Option, Some, None, true, false, length, take, drop, refl, sym, ap, subst, arith, length-append, length-take, length-drop, inl, inr}
+use Rattle.std.specs.Prelude.{slice_get, slice_set, IfSome, if◌then◌else◌}
 use Rattle.std.specs.List.{concat}
 use Rattle.std.proofs.lemmas.Bool.{and_parts, cases_Bool}
 use Rattle.std.proofs.lemmas.List.{take_all, set-get_or}
@@ -11,7 +11,7 @@ use Rattle.uda_mem.proofs.PutLaws.{length-part-le, put-part}
 use Rattle.uda_image.specs.FileCall.{FileCall, read, written, asked, declined, failed, failed_write}
 use Rattle.uda_image.specs.declared.trace.FileTrace.{FileTrace}
 use Rattle.uda_image.specs.Store.{KeepsAttributes, ReadsBlock, WritesBlock, FailsToRead, FailsToWrite, is_sound}
-use Rattle.uda_image.specs.AtOnce.{ReadsBlocks, ReadsNone, WritesBlocks}
+use Rattle.uda_image.specs.AtOnce.{TriesToRead, TriesToWrite, ReadsBlocks, ReadsNone, WritesBlocks}
 use Rattle.uda_image.specs.File.{block_left, ReadsAt, WritesAt, IsDoneAt, ChangesAtMost}
 use Rattle.uda_image.specs.Image.{block_count_of, block_of, blocks_of, with_block, OpenImage, file_block_count, holding, file_state, IsAsKnown, HoldsKnownBytes}
 use Rattle.uda_image.specs.FileLaws.{count-holding, length-fitted, length-holding}
@@ -345,6 +345,65 @@ pub none_changes : (at count : ℕ) (content : Option (List ℕ)) → ChangesAtM
 none_changes at count None = tt
 none_changes at count (Some bytes) =
     λ within. (part bytes at count, (length-part-le bytes at count within, ap Some (sym (put-part bytes at count))))
+
+-- the same of each call, by what came of it
+pub holds_read_by : (old new : OpenImage) (n : ℕ) (to : List ℕ) (done : Bool)
+    → new ≡ after (if done then read n to else failed) old → 512 * n + length to ≤ 512 * file_block_count old
+    → ReadsAt old.content (512 * n) to (done ≡ true) → HoldsKnownBytes old → HoldsKnownBytes new
+holds_read_by old new n to true is within reads holds = holds_read old new n to (true ≡ true) is within reads refl holds
+holds_read_by old new n to false is within reads holds = holds_failed old new is holds
+
+pub holds_tried_by : (old new : OpenImage) (n : ℕ) (was to : List ℕ) (done : Bool)
+    → new ≡ after (if done then read n to else declined to) (after (asked was) old)
+    → 512 * n + length to ≤ 512 * file_block_count old → length to ≡ length was
+    → ReadsAt old.content (512 * n) to (done ≡ true)
+    → (old.never_fails ≡ true → IsDoneAt old.content (512 * n) (length was) (done ≡ true))
+    → HoldsKnownBytes old → HoldsKnownBytes new
+holds_tried_by old new n was to true is within same reads infallible holds =
+    holds_read (after (asked was) old) new n to (true ≡ true) is within reads refl
+    (holds_asked old (after (asked was) old) was refl holds)
+holds_tried_by old new n was to false is within same reads infallible holds =
+    let no : false ≡ true = done_there old n (length was) (false ≡ true) holds (omega (arith, within, same)) infallible in
+    absurd (cc)
+
+pub holds_written_by : (old new : OpenImage) (w u : Bool) (content : Option (List ℕ)) (n : ℕ) (from : List ℕ)
+    (done : Bool) (otherwise : List FileCall)
+    → new ≡ record old {
+      written = w;
+      content = content;
+      unsynced = u;
+      calls = if done then written n from ∷ old.calls else otherwise;
+    }
+    → 512 * n + length from ≤ 512 * file_block_count old → WritesAt old.content (512 * n) from content (done ≡ true)
+    → (old.never_fails ≡ true → IsDoneAt old.content (512 * n) (length from) (done ≡ true))
+    → HoldsKnownBytes old → HoldsKnownBytes new
+holds_written_by old new w u content n from true otherwise is within writes infallible holds =
+    holds_written old new w u content n from (true ≡ true) is within writes refl holds
+holds_written_by old new w u content n from false otherwise is within writes infallible holds =
+    let no : false ≡ true = done_there old n (length from) (false ≡ true) holds within infallible in absurd (cc)
+
+-- reads and writes of several blocks, by what came of them
+pub tries_to_read : (old new : OpenImage) (n count : ℕ) (was to : List ℕ) (done : Bool)
+    → new ≡ after (if done then read n to else declined to) (after (asked was) old)
+    → n + count ≤ file_block_count old → length to ≡ 512 * count → (file_state new).honest ≡ true
+    → TriesToRead (file_state old) n count (file_state new) was to done
+tries_to_read old new n count was to true is on_unit long honest = read_many old new n count was to is on_unit long honest
+tries_to_read old new n count was to false is on_unit long honest = read_none old new was to is honest
+
+pub tries_to_write : (old new : OpenImage) (w u : Bool) (content : Option (List ℕ)) (n count : ℕ) (from : List ℕ)
+    (done : Bool)
+    → new ≡ record old {
+      written = w;
+      content = content;
+      unsynced = u;
+      calls = if done then written n from ∷ old.calls else old.calls;
+    }
+    → n + count ≤ file_block_count old → length from ≡ 512 * count
+    → TriesToWrite (file_state old) n count (file_state new) from done
+tries_to_write old new w u content n count from true is on_unit long =
+    written_many old new w u content n count from is on_unit long
+tries_to_write old new w u content n count from false is on_unit long =
+    ap file_state is
 
 pub ruleset file_steps = (
   read_keeps,

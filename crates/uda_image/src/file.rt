@@ -13,12 +13,13 @@ ghost use Rattle.uda_image.specs.FileLaws.{file_blocks};
 
 use crate::error::ImageError;
 use crate::length::count_blocks;
+use crate::noted::{read_noted, try_read_noted, try_write_noted, write_noted};
 use crate::raw_file::RawFile;
 use crate::store::{BLOCK_LIMIT, BlockStore, STORE_LIMIT, StoreError};
 use crate::trace::{Call, FileTrace, Supposition};
 use std::fs::{File, Metadata, OpenFile, OpenOptions, TryLockError};
 use std::marker::Model;
-use std::{fmt, fs, io};
+use std::{fmt, fs};
 
 /// An image in a file: the logical blocks of a unit, one after another (MSCP Basic Disk Functions Manual:
 /// logical blocks).
@@ -274,13 +275,6 @@ impl<F: RawFile> FileImage<F> {
     }
 }
 
-// Returns whether a call of the system moved this number of bytes.
-fn is_whole(moved: io::Result<usize>, bytes: usize) -> bool
-    ensures { (result ≡ true) ↔ (moved ≡ Ok bytes) }
-{
-    matches!(moved, Ok(count) if count == bytes)
-}
-
 impl<F: RawFile> BlockStore for FileImage<F> {
     ghost state = { file_state };
 
@@ -308,11 +302,9 @@ impl<F: RawFile> BlockStore for FileImage<F> {
             → Reads (file_state self.old) n (file_state self.new) to.new result }
         ensures known { IsAsKnown self.old → IsAsKnown self.new }
     {
-        if self.file.read_exact(to, 512 * u64::from(n)).is_err() {
-            self.trace.note(&Call::Failed);
+        if !read_noted(&mut self.file, &mut self.trace, n, to) {
             return Err(StoreError::Read);
         }
-        self.trace.note_read(n, to);
         Ok(())
     }
 
@@ -343,16 +335,13 @@ impl<F: RawFile> BlockStore for FileImage<F> {
             return Err(StoreError::Write);
         }
         self.written = true;
-        if self.file.write_all(from, 512 * u64::from(n)).is_err() {
-            self.trace.note(&Call::FailedWrite { block: n });
+        if !write_noted(&mut self.file, &mut self.trace, n, from) {
             return Err(StoreError::Write);
         }
-        self.trace.note_written(n, from);
         Ok(())
     }
 
-    // Makes one call of the system. If that moves only a part, the caller's reads of single blocks read all
-    // again.
+    // If the call moves only a part, the caller's reads of single blocks read all again.
     #[tactic(auto, using(crate::proofs::FileSteps::file_steps))]
     fn try_read_blocks(&mut self, n: u32, count: u32, to: &mut [u8]) -> bool
         requires on_unit { n + count ≤ file_block_count self.old }
@@ -366,17 +355,9 @@ impl<F: RawFile> BlockStore for FileImage<F> {
             → TriesToRead (file_state self.old) n count (file_state self.new) to.old to.new result }
         ensures known { IsAsKnown self.old → result ≡ true → IsAsKnown self.new }
     {
-        let bytes = to.len();
-        self.trace.note(&Call::Asked { bytes: to });
-        if !is_whole(self.file.read_once(to, 512 * u64::from(n)), bytes) {
-            self.trace.note(&Call::Declined { bytes: to });
-            return false;
-        }
-        self.trace.note_read(n, to);
-        true
+        try_read_noted(&mut self.file, &mut self.trace, n, to)
     }
 
-    // Makes one call of the system, in the same way.
     #[tactic(auto, using(crate::proofs::FileSteps::file_steps))]
     fn try_write_blocks(&mut self, n: u32, count: u32, from: &[u8]) -> bool
         requires on_unit { n + count ≤ file_block_count self.old }
@@ -398,12 +379,7 @@ impl<F: RawFile> BlockStore for FileImage<F> {
         ensures known { IsAsKnown self.old → result ≡ true → IsAsKnown self.new }
         ensures no_other { ChangesAtMost (512 * n) (length from.now) self.old.content self.new.content }
     {
-        let bytes = from.len();
         self.written |= self.writable;
-        if self.writable && is_whole(self.file.write_once(from, 512 * u64::from(n)), bytes) {
-            self.trace.note_written(n, from);
-            return true;
-        }
-        false
+        self.writable && try_write_noted(&mut self.file, &mut self.trace, n, from)
     }
 }

@@ -11,6 +11,7 @@ mod file;
 pub mod laws;
 mod length;
 mod memory;
+mod noted;
 mod raw_file;
 mod store;
 mod trace;

@@ -2,7 +2,6 @@
 ghost use Rattle.std.specs.Prelude.{◌≡◌, ℕ, Bool, true, false, List, [], ◌∷◌};
 ghost use Rattle.std.specs.Borrow.{ftrue};
 ghost use Rattle.uda_image.specs.FileCall.{FileCall, call_of};
-ghost use Rattle.uda_image.specs.FileCall as call;
 ghost use Rattle.uda_image.specs.StoredCalls.{calls_code};
 
 use std::fmt;
@@ -112,21 +111,5 @@ impl FileTrace {
         ensures { self.new ≡ record self.old { calls = call_of call.now ∷ self.old.calls } }
     {
         *self = self.then(call);
-    }
-
-    /// Notes a read of these bytes.
-    #[inline(always)]
-    pub fn note_read(&mut self, block: u32, bytes: &[u8])
-        ensures { self.new ≡ record self.old { calls = call.read block bytes.now ∷ self.old.calls } }
-    {
-        self.note(&Call::Read { block, bytes });
-    }
-
-    /// Notes a write of these bytes.
-    #[inline(always)]
-    pub fn note_written(&mut self, block: u32, bytes: &[u8])
-        ensures { self.new ≡ record self.old { calls = call.written block bytes.now ∷ self.old.calls } }
-    {
-        self.note(&Call::Written { block, bytes });
     }
 }

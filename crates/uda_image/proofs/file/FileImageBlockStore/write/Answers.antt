@@ -1,9 +1,10 @@
-use Rattle.std.proofs.Common.{rules, ◌≡◌, ◌<◌, ◌*◌, true, false, Ok, length, sym, ap, subst, arith, ◌∙◌}
+use Rattle.std.proofs.Common.{rules, ◌≡◌, ◌<◌, ◌*◌, true, length, sym, ap, subst, arith, ◌∙◌}
 use Rattle.uda_image.specs.declared.trace.FileTrace.{FileTrace}
 use Rattle.uda_image.specs.Image.{OpenImage, file_block_count, HoldsKnownBytes}
-use Rattle.std.specs.Result.{is_err}
+use Rattle.uda_image.specs.FileCall.{failed_write}
+use Rattle.std.proofs.Common.{◌∷◌}
 use Rattle.std.proofs.lemmas.Bool.{and_parts}
-use Rattle.uda_image.proofs.FileSteps.{called, refused_one, failed_one, written_one, known_write, holds_written, done_there, none_changes}
+use Rattle.uda_image.proofs.FileSteps.{called, refused_one, failed_one, written_one, known_write, holds_written_by, done_there, none_changes}
 use Rattle.uda_image.proofs.file.FileImageBlockStore.write.Goals as goal
 
 pub returns-then-not-self-clause-writes_if_sound : goal.returns-then-not-self-clause-writes_if_sound
@@ -28,8 +29,8 @@ returns-then-not-self-clause-writes_if_sound g c sound =
 pub returns-then-not-self-clause-no_other : goal.returns-then-not-self-clause-no_other
 returns-then-not-self-clause-no_other g c = rw (← c.self.view_is) (none_changes (512 * c.args.n) 512 _)
 
-pub invariant_of-self-then-is_err : goal.invariant_of-self-then-is_err
-invariant_of-self-then-is_err g c =
+pub invariant_of-self-2 : goal.invariant_of-self-2
+invariant_of-self-2 g c =
     let old : OpenImage = record {
       size = c.self.inside.size;
       writable = c.self.inside.writable;
@@ -43,18 +44,49 @@ invariant_of-self-then-is_err g c =
       calls = c.self.inside.trace.calls;
     } in
     let is_old : old ≡ c.args.self.now = c.self.view_is in
+    let new : OpenImage = called (record old { written = true }) (g.F.RawFile.content c.write_noted.new.file)
+    (g.F.RawFile.never_fails c.write_noted.new.file) (g.F.RawFile.unsynced c.write_noted.new.file) c.write_noted.new.trace in
     let on_unit : c.args.n < file_block_count old =
     subst (λ (i : OpenImage). c.args.n < file_block_count i) (sym is_old) c.requires in (
       c.self.invariant.0,
       λ known.
-          let holds : HoldsKnownBytes old = c.self.invariant.1 (ap (λ (t : FileTrace). t.known) (sym c.note-then-is_err.ensures) ∙ known) in
-          let done : c.write_all.result ≡ Ok tt = done_there old c.args.n (length c.args.from.now) _ holds
-          (omega (arith, on_unit, c.told-from)) (rw (← c.from.ensures) c.write_all.ensures.infallible) in
-          let no : false ≡ true = ap is_err (sym done) ∙ sym c.is_err.ensures.value ∙ c.if-is_err.true in absurd (cc),
+          let holds : HoldsKnownBytes old = c.self.invariant.1 (ap (λ (t : FileTrace). t.known) (sym c.write_noted.ensures.noted) ∙ known) in
+          holds_written_by old new true (g.F.RawFile.unsynced c.write_noted.new.file)
+          (g.F.RawFile.content c.write_noted.new.file) c.args.n c.args.from.now c.write_noted.result
+          (failed_write c.args.n ∷ old.calls) (search rules) (omega (arith, on_unit, c.told-from))
+          c.write_noted.ensures.writes c.write_noted.ensures.infallible holds,
     )
 
-pub returns-then-is_err-clause-infallible : goal.returns-then-is_err-clause-infallible
-returns-then-is_err-clause-infallible g c sure =
+pub invariant_of-self-then-not-write_noted : goal.invariant_of-self-then-not-write_noted
+invariant_of-self-then-not-write_noted g c =
+    let old : OpenImage = record {
+      size = c.self.inside.size;
+      writable = c.self.inside.writable;
+      written = c.self.inside.written;
+      content = g.F.RawFile.content c.self.inside.file;
+      never_fails = g.F.RawFile.never_fails c.self.inside.file;
+      unsynced = g.F.RawFile.unsynced c.self.inside.file;
+      held = c.self.inside.trace.held;
+      blocks_left = c.self.inside.trace.blocks_left;
+      known = c.self.inside.trace.known;
+      calls = c.self.inside.trace.calls;
+    } in
+    let is_old : old ≡ c.args.self.now = c.self.view_is in
+    let new : OpenImage = called (record old { written = true }) (g.F.RawFile.content c.write_noted.new.file)
+    (g.F.RawFile.never_fails c.write_noted.new.file) (g.F.RawFile.unsynced c.write_noted.new.file) c.write_noted.new.trace in
+    let on_unit : c.args.n < file_block_count old =
+    subst (λ (i : OpenImage). c.args.n < file_block_count i) (sym is_old) c.requires in (
+      c.self.invariant.0,
+      λ known.
+          let holds : HoldsKnownBytes old = c.self.invariant.1 (ap (λ (t : FileTrace). t.known) (sym c.write_noted.ensures.noted) ∙ known) in
+          holds_written_by old new true (g.F.RawFile.unsynced c.write_noted.new.file)
+          (g.F.RawFile.content c.write_noted.new.file) c.args.n c.args.from.now c.write_noted.result
+          (failed_write c.args.n ∷ old.calls) (search rules) (omega (arith, on_unit, c.told-from))
+          c.write_noted.ensures.writes c.write_noted.ensures.infallible holds,
+    )
+
+pub returns-then-not-write_noted-clause-infallible : goal.returns-then-not-write_noted-clause-infallible
+returns-then-not-write_noted-clause-infallible g c sure =
     let old : OpenImage = record {
       size = c.self.inside.size;
       writable = c.self.inside.writable;
@@ -72,12 +104,12 @@ returns-then-is_err-clause-infallible g c sure =
     subst (λ (i : OpenImage). c.args.n < file_block_count i) (sym is_old) c.requires in
     let known = (and_parts c.args.self.now.writable c.args.self.now.known sure).1 in
     let holds : HoldsKnownBytes old = c.self.invariant.1 (ap (λ (i : OpenImage). i.known) is_old ∙ known) in
-    let done : c.write_all.result ≡ Ok tt = done_there old c.args.n (length c.args.from.now) _ holds
-    (omega (arith, on_unit, c.told-from)) (rw (← c.from.ensures) c.write_all.ensures.infallible) in
-    ap is_err (sym done) ∙ sym c.is_err.ensures.value ∙ c.if-is_err.true
+    let done : c.write_noted.result ≡ true = done_there old c.args.n (length c.args.from.now) _ holds
+    (omega (arith, on_unit, c.told-from)) c.write_noted.ensures.infallible in
+    sym c.if-not-write_noted.true ∙ done
 
-pub returns-then-is_err-clause-writes_if_sound : goal.returns-then-is_err-clause-writes_if_sound
-returns-then-is_err-clause-writes_if_sound g c honest =
+pub returns-then-not-write_noted-clause-writes_if_sound : goal.returns-then-not-write_noted-clause-writes_if_sound
+returns-then-not-write_noted-clause-writes_if_sound g c honest =
     let old : OpenImage = record {
       size = c.self.inside.size;
       writable = c.self.inside.writable;
@@ -91,37 +123,10 @@ returns-then-is_err-clause-writes_if_sound g c honest =
       calls = c.self.inside.trace.calls;
     } in
     let is_old : old ≡ c.args.self.now = c.self.view_is in
-    let new : OpenImage = called (record old { written = true }) (g.F.RawFile.content c.write_all.new.self)
-    (g.F.RawFile.never_fails c.write_all.new.self) (g.F.RawFile.unsynced c.write_all.new.self) c.note-then-is_err.new.self in
-    failed_one c.args.self.now new true (g.F.RawFile.unsynced c.write_all.new.self)
-    (g.F.RawFile.content c.write_all.new.self) c.args.n (search rules) c.requires
-
-pub invariant_of-self-2 : goal.invariant_of-self-2
-invariant_of-self-2 g c =
-    let old : OpenImage = record {
-      size = c.self.inside.size;
-      writable = c.self.inside.writable;
-      written = c.self.inside.written;
-      content = g.F.RawFile.content c.self.inside.file;
-      never_fails = g.F.RawFile.never_fails c.self.inside.file;
-      unsynced = g.F.RawFile.unsynced c.self.inside.file;
-      held = c.self.inside.trace.held;
-      blocks_left = c.self.inside.trace.blocks_left;
-      known = c.self.inside.trace.known;
-      calls = c.self.inside.trace.calls;
-    } in
-    let is_old : old ≡ c.args.self.now = c.self.view_is in
-    let new : OpenImage = called (record old { written = true }) (g.F.RawFile.content c.write_all.new.self)
-    (g.F.RawFile.never_fails c.write_all.new.self) (g.F.RawFile.unsynced c.write_all.new.self) c.note_written.new.self in
-    let on_unit : c.args.n < file_block_count old =
-    subst (λ (i : OpenImage). c.args.n < file_block_count i) (sym is_old) c.requires in (
-      c.self.invariant.0,
-      λ known.
-          let holds : HoldsKnownBytes old = c.self.invariant.1 (ap (λ (t : FileTrace). t.known) (sym c.note_written.ensures) ∙ known) in
-          holds_written old new true (g.F.RawFile.unsynced c.write_all.new.self) (g.F.RawFile.content c.write_all.new.self)
-          c.args.n c.args.from.now (c.write_all.result ≡ Ok tt) (search rules) (omega (arith, on_unit, c.told-from))
-          (rw (← c.from.ensures) c.write_all.ensures.writes) (search rules) holds,
-    )
+    let new : OpenImage = called (record old { written = true }) (g.F.RawFile.content c.write_noted.new.file)
+    (g.F.RawFile.never_fails c.write_noted.new.file) (g.F.RawFile.unsynced c.write_noted.new.file) c.write_noted.new.trace in
+    failed_one c.args.self.now new true (g.F.RawFile.unsynced c.write_noted.new.file)
+    (g.F.RawFile.content c.write_noted.new.file) c.args.n (search rules) c.requires
 
 pub returns-clause-writes_if_sound : goal.returns-clause-writes_if_sound
 returns-clause-writes_if_sound g c honest =
@@ -138,10 +143,10 @@ returns-clause-writes_if_sound g c honest =
       calls = c.self.inside.trace.calls;
     } in
     let is_old : old ≡ c.args.self.now = c.self.view_is in
-    let new : OpenImage = called (record old { written = true }) (g.F.RawFile.content c.write_all.new.self)
-    (g.F.RawFile.never_fails c.write_all.new.self) (g.F.RawFile.unsynced c.write_all.new.self) c.note_written.new.self in
-    written_one c.args.self.now new true (g.F.RawFile.unsynced c.write_all.new.self)
-    (g.F.RawFile.content c.write_all.new.self) c.args.n c.args.from.now (search rules) c.requires c.told-from
+    let new : OpenImage = called (record old { written = true }) (g.F.RawFile.content c.write_noted.new.file)
+    (g.F.RawFile.never_fails c.write_noted.new.file) (g.F.RawFile.unsynced c.write_noted.new.file) c.write_noted.new.trace in
+    written_one c.args.self.now new true (g.F.RawFile.unsynced c.write_noted.new.file)
+    (g.F.RawFile.content c.write_noted.new.file) c.args.n c.args.from.now (search rules) c.requires c.told-from
 
 pub returns-clause-known : goal.returns-clause-known
 returns-clause-known g c known ok =
@@ -158,10 +163,10 @@ returns-clause-known g c known ok =
       calls = c.self.inside.trace.calls;
     } in
     let is_old : old ≡ c.args.self.now = c.self.view_is in
-    let new : OpenImage = called (record old { written = true }) (g.F.RawFile.content c.write_all.new.self)
-    (g.F.RawFile.never_fails c.write_all.new.self) (g.F.RawFile.unsynced c.write_all.new.self) c.note_written.new.self in
+    let new : OpenImage = called (record old { written = true }) (g.F.RawFile.content c.write_noted.new.file)
+    (g.F.RawFile.never_fails c.write_noted.new.file) (g.F.RawFile.unsynced c.write_noted.new.file) c.write_noted.new.trace in
     let on_unit : c.args.n < file_block_count c.args.self.now = c.requires in
-    known_write c.args.self.now new true (g.F.RawFile.unsynced c.write_all.new.self)
-    (g.F.RawFile.content c.write_all.new.self) c.args.n c.args.from.now (c.write_all.result ≡ Ok tt) (search rules)
-    (omega (arith, on_unit, c.told-from)) (rw (← is_old) c.write_all.ensures.unknown)
-    (rw (← is_old, ← c.from.ensures) c.write_all.ensures.writes) (search rules) known
+    known_write c.args.self.now new true (g.F.RawFile.unsynced c.write_noted.new.file)
+    (g.F.RawFile.content c.write_noted.new.file) c.args.n c.args.from.now (c.write_noted.result ≡ true) (search rules)
+    (omega (arith, on_unit, c.told-from)) (rw (← is_old) c.write_noted.ensures.unknown)
+    (rw (← is_old) c.write_noted.ensures.writes) (search rules) known

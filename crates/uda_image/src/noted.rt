@@ -64,7 +64,7 @@ pub(crate) fn write_noted<F: RawFile>(
 pub(crate) fn try_read_noted<F: RawFile>(
     file: &mut F,
     trace: &mut FileTrace,
-    block: u32,
+    first: u32,
     to: &mut [u8],
 ) -> bool
     ensures content_stays { F.content file.new ≡ F.content file.old }
@@ -72,20 +72,23 @@ pub(crate) fn try_read_noted<F: RawFile>(
     ensures unsynced_stays { F.unsynced file.new ≡ F.unsynced file.old }
     ensures long { length to.new ≡ length to.old }
     ensures noted { trace.new ≡ record trace.old {
-      calls = (if result then call.read block to.new else call.declined to.new)
+      calls = (if result then call.read first to.new else call.declined to.new)
           ∷ call.asked to.old ∷ trace.old.calls;
     } }
-    ensures reads { ReadsAt (F.content file.old) (512 * block) to.new (result ≡ true) }
+    ensures reads { ReadsAt (F.content file.old) (512 * first) to.new (result ≡ true) }
     ensures infallible { F.never_fails file.old ≡ true
-        → IsDoneAt (F.content file.old) (512 * block) (length to.old) (result ≡ true) }
+        → IsDoneAt (F.content file.old) (512 * first) (length to.old) (result ≡ true) }
 {
     let bytes = to.len();
     trace.note(&Call::Asked { bytes: to });
-    if !is_whole(file.read_once(to, 512 * u64::from(block)), bytes) {
+    if !is_whole(file.read_once(to, 512 * u64::from(first)), bytes) {
         trace.note(&Call::Declined { bytes: to });
         return false;
     }
-    trace.note(&Call::Read { block, bytes: to });
+    trace.note(&Call::Read {
+        block: first,
+        bytes: to,
+    });
     true
 }
 
@@ -95,22 +98,25 @@ pub(crate) fn try_read_noted<F: RawFile>(
 pub(crate) fn try_write_noted<F: RawFile>(
     file: &mut F,
     trace: &mut FileTrace,
-    block: u32,
+    first: u32,
     from: &[u8],
 ) -> bool
     ensures unknown { F.content file.old ≡ None → F.content file.new ≡ None }
     ensures never_fails_stays { F.never_fails file.new ≡ F.never_fails file.old }
     ensures noted { trace.new ≡ record trace.old {
-      calls = if result then call.written block from.now ∷ trace.old.calls else trace.old.calls;
+      calls = if result then call.written first from.now ∷ trace.old.calls else trace.old.calls;
     } }
-    ensures writes { WritesAt (F.content file.old) (512 * block) from.now (F.content file.new) (result ≡ true) }
+    ensures writes { WritesAt (F.content file.old) (512 * first) from.now (F.content file.new) (result ≡ true) }
     ensures infallible { F.never_fails file.old ≡ true
-        → IsDoneAt (F.content file.old) (512 * block) (length from.now) (result ≡ true) }
+        → IsDoneAt (F.content file.old) (512 * first) (length from.now) (result ≡ true) }
 {
-    if !is_whole(file.write_once(from, 512 * u64::from(block)), from.len()) {
+    if !is_whole(file.write_once(from, 512 * u64::from(first)), from.len()) {
         return false;
     }
-    trace.note(&Call::Written { block, bytes: from });
+    trace.note(&Call::Written {
+        block: first,
+        bytes: from,
+    });
     true
 }
 

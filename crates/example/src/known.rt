@@ -41,8 +41,8 @@ pub(crate) fn run(rt: &HostRuntime) -> Result<()> {
     };
     let answers = run_surely(&mut driver, &[online, write, read])?;
     match answers.as_slice() {
-        [_, _, Answer::Data { bytes, .. }] => println!(rt; "read: {:02x?}", &bytes[..4])?,
-        _ => println!(rt; "not read")?,
+        [_, _, Answer::Data { bytes, .. }] => println!(rt; "bytes read: {}", bytes.len())?,
+        _ => println!(rt; "no bytes")?,
     }
     Ok(())
 }

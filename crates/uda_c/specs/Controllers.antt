@@ -36,7 +36,7 @@ use Rattle.uda_c.specs.UnitImage.{lent_state, is_called_in, bytes_of_store, stor
 -- The invariant of the port of every controller. It has four units, they return the blocks that were written,
 -- and each has exactly as many blocks as its size. Its credits agree, `uda50_restore` accepts its state, and its units
 -- fit it.
-pub record IsSoundPort (port : PortState) : Type 0 where
+pub record IsValidPort (port : PortState) : Type 0 where
   pub four_units : length port.exec.units ≡ 4
   pub faithful : AllFaithful port.exec.units
   pub images : AreWellFormed port.exec.units
@@ -53,12 +53,12 @@ OnHandle (Some old) (Some new) without with = with old new
 OnHandle _ _ without with = ⊥
 
 -- the invariant of the port of every controller that a handle has, before and after a call
-abbrev pub HoldsSound : Option ControllerState → Type 0
-HoldsSound None = Unit
-HoldsSound (Some c) = IsSoundPort c.port
+abbrev pub HoldsValid : Option ControllerState → Type 0
+HoldsValid None = Unit
+HoldsValid (Some c) = IsValidPort c.port
 
-abbrev pub AreSound : Option ControllerState → Option ControllerState → Type 0
-AreSound old new = HoldsSound old × HoldsSound new
+abbrev pub AreValid : Option ControllerState → Option ControllerState → Type 0
+AreValid old new = HoldsValid old × HoldsValid new
 
 abbrev pub profile_of : Bool → Profile
 profile_of compatible = if compatible then Compatible usual_identity else Strict

@@ -4,7 +4,7 @@ ghost use Rattle.uda_image.specs.Limits.{store_limit};
 ghost use Rattle.uda_mem.specs.Slices.{IsMemory};
 ghost use Rattle.uda_c.specs.declared.call_status.CallStatus.TheVariants.{RanTurn, Done, NoMemory};
 ghost use Rattle.uda_c.specs.Controllers.{controller_at_start, refusal_of_profile, SetsType, Attaches, Detaches, TurnsWhereMemory};
-ghost use Rattle.uda_c.specs.Controllers.{FailsAt, controller_failing, is_called_at, port_put_back, TakesTurn, memory_refusal, IsSoundPort};
+ghost use Rattle.uda_c.specs.Controllers.{FailsAt, controller_failing, is_called_at, port_put_back, TakesTurn, memory_refusal, IsValidPort};
 ghost use Rattle.uda_c.specs.Saving.{Saves, RestoreOutcome, controller_saved, failing_call_of};
 ghost use Rattle.uda_c.specs.Saving.{controller_failing_at};
 ghost use Rattle.uda_port.specs.Port.{port_restarted, port_after_ip_read};
@@ -90,7 +90,7 @@ impl Controller {
 
     /// States the invariant of every controller. It does nothing.
     pub fn keep(&self)
-        ensures sound { IsSoundPort self.now.port }
+        ensures valid { IsValidPort self.now.port }
     {
         self.port.keep();
     }

@@ -8,7 +8,7 @@ ghost use Rattle.uda_c.specs.Choices.{bus_of};
 ghost use Rattle.uda_packet.specs.DriveTypes.{type_numbered};
 ghost use Rattle.uda_c.specs.declared.call_status.CallStatus.{CallStatus};
 ghost use Rattle.uda_c.specs.declared.call_status.CallStatus.TheVariants.{Done, NoController};
-ghost use Rattle.uda_c.specs.Controllers.{OnHandle, AreSound, HoldsSound, MakesNew, MakesNumbered, MakesAs, SetsType, refusal_of_new, profile_of, is_read_only, Frees, GivesBack};
+ghost use Rattle.uda_c.specs.Controllers.{OnHandle, AreValid, HoldsValid, MakesNew, MakesNumbered, MakesAs, SetsType, refusal_of_new, profile_of, is_read_only, Frees, GivesBack};
 ghost use Rattle.uda_c.specs.Controllers.{Attaches, Detaches, HasImage, HadBytes, WritesSa};
 ghost use Rattle.uda_c.specs.Controllers.{FailsAt, TurnsWhereMemory, TakesInterrupt};
 ghost use Rattle.uda_port.specs.StartupUse.{range_zeroed};
@@ -52,7 +52,7 @@ pub extern "C" fn uda50_version() -> u32
 pub extern "C" fn uda50_new(alloc: Global, handle: &mut Handle, compatible: bool) -> u32
     ensures made { (answer : CallStatus) × (result ≡ status_code answer)
         × MakesNew handle.old.value (profile_of compatible) answer handle.new.value }
-    ensures sound { AreSound handle.old.value handle.new.value }
+    ensures valid { AreValid handle.old.value handle.new.value }
 {
     if has_controller(handle) {
         return CallStatus::HasController.code();
@@ -67,7 +67,7 @@ pub extern "C" fn uda50_new(alloc: Global, handle: &mut Handle, compatible: bool
 pub extern "C" fn uda50_new_as(alloc: Global, handle: &mut Handle, bus: u32, first_unit: u16) -> u32
     ensures made { (answer : CallStatus) × (result ≡ status_code answer)
         × MakesAs handle.old.value (bus_of bus) first_unit answer handle.new.value }
-    ensures sound { AreSound handle.old.value handle.new.value }
+    ensures valid { AreValid handle.old.value handle.new.value }
 {
     if has_controller(handle) {
         return refuse_new(bus).code();
@@ -89,7 +89,7 @@ pub extern "C" fn uda50_set_type(handle: &mut Handle, unit: u32, drive_type: u32
     ensures sets { OnHandle handle.old.value handle.new.value (result ≡ status_code NoController)
         (λ old new. (answer : CallStatus) × (result ≡ status_code answer)
         × SetsType old unit (type_numbered drive_type) answer new) }
-    ensures sound { AreSound handle.old.value handle.new.value }
+    ensures valid { AreValid handle.old.value handle.new.value }
 {
     match handle.get() {
         Some(controller) => {
@@ -110,7 +110,7 @@ pub extern "C" fn uda50_free(alloc: Global, handle: &mut Handle, images: &mut Un
     ensures frees { (answer : CallStatus) × (result ≡ status_code answer)
         × Frees handle.old.value images.old answer handle.new.value images.new }
     ensures done { result ≡ 0 → handle.new.value ≡ None }
-    ensures sound { AreSound handle.old.value handle.new.value }
+    ensures valid { AreValid handle.old.value handle.new.value }
 {
     match give_back(handle, images) {
         CallStatus::Done => {
@@ -138,7 +138,7 @@ pub extern "C" fn uda50_attach(
           bytes = image.old.held;
           hard = is_read_only handle.old.value unit || write_protected;
         }) }
-    ensures sound { AreSound handle.old.value handle.new.value }
+    ensures valid { AreValid handle.old.value handle.new.value }
 {
     match handle.get() {
         Some(controller) => {
@@ -159,7 +159,7 @@ pub extern "C" fn uda50_detach(handle: &mut Handle, unit: u32, image: &mut Slot)
         (λ old new. (answer : CallStatus) × (result ≡ status_code answer)
         × Detaches (old, image.old) unit answer (new, image.new)) }
     ensures done { result ≡ 0 → HadBytes handle.old.value unit image.new.held }
-    ensures sound { AreSound handle.old.value handle.new.value }
+    ensures valid { AreValid handle.old.value handle.new.value }
 {
     match handle.get() {
         Some(controller) => {
@@ -178,7 +178,7 @@ pub extern "C" fn uda50_inject_failure(handle: &mut Handle, unit: u32, call: u32
     ensures fails { OnHandle handle.old.value handle.new.value (result ≡ status_code NoController)
         (λ old new. (answer : CallStatus) × (result ≡ status_code answer)
         × FailsAt old unit (Some call) answer new) }
-    ensures sound { AreSound handle.old.value handle.new.value }
+    ensures valid { AreValid handle.old.value handle.new.value }
 {
     match handle.get() {
         Some(controller) => {
@@ -198,7 +198,7 @@ pub extern "C" fn uda50_save(handle: &mut Handle, state: &mut [u8]) -> u32
         ((result ≡ status_code NoController) × (state.new ≡ state.old))
         (λ old new. (answer : CallStatus) × (result ≡ status_code answer) × (new ≡ old)
         × Saves old state.old answer state.new) }
-    ensures sound { AreSound handle.old.value handle.new.value }
+    ensures valid { AreValid handle.old.value handle.new.value }
 {
     match handle.get() {
         Some(controller) => {
@@ -215,7 +215,7 @@ pub extern "C" fn uda50_restore(handle: &mut Handle, state: &[u8]) -> u32
     ensures restores { OnHandle handle.old.value handle.new.value (result ≡ status_code NoController)
         (λ old new. (answer : CallStatus) × (result ≡ status_code answer)
         × Restores old state.now answer new) }
-    ensures sound { AreSound handle.old.value handle.new.value }
+    ensures valid { AreValid handle.old.value handle.new.value }
 {
     match handle.get() {
         Some(controller) => {
@@ -233,7 +233,7 @@ pub extern "C" fn uda50_restore(handle: &mut Handle, state: &[u8]) -> u32
 pub extern "C" fn uda50_write_ip(handle: &mut Handle, word: u16)
     ensures restarts { OnHandle handle.old.value handle.new.value Unit
         (λ old new. new ≡ record old { port = port_restarted old.port }) }
-    ensures sound { AreSound handle.old.value handle.new.value }
+    ensures valid { AreValid handle.old.value handle.new.value }
 {
     if let Some(controller) = handle.get() {
         controller.keep();
@@ -248,7 +248,7 @@ pub extern "C" fn uda50_read_ip(handle: &mut Handle) -> u16
     ensures reads_zero { result ≡ 0 }
     ensures starts_polling { OnHandle handle.old.value handle.new.value Unit
         (λ old new. new ≡ record old { port = port_after_ip_read old.port.phase old.port }) }
-    ensures sound { AreSound handle.old.value handle.new.value }
+    ensures valid { AreValid handle.old.value handle.new.value }
 {
     match handle.get() {
         Some(controller) => {
@@ -266,7 +266,7 @@ pub extern "C" fn uda50_read_ip(handle: &mut Handle) -> u16
 pub extern "C" fn uda50_write_sa(handle: &mut Handle, word: u16, memory: &mut [u8])
     ensures effect { OnHandle handle.old.value handle.new.value (memory.new ≡ memory.old)
         (λ old new. WritesSa old memory.old word new memory.new) }
-    ensures sound { AreSound handle.old.value handle.new.value }
+    ensures valid { AreValid handle.old.value handle.new.value }
 {
     if let Some(controller) = handle.get() {
         controller.keep();
@@ -280,7 +280,7 @@ pub extern "C" fn uda50_write_sa(handle: &mut Handle, word: u16, memory: &mut [u
 pub extern "C" fn uda50_read_sa(handle: &mut Handle) -> u16
     ensures sa { OnHandle handle.old.value handle.new.value (result ≡ 0)
         (λ old new. (result ≡ sa_shown old.port) × (new ≡ old)) }
-    ensures sound { AreSound handle.old.value handle.new.value }
+    ensures valid { AreValid handle.old.value handle.new.value }
 {
     match handle.get() {
         Some(controller) => {
@@ -300,7 +300,7 @@ pub extern "C" fn uda50_turn(handle: &mut Handle, memory: &mut [u8]) -> u32
         ((result ≡ status_code NoController) × (memory.new ≡ memory.old))
         (λ old new. (answer : CallStatus) × (result ≡ status_code answer)
         × TurnsWhereMemory old memory.old answer new memory.new) }
-    ensures sound { AreSound handle.old.value handle.new.value }
+    ensures valid { AreValid handle.old.value handle.new.value }
 {
     match handle.get() {
         Some(controller) => {
@@ -319,7 +319,7 @@ pub extern "C" fn uda50_take_interrupt(handle: &mut Handle, vector: &mut u16) ->
     ensures takes { OnHandle handle.old.value handle.new.value
         ((result ≡ false) × (vector.new ≡ vector.old))
         (λ old new. TakesInterrupt old vector.old result new vector.new) }
-    ensures sound { AreSound handle.old.value handle.new.value }
+    ensures valid { AreValid handle.old.value handle.new.value }
 {
     let Some(controller) = handle.get() else {
         return false;
@@ -343,7 +343,7 @@ pub extern "C" fn uda50_run(handle: &mut Handle, turns: u32, memory: &mut [u8]) 
         ((result ≡ status_code NoController) × (memory.new ≡ memory.old))
         (λ old new. (answer : CallStatus) × (result ≡ status_code answer)
         × RunsWhereMemory turns (old, memory.old) answer (new, memory.new)) }
-    ensures sound { AreSound handle.old.value handle.new.value }
+    ensures valid { AreValid handle.old.value handle.new.value }
 {
     match handle.get() {
         Some(controller) => {
@@ -367,7 +367,7 @@ pub extern "C" fn uda50_get_descriptors(
         ((result ≡ status_code NoController) × (turn.new ≡ turn.old))
         (λ old new. (answer : CallStatus) × (result ≡ status_code answer) × (new ≡ old)
         × GetsDescriptors old window.now turn.old answer turn.new) }
-    ensures sound { AreSound handle.old.value handle.new.value }
+    ensures valid { AreValid handle.old.value handle.new.value }
 {
     match handle.get() {
         Some(controller) => {
@@ -385,7 +385,7 @@ pub extern "C" fn uda50_get_body(handle: &mut Handle, window: &[u8], turn: &mut 
         ((result ≡ status_code NoController) × (turn.new ≡ turn.old))
         (λ old new. (answer : CallStatus) × (result ≡ status_code answer) × (new ≡ old)
         × GetsBody old window.now turn.old answer turn.new) }
-    ensures sound { AreSound handle.old.value handle.new.value }
+    ensures valid { AreValid handle.old.value handle.new.value }
 {
     match handle.get() {
         Some(controller) => {
@@ -403,7 +403,7 @@ pub extern "C" fn uda50_turn_at(handle: &mut Handle, window: &mut [u8], turn: &m
         ((result ≡ status_code NoController) × ((window.new ≡ window.old) × (turn.new ≡ turn.old)))
         (λ old new. (answer : CallStatus) × (result ≡ status_code answer)
         × TurnsAtWhereMemory (old, window.old) turn.old answer turn.new (new, window.new)) }
-    ensures sound { AreSound handle.old.value handle.new.value }
+    ensures valid { AreValid handle.old.value handle.new.value }
 {
     match handle.get() {
         Some(controller) => {
@@ -428,7 +428,7 @@ pub extern "C" fn uda50_get_zeroed(
         ((result ≡ status_code NoController) × (area.new ≡ area.old))
         (λ old new. (result ≡ status_code Done) × (new ≡ old)
         × (area.new ≡ range_zeroed old.port.phase old.port window.now word)) }
-    ensures sound { AreSound handle.old.value handle.new.value }
+    ensures valid { AreValid handle.old.value handle.new.value }
 {
     match handle.get() {
         Some(controller) => {
@@ -453,7 +453,7 @@ pub extern "C" fn uda50_write_sa_at(
         ((result ≡ status_code NoController) × ((window.new ≡ window.old) × (area.new ≡ area.old)))
         (λ old new. (result ≡ status_code Done)
         × WritesSaAt missing (old, window.old) word area.new (new, window.new)) }
-    ensures sound { AreSound handle.old.value handle.new.value }
+    ensures valid { AreValid handle.old.value handle.new.value }
 {
     match handle.get() {
         Some(controller) => {
@@ -478,7 +478,7 @@ pub extern "C" fn uda50_turn_mapped(
         (λ old new. (answer : CallStatus) × (result ≡ status_code answer)
         × OverMap map.now (old, memory.old) answer (new, memory.new)
         (λ bus. TakesTurnBehind bus (old, memory.old) answer (new, memory.new))) }
-    ensures sound { AreSound handle.old.value handle.new.value }
+    ensures valid { AreValid handle.old.value handle.new.value }
 {
     match handle.get() {
         Some(controller) => {
@@ -504,7 +504,7 @@ pub extern "C" fn uda50_run_mapped(
         (λ old new. (answer : CallStatus) × (result ≡ status_code answer)
         × OverMap map.now (old, memory.old) answer (new, memory.new)
         (λ bus. TakesTurnsBehind bus turns Done (old, memory.old) (answer, (new, memory.new)))) }
-    ensures sound { AreSound handle.old.value handle.new.value }
+    ensures valid { AreValid handle.old.value handle.new.value }
 {
     match handle.get() {
         Some(controller) => {
@@ -530,7 +530,7 @@ pub extern "C" fn uda50_write_sa_mapped(
         (λ old new. (answer : CallStatus) × (result ≡ status_code answer)
         × OverMap map.now (old, memory.old) answer (new, memory.new)
         (λ bus. WritesSaOver bus (old, memory.old) word answer (new, memory.new))) }
-    ensures sound { AreSound handle.old.value handle.new.value }
+    ensures valid { AreValid handle.old.value handle.new.value }
 {
     match handle.get() {
         Some(controller) => {
@@ -554,7 +554,7 @@ pub extern "C" fn uda50_attach_called(
     ensures attaches { OnHandle handle.old.value handle.new.value (result ≡ status_code NoController)
         (λ old new. (answer : CallStatus) × (result ≡ status_code answer)
         × AttachesCalled old (unit, (blocks, write_protected)) answer new) }
-    ensures sound { AreSound handle.old.value handle.new.value }
+    ensures valid { AreValid handle.old.value handle.new.value }
 {
     match handle.get() {
         Some(controller) => {
@@ -581,7 +581,7 @@ pub extern "C" fn uda50_get_blocks(
         ((result ≡ status_code NoController) × (blocks.new ≡ blocks.old))
         (λ old new. (answer : CallStatus) × (result ≡ status_code answer)
         × GetsBlocks (old, blocks.old) window.now turn.now answer (new, blocks.new)) }
-    ensures sound { AreSound handle.old.value handle.new.value }
+    ensures valid { AreValid handle.old.value handle.new.value }
 {
     match handle.get() {
         Some(controller) => {
@@ -607,7 +607,7 @@ pub extern "C" fn uda50_get_written(
         ((result ≡ status_code NoController) × (to.new ≡ to.old))
         (λ old new. (answer : CallStatus) × (result ≡ status_code answer) × (new ≡ old)
         × GetsWritten old window.now (turn.now, skip) answer (to.old, to.new)) }
-    ensures sound { AreSound handle.old.value handle.new.value }
+    ensures valid { AreValid handle.old.value handle.new.value }
 {
     match handle.get() {
         Some(controller) => {
@@ -624,7 +624,7 @@ pub extern "C" fn uda50_lend_blocks(handle: &mut Handle, unit: u32, first: u32, 
     ensures lends { OnHandle handle.old.value handle.new.value (result ≡ status_code NoController)
         (λ old new. (answer : CallStatus) × (result ≡ status_code answer)
         × LendsBlocks old (unit, first) from.now answer new) }
-    ensures sound { AreSound handle.old.value handle.new.value }
+    ensures valid { AreValid handle.old.value handle.new.value }
 {
     match handle.get() {
         Some(controller) => {
@@ -643,7 +643,7 @@ pub extern "C" fn uda50_allow_blocks(handle: &mut Handle, unit: u32, access: u32
     ensures allows { OnHandle handle.old.value handle.new.value (result ≡ status_code NoController)
         (λ old new. (answer : CallStatus) × (result ≡ status_code answer)
         × AllowsBlocks old (unit, count) (prepared_numbered access) answer new) }
-    ensures sound { AreSound handle.old.value handle.new.value }
+    ensures valid { AreValid handle.old.value handle.new.value }
 {
     match handle.get() {
         Some(controller) => {
@@ -692,7 +692,7 @@ pub extern "C" fn uda50_get_state(handle: &mut Handle, state: &mut PortSnapshot)
     ensures shows { OnHandle handle.old.value handle.new.value
         ((result ≡ status_code NoController) × (state.new ≡ state.old))
         (λ old new. (result ≡ status_code Done) × (new ≡ old) × (state.new ≡ port_snapshot old.port)) }
-    ensures sound { AreSound handle.old.value handle.new.value }
+    ensures valid { AreValid handle.old.value handle.new.value }
 {
     match handle.get() {
         Some(controller) => {
@@ -710,7 +710,7 @@ pub extern "C" fn uda50_get_last_turn(handle: &mut Handle, turn: &mut TurnRecord
     ensures accurate { OnHandle handle.old.value handle.new.value
         ((result ≡ status_code NoController) × (turn.new ≡ turn.old))
         (λ old new. (result ≡ status_code Done) × (new ≡ old) × (turn.new ≡ turn_record old.last)) }
-    ensures sound { AreSound handle.old.value handle.new.value }
+    ensures valid { AreValid handle.old.value handle.new.value }
 {
     match handle.get() {
         Some(controller) => {
@@ -733,7 +733,7 @@ pub extern "C" fn uda50_format_last_turn(
         ((result ≡ status_code NoController) × (buffer.new ≡ buffer.old))
         (λ old new. (answer : CallStatus) × (result ≡ status_code answer) × (new ≡ old)
         × TellsLine old.last buffer.old answer buffer.new) }
-    ensures sound { AreSound handle.old.value handle.new.value }
+    ensures valid { AreValid handle.old.value handle.new.value }
 {
     match handle.get() {
         Some(controller) => {
@@ -760,7 +760,7 @@ fn refuse_new(bus: u32) -> CallStatus
 fn has_controller(handle: &mut Handle) -> bool
     ensures value { result ≡ is_some handle.old.value }
     ensures same { handle.new.value ≡ handle.old.value }
-    ensures sound { HoldsSound handle.old.value }
+    ensures valid { HoldsValid handle.old.value }
 {
     match handle.get() {
         Some(controller) => {
@@ -776,7 +776,7 @@ fn give_back(handle: &mut Handle, images: &mut UnitImages) -> CallStatus
     ensures gives_back { OnHandle handle.old.value handle.new.value
         ((result ≡ NoController) × (images.new ≡ images.old))
         (λ old new. GivesBack (old, images.old) result (new, images.new)) }
-    ensures sound { HoldsSound handle.old.value }
+    ensures valid { HoldsValid handle.old.value }
 {
     match handle.get() {
         Some(controller) => {
@@ -811,7 +811,7 @@ fn profile_of(compatible: bool) -> Profile
 fn make(alloc: Global, handle: &mut Handle, profile: Profile) -> CallStatus
     requires empty { handle.old.value ≡ None }
     ensures made { MakesNumbered None profile result handle.new.value }
-    ensures sound { HoldsSound handle.new.value }
+    ensures valid { HoldsValid handle.new.value }
 {
     let controller = match Controller::new(alloc, profile) {
         Ok(controller) => controller,

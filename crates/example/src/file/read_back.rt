@@ -68,7 +68,7 @@ fn is_payload(write: &Request, bytes: &[u8]) -> bool
     ensures same { (u lbn : ℕ) → request_value write.now ≡ record { unit = u; act = Write lbn bytes.now } → result ≡ true }
 {
     match write {
-        Request::Write { payload, .. } => payload == bytes,
+        Request::Write { payload, .. } => payload.as_slice() == bytes,
         _ => false,
     }
 }

@@ -1,5 +1,5 @@
 use Rattle.std.proofs.Common.{subst, sym, ◌∙◌}
-use Rattle.uda_c.specs.Controllers.{HoldsSound}
+use Rattle.uda_c.specs.Controllers.{HoldsValid}
 use Rattle.uda_c.proofs.Lending.{stays_whole}
 use Rattle.uda_c.proofs.exports.uda50_free.Goals as goal
 
@@ -10,8 +10,8 @@ returns-in_default c =
     record {
       frees = (c.give_back.result, c.code-in_default.ensures, whole.frees);
       done = λ zero. absurd (whole.not_zero (sym c.code-in_default.ensures ∙ zero));
-      sound = (
-        c.give_back.ensures.sound,
-        subst HoldsSound (sym whole.same) c.give_back.ensures.sound,
+      valid = (
+        c.give_back.ensures.valid,
+        subst HoldsValid (sym whole.same) c.give_back.ensures.valid,
       );
     }

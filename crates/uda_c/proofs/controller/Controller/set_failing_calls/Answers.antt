@@ -11,5 +11,5 @@ returns c =
         c.set_call_of-3.ensures.set,
         c.set_call_of-2.ensures.set,
         c.set_call_of.ensures.set,
-      ) (all_fail c.args.self.now c.args.calls four c.keep.ensures.sound.four_units);
+      ) (all_fail c.args.self.now c.args.calls four c.keep.ensures.valid.four_units);
     }

@@ -20,3 +20,4 @@ pub mod Removals
 pub mod Saving
 pub mod Written
 pub mod BlockChangesLaw
+pub mod BlockReadsLaw

@@ -17,3 +17,4 @@ pub mod Laws
 pub mod Saved
 pub mod BlockUse
 pub mod BlockChanges
+pub mod BlockReads

@@ -1,6 +1,7 @@
 //! Laws of one execution, each the contract of a function that does nothing, so that a caller's proof can cite it.
 //!
 //! MSCP Basic Disk Functions Manual: command ordering, transfer commands.
+ghost use Rattle.uda_exec.specs.BlockReads.{OnlyUsedBlocksAreRead};
 ghost use Rattle.uda_exec.specs.Laws.{OnlyOneIsExecuted, OnlyGuestIsExecuted, OnlyUsedBlocksChange};
 
 /// States that the only pending command is the one that is executed, and that none is pending then.
@@ -22,4 +23,13 @@ pub fn only_guest_is_executed()
 /// MSCP Basic Disk Functions Manual: transfer commands.
 pub fn only_used_blocks_change()
     ensures law { OnlyUsedBlocksChange }
+{}
+
+/// States that a command reads only the blocks of its range. It would have had the same end message, and left the same
+/// memory, whatever all other blocks were. A command that takes effect is one whose store is faithful, or sound
+/// afterwards.
+///
+/// MSCP Basic Disk Functions Manual: transfer commands.
+pub fn only_used_blocks_are_read()
+    ensures law { OnlyUsedBlocksAreRead }
 {}

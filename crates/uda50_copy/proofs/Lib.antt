@@ -1,5 +1,9 @@
 mod Pairs
+mod Walks
 pub mod Pieces
+pub mod Told
+pub mod Written
+pub mod Gathered
 pub mod MapLaws
 pub mod Spans
 pub mod LastFinished

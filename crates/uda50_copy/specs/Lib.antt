@@ -1,3 +1,6 @@
 pub mod Copy
 pub mod Status
 pub mod Map
+pub mod Report
+pub mod Reports
+pub mod Changes

@@ -11,7 +11,9 @@ mod copier;
 mod error;
 mod map;
 mod requests;
+mod trace;
 
 pub use copier::{Copier, Observer};
 pub use error::{CopyError, Side};
 pub use map::{BlockMap, BlockStatus, MapEntry, MapError};
+pub use trace::ReportTrace;

@@ -7,3 +7,5 @@ pub mod Gathered
 pub mod MapLaws
 pub mod Spans
 pub mod LastFinished
+pub mod NextUnfinished
+pub mod Noted

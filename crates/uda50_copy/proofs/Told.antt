@@ -3,7 +3,7 @@ use Rattle.std.proofs.Common.{◌≡◌, ◌⊎◌, Bool, true, false, inl, inr,
 use Rattle.std.specs.Prelude.{◌||◌, nat_eq}
 use Rattle.std.proofs.lemmas.Bool.{cases_lt, cases_Bool, or_from}
 use Rattle.std.proofs.lemmas.Bool.Decides.{eqb_tells}
-use Rattle.uda50_copy.specs.Report.{Report, reached, lost}
+use Rattle.uda50_copy.specs.Report.{Report, reached, lost, begun, given, skipped}
 use Rattle.uda50_copy.specs.Reports.{reached_end, told_end, is_lost, AreReports, Tells, TellsLost}
 
 -- ---- the ends of reports
@@ -12,27 +12,42 @@ pub told_end_within : (from to : ℕ) (told : List Report) → from ≤ to → A
 told_end_within from to [] some h = some
 told_end_within from to (reached stop ∷ told) some h = h.1.1.0
 told_end_within from to (lost block ∷ told) some h = omega (arith, h.1.0)
+told_end_within from to (begun entries ∷ told) some h = absurd h
+told_end_within from to (given start end ∷ told) some h = absurd h
+told_end_within from to (skipped start end ∷ told) some h = absurd h
 
 pub told_end_from : (from to : ℕ) (told : List Report) → AreReports from to told → from ≤ told_end from told
 told_end_from from to [] h = omega arith
 told_end_from from to (reached stop ∷ told) h = omega (arith, told_end_from from to told h.1.1.1, h.0)
 told_end_from from to (lost block ∷ told) h = omega (arith, told_end_from from to told h.1.1, h.0)
+told_end_from from to (begun entries ∷ told) h = absurd h
+told_end_from from to (given start end ∷ told) h = absurd h
+told_end_from from to (skipped start end ∷ told) h = absurd h
 
 pub reached_end_within : (from to : ℕ) (told : List Report) → AreReports from to told
     → reached_end from told ≤ told_end from told
 reached_end_within from to [] h = omega arith
 reached_end_within from to (reached stop ∷ told) h = omega arith
 reached_end_within from to (lost block ∷ told) h = omega (arith, reached_end_within from to told h.1.1, h.0)
+reached_end_within from to (begun entries ∷ told) h = absurd h
+reached_end_within from to (given start end ∷ told) h = absurd h
+reached_end_within from to (skipped start end ∷ told) h = absurd h
 
 reached_end_from : (from to : ℕ) (told : List Report) → AreReports from to told → from ≤ reached_end from told
 reached_end_from from to [] h = omega arith
 reached_end_from from to (reached stop ∷ told) h = omega (arith, reached_end_from from to told h.1.1.1, h.1.0)
 reached_end_from from to (lost block ∷ told) h = reached_end_from from to told h.1.1
+reached_end_from from to (begun entries ∷ told) h = absurd h
+reached_end_from from to (given start end ∷ told) h = absurd h
+reached_end_from from to (skipped start end ∷ told) h = absurd h
 
 reached_end_above : (a b : ℕ) (told : List Report) → a ≤ b → reached_end a told ≤ reached_end b told
 reached_end_above a b [] h = h
 reached_end_above a b (reached stop ∷ told) h = omega arith
 reached_end_above a b (lost block ∷ told) h = reached_end_above a b told h
+reached_end_above a b (begun entries ∷ told) h = reached_end_above a b told h
+reached_end_above a b (given start end ∷ told) h = reached_end_above a b told h
+reached_end_above a b (skipped start end ∷ told) h = reached_end_above a b told h
 
 -- ---- reports, and then more
 
@@ -41,12 +56,18 @@ pub told_end_both : (from mid : ℕ) (newer older : List Report) → told_end fr
 told_end_both from mid [] older h = h
 told_end_both from mid (reached stop ∷ newer) older h = omega arith
 told_end_both from mid (lost block ∷ newer) older h = omega arith
+told_end_both from mid (begun entries ∷ newer) older h = told_end_both from mid newer older h
+told_end_both from mid (given start end ∷ newer) older h = told_end_both from mid newer older h
+told_end_both from mid (skipped start end ∷ newer) older h = told_end_both from mid newer older h
 
 pub reached_end_both : (from : ℕ) (newer older : List Report)
     → reached_end from (newer ++ older) ≡ reached_end (reached_end from older) newer
 reached_end_both from [] older = refl
 reached_end_both from (reached stop ∷ newer) older = refl
 reached_end_both from (lost block ∷ newer) older = reached_end_both from newer older
+reached_end_both from (begun entries ∷ newer) older = reached_end_both from newer older
+reached_end_both from (given start end ∷ newer) older = reached_end_both from newer older
+reached_end_both from (skipped start end ∷ newer) older = reached_end_both from newer older
 
 pub are_reports_wider : (from mid to : ℕ) (told : List Report) → mid ≤ to → AreReports from mid told
     → AreReports from to told
@@ -55,6 +76,9 @@ are_reports_wider from mid to (reached stop ∷ told) wider h =
     (h.0, (h.1.0, (omega (arith, h.1.1.0), are_reports_wider from mid to told wider h.1.1.1)))
 are_reports_wider from mid to (lost block ∷ told) wider h =
     (h.0, (omega (arith, h.1.0), are_reports_wider from mid to told wider h.1.1))
+are_reports_wider from mid to (begun entries ∷ told) wider h = h
+are_reports_wider from mid to (given start end ∷ told) wider h = h
+are_reports_wider from mid to (skipped start end ∷ told) wider h = h
 
 pub are_reports_both : (from mid to : ℕ) (newer older : List Report) → from ≤ mid → mid ≤ to
     → AreReports from mid older → AreReports mid to newer → AreReports from to (newer ++ older)
@@ -77,6 +101,9 @@ are_reports_both from mid to (lost block ∷ newer) older first second before h 
       omega (arith, told_end_both from mid newer older end, h.0),
       (h.1.0, are_reports_both from mid to newer older first second before h.1.1),
     )
+are_reports_both from mid to (begun entries ∷ newer) older first second before h = absurd h
+are_reports_both from mid to (given start end ∷ newer) older first second before h = absurd h
+are_reports_both from mid to (skipped start end ∷ newer) older first second before h = absurd h
 
 -- ---- lost blocks
 
@@ -90,6 +117,9 @@ is_lost_both (reached stop ∷ newer) older n = is_lost_both newer older n
 is_lost_both (lost block ∷ newer) older n =
     ap (λ (b : Bool). nat_eq block n || b) (is_lost_both newer older n)
     ∙ or_assoc (nat_eq block n) (is_lost newer n) (is_lost older n)
+is_lost_both (begun entries ∷ newer) older n = is_lost_both newer older n
+is_lost_both (given start end ∷ newer) older n = is_lost_both newer older n
+is_lost_both (skipped start end ∷ newer) older n = is_lost_both newer older n
 
 or_cases : (x y : Bool) → (x || y) ≡ true → (x ≡ true) ⊎ (y ≡ true)
 or_cases true y h = inl refl
@@ -107,6 +137,9 @@ lost_within from to (lost block ∷ told) n h is = elim (or_cases (nat_eq block 
   ]
   | inr there ↦ lost_within from to told n h.1.1 there
 ]
+lost_within from to (begun entries ∷ told) n h is = absurd h
+lost_within from to (given start end ∷ told) n h is = absurd h
+lost_within from to (skipped start end ∷ told) n h is = absurd h
 
 pub not_lost : (from to : ℕ) (told : List Report) (n : ℕ) → AreReports from to told → (n < from) ⊎ (to ≤ n)
     → is_lost told n ≡ false
@@ -192,10 +225,13 @@ none_told from done to (reached stop ∷ told) none h = absurd (omega (
 ))
 none_told from done to (lost block ∷ told) none h =
     absurd (omega (arith, told_end_from from done told h.1.1, h.0, h.1.0, none))
+none_told from done to (begun entries ∷ told) none h = absurd h
+none_told from done to (given start end ∷ told) none h = absurd h
+none_told from done to (skipped start end ∷ told) none h = absurd h
 
 abbrev pub tells_end : (skips_lost : Bool) (from to done : ℕ) (reports after : List Report) → to ≤ done → from ≤ done
     → done ≤ max from to → Tells skips_lost from done reports after → Tells skips_lost from to reports after
-tells_end skips_lost from to done reports after past begun within tells = record {
+tells_end skips_lost from to done reports after past first within tells = record {
   told = tells.told;
   added = tells.added;
   are_reports = elim (cases_lt from to) [

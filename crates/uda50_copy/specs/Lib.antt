@@ -4,3 +4,4 @@ pub mod Map
 pub mod Report
 pub mod Reports
 pub mod Changes
+pub mod Record

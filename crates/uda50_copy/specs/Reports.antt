@@ -10,19 +10,20 @@ pub use Rattle.uda50_copy.specs.Report.{Report, reached, lost}
 abbrev pub reached_end : ℕ → List Report → ℕ
 reached_end start [] = start
 reached_end start (reached end ∷ told) = end
-reached_end start (lost block ∷ told) = reached_end start told
+reached_end start (_ ∷ told) = reached_end start told
 
 -- the block after those of all reports, or `start` if there is none
 abbrev pub told_end : ℕ → List Report → ℕ
 told_end start [] = start
 told_end start (reached end ∷ told) = end
 told_end start (lost block ∷ told) = block + 1
+told_end start (_ ∷ told) = told_end start told
 
 -- whether a block was reported lost
 abbrev pub is_lost : List Report → ℕ → Bool
 is_lost [] n = false
-is_lost (reached end ∷ told) n = is_lost told n
 is_lost (lost block ∷ told) n = nat_eq block n || is_lost told n
+is_lost (_ ∷ told) n = is_lost told n
 
 -- reports of the blocks from `start` up to `end`, in rising order: an end is past all blocks reported before, and each
 -- lost block comes after the last end
@@ -31,6 +32,7 @@ AreReports start end [] = Unit {0}
 AreReports start end (reached stop ∷ told) =
     (told_end start told ≤ stop) × ((reached_end start told < stop) × ((stop ≤ end) × AreReports start end told))
 AreReports start end (lost block ∷ told) = (told_end start told ≤ block) × ((block < end) × AreReports start end told)
+AreReports start end (_ ∷ told) = ⊥
 
 -- such reports were added. None is of a lost block, if those aren't to be skipped
 pub record Tells (skips_lost : Bool) (from to : ℕ) (reports reports_after : List Report) : Type 0 where

@@ -10,10 +10,12 @@
 mod copier;
 mod error;
 mod map;
+mod record;
 mod requests;
 mod trace;
 
 pub use copier::{Copier, Observer};
 pub use error::{CopyError, Side};
 pub use map::{BlockMap, BlockStatus, MapEntry, MapError};
+pub use record::{CopyLog, CopyRecord, CopyStop, EndedRecord};
 pub use trace::ReportTrace;

@@ -1,9 +1,17 @@
 //! The reports to an observer of a copy, which only contracts read.
 ghost use Rattle.std.specs.Prelude.{◌≡◌, List, [], ◌∷◌};
 ghost use Rattle.std.specs.Borrow.{ftrue};
-ghost use Rattle.uda50_copy.specs.Report.{Report, reached, lost, reports_code};
+ghost use Rattle.uda50_copy.specs.Report.{Report, reached, lost, begun, given, skipped, reports_code};
 
+use crate::map::BlockMap;
 use std::marker::Model;
+
+/// Consecutive blocks, from `start` up to `end`.
+#[derive(Clone, Copy, Debug)]
+pub(crate) struct Span {
+    pub(crate) start: u32,
+    pub(crate) end: u32,
+}
 
 /// The reports that an observer got, the newest first. It takes no memory, and its methods do nothing at run time.
 #[derive(Drop)]
@@ -21,6 +29,46 @@ impl ReportTrace {
         ensures { result ≡ record { reports = [] } }
     {
         ReportTrace {}
+    }
+
+    // Returns the trace of a record that begins with a map.
+    #[inline(always)]
+    pub(crate) fn begun(_map: &BlockMap) -> ReportTrace
+        ensures { result ≡ record { reports = begun _map.now ∷ [] } }
+    {
+        ReportTrace {}
+    }
+
+    // Returns this trace with one more range that is given to a copy.
+    #[inline(always)]
+    fn then_given(&self, _span: &Span) -> ReportTrace
+        ensures { result ≡ record { reports = given _span.now.start _span.now.end ∷ self.now.reports } }
+    {
+        ReportTrace {}
+    }
+
+    // Returns this trace with one more range that is skipped.
+    #[inline(always)]
+    fn then_skipped(&self, _span: &Span) -> ReportTrace
+        ensures { result ≡ record { reports = skipped _span.now.start _span.now.end ∷ self.now.reports } }
+    {
+        ReportTrace {}
+    }
+
+    // Notes that blocks are given to a copy.
+    #[inline(always)]
+    pub(crate) fn given(&mut self, span: &Span)
+        ensures { self.new ≡ record { reports = given span.now.start span.now.end ∷ self.old.reports } }
+    {
+        *self = self.then_given(span);
+    }
+
+    // Notes that blocks are skipped.
+    #[inline(always)]
+    pub(crate) fn skipped(&mut self, span: &Span)
+        ensures { self.new ≡ record { reports = skipped span.now.start span.now.end ∷ self.old.reports } }
+    {
+        *self = self.then_skipped(span);
     }
 
     // Returns this trace with one more report that blocks are done.

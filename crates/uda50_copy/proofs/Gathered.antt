@@ -230,7 +230,7 @@ changes_only_none from to units after same = record {
   };
 }
 
-within_wider : (from to low high n : ℕ) → low ≤ from → to ≤ high → is_within low high n ≡ false
+pub within_wider : (from to low high n : ℕ) → low ≤ from → to ≤ high → is_within low high n ≡ false
     → is_within from to n ≡ false
 within_wider from to low high n first second out = elim (cases_Bool (is_within from to n)) [
   | inl is ↦

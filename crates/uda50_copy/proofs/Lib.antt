@@ -9,3 +9,4 @@ pub mod Spans
 pub mod LastFinished
 pub mod NextUnfinished
 pub mod Noted
+pub mod Ranges

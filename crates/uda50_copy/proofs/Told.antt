@@ -33,7 +33,7 @@ reached_end_within from to (begun entries ∷ told) h = absurd h
 reached_end_within from to (given start end ∷ told) h = absurd h
 reached_end_within from to (skipped start end ∷ told) h = absurd h
 
-reached_end_from : (from to : ℕ) (told : List Report) → AreReports from to told → from ≤ reached_end from told
+pub reached_end_from : (from to : ℕ) (told : List Report) → AreReports from to told → from ≤ reached_end from told
 reached_end_from from to [] h = omega arith
 reached_end_from from to (reached stop ∷ told) h = omega (arith, reached_end_from from to told h.1.1.1, h.1.0)
 reached_end_from from to (lost block ∷ told) h = reached_end_from from to told h.1.1
@@ -121,7 +121,7 @@ is_lost_both (begun entries ∷ newer) older n = is_lost_both newer older n
 is_lost_both (given start end ∷ newer) older n = is_lost_both newer older n
 is_lost_both (skipped start end ∷ newer) older n = is_lost_both newer older n
 
-or_cases : (x y : Bool) → (x || y) ≡ true → (x ≡ true) ⊎ (y ≡ true)
+pub or_cases : (x y : Bool) → (x || y) ≡ true → (x ≡ true) ⊎ (y ≡ true)
 or_cases true y h = inl refl
 or_cases false y h = inr h
 

@@ -5,3 +5,4 @@ pub mod Report
 pub mod Reports
 pub mod Changes
 pub mod Record
+pub mod Range

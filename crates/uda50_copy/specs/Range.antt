@@ -1,5 +1,5 @@
 -- Which blocks of a range a copy transfers, and what its map then says of them. GNU ddrescue manual: mapfile structure.
-use Rattle.std.specs.Prelude.{◌≡◌, ◌≢◌, ℕ, ◌<◌, ◌≤◌, ◌&&◌, ◌||◌, Bool, true, false, List, [], ◌∷◌, ◌++◌, All}
+use Rattle.std.specs.Prelude.{◌≡◌, ◌≢◌, ℕ, ◌+◌, ◌<◌, ◌≤◌, max, ◌||◌, Bool, true, false, List, [], ◌∷◌, ◌++◌, All}
 use Rattle.uda_disk.specs.Units.{Units, AllSound, AreWellFormedIfSound}
 use Rattle.uda50_copy.specs.declared.map.entry.BlockStatus.{BlockStatus}
 use Rattle.uda50_copy.specs.declared.map.entry.BlockStatus.TheVariants.{NonTried, Bad, Finished}
@@ -19,11 +19,13 @@ given_end start [] = start
 given_end start (given from to ∷ told) = to
 given_end start (_ ∷ told) = given_end start told
 
--- ranges of the blocks from `start` up to `end`: each has blocks, and comes after the ones before
+-- ranges of the blocks from `start` up to `end`: each has blocks, and comes after the ones before. Each lost block comes
+-- before the end of the last one
 abbrev pub AreGiven : ℕ → ℕ → List Report → Type 0
 AreGiven start end [] = Unit {0}
 AreGiven start end (given from to ∷ told) =
     (given_end start told ≤ from) × ((from < to) × ((to ≤ end) × AreGiven start end told))
+AreGiven start end (lost block ∷ told) = (start ≤ block) × ((block < given_end start told) × AreGiven start end told)
 AreGiven start end (_ ∷ told) = AreGiven start end told
 
 -- whether a block is in one of them
@@ -34,19 +36,23 @@ is_given (_ ∷ told) n = is_given told n
 
 -- ---- what came of a block
 
--- the units and the map, before and after a copy
+-- the units, the map and all reports, before and after a copy
 pub record Transfer : Type 0 where
   pub units : Units
   pub units_after : Units
   pub map : List MapEntry
   pub map_after : List MapEntry
+  pub reports : List Report
+  pub reports_after : List Report
 
 abbrev pub transfer_of : CopierState → CopierState → RecordState → RecordState → Transfer
-transfer_of copier copier_after record' record_after = record {
+transfer_of copier copier_after old new = record {
   units = units_in copier;
   units_after = units_in copier_after;
-  map = record'.map;
-  map_after = record_after.map;
+  map = old.map;
+  map_after = new.map;
+  reports = old.reports;
+  reports_after = new.reports;
 }
 
 -- unit 1 has this block of unit 0, if units are well formed, and each store is sound afterwards
@@ -78,13 +84,16 @@ pub record IsDoneUpTo (start end : ℕ) (t : Transfer) (told : List Report) (Zer
   pub done : (n : ℕ) → start ≤ n → n < end → IsDone t told Zeros n
   pub left : (n : ℕ) → is_within start end n ≡ false → IsLeft t told n
 
--- what a copy of these blocks reported, if its map is as reported before and after: ranges of them were given, and all
--- blocks up to some end are done
-pub record CopiesUnfinished (start to : ℕ) (t : Transfer) (reports reports_after : List Report) (Zeros : ℕ → Type 0)
-    : Type 0 where
+-- a copy of the unfinished blocks of a range gave ranges of it to be copied. All blocks before `end` are done
+pub record CopiesUnfinished (start to : ℕ) (t : Transfer) (Zeros : ℕ → Type 0) : Type 0 where
   pub told : List Report
-  pub added : reports_after ≡ told ++ reports
+  pub added : t.reports_after ≡ told ++ t.reports
   pub are_given : AreGiven start to told
   pub end : ℕ
-  pub end_within : (start ≤ end) × (start < to → end ≤ to)
+  pub begins : start ≤ end
+  pub ends : end ≤ max start to
   pub up_to : IsDoneUpTo start end t told Zeros
+
+-- all its blocks are done
+abbrev pub CopiesAllUnfinished : ℕ → ℕ → Transfer → (ℕ → Type 0) → Type 0
+CopiesAllUnfinished start to t Zeros = (copies : CopiesUnfinished start to t Zeros) × (copies.end ≡ max start to)

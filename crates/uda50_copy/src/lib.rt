@@ -10,6 +10,7 @@
 mod copier;
 mod error;
 mod map;
+mod range;
 mod record;
 mod requests;
 mod trace;
@@ -17,5 +18,6 @@ mod trace;
 pub use copier::{Copier, Observer};
 pub use error::{CopyError, Side};
 pub use map::{BlockMap, BlockStatus, MapEntry, MapError};
+pub use range::{ZeroBlocks, copy_unfinished};
 pub use record::{CopyLog, CopyRecord, CopyStop, EndedRecord};
 pub use trace::ReportTrace;

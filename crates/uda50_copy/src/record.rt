@@ -2,7 +2,7 @@
 ghost use Rattle.std.specs.Prelude.{◌≡◌, ◌≢◌, ℕ, ◌<◌, ◌≤◌, ◌⊎◌, true, false, [], ◌∷◌, All, IfSome, IfNone, OnOk, OnErr};
 ghost use Rattle.uda50_copy.specs.Map.{IsSet, IsFinishedBetween, IsUnfinishedBetween};
 ghost use Rattle.uda50_copy.specs.Report.{begun, given, skipped};
-ghost use Rattle.uda50_copy.specs.Record.{IsRunNoted};
+ghost use Rattle.uda50_copy.specs.Record.{IsRecord, IsRunNoted};
 ghost use Rattle.uda50_copy.specs.Status.{AreLater};
 
 use crate::copier::Observer;
@@ -132,8 +132,9 @@ impl<L: CopyLog + Drop> CopyRecord<L> {
         ensures broken { self.new.broken ≡ self.old.broken }
         ensures none { blocks.end ≤ blocks.start → self.new ≡ self.old }
         ensures skipped { OnOk result (IsSet blocks.start blocks.end BlockStatus.Finished self.old.map self.new.map) }
-        ensures in_part { (self.new.map ≡ self.old.map)
-            ⊎ IsSet blocks.start blocks.end BlockStatus.Finished self.old.map self.new.map }
+        ensures in_part { (self.new ≡ self.old)
+            ⊎ (IsSet blocks.start blocks.end BlockStatus.Finished self.old.map self.new.map
+                × (self.new.reports ≡ skipped blocks.start blocks.end ∷ self.old.reports)) }
         ensures reports { OnOk result (blocks.start < blocks.end
             → self.new.reports ≡ skipped blocks.start blocks.end ∷ self.old.reports) }
     {
@@ -159,6 +160,7 @@ impl<L: CopyLog + Drop> CopyRecord<L> {
         ensures map { self.new.map ≡ self.old.map }
         ensures broken { self.new.broken ≡ self.old.broken }
         ensures reports { self.new.reports ≡ given blocks.now.start blocks.now.end ∷ self.old.reports }
+        ensures as_reported { IsRecord self.new }
     {
         self.from = blocks.start;
         self.lost = Vec::new(self.alloc);
@@ -171,6 +173,7 @@ impl<L: CopyLog + Drop> CopyRecord<L> {
     /// Fails if a run couldn't be noted, or the map not be saved.
     pub(crate) fn check(&mut self) -> Result<(), CopyStop<L::Error>>
         ensures same { self.new ≡ self.old }
+        ensures as_reported { IsRecord self.new }
         ensures noted { OnOk result (self.new.broken ≡ false) }
     {
         if self.broken {

@@ -1,13 +1,11 @@
 -- The Writes of a run and its lost blocks, and what is copied then.
 use Rattle.std.proofs.Common.{◌≡◌, ◌⊎◌, Bool, true, false, inl, inr, ℕ, ◌+◌, ◌-◌, ◌<◌, ◌≤◌, max, List, [], ◌∷◌, ◌++◌, length, refl, sym, ap, ◌∙◌, arith, subst, append-nil, append_assoc}
-use Rattle.std.specs.Prelude.{◌||◌, ◌&&◌, not, All, slice_get, nat_eq, nat_le, nat_lt}
-use Rattle.std.specs.List.{concat, list_any}
+use Rattle.std.specs.Prelude.{◌||◌, ◌&&◌, not, All, slice_get}
 use Rattle.std.proofs.lemmas.Bool.{cases_lt, cases_Bool}
-use Rattle.std.proofs.lemmas.Bool.Decides.{nat_tests, eqb_tells}
+use Rattle.std.proofs.lemmas.Bool.Decides.{eqb_tells}
 use Rattle.std.proofs.lemmas.List.{append_cancel_right}
 use Rattle.std.proofs.lemmas.List.Folds.{list_any-append}
 use Rattle.std.proofs.lemmas.List.Elements.{All-nil, All-append, All-cons}
-use Rattle.uda_mem.specs.Put.{part}
 use Rattle.uda_disk.specs.Status.{SUCCESS}
 use Rattle.uda_disk.specs.Disk.{Disks}
 use Rattle.uda_disk.specs.Request.{Request}
@@ -143,6 +141,7 @@ adds_lost skips_lost from old new Is skips same told = record {
     other : (b : Bool) → false ≡ (b && false)
     other true = refl
     other false = refl
+
     apart : (n : ℕ) → (from ≡ n → ⊥) → (n < from) ⊎ (from + 1 ≤ n)
     apart n differs = elim (cases_lt n from) [
       | inl low ↦ inl low
@@ -164,14 +163,14 @@ adds_next skips_lost from lbn stop old now new answer units first mid after begu
     (λ blocks. ReturnsWhole answer lbn (stop - lbn) blocks × IsSoundSource mid after blocks) begun further
     (λ blocks is. (is.0, (λ u. three.stays_sound.sound_before u (is.1.0 u), is.1.1)))
     (λ blocks is.
-        let sound_mid : AllSound mid = λ u. three.stays_sound.sound_before u (is.1.0 u) in
-        let sound_first : AllSound first = λ u. two.stays_sound.sound_before u (sound_mid u) in
-        let sound_start : AllSound units = λ u. one.stays_sound.sound_before u (sound_first u) in
-        let same : source_of mid ≡ source_of units = (two.if_sound sound_mid).same 0 ∙ (one.if_sound sound_first).same 0 in
-        let whole = whole_blocks (disks_of units) 0 (whole_disk units 0 is.0 (sound_start 0)) in (
-          subst (ReturnsWhole answer lbn (stop - lbn)) (sym is.1.1) (whole, returned is.0 sound_first),
-          (two.stays_sound.well_formed (one.stays_sound.well_formed is.0), (is.1.0, is.1.1 ∙ sym same)),
-        ))
+    let sound_mid : AllSound mid = λ u. three.stays_sound.sound_before u (is.1.0 u) in
+    let sound_first : AllSound first = λ u. two.stays_sound.sound_before u (sound_mid u) in
+    let sound_start : AllSound units = λ u. one.stays_sound.sound_before u (sound_first u) in
+    let same : source_of mid ≡ source_of units = (two.if_sound sound_mid).same 0 ∙ (one.if_sound sound_first).same 0 in
+    let whole = whole_blocks (disks_of units) 0 (whole_disk units 0 is.0 (sound_start 0)) in (
+      subst (ReturnsWhole answer lbn (stop - lbn)) (sym is.1.1) (whole, returned is.0 sound_first),
+      (two.stays_sound.well_formed (one.stays_sound.well_formed is.0), (is.1.0, is.1.1 ∙ sym same)),
+    ))
     before added
 
 -- the same of one block
@@ -185,9 +184,9 @@ adds_next_block skips_lost from lbn old now new answer units after begun same re
     adds_both skips_lost from lbn (lbn + 1) old now new (IsSoundSource units after) (IsSoundSource units after)
     (ReturnsWhole answer lbn 1) begun (omega arith) (λ blocks is. is)
     (λ blocks is.
-        let sound_start : AllSound units = λ u. same.stays_sound.sound_before u (is.1.0 u) in
-        let whole = whole_blocks (disks_of units) 0 (whole_disk units 0 is.0 (sound_start 0)) in
-        subst (ReturnsWhole answer lbn 1) (sym is.1.1) (whole, returned is.0 is.1.0))
+    let sound_start : AllSound units = λ u. same.stays_sound.sound_before u (is.1.0 u) in
+    let whole = whole_blocks (disks_of units) 0 (whole_disk units 0 is.0 (sound_start 0)) in
+    subst (ReturnsWhole answer lbn 1) (sym is.1.1) (whole, returned is.0 is.1.0))
     before added
 
 -- a piece whose Read returned its blocks
@@ -442,9 +441,11 @@ copied_both from mid to end told1 told2 units between after first second last ar
     or_none : (x y : Bool) → (x || y) ≡ false → (x ≡ false) × (y ≡ false)
     or_none true y h = absurd (cc)
     or_none false y h = (refl, h)
+
     or_last : (x y : Bool) → (x || y) ≡ true → x ≡ false → y ≡ true
     or_last true y h none = absurd (cc none)
     or_last false y h none = h
+
     at : (n : ℕ) → from ≤ n → n < end → is_lost (told2 ++ told1) n ≡ false → (n < mid) ⊎ (mid ≤ n)
         → IsBlockOf n (source_of units) (target_of after)
     at n low below unlost (inl before) =
@@ -455,6 +456,7 @@ copied_both from mid to end told1 told2 units between after first second last ar
         let parts = or_none (is_lost told2 n) (is_lost told1 n) (sym (is_lost_both told2 told1 n) ∙ unlost) in
         subst (λ (s : List (List ℕ)). IsBlockOf n s (target_of after)) changed1.source_stays
         (two.copied n past below parts.0)
+
     stays : (n : ℕ) → is_lost (told2 ++ told1) n ≡ true → (is_lost told2 n ≡ true) ⊎ (is_lost told2 n ≡ false)
         → slice_get (target_of after) n ≡ slice_get (target_of units) n
     stays n is (inl newer) =

@@ -1,17 +1,17 @@
 -- The first entry that has unfinished blocks.
-use Rattle.std.proofs.Common.{◌≡◌, ◌≢◌, ◌⊎◌, ℕ, suc, ◌+◌, ◌<◌, ◌≤◌, max, Bool, true, false, if◌then◌else◌, List, [], ◌∷◌, ◌++◌, length, get_or, take, drop, All, inl, inr, refl, sym, ap, ◌∙◌, subst, arith, append-nil}
+use Rattle.std.proofs.Common.{◌≡◌, ◌≢◌, ℕ, suc, ◌<◌, ◌≤◌, max, Bool, true, false, if◌then◌else◌, List, [], ◌∷◌, ◌++◌, length, get_or, take, drop, All, inl, inr, sym, ap, ◌∙◌, subst, arith, append-nil}
 use Rattle.std.proofs.Math.Seq.{drop-cons}
 use Rattle.std.proofs.lemmas.Bool.{cases_lt}
 use Rattle.std.proofs.lemmas.Bool.Decides.{nat_tests}
 use Rattle.std.proofs.lemmas.List.{take-append-drop, drop-append-le, drop_all}
-use Rattle.std.proofs.lemmas.List.Elements.{All-append, All-cons}
+use Rattle.std.proofs.lemmas.List.Elements.{All-cons}
 use Rattle.std.specs.List.{AllWithin, HoldsAt}
 use Rattle.uda50_copy.specs.declared.map.entry.BlockStatus.{BlockStatus}
 use Rattle.uda50_copy.specs.declared.map.entry.BlockStatus.TheVariants.{Finished}
 use Rattle.uda50_copy.specs.declared.map.entry.MapEntry.{MapEntry}
 use Rattle.uda50_copy.specs.Map.{is_within, statuses_at, AreConsecutive, Spans, map_start, map_end, end_from, IsFinishedBetween, IsUnfinishedBetween}
 use Rattle.uda50_copy.proofs.MapLaws.{statuses_at-append, none_within, done_finished, All-first, IsDone, skipped}
-use Rattle.uda50_copy.proofs.Spans.{spans_of, spans_left, spans_right, spans_starts, spans_ends, spans_order, left_consecutive, right_consecutive}
+use Rattle.uda50_copy.proofs.Spans.{spans_of, spans_left, spans_right, spans_starts, spans_ends, right_consecutive}
 
 -- the entries from a place on follow each other
 pub drop_consecutive : (xs : List MapEntry) (n : ℕ) → AreConsecutive xs → AreConsecutive (drop n xs)
@@ -106,10 +106,13 @@ rest_consecutive xs ys n m from all first second past early = elim (cases_lt n (
   where
     none_is : m ≤ 0 → m ≡ 0
     none_is none = omega (arith, none)
+
     past_end : length xs ≤ n → drop n xs ≡ []
     past_end none = drop_all n xs none
+
     front : n < length xs → drop n (xs ++ ys) ≡ drop n xs ++ ys
     front some = drop-append-le n xs ys (omega (arith, some))
+
     contradiction : n < length xs → 0 < m → ⊥
     contradiction some more =
         let d : MapEntry = record { start = 0; end = 0; status = Finished } in

@@ -1,19 +1,19 @@
 -- What a copy of the unfinished blocks of a range does.
-use Rattle.std.proofs.Common.{◌≡◌, ◌≢◌, ◌⊎◌, Bool, true, false, if◌then◌else◌, inl, inr, ℕ, ◌+◌, ◌<◌, ◌≤◌, max, List, [], ◌∷◌, ◌++◌, All, refl, sym, ap, ◌∙◌, arith, subst, append_assoc}
-use Rattle.std.specs.Prelude.{◌||◌, nat_eq, slice_get}
+use Rattle.std.proofs.Common.{◌≡◌, ◌≢◌, ◌⊎◌, Bool, true, false, if◌then◌else◌, inl, inr, ℕ, ◌<◌, ◌≤◌, List, [], ◌∷◌, ◌++◌, All, refl, sym, ap, ◌∙◌, arith, subst, append_assoc}
+use Rattle.std.specs.Prelude.{◌||◌, nat_eq}
 use Rattle.std.proofs.lemmas.Bool.{cases_lt, cases_Bool, or_from}
 use Rattle.std.proofs.lemmas.Bool.Decides.{eqb_tells}
-use Rattle.uda_disk.specs.Units.{Units, AllSound, AreWellFormedIfSound}
+use Rattle.uda_disk.specs.Units.{Units, AllSound}
 use Rattle.uda50_copy.specs.declared.map.entry.BlockStatus.{BlockStatus}
 use Rattle.uda50_copy.specs.declared.map.entry.BlockStatus.TheVariants.{Bad, Finished}
 use Rattle.uda50_copy.specs.declared.map.entry.MapEntry.{MapEntry}
-use Rattle.uda50_copy.specs.Copy.{source_of, target_of}
+use Rattle.uda50_copy.specs.Copy.{target_of}
 use Rattle.uda50_copy.specs.Map.{is_within, statuses_at, changed, IsSet, IsFinishedBetween, IsUnfinishedBetween}
 use Rattle.uda50_copy.specs.Report.{Report, reached, lost, begun, given, skipped}
 use Rattle.uda50_copy.specs.Reports.{AreReports, reached_end, told_end, is_lost, CopiesAsTold, IsBlockOf, TellsEnd}
 use Rattle.uda50_copy.specs.Record.{RecordState, IsAsReported, run_start, is_lost_in_run, noted_at}
 use Rattle.uda50_copy.specs.Changes.{ChangesOnly}
-use Rattle.uda50_copy.specs.Range.{given_end, AreGiven, is_given, Transfer, IsCopiedIfSound, IsDone, was_finished, is_copied, was_lost, has_zeros, IsLeft, IsDoneUpTo, CopiesUnfinished, CopiesAllUnfinished}
+use Rattle.uda50_copy.specs.Range.{given_end, AreGiven, is_given, Transfer, IsCopiedIfSound, IsDone, was_finished, is_copied, was_lost, has_zeros, CopiesUnfinished, CopiesAllUnfinished}
 use Rattle.uda50_copy.proofs.Told.{told_end_within, reached_end_within, reached_end_from, is_lost_both, or_cases}
 use Rattle.uda50_copy.proofs.Pieces.{changes_no_block_none}
 use Rattle.uda50_copy.proofs.Gathered.{changes_only_none, changes_only_wider, within_wider}
@@ -85,7 +85,6 @@ abbrev given_status : ℕ → List Report → ℕ → List BlockStatus → List 
 given_status s told n statuses =
     if is_within s (reached_end s told) n then (if is_lost told n then changed Bad statuses else changed Finished statuses)
     else statuses
-
 
 noted_reached : (s e stop : ℕ) (told older : List Report) (n : ℕ) → AreReports s e told → told_end s told ≤ stop
     → reached_end s told < stop
@@ -194,13 +193,17 @@ copies_given skips_lost s e t some copies before after unfinished = (
   where
     told : List Report
     told = copies.tells.told
+
     are : AreReports s e told
     are = copies.tells.are_reports
+
     last : reached_end s told ≤ e
     last = omega (arith, reached_end_within s e told are, told_end_within s e told (omega (arith, some)) are)
+
     now : (n : ℕ) → statuses_at t.map_after n ≡ given_status s told n (statuses_at t.map n)
     now n = after n ∙ ap (λ (l : List Report). noted_at l n) copies.tells.added ∙ noted_told s e told t.reports n are
         ∙ ap (given_status s told n) (sym (before n))
+
     by : (n : ℕ) → s ≤ n → n < reached_end s told → (is_lost told n ≡ true) ⊎ (is_lost told n ≡ false)
         → IsDone t (told ++ given s e ∷ []) (λ n. ⊥) n
     by n low high (inl is) =
@@ -412,32 +415,40 @@ copies_then start mid to p One Two Zeros first second changes1 changes2 one two 
   where
     told : List Report
     told = two.told ++ one.0.told
+
     end1 : one.0.end ≡ mid
     end1 = one.1 ∙ omega (arith, first)
+
     out1 : (n : ℕ) → is_within start two.end n ≡ false → is_within start one.0.end n ≡ false
     out1 n out = elim (cases_Bool (is_within start one.0.end n)) [
       | inl is ↦ (let place = inside start one.0.end n is in
           absurd (cc (is_inside start two.end n place.0 (omega (arith, place.1, end1, two.begins)), out)))
       | inr away ↦ away
     ]
+
     out2 : (n : ℕ) → is_within start two.end n ≡ false → is_within mid two.end n ≡ false
     out2 n out = elim (cases_Bool (is_within mid two.end n)) [
       | inl is ↦ (let place = inside mid two.end n is in
           absurd (cc (is_inside start two.end n (omega (arith, first, place.0)) place.1, out)))
       | inr away ↦ away
     ]
+
     before_second : (n : ℕ) → n < mid → is_given two.told n ≡ false
     before_second n low =
         false_unless (is_given two.told n) (λ is. omega (arith, low, (given_within mid to two.told n two.are_given is).0))
+
     lost_second : (n : ℕ) → n < mid → is_lost two.told n ≡ false
     lost_second n low =
         false_unless (is_lost two.told n) (λ is. omega (arith, low, (lost_given mid to two.told n second two.are_given is).0))
+
     after_first : (n : ℕ) → mid ≤ n → is_given one.0.told n ≡ false
     after_first n high =
         false_unless (is_given one.0.told n) (λ is. omega (arith, high, (given_within start mid one.0.told n one.0.are_given is).1))
+
     lost_first : (n : ℕ) → mid ≤ n → is_lost one.0.told n ≡ false
     lost_first n high =
         false_unless (is_lost one.0.told n) (λ is. omega (arith, high, (lost_given start mid one.0.told n first one.0.are_given is).1))
+
     open_at : (n : ℕ) → is_within start two.end n ≡ false
         → (is_given two.told n ≡ true) ⊎ (is_given one.0.told n ≡ true)
         → All (λ status. status ≢ Finished) (statuses_at p.map n)
@@ -445,6 +456,7 @@ copies_then start mid to p One Two Zeros first second changes1 changes2 one two 
         subst (All (λ status. status ≢ Finished)) (one.0.up_to.left n (out1 n out)).same
         ((two.up_to.left n (out2 n out)).unfinished newer)
     open_at n out (inr older) = (one.0.up_to.left n (out1 n out)).unfinished older
+
     by : (n : ℕ) → start ≤ n → n < two.end → (n < mid) ⊎ (mid ≤ n) → IsDone (whole_of p) told Zeros n
     by n low high (inl before) =
         let left = two.up_to.left n (is_outside mid two.end n (inl before)) in
@@ -452,12 +464,12 @@ copies_then start mid to p One Two Zeros first second changes1 changes2 one two 
         (is_given_both two.told one.0.told n ∙ ap (λ (b : Bool). b || is_given one.0.told n) (before_second n before))
         (is_lost_both two.told one.0.told n ∙ ap (λ (b : Bool). b || is_lost one.0.told n) (lost_second n before))
         (λ there well_formed sound.
-            let between : AllSound p.between = λ u. changes2.stays_sound.sound_before u (sound u) in
-            let here = there well_formed between in (
-              here.0,
-              (changes2.if_sound (changes1.stays_sound.well_formed well_formed) sound).others_stay n
-                  (is_outside mid to n (inl before)) ∙ here.1,
-            ))
+        let between : AllSound p.between = λ u. changes2.stays_sound.sound_before u (sound u) in
+        let here = there well_formed between in (
+          here.0,
+          (changes2.if_sound (changes1.stays_sound.well_formed well_formed) sound).others_stay n
+              (is_outside mid to n (inl before)) ∙ here.1,
+        ))
         (zeros1 n) (one.0.up_to.done n low (omega (arith, before, end1)))
     by n low high (inr past) =
         let left = one.0.up_to.left n (is_outside start one.0.end n (inr (omega (arith, past, end1)))) in
@@ -467,10 +479,10 @@ copies_then start mid to p One Two Zeros first second changes1 changes2 one two 
         (is_lost_both two.told one.0.told n ∙ ap (λ (b : Bool). is_lost two.told n || b) (lost_first n past)
         ∙ or_false (is_lost two.told n))
         (λ there well_formed sound.
-            let between : AllSound p.between = λ u. changes2.stays_sound.sound_before u (sound u) in
-            subst (λ (s : List (List ℕ)). IsBlockOf n s (target_of p.after))
-            (changes1.if_sound well_formed between).source_stays
-            (there (changes1.stays_sound.well_formed well_formed) sound))
+        let between : AllSound p.between = λ u. changes2.stays_sound.sound_before u (sound u) in
+        subst (λ (s : List (List ℕ)). IsBlockOf n s (target_of p.after))
+        (changes1.if_sound well_formed between).source_stays
+        (there (changes1.stays_sound.well_formed well_formed) sound))
         (zeros2 n) (two.up_to.done n past high)
 
 -- ---- blocks that are not given

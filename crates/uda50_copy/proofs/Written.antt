@@ -1,7 +1,7 @@
 -- What Writes change, whether they succeed or fail.
-use Rattle.std.proofs.Common.{◌≡◌, ◌⊎◌, ◌≢◌, Bool, true, false, inl, inr, ℕ, suc, ◌+◌, ◌-◌, ◌<◌, ◌≤◌, min, List, [], ◌∷◌, ◌++◌, length, take, get_or, Option, Some, None, refl, sym, ap, ◌∙◌, arith, subst, length-take}
+use Rattle.std.proofs.Common.{◌≡◌, ◌⊎◌, ◌≢◌, Bool, true, false, inl, inr, ℕ, suc, ◌+◌, ◌-◌, ◌<◌, ◌≤◌, List, [], ◌∷◌, ◌++◌, length, take, get_or, Option, Some, None, refl, sym, ap, ◌∙◌, arith, subst, length-take}
 use Rattle.std.specs.Prelude.{◌||◌, All, replicate, slice_get, slice_set}
-use Rattle.std.specs.List.{concat, list_any}
+use Rattle.std.specs.List.{concat}
 use Rattle.std.proofs.lemmas.Bool.{cases_lt, cases_Bool, or_parts}
 use Rattle.std.proofs.lemmas.Bool.Decides.{nat_tests}
 use Rattle.std.proofs.lemmas.List.{length-set}
@@ -13,7 +13,7 @@ use Rattle.uda_image.specs.StoreLaws.{length-first_chunks}
 use Rattle.uda_disk.specs.Disk.{Disk, Disks}
 use Rattle.uda_disk.specs.Status.{SUCCESS}
 use Rattle.uda_disk.specs.Request.{Act, Write, Request, extent_of, in_blocks, blocks_for}
-use Rattle.uda_disk.specs.Answer.{Answer, Moved}
+use Rattle.uda_disk.specs.Answer.{Moved}
 use Rattle.uda_disk.specs.RequestEffect.{CheckResult, Rejected, Accepted, check_at, check_by, check_result, refusal_on, TransferOutcome, Done, Lost, blocks_moved, disk_after, disks_by}
 use Rattle.uda_disk.specs.InOrderRun.{FixedRequest, requests_of, too_long, step_as, step_of, run_in_order_as}
 use Rattle.uda_disk.specs.Laws.{blocks_in, blocks_at, size_in, size_at}

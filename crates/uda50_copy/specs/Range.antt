@@ -1,15 +1,13 @@
 -- Which blocks of a range a copy transfers, and what its map then says of them. GNU ddrescue manual: mapfile structure.
-use Rattle.std.specs.Prelude.{◌≡◌, ◌≢◌, ℕ, ◌+◌, ◌<◌, ◌≤◌, max, ◌||◌, Bool, true, false, List, [], ◌∷◌, ◌++◌, All}
+use Rattle.std.specs.Prelude.{◌≡◌, ◌≢◌, ℕ, ◌<◌, ◌≤◌, max, ◌||◌, Bool, true, false, List, [], ◌∷◌, ◌++◌, All}
 use Rattle.uda_disk.specs.Units.{Units, AllSound, AreWellFormedIfSound}
-use Rattle.uda50_copy.specs.declared.map.entry.BlockStatus.{BlockStatus}
-use Rattle.uda50_copy.specs.declared.map.entry.BlockStatus.TheVariants.{NonTried, Bad, Finished}
+use Rattle.uda50_copy.specs.declared.map.entry.BlockStatus.TheVariants.{Bad, Finished}
 use Rattle.uda50_copy.specs.declared.map.entry.MapEntry.{MapEntry}
 use Rattle.uda50_copy.specs.Copy.{CopierState, units_in, source_of, target_of}
 use Rattle.uda50_copy.specs.Map.{is_within, statuses_at, changed}
-use Rattle.uda50_copy.specs.Report.{Report, reached, lost, begun, given, skipped}
+use Rattle.uda50_copy.specs.Report.{Report, lost, given}
 use Rattle.uda50_copy.specs.Reports.{is_lost, IsBlockOf}
 use Rattle.uda50_copy.specs.Record.{RecordState}
-use Rattle.uda50_copy.specs.Changes.{ChangesOnly}
 
 -- ---- the ranges that were given to a copy
 

@@ -214,7 +214,7 @@ impl<S: BlockStore + Drop> Copier<S> {
             (record { writes = request_values writes.old.items; reports = W.reports observer.old })
             (record { writes = request_values writes.new.items; reports = W.reports observer.new })
             (λ blocks. ReturnsWhole (answer_value answer) piece.start (piece.end - piece.start) blocks
-                × IsSoundSource (units_in self.old) (units_in self.new) blocks)) }
+            × IsSoundSource (units_in self.old) (units_in self.new) blocks)) }
         ensures adds { OnOk result (ReturnsBlocks (source_of (units_in self.old)) (answer_value answer) piece.start
             (piece.end - piece.start) → PreparesWrites self.old.skips_lost
             (record {

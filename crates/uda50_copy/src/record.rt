@@ -101,7 +101,10 @@ impl<L: CopyLog + Drop> CopyRecord<L> {
         ensures noted { result.is_noted ≡ true → self.broken ≡ false }
     {
         let CopyRecord {
-            map, broken, log, ..
+            map,
+            broken,
+            log,
+            ..
         } = self;
         EndedRecord {
             map,
@@ -134,7 +137,7 @@ impl<L: CopyLog + Drop> CopyRecord<L> {
         ensures skipped { OnOk result (IsSet blocks.start blocks.end BlockStatus.Finished self.old.map self.new.map) }
         ensures in_part { (self.new ≡ self.old)
             ⊎ (IsSet blocks.start blocks.end BlockStatus.Finished self.old.map self.new.map
-                × (self.new.reports ≡ skipped blocks.start blocks.end ∷ self.old.reports)) }
+            × (self.new.reports ≡ skipped blocks.start blocks.end ∷ self.old.reports)) }
         ensures reports { OnOk result (blocks.start < blocks.end
             → self.new.reports ≡ skipped blocks.start blocks.end ∷ self.old.reports) }
     {

@@ -1,5 +1,4 @@
-use Rattle.std.proofs.Common.{ℕ, ◌≡◌, ◌≤◌, ◌<◌, max, sym, ◌∙◌, arith, subst}
-use Rattle.uda50_copy.specs.Range.{CopiesAllUnfinished}
+use Rattle.std.proofs.Common.{ℕ, ◌≤◌, ◌<◌, ◌∙◌, arith}
 use Rattle.uda50_copy.proofs.Ranges.{skip_part, skip_in_part, skipped_then, changes_only_of, copies_wider, unfinished_rest, copies_all_to}
 use Rattle.uda50_copy.proofs.range.copy_next.Goals as goal
 
@@ -9,7 +8,7 @@ returns-in_err-skip-clause-copies g c = λ clean now unfinished.
     let start = c.next-start.result.start in let end = c.next-start.result.end in
     let found = c.next-start.ensures in
     let before = λ (n : ℕ) (low : from ≤ n) (high : n < start).
-        unfinished n low (omega (arith, high, found.ordered, found.within)) in
+    unfinished n low (omega (arith, high, found.ordered, found.within)) in
     skip_in_part from start to _ c.args.notes.now c.skip.new.self _ found.later
     (omega (arith, found.ordered, found.within)) before c.skip.ensures.none c.skip.ensures.in_part found.zeros
 
@@ -19,7 +18,7 @@ returns-then-end-start-clause-copies g c = λ clean now unfinished.
     let start = c.next-start.result.start in let end = c.next-start.result.end in
     let found = c.next-start.ensures in
     let before = λ (n : ℕ) (low : from ≤ n) (high : n < start).
-        unfinished n low (omega (arith, high, found.ordered, found.within)) in
+    unfinished n low (omega (arith, high, found.ordered, found.within)) in
     copies_wider from start to _ _ found.later (omega (arith, found.ordered, found.within))
     (skip_part from start _ c.args.notes.now c.skip.new.self _ found.later before c.skip.ensures.none
     c.in_ok-skip.ensures.skipped c.in_ok-skip.ensures.reports found.zeros).0
@@ -30,7 +29,7 @@ returns-then-end-start-clause-copies_all g c = λ clean unfinished.
     let start = c.next-start.result.start in let end = c.next-start.result.end in
     let found = c.next-start.ensures in
     let before = λ (n : ℕ) (low : from ≤ n) (high : n < start).
-        unfinished n low (omega (arith, high, found.ordered, found.within)) in
+    unfinished n low (omega (arith, high, found.ordered, found.within)) in
     copies_all_to from start end _ _ (omega (arith, found.ordered, c.if-end-start.true))
     (skip_part from start _ c.args.notes.now c.skip.new.self _ found.later before c.skip.ensures.none
     c.in_ok-skip.ensures.skipped c.in_ok-skip.ensures.reports found.zeros)
@@ -56,7 +55,7 @@ returns-in_err-copy_given-clause-copies g c = λ clean now unfinished.
     let start = c.next-start.result.start in let end = c.next-start.result.end in
     let found = c.next-start.ensures in
     let before = λ (n : ℕ) (low : from ≤ n) (high : n < start).
-        unfinished n low (omega (arith, high, found.ordered, found.within)) in
+    unfinished n low (omega (arith, high, found.ordered, found.within)) in
     let mid_clean = c.skip.ensures.broken ∙ clean in
     let rest = unfinished_rest from start end c.args.notes.now.map c.skip.new.self.map found.later
     (λ n low high. unfinished n low (omega (arith, high, found.within))) c.in_ok-skip.ensures.skipped in
@@ -73,7 +72,7 @@ returns-clause-copies g c = λ clean now unfinished.
     let start = c.next-start.result.start in let end = c.next-start.result.end in
     let found = c.next-start.ensures in
     let before = λ (n : ℕ) (low : from ≤ n) (high : n < start).
-        unfinished n low (omega (arith, high, found.ordered, found.within)) in
+    unfinished n low (omega (arith, high, found.ordered, found.within)) in
     let mid_clean = c.skip.ensures.broken ∙ clean in
     let rest = unfinished_rest from start end c.args.notes.now.map c.skip.new.self.map found.later
     (λ n low high. unfinished n low (omega (arith, high, found.within))) c.in_ok-skip.ensures.skipped in
@@ -90,7 +89,7 @@ returns-clause-copies_all g c = λ clean unfinished.
     let start = c.next-start.result.start in let end = c.next-start.result.end in
     let found = c.next-start.ensures in
     let before = λ (n : ℕ) (low : from ≤ n) (high : n < start).
-        unfinished n low (omega (arith, high, found.ordered, found.within)) in
+    unfinished n low (omega (arith, high, found.ordered, found.within)) in
     let mid_clean = c.skip.ensures.broken ∙ clean in
     let rest = unfinished_rest from start end c.args.notes.now.map c.skip.new.self.map found.later
     (λ n low high. unfinished n low (omega (arith, high, found.within))) c.in_ok-skip.ensures.skipped in

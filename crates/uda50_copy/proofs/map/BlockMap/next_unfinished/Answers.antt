@@ -1,4 +1,4 @@
-use Rattle.std.proofs.Common.{◌≡◌, ◌≢◌, ◌≤◌, ◌<◌, ◌++◌, length, get_or, leb-false, max, ℕ, drop, leb, leb-true, true, false, List, sym, ◌∙◌, subst, arith, rules, tests}
+use Rattle.std.proofs.Common.{◌≡◌, ◌≢◌, ◌≤◌, ◌<◌, ◌++◌, length, get_or, leb-false, ℕ, drop, leb, leb-true, true, false, List, sym, ◌∙◌, subst, arith, rules, tests}
 use Rattle.std.proofs.lemmas.Grind.{common_steps}
 use Rattle.std.specs.Bool.{⊤}
 use Rattle.std.specs.Slice.Iter.{iter_rest}

@@ -17,8 +17,8 @@ given_end start [] = start
 given_end start (given from to ∷ told) = to
 given_end start (_ ∷ told) = given_end start told
 
--- ranges of the blocks from `start` up to `end`: each has blocks, and comes after the ones before. Each lost block comes
--- before the end of the last one
+-- ranges of the blocks from `start` up to `end`: each has blocks, and comes after the ones before. Each lost block
+-- comes before the end of the last one
 abbrev pub AreGiven : ℕ → ℕ → List Report → Type 0
 AreGiven start end [] = Unit {0}
 AreGiven start end (given from to ∷ told) =
@@ -58,8 +58,9 @@ abbrev pub IsCopiedIfSound : Transfer → ℕ → Type 0
 IsCopiedIfSound t n =
     AreWellFormedIfSound t.units → AllSound t.units_after → IsBlockOf n (source_of t.units) (target_of t.units_after)
 
--- a block was finished before, and no range has it; or it was unfinished, and a range has it: it is copied, and finished
--- now, or it was lost, and is bad now; or it was unfinished, and is finished now, since both images have zeros there
+-- a block was finished before, and no range has it; or it was unfinished, and a range has it: it is copied, and
+-- finished now, or it was lost, and is bad now; or it was unfinished, and is finished now, since both images have zeros
+-- there
 pub data IsDone (t : Transfer) (told : List Report) (Zeros : ℕ → Type 0) (n : ℕ) : Type 0 where
   was_finished : All (λ status. status ≡ Finished) (statuses_at t.map n) → is_given told n ≡ false
       → statuses_at t.map_after n ≡ statuses_at t.map n → IsDone t told Zeros n

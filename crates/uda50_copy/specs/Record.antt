@@ -58,7 +58,7 @@ IsRecord r = r.broken ≡ false → IsAsReported r
 
 -- the map after a run up to `end`: its blocks are finished, and these ones are lost
 abbrev pub IsRunNoted : ℕ → ℕ → List ℕ → List MapEntry → List MapEntry → Type 0
-IsRunNoted from end lost' entries entries_after =
+IsRunNoted from end gone entries entries_after =
     (n : ℕ) → statuses_at entries_after n
-    ≡ (if is_one_of lost' n then changed Bad (statuses_at entries n)
+    ≡ (if is_one_of gone n then changed Bad (statuses_at entries n)
     else if is_within from end n then changed Finished (statuses_at entries n) else statuses_at entries n)

@@ -5,9 +5,9 @@ use Rattle.uda50_copy.specs.declared.map.entry.BlockStatus.{BlockStatus}
 use Rattle.uda50_copy.specs.declared.map.entry.BlockStatus.TheVariants.{NonTried, Bad, Finished}
 use Rattle.uda50_copy.specs.declared.map.entry.MapEntry.{MapEntry}
 
--- A copy reports that all blocks before this one are copied, lost or compared, or that this block of the source can't be
--- read. A record of a copy also notes the map that it begins with, the ranges that it gives to a copy, and those that it
--- skips since they are zeros in both images.
+-- A copy reports that all blocks before this one are copied, lost or compared, or that this block of the source can't
+-- be read. A record of a copy also notes the map that it begins with, the ranges that it gives to a copy, and those that
+-- it skips since they are zeros in both images.
 pub data Report : Type 0 where
   reached : ℕ → Report
   lost : ℕ → Report

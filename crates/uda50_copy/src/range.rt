@@ -54,8 +54,8 @@ pub fn copy_unfinished<S: BlockStore + Drop, L: CopyLog + Drop, Z: ZeroBlocks>(
     Ok(())
 }
 
-// Copies the first of these unfinished blocks that aren't zeros in both images. Returns the block after the last one that
-// was copied or skipped.
+// Copies the first of these unfinished blocks that aren't zeros in both images. Returns the block after the last one
+// that was copied or skipped.
 fn copy_next<S: BlockStore + Drop, L: CopyLog + Drop, Z: ZeroBlocks>(
     copier: &mut Copier<S>,
     notes: &mut CopyRecord<L>,

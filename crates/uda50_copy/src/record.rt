@@ -18,7 +18,7 @@ pub trait CopyLog {
     /// What keeps it from saving a map.
     type Error: Drop;
 
-    /// Called when all blocks before `end` are done. Of these, `copied` blocks were copied or lost since the call before.
+    /// Called when all blocks before `end` are done. Since the call before, `copied` of them were copied or lost.
     fn reached(&mut self, end: u32, copied: u32);
 
     /// Called for each block of the source that can't be read, in rising order.
@@ -58,9 +58,21 @@ impl<L: CopyLog> Model for CopyRecord<L> {
 
     ghost Value = { RecordState };
 
-    ghost view = { λ r. record { map = r.map; from = r.from; lost = r.lost.items; reports = r.trace.reports; broken = r.broken } };
+    ghost view = { λ r. record {
+      map = r.map;
+      from = r.from;
+      lost = r.lost.items;
+      reports = r.trace.reports;
+      broken = r.broken;
+    } };
 
-    ghost invariant = { λ r. IsRecord (record { map = r.map; from = r.from; lost = r.lost.items; reports = r.trace.reports; broken = r.broken }) };
+    ghost invariant = { λ r. IsRecord (record {
+      map = r.map;
+      from = r.from;
+      lost = r.lost.items;
+      reports = r.trace.reports;
+      broken = r.broken;
+    }) };
 }
 
 /// A record that ended.

@@ -45,21 +45,21 @@ loop-answer-preserved g c =
       omega (arith, next, at, before, length_push loop.yielded c.in-Some.answer),
       (
         λ all whole sound.
-          let returned = returned_at from to 1 requests (answer_values items) (units_in c.args.self.now) k
-          loop.lbn 1 (answer_value c.in-Some.answer) reads
-          (rw c.deref.ensures.value at (c.in_ok-answer-items.ensures.returns whole sound)) asked tells at
-          (omega (arith, before)) in
-          subst (AddsPieces (source_of (units_in c.args.self.now)) (request_values c.args.writes.now.items)
-          (request_values c.take_block.new.writes.items) from) (sym next)
-          (adds_next _ _ (request_values loop.writes.items) _ from loop.lbn 1 (answer_value c.in-Some.answer)
-          (loop.invariant.1.0 all whole sound) returned (c.in_ok-take_block.ensures.adds all)),
+            let returned = returned_at from to 1 requests (answer_values items) (units_in c.args.self.now) k
+            loop.lbn 1 (answer_value c.in-Some.answer) reads
+            (rw c.deref.ensures.value at (c.in_ok-answer-items.ensures.returns whole sound)) asked tells at
+            (omega (arith, before)) in
+            subst (AddsPieces (source_of (units_in c.args.self.now)) (request_values c.args.writes.now.items)
+            (request_values c.take_block.new.writes.items) from) (sym next)
+            (adds_next _ _ (request_values loop.writes.items) _ from loop.lbn 1 (answer_value c.in-Some.answer)
+            (loop.invariant.1.0 all whole sound) returned (c.in_ok-take_block.ensures.adds all)),
         adds_to _ _ _ _ _ _ _ (sym next)
-        (adds_next_block c.args.self.now.skips_lost from loop.lbn _ _ _ (answer_value c.in-Some.answer)
-        (units_in c.args.self.now) (units_in c.run_reads.new.self) (omega (arith, at)) c.in_ok-answer-items.ensures.changes_no_block
-        (λ whole sound. returned_at from to 1 requests (answer_values items) (units_in c.args.self.now) k
-        loop.lbn 1 (answer_value c.in-Some.answer) reads
-        (rw c.deref.ensures.value at (c.in_ok-answer-items.ensures.returns whole sound)) asked tells at
-        (omega (arith, before))) loop.invariant.1.1 (rw same_skips at c.in_ok-take_block.ensures.adds_all_but)),
+            (adds_next_block c.args.self.now.skips_lost from loop.lbn _ _ _ (answer_value c.in-Some.answer)
+            (units_in c.args.self.now) (units_in c.run_reads.new.self) (omega (arith, at)) c.in_ok-answer-items.ensures.changes_no_block
+            (λ whole sound. returned_at from to 1 requests (answer_values items) (units_in c.args.self.now) k
+            loop.lbn 1 (answer_value c.in-Some.answer) reads
+            (rw c.deref.ensures.value at (c.in_ok-answer-items.ensures.returns whole sound)) asked tells at
+            (omega (arith, before))) loop.invariant.1.1 (rw same_skips at c.in_ok-take_block.ensures.adds_all_but)),
       ),
     )
 

@@ -117,7 +117,7 @@ finished_entry entry from block (inr none) late =
 abbrev pub IsDone : ℕ → MapEntry → Type 0
 IsDone from entry = (entry.status ≡ Finished) ⊎ (entry.end ≤ max entry.start from)
 
-done_finished : (xs : List MapEntry) (from : ℕ) → All (IsDone from) xs → IsFinishedFrom from xs
+pub done_finished : (xs : List MapEntry) (from : ℕ) → All (IsDone from) xs → IsFinishedFrom from xs
 done_finished [] from all = λ block late k d below. absurd (omega (arith, below))
 done_finished (x ∷ xs) from all = λ block late.
     rw (statuses_at-append (x ∷ []) xs block)
@@ -126,7 +126,7 @@ done_finished (x ∷ xs) from all = λ block late.
     (done_finished xs from (All-tail (IsDone from) x xs all) block late))
 
 -- entries that have none of the blocks that get a status
-none_within : (xs : List MapEntry) (block : ℕ) → All (λ (e : MapEntry). is_within e.start e.end block ≡ false) xs
+pub none_within : (xs : List MapEntry) (block : ℕ) → All (λ (e : MapEntry). is_within e.start e.end block ≡ false) xs
     → statuses_at xs block ≡ []
 none_within [] block all = refl
 none_within (x ∷ xs) block all =
@@ -218,7 +218,7 @@ on_ok (Ok x) is = is
 on_ok (Err e) is = tt
 
 -- a block that is not before the first entries
-skipped : (xs : List MapEntry) (n from block : ℕ) → n ≤ length xs → AllWithin (λ (e : MapEntry). e.end ≤ from) xs 0 n
+pub skipped : (xs : List MapEntry) (n from block : ℕ) → n ≤ length xs → AllWithin (λ (e : MapEntry). e.end ≤ from) xs 0 n
     → from ≤ block → statuses_at xs block ≡ statuses_at (drop n xs) block
 skipped xs n from block size all late =
     let first = All-first (λ (e : MapEntry). e.end ≤ from) xs n size all in

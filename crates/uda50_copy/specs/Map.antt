@@ -40,6 +40,15 @@ IsSet start end status entries entries_after =
 abbrev pub IsFinishedFrom : ℕ → List MapEntry → Type 0
 IsFinishedFrom from entries = (block : ℕ) → from ≤ block → All (λ status. status ≡ Finished) (statuses_at entries block)
 
+-- a map whose blocks from one on are all finished, up to another one; and one in which they are all unfinished
+abbrev pub IsFinishedBetween : ℕ → ℕ → List MapEntry → Type 0
+IsFinishedBetween from to entries =
+    (block : ℕ) → from ≤ block → block < to → All (λ status. status ≡ Finished) (statuses_at entries block)
+
+abbrev pub IsUnfinishedBetween : ℕ → ℕ → List MapEntry → Type 0
+IsUnfinishedBetween from to entries =
+    (block : ℕ) → from ≤ block → block < to → All (λ status. status ≢ Finished) (statuses_at entries block)
+
 -- a block that is finished
 abbrev pub IsFinishedAt : ℕ → List MapEntry → Type 0
 IsFinishedAt block entries = Contains (statuses_at entries block) Finished

@@ -9,6 +9,9 @@ ghost use Rattle.uda_driver.specs.Run.{units_of};
 ghost use Rattle.uda50_copy.specs.Copy.{units_in, source_of, unit_of, CopiesIfSound, EqualIfSound, ChangesNoBlock};
 ghost use Rattle.uda50_copy.specs.Copy.{PreparesWrites, ExecutesWrites, WritesNothing, ReturnsBlocks, EachReturnsBlocks};
 ghost use Rattle.uda50_copy.specs.Copy.{AddsPiece, IsBlockRead, AreEqualReads, AreSameBytes};
+ghost use Rattle.uda50_copy.specs.Reports.{Tells, TellsLost, TellsEnd, CopiesAsTold, stage_of};
+ghost use Rattle.uda50_copy.specs.Changes.{ChangesOnly, ChangesWritten, HoldsWritten, ReturnsWhole, IsSoundSource};
+ghost use Rattle.uda50_copy.specs.Changes.{AddsAllBut, RunsAsTold};
 
 use crate::error::{CopyError, Side};
 use crate::requests::{
@@ -28,11 +31,19 @@ const RUN: u32 = 64 * REQUEST_BLOCKS;
 
 /// An observer of a copy's progress.
 pub trait Observer {
-    /// Called when all blocks before `end` are copied or compared.
-    fn reached(&mut self, end: u32);
+    ghost use Rattle.std.specs.Prelude.{◌≡◌, List, ◌∷◌};
+    ghost use Rattle.uda50_copy.specs.Report.{Report, reached, lost};
+
+    /// The reports so far, the newest first.
+    ghost reports: { Self → List Report };
+
+    /// Called when all blocks before `end` are copied, lost or compared.
+    fn reached(&mut self, end: u32)
+        ensures told { reports self.new ≡ reached end ∷ reports self.old };
 
     /// Called for each block of the source that can't be read, in rising order.
-    fn lost(&mut self, block: u32);
+    fn lost(&mut self, block: u32)
+        ensures told { reports self.new ≡ lost block ∷ reports self.old };
 }
 
 /// A driver over the drive that is read and the drive that is written.
@@ -85,6 +96,11 @@ impl<S: BlockStore + Drop> Copier<S> {
         ensures skips_lost { self.new.skips_lost ≡ self.old.skips_lost }
         ensures copies { OnOk result (CopiesIfSound self.old.skips_lost blocks.start blocks.end
             (units_in self.old) (units_in self.new)) }
+        ensures changes_only { ChangesOnly blocks.start blocks.end (units_in self.old) (units_in self.new) }
+        ensures copies_as_told { CopiesAsTold self.old.skips_lost blocks.start blocks.end
+            (stage_of self.old (W.reports observer.old)) (stage_of self.new (W.reports observer.new)) }
+        ensures tells_end { OnOk result (TellsEnd blocks.start blocks.end
+            (W.reports observer.old) (W.reports observer.new)) }
     {
         let mut done = blocks.start;
         while done < blocks.end {
@@ -109,6 +125,9 @@ impl<S: BlockStore + Drop> Copier<S> {
         ensures changes_no_block { ChangesNoBlock (units_in self.old) (units_in self.new) }
         ensures equal { OnOk result (EqualIfSound self.old.skips_lost blocks.start blocks.end
             (units_in self.old) (units_in self.new)) }
+        ensures tells { Tells false blocks.start blocks.end (W.reports observer.old) (W.reports observer.new) }
+        ensures tells_end { OnOk result (TellsEnd blocks.start blocks.end
+            (W.reports observer.old) (W.reports observer.new)) }
     {
         let mut done = blocks.start;
         while done < blocks.end {
@@ -131,6 +150,13 @@ impl<S: BlockStore + Drop> Copier<S> {
         ensures skips_lost { self.new.skips_lost ≡ self.old.skips_lost }
         ensures copies { OnOk result (CopiesIfSound self.old.skips_lost blocks.start blocks.end
             (units_in self.old) (units_in self.new)) }
+        ensures changes_only { ChangesOnly blocks.start blocks.end (units_in self.old) (units_in self.new) }
+        ensures runs { RunsAsTold
+            (record { skips_lost = self.old.skips_lost; from = blocks.start; to = blocks.end }) blocks.start
+            (stage_of self.old (W.reports observer.old)) (stage_of self.new (W.reports observer.new)) }
+        ensures runs_all { OnOk result (RunsAsTold
+            (record { skips_lost = self.old.skips_lost; from = blocks.start; to = blocks.end }) blocks.end
+            (stage_of self.old (W.reports observer.old)) (stage_of self.new (W.reports observer.new))) }
     {
         let writes = self.read_run(blocks, observer)?;
         self.write(writes)
@@ -145,6 +171,14 @@ impl<S: BlockStore + Drop> Copier<S> {
     ) -> Result<Vec<Request>, CopyError>
         requires some { blocks.start < blocks.end }
         ensures skips_lost { self.new.skips_lost ≡ self.old.skips_lost }
+        ensures changes_no_block { ChangesNoBlock (units_in self.old) (units_in self.new) }
+        ensures tells { TellsLost self.old.skips_lost blocks.start blocks.end
+            (W.reports observer.old) (W.reports observer.new) }
+        ensures adds_all_but { IfOk result (λ writes. AddsAllBut
+            (record { skips_lost = self.old.skips_lost; from = blocks.start; to = blocks.end })
+            (record { writes = []; reports = W.reports observer.old })
+            (record { writes = request_values writes.items; reports = W.reports observer.new })
+            (IsSoundSource (units_in self.old) (units_in self.new))) }
         ensures gathers { IfOk result (λ writes. PreparesWrites self.old.skips_lost
             (record { old = []; new = request_values writes.items; from = blocks.start; to = blocks.end })
             (units_in self.old) (units_in self.new)) }
@@ -172,7 +206,15 @@ impl<S: BlockStore + Drop> Copier<S> {
     ) -> Result<(), CopyError>
         requires some { piece.start < piece.end }
         ensures skips_lost { self.new.skips_lost ≡ self.old.skips_lost }
-        ensures changes_no_block { OnOk result (ChangesNoBlock (units_in self.old) (units_in self.new)) }
+        ensures changes_no_block { ChangesNoBlock (units_in self.old) (units_in self.new) }
+        ensures tells { TellsLost self.old.skips_lost piece.start piece.end
+            (W.reports observer.old) (W.reports observer.new) }
+        ensures adds_all_but { OnOk result (AddsAllBut
+            (record { skips_lost = self.old.skips_lost; from = piece.start; to = piece.end })
+            (record { writes = request_values writes.old.items; reports = W.reports observer.old })
+            (record { writes = request_values writes.new.items; reports = W.reports observer.new })
+            (λ blocks. ReturnsWhole (answer_value answer) piece.start (piece.end - piece.start) blocks
+            × IsSoundSource (units_in self.old) (units_in self.new) blocks)) }
         ensures adds { OnOk result (ReturnsBlocks (source_of (units_in self.old)) (answer_value answer) piece.start
             (piece.end - piece.start) → PreparesWrites self.old.skips_lost
             (record {
@@ -198,6 +240,14 @@ impl<S: BlockStore + Drop> Copier<S> {
     ) -> Result<(), CopyError>
         requires some { blocks.start < blocks.end }
         ensures skips_lost { self.new.skips_lost ≡ self.old.skips_lost }
+        ensures changes_no_block { ChangesNoBlock (units_in self.old) (units_in self.new) }
+        ensures tells { TellsLost self.old.skips_lost blocks.start blocks.end
+            (W.reports observer.old) (W.reports observer.new) }
+        ensures adds_all_but { OnOk result (AddsAllBut
+            (record { skips_lost = self.old.skips_lost; from = blocks.start; to = blocks.end })
+            (record { writes = request_values writes.old.items; reports = W.reports observer.old })
+            (record { writes = request_values writes.new.items; reports = W.reports observer.new })
+            (IsSoundSource (units_in self.old) (units_in self.new))) }
         ensures gathers { OnOk result (PreparesWrites self.old.skips_lost
             (record {
               old = request_values writes.old.items;
@@ -225,6 +275,13 @@ impl<S: BlockStore + Drop> Copier<S> {
         writes: &mut Vec<Request>,
         observer: &mut W,
     ) -> Result<(), CopyError>
+        ensures tells { TellsLost self.now.skips_lost lbn (lbn + 1)
+            (W.reports observer.old) (W.reports observer.new) }
+        ensures adds_all_but { OnOk result (AddsAllBut
+            (record { skips_lost = self.now.skips_lost; from = lbn; to = lbn + 1 })
+            (record { writes = request_values writes.old.items; reports = W.reports observer.old })
+            (record { writes = request_values writes.new.items; reports = W.reports observer.new })
+            (ReturnsWhole (answer_value answer) lbn 1)) }
         ensures adds { OnOk result (self.now.skips_lost ≡ false → AddsPiece (answer_value answer)
             (request_values writes.old.items) (request_values writes.new.items) lbn 1) }
     {
@@ -258,6 +315,10 @@ impl<S: BlockStore + Drop> Copier<S> {
     // Executes the Writes of one run, and keeps the memory of their bytes.
     fn write(&mut self, writes: Vec<Request>) -> Result<(), CopyError>
         ensures skips_lost { self.new.skips_lost ≡ self.old.skips_lost }
+        ensures changes_written { ChangesWritten (request_values writes.items) (units_in self.old)
+            (units_in self.new) }
+        ensures holds_written { OnOk result (HoldsWritten (request_values writes.items) (units_in self.old)
+            (units_in self.new)) }
         ensures writes { OnOk result (ExecutesWrites (request_values writes.items) (units_in self.old)
             (units_in self.new)) }
     {

@@ -4,14 +4,24 @@
 //! succeeds, lost blocks aren't to be skipped, units are well formed, and each store is sound afterwards
 //! (`specs/Copy.antt`).
 //!
-//! A `BlockMap` has the status of each block of a copy.
+//! Whether it succeeds or fails, it changes no other block, and its reports to an observer say which blocks are copied
+//! (`specs/Reports.antt`, `specs/Changes.antt`).
+//!
+//! A `BlockMap` has the status of each block of a copy. `copy_unfinished` copies the blocks of a range that a map
+//! doesn't have, and a `CopyRecord` notes them in the map (`specs/Record.antt`, `specs/Range.antt`).
 #![tactic(auto)]
 
 mod copier;
 mod error;
 mod map;
+mod range;
+mod record;
 mod requests;
+mod trace;
 
 pub use copier::{Copier, Observer};
 pub use error::{CopyError, Side};
 pub use map::{BlockMap, BlockStatus, MapEntry, MapError};
+pub use range::{ZeroBlocks, copy_unfinished};
+pub use record::{CopyLog, CopyRecord, CopyStop, EndedRecord};
+pub use trace::ReportTrace;

@@ -1,6 +1,6 @@
 //! Maps of the blocks of a copy, in the format of GNU ddrescue's mapfiles.
 ghost use Rattle.std.specs.Prelude.{◌≡◌, ℕ, ◌<◌, ◌≤◌, ◌⊎◌, true, false, [], ◌∷◌, ◌++◌, if◌then◌else◌, IfSome, IfNone, IfOk, OnOk, OnErr, All, IsTrue, ◌↔◌, length, ◌≢◌, ◌-◌};
-ghost use Rattle.uda50_copy.specs.Map.{is_within, statuses_at, changed, IsUntried, IsSet, IsFinishedFrom, IsFinishedAt, IsUnfinishedFrom, HasBlocks, AreForward, AreConsecutive, Spans, map_start, map_end};
+ghost use Rattle.uda50_copy.specs.Map.{is_within, statuses_at, changed, IsUntried, IsSet, IsFinishedFrom, IsFinishedAt, IsUnfinishedFrom, IsFinishedBetween, IsUnfinishedBetween, HasBlocks, AreForward, AreConsecutive, Spans, map_start, map_end};
 ghost use Rattle.uda50_copy.specs.Status.{AreLater};
 
 use std::alloc::{AllocError, Global};
@@ -110,6 +110,8 @@ impl BlockMap {
     /// Returns the next blocks that are not finished, of those from `from` on.
     pub fn next_unfinished(&self, from: u32) -> Option<Range<u32>>
         ensures later { IfSome result (λ blocks. AreLater from blocks.start blocks.end) }
+        ensures finished_before { IfSome result (λ blocks. IsFinishedBetween from blocks.start self.now) }
+        ensures unfinished { IfSome result (λ blocks. IsUnfinishedBetween blocks.start blocks.end self.now) }
         ensures all_finished { IfNone result (IsFinishedFrom from self.now) }
     {
         let near = self.before.partition_point(|entry| entry.end <= from);
@@ -190,6 +192,7 @@ fn divide(
 fn is_finished(entry: &MapEntry) -> bool
     ensures finished { result ≡ true → entry.now.status ≡ BlockStatus.Finished ⊎ entry.now.end ≤ entry.now.start }
     ensures other { result ≡ false → entry.now.start < entry.now.end }
+    ensures unfinished { result ≡ false → entry.now.status ≢ BlockStatus.Finished }
 {
     entry.status == BlockStatus::Finished || entry.is_empty()
 }

@@ -2,7 +2,7 @@
 
 use crate::container::{explain_length, volume_blocks, warn_of_format};
 use crate::copy::blocks_to_copy;
-use crate::copy_record::{CopyRecord, EndedRecord};
+use crate::copy_follower::{CopyFollower, EndedCopy};
 use crate::file_fault::{FileFault, FileRole};
 use crate::image::{block_reason, open_file, source_reason};
 use crate::outcome::Outcome;
@@ -14,7 +14,10 @@ use std::ops::Range;
 use uda_driver::Driver;
 use uda_image::{BlockStore, Drive, StoreError};
 use uda50_arguments::Copy;
-use uda50_copy::{BlockMap, Copier, CopyError, Side};
+use uda50_copy::{
+    BlockMap, Copier, CopyError, CopyRecord, CopyStop, EndedRecord, Side, ZeroBlocks,
+    copy_unfinished,
+};
 use uda50_files::{
     Access, DataBlocks, Failures, Image, OpenImageFile, SearchedImage, TargetFile, TargetZeros,
 };
@@ -142,7 +145,7 @@ impl<'a, 'w> ImageCopy<'a, 'w> {
     }
 
     // Saves the map of a copy whose blocks are on the disk, and gives the target its own name.
-    fn complete(&self, ended: &EndedRecord<'a, 'w>) -> Result<(), FileFault> {
+    fn complete(&self, ended: &EndedCopy<'a, 'w>) -> Result<(), FileFault> {
         let target = self.target;
         target.note_checked();
         target.check_name()?;
@@ -157,7 +160,7 @@ impl<'a, 'w> ImageCopy<'a, 'w> {
         source: OpenImageFile,
         file: TargetFile,
         map: BlockMap,
-    ) -> Result<EndedRecord<'a, 'w>, FileFault> {
+    ) -> Result<EndedCopy<'a, 'w>, FileFault> {
         let zeroed = self.zeroed_blocks(&file)?;
         let searched = self.searched(source, &zeroed, &map)?;
         let SearchedImage { image, data } = searched;
@@ -190,7 +193,7 @@ impl<'a, 'w> ImageCopy<'a, 'w> {
         mut copier: Copier<Image>,
         map: BlockMap,
         data: UncopiedData,
-    ) -> Result<EndedRecord<'a, 'w>, FileFault> {
+    ) -> Result<EndedCopy<'a, 'w>, FileFault> {
         let ended = self.copy_blocks(&mut copier, map, data)?;
         self.target.set_length(self.size)?;
         self.verify(&mut copier, &ended)?;
@@ -234,19 +237,25 @@ impl<'a, 'w> ImageCopy<'a, 'w> {
         copier: &mut Copier<Image>,
         map: BlockMap,
         mut data: UncopiedData,
-    ) -> Result<EndedRecord<'a, 'w>, FileFault> {
+    ) -> Result<EndedCopy<'a, 'w>, FileFault> {
         let copy = self.copy;
         let blocks = self.blocks.start..self.blocks.end;
         let progress = CopyProgress::start(self.rt, copy.from.path, blocks);
-        let mut record = CopyRecord::new(self.rt, progress, self.target, map);
-        let copied = self.copy_unfinished(copier, &mut record, &mut data);
+        let follower = CopyFollower::new(self.rt, progress, self.target);
+        let mut record = CopyRecord::new(self.rt.alloc(), map, follower);
+        let blocks = self.blocks.start..self.blocks.end;
+        let copied = copy_unfinished(copier, &mut record, &mut data, blocks);
         data.data.end();
-        if copied.is_err() {
-            record.save_rest();
+        let EndedRecord { map, is_noted, log } = record.end();
+        if copied.is_err() && is_noted {
+            log.save_rest(&map);
         }
-        let ended = record.end();
-        copied?;
-        ended
+        let ended = log.end(map);
+        match copied {
+            Ok(()) => Ok(ended),
+            Err(CopyStop::Copy(error)) => Err(self.fault(error)),
+            Err(CopyStop::Log(fault)) => Err(fault),
+        }
     }
 
     // Starts a driver over both images, and brings them online.
@@ -257,48 +266,11 @@ impl<'a, 'w> ImageCopy<'a, 'w> {
         }
     }
 
-    // Copies the blocks that the record doesn't have, and skips those that are zeros in both images.
-    fn copy_unfinished(
-        &self,
-        copier: &mut Copier<Image>,
-        record: &mut CopyRecord<'a, 'w>,
-        data: &mut UncopiedData,
-    ) -> Result<(), FileFault> {
-        let last = self.blocks.end;
-        let mut at = self.blocks.start;
-        for _ in 0..u32::MAX {
-            let blocks = match record.next(at) {
-                Some(blocks) if blocks.start < last => blocks.start..blocks.end.min(last),
-                _ => return Ok(()),
-            };
-            let from = blocks.start;
-            let Range { start, end } = data.next(blocks);
-            record.skip(from..start)?;
-            if start < end {
-                self.copy_data(copier, record, start..end)?;
-            }
-            at = end;
-        }
-        Ok(())
-    }
-
-    // Copies blocks.
-    fn copy_data(
-        &self,
-        copier: &mut Copier<Image>,
-        record: &mut CopyRecord<'a, 'w>,
-        blocks: Range<u32>,
-    ) -> Result<(), FileFault> {
-        let copied = copier.copy(blocks, record);
-        record.check()?;
-        self.of(copied)
-    }
-
     // Compares the blocks of both images, if that is asked for.
     fn verify(
         &self,
         copier: &mut Copier<Image>,
-        ended: &EndedRecord<'a, 'w>,
+        ended: &EndedCopy<'a, 'w>,
     ) -> Result<(), FileFault> {
         let copy = self.copy;
         if !copy.verify {
@@ -315,7 +287,7 @@ impl<'a, 'w> ImageCopy<'a, 'w> {
     fn compare_finished(
         &self,
         copier: &mut Copier<Image>,
-        ended: &EndedRecord<'a, 'w>,
+        ended: &EndedCopy<'a, 'w>,
         progress: &mut CopyProgress<'a, 'w>,
     ) -> Result<(), CopyError> {
         let last = self.blocks.end;
@@ -368,8 +340,10 @@ enum ZeroedBlocks {
     Held(TargetZeros),
 }
 
-impl UncopiedData {
-    // Returns the next of these blocks to copy. The others before the end of the result are zeros in both images.
+impl ZeroBlocks for UncopiedData {
+    // Any block may be zeros in both images: nothing is known of what the system says of them.
+    ghost zeros = { λ _ _. Unit {0} };
+
     fn next(&mut self, blocks: Range<u32>) -> Range<u32> {
         match &mut self.target {
             ZeroedBlocks::None => self.data.first(blocks),

@@ -4,7 +4,7 @@
 mod check;
 mod container;
 mod copy;
-mod copy_record;
+mod copy_follower;
 mod create;
 mod decode;
 mod dump;

@@ -4,7 +4,7 @@ use crate::container::warn_of_format;
 use std::io::IsTerminal;
 use std::ops::Range;
 use std::time::Instant;
-use uda50_copy::Observer;
+use uda50_copy::{Observer, ReportTrace};
 use uda50_show::{EscapedName, Reached, Taken};
 
 /// The least time between two lines of progress, in milliseconds.
@@ -22,6 +22,7 @@ pub(crate) struct CopyProgress<'r, 'w> {
     line: Option<ProgressLine>,
     run: Range<u32>,
     lost: u32,
+    trace: ReportTrace,
 }
 
 // The line of progress: the start of the copy, and the time in milliseconds of the next line.
@@ -105,6 +106,7 @@ impl<'r, 'w> CopyProgress<'r, 'w> {
             line: ProgressLine::start(rt),
             run: 0..0,
             lost: 0,
+            trace: ReportTrace::new(),
         }
     }
 
@@ -114,7 +116,7 @@ impl<'r, 'w> CopyProgress<'r, 'w> {
     }
 
     /// Clears the line of progress, lists the last lost blocks, and returns the number of all lost blocks.
-    pub(crate) fn end(mut self) -> u32 {
+    pub(crate) fn end(self) -> u32 {
         self.clear();
         self.list();
         let blocks = if self.lost == 1 { "block" } else { "blocks" };
@@ -129,7 +131,7 @@ impl<'r, 'w> CopyProgress<'r, 'w> {
     }
 
     // Lists the current run of consecutive lost blocks, if there is one.
-    fn list(&mut self) {
+    fn list(&self) {
         if self.run.start < self.run.end {
             self.clear();
             let Range { start, end } = self.run;
@@ -145,7 +147,10 @@ impl<'r, 'w> CopyProgress<'r, 'w> {
 }
 
 impl Observer for CopyProgress<'_, '_> {
+    ghost reports = { λ progress. progress.trace.reports };
+
     fn reached(&mut self, end: u32) {
+        self.trace.reached(end);
         let Some(line) = &mut self.line else {
             return;
         };
@@ -157,6 +162,7 @@ impl Observer for CopyProgress<'_, '_> {
     }
 
     fn lost(&mut self, block: u32) {
+        self.trace.lost(block);
         if block != self.run.end {
             self.list();
             self.run = block..block;

@@ -3,17 +3,19 @@ use Rattle.std.proofs.Common.{◌≡◌, ◌≢◌, ◌⊎◌, Bool, true, false
 use Rattle.std.specs.Prelude.{◌||◌, nat_eq}
 use Rattle.std.proofs.lemmas.Bool.{cases_lt, cases_Bool, or_from}
 use Rattle.std.proofs.lemmas.Bool.Decides.{eqb_tells}
+use Rattle.std.proofs.lemmas.List.Elements.{All-map, All-contains}
+use Rattle.std.specs.List.{Contains}
 use Rattle.uda_disk.specs.Units.{Units, AllSound}
 use Rattle.uda50_copy.specs.declared.map.entry.BlockStatus.{BlockStatus}
-use Rattle.uda50_copy.specs.declared.map.entry.BlockStatus.TheVariants.{Bad, Finished}
+use Rattle.uda50_copy.specs.declared.map.entry.BlockStatus.TheVariants.{NonTried, Bad, Finished}
 use Rattle.uda50_copy.specs.declared.map.entry.MapEntry.{MapEntry}
 use Rattle.uda50_copy.specs.Copy.{target_of}
-use Rattle.uda50_copy.specs.Map.{is_within, statuses_at, changed, IsSet, IsFinishedBetween, IsUnfinishedBetween}
+use Rattle.uda50_copy.specs.Map.{is_within, statuses_at, changed, IsSet, IsFinishedBetween, IsUnfinishedBetween, IsFinishedAt}
 use Rattle.uda50_copy.specs.Report.{Report, reached, lost, begun, given, skipped}
 use Rattle.uda50_copy.specs.Reports.{AreReports, reached_end, told_end, is_lost, CopiesAsTold, IsBlockOf, TellsEnd}
 use Rattle.uda50_copy.specs.Record.{RecordState, IsAsReported, run_start, is_lost_in_run, noted_at}
 use Rattle.uda50_copy.specs.Changes.{ChangesOnly}
-use Rattle.uda50_copy.specs.Range.{given_end, AreGiven, is_given, Transfer, IsCopiedIfSound, IsDone, was_finished, is_copied, was_lost, has_zeros, CopiesUnfinished, CopiesAllUnfinished}
+use Rattle.uda50_copy.specs.Range.{given_end, AreGiven, is_given, Transfer, IsCopiedIfSound, IsDone, was_finished, is_copied, was_lost, has_zeros, CopiesUnfinished, CopiesAllUnfinished, FinishedOnlyIf, NoneUntried}
 use Rattle.uda50_copy.proofs.Told.{told_end_within, reached_end_within, reached_end_from, is_lost_both, or_cases}
 use Rattle.uda50_copy.proofs.Pieces.{changes_no_block_none}
 use Rattle.uda50_copy.proofs.Gathered.{changes_only_none, changes_only_wider, within_wider}
@@ -757,3 +759,53 @@ pub copies_all_to : (from start end : ℕ) (t : Transfer) (Zeros : ℕ → Type 
     → CopiesAllUnfinished from start t Zeros → CopiesAllUnfinished from end t Zeros
 copies_all_to from start end t Zeros same copies =
     subst (λ (n : ℕ). CopiesAllUnfinished from n t Zeros) same copies
+
+-- ---- what the map then says
+
+bad_is_other : Bad ≢ Finished
+bad_is_other is = absurd (cc)
+
+finished_by : (t : Transfer) (told : List Report) (Zeros : ℕ → Type 0) (n : ℕ) → IsDone t told Zeros n
+    → IsFinishedAt n t.map_after → IsFinishedAt n t.map ⊎ (IsCopiedIfSound t n ⊎ Zeros n)
+finished_by t told Zeros n (was_finished finished away same) is =
+    inl (subst (λ (l : List BlockStatus). Contains l Finished) same is)
+finished_by t told Zeros n (is_copied unfinished gave unlost there now) is = inr (inl there)
+finished_by t told Zeros n (was_lost unfinished gave gone now) is =
+    absurd (All-contains (λ (s : BlockStatus). s ≢ Finished) (statuses_at t.map_after n) Finished
+    (subst (All (λ (s : BlockStatus). s ≢ Finished)) (sym now)
+    (All-map (λ (s : BlockStatus). s ≢ Finished) (λ (s : BlockStatus). Bad) (statuses_at t.map n)
+    (λ k d below. bad_is_other))) is refl)
+finished_by t told Zeros n (has_zeros unfinished away there now) is = inr (inr there)
+
+pub finished_only_of : (start to : ℕ) (t : Transfer) (Zeros : ℕ → Type 0) → CopiesUnfinished start to t Zeros
+    → FinishedOnlyIf t Zeros
+finished_only_of start to t Zeros copies n is = elim (cases_Bool (is_within start copies.end n)) [
+  | inl within ↦ (let place = inside start copies.end n within in
+      finished_by t copies.told Zeros n (copies.up_to.done n place.0 place.1) is)
+  | inr out ↦ inl (subst (λ (l : List BlockStatus). Contains l Finished) (copies.up_to.left n out).same is)
+]
+
+tried_by : (t : Transfer) (told : List Report) (Zeros : ℕ → Type 0) (n : ℕ) → IsDone t told Zeros n
+    → All (λ (s : BlockStatus). s ≢ NonTried) (statuses_at t.map_after n)
+tried_by t told Zeros n (was_finished finished away same) =
+    subst (All (λ (s : BlockStatus). s ≢ NonTried)) (sym same) (λ k d below is. other (finished k d below) is)
+  where
+    other : {s : BlockStatus} → s ≡ Finished → s ≡ NonTried → ⊥
+    other finished is = absurd (cc (finished, is))
+tried_by t told Zeros n (is_copied unfinished gave unlost there now) =
+    subst (All (λ (s : BlockStatus). s ≢ NonTried)) (sym now)
+    (All-map (λ (s : BlockStatus). s ≢ NonTried) (λ (s : BlockStatus). Finished) (statuses_at t.map n)
+    (λ k d below is. absurd (cc is)))
+tried_by t told Zeros n (was_lost unfinished gave gone now) =
+    subst (All (λ (s : BlockStatus). s ≢ NonTried)) (sym now)
+    (All-map (λ (s : BlockStatus). s ≢ NonTried) (λ (s : BlockStatus). Bad) (statuses_at t.map n)
+    (λ k d below is. absurd (cc is)))
+tried_by t told Zeros n (has_zeros unfinished away there now) =
+    subst (All (λ (s : BlockStatus). s ≢ NonTried)) (sym now)
+    (All-map (λ (s : BlockStatus). s ≢ NonTried) (λ (s : BlockStatus). Finished) (statuses_at t.map n)
+    (λ k d below is. absurd (cc is)))
+
+pub none_untried_of : (start to : ℕ) (t : Transfer) (Zeros : ℕ → Type 0) → CopiesAllUnfinished start to t Zeros
+    → NoneUntried start to t.map_after
+none_untried_of start to t Zeros copies n low high =
+    tried_by t copies.0.told Zeros n (copies.0.up_to.done n low (omega (arith, high, copies.1)))

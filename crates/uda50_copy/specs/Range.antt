@@ -1,10 +1,10 @@
 -- Which blocks of a range a copy transfers, and what its map then says of them. GNU ddrescue manual: mapfile structure.
-use Rattle.std.specs.Prelude.{◌≡◌, ◌≢◌, ℕ, ◌<◌, ◌≤◌, max, ◌||◌, Bool, true, false, List, [], ◌∷◌, ◌++◌, All}
+use Rattle.std.specs.Prelude.{◌≡◌, ◌≢◌, ◌⊎◌, ℕ, ◌<◌, ◌≤◌, max, ◌||◌, Bool, true, false, List, [], ◌∷◌, ◌++◌, All}
 use Rattle.uda_disk.specs.Units.{Units, AllSound, AreWellFormedIfSound}
-use Rattle.uda50_copy.specs.declared.map.entry.BlockStatus.TheVariants.{Bad, Finished}
+use Rattle.uda50_copy.specs.declared.map.entry.BlockStatus.TheVariants.{NonTried, Bad, Finished}
 use Rattle.uda50_copy.specs.declared.map.entry.MapEntry.{MapEntry}
 use Rattle.uda50_copy.specs.Copy.{CopierState, units_in, source_of, target_of}
-use Rattle.uda50_copy.specs.Map.{is_within, statuses_at, changed}
+use Rattle.uda50_copy.specs.Map.{is_within, statuses_at, changed, IsFinishedAt}
 use Rattle.uda50_copy.specs.Report.{Report, lost, given}
 use Rattle.uda50_copy.specs.Reports.{is_lost, IsBlockOf}
 use Rattle.uda50_copy.specs.Record.{RecordState}
@@ -96,3 +96,14 @@ pub record CopiesUnfinished (start to : ℕ) (t : Transfer) (Zeros : ℕ → Typ
 -- all its blocks are done
 abbrev pub CopiesAllUnfinished : ℕ → ℕ → Transfer → (ℕ → Type 0) → Type 0
 CopiesAllUnfinished start to t Zeros = (copies : CopiesUnfinished start to t Zeros) × (copies.end ≡ max start to)
+
+-- a block is finished afterwards only if it was before, or if unit 1 has that of unit 0, or if both images have zeros
+-- there
+abbrev pub FinishedOnlyIf : Transfer → (ℕ → Type 0) → Type 0
+FinishedOnlyIf t Zeros =
+    (n : ℕ) → IsFinishedAt n t.map_after → IsFinishedAt n t.map ⊎ (IsCopiedIfSound t n ⊎ Zeros n)
+
+-- none of these blocks is untried
+abbrev pub NoneUntried : ℕ → ℕ → List MapEntry → Type 0
+NoneUntried start to entries =
+    (n : ℕ) → start ≤ n → n < to → All (λ status. status ≢ NonTried) (statuses_at entries n)

@@ -4,6 +4,7 @@ ghost use Rattle.uda50_copy.specs.Copy.{units_in};
 ghost use Rattle.uda50_copy.specs.Map.{IsUnfinishedBetween};
 ghost use Rattle.uda50_copy.specs.Changes.{ChangesOnly};
 ghost use Rattle.uda50_copy.specs.Range.{transfer_of, CopiesUnfinished, CopiesAllUnfinished};
+ghost use Rattle.uda50_copy.specs.Range.{FinishedOnlyIf, NoneUntried};
 
 use crate::copier::Copier;
 use crate::record::{CopyLog, CopyRecord, CopyStop};
@@ -42,6 +43,10 @@ pub fn copy_unfinished<S: BlockStore + Drop, L: CopyLog + Drop, Z: ZeroBlocks>(
     ensures copies_all { OnOk result (notes.old.broken ≡ false
         → CopiesAllUnfinished blocks.start blocks.end (transfer_of copier.old copier.new notes.old notes.new)
         (Z.zeros zeros.new)) }
+    ensures finished_only { notes.old.broken ≡ false → notes.new.broken ≡ false
+        → FinishedOnlyIf (transfer_of copier.old copier.new notes.old notes.new) (Z.zeros zeros.new) }
+    ensures none_untried { OnOk result (notes.old.broken ≡ false
+        → NoneUntried blocks.start blocks.end notes.new.map) }
 {
     let last = blocks.end;
     if last <= blocks.start {

@@ -1,7 +1,7 @@
 use Rattle.std.proofs.Common.{◌≤◌, ◌∙◌, arith}
 use Rattle.uda50_copy.proofs.Pieces.{changes_no_block_none}
 use Rattle.uda50_copy.proofs.Gathered.{changes_only_none, changes_only_both, changes_only_wider}
-use Rattle.uda50_copy.proofs.Ranges.{copies_nothing, step_then, step_last, copies_wider}
+use Rattle.uda50_copy.proofs.Ranges.{copies_nothing, step_then, step_last, copies_wider, finished_only_of, none_untried_of}
 use Rattle.uda50_copy.proofs.range.copy_unfinished.Goals as goal
 
 pub returns-then-last-blocks-clause-copies : goal.returns-then-last-blocks-clause-copies
@@ -77,3 +77,18 @@ returns-clause-copies_all g c = λ clean.
     let loop = c.loop-next in let kept = loop.invariant in
     step_last _ loop.at _ _ _ c.args.notes.now loop.notes _ kept.begun kept.within kept.changes (kept.copies clean)
     c.in_default.ensures.all_finished
+
+pub returns-then-last-blocks-clause-finished_only : goal.returns-then-last-blocks-clause-finished_only
+returns-then-last-blocks-clause-finished_only g c = λ clean now.
+    finished_only_of _ _ _ _ (returns-then-last-blocks-clause-copies g c clean now)
+
+pub returns-in_err-at-clause-finished_only : goal.returns-in_err-at-clause-finished_only
+returns-in_err-at-clause-finished_only g c = λ clean now.
+    finished_only_of _ _ _ _ (returns-in_err-at-clause-copies g c clean now)
+
+pub returns-clause-finished_only : goal.returns-clause-finished_only
+returns-clause-finished_only g c = λ clean now.
+    finished_only_of _ _ _ _ (returns-clause-copies g c clean now)
+
+pub returns-clause-none_untried : goal.returns-clause-none_untried
+returns-clause-none_untried g c = λ clean. none_untried_of _ _ _ _ (returns-clause-copies_all g c clean)
